@@ -1,0 +1,14 @@
+pub mod Opcodes
+pub mod Faults
+pub mod Front
+pub mod Layouts
+pub mod Laying
+pub mod Cutting
+pub mod Inverse
+pub mod Reading
+pub mod Unbroken
+pub mod OneReading
+pub mod Encoding
+pub mod Slots
+pub mod Steps
+pub mod Runs

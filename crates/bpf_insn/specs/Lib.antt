@@ -1,0 +1,16 @@
+pub mod Rule
+pub mod Opcode
+pub mod Fields
+pub mod Spelling
+pub mod Broken
+pub mod Program
+pub mod Right
+pub mod Law
+pub mod Code
+pub mod Arithmetic
+pub mod Reads
+pub mod Effects
+pub mod Machine
+pub mod Stepping
+pub mod Run
+pub mod Allowed

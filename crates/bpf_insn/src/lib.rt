@@ -1,0 +1,58 @@
+//! BPF instructions (RFC 9669), their code, and the machine that runs them.
+//!
+//! A program is a list of instructions, and code is the bytes that spell it. `decode` succeeds
+//! exactly on code that spells a program, and else names the slot and the lowest rule that the
+//! code breaks there; `encode` gives the one code of a program. The tagged machine of `run_tagged`
+//! gives a program's value on operands with its number of steps, or the slot and the rule at which
+//! it is stuck, exactly as the table of effects says, and ends on every program.
+//!
+//! Read `reg` and `insn` (what an instruction is), `rule` and `fault` (what can be wrong), `opcode`,
+//! `fields` and `slot` (the tables), `spell` and `encoder`, `check`, `build` and `decoder`, `program`;
+//! then `content`, `operands` and `tagged` (the machine), `execute`, `stepped` and `run`.
+//! What it all means stands in specs/: Opcode, Fields, Spelling, Broken, Program, Code, then Arithmetic,
+//! Reads, Effects, Machine, Run.
+#![tactic(auto)]
+
+mod alu;
+mod alu32;
+mod alu64;
+mod build;
+mod check;
+mod content;
+mod decoder;
+mod encoder;
+mod execute;
+mod fault;
+mod fields;
+mod frame;
+mod insn;
+mod jumps;
+mod memory;
+mod opcode;
+mod operands;
+mod program;
+mod reg;
+mod rule;
+mod rules;
+mod run;
+mod slot;
+mod spell;
+mod stepped;
+mod tagged;
+#[cfg(test)]
+mod tests;
+
+pub use content::Content;
+pub use decoder::decode;
+pub use encoder::encode;
+pub use fault::{DecodeError, Fault, InsnsError};
+pub use insn::{
+    AluOp, ByteOrder, Cond, EndSize, Extension, Insn, Operand, SignedSize, Size, Width,
+};
+pub use operands::{Kind, Operands};
+pub use program::{MOST_SLOTS, Program};
+pub use reg::Reg;
+pub use rule::CodeRule;
+pub use run::{Ran, run_tagged};
+pub use stepped::Stepped;
+pub use tagged::Tagged;

@@ -1,0 +1,250 @@
+//! The table of opcodes: what each byte says.
+ghost use Rattle.std.specs.Prelude.{◌≡◌, ◌≢◌, ℕ, ◌+◌, ◌*◌, ◌<◌, IfSome, IfNone};
+ghost use Rattle.bpf_insn.specs.Opcode.{number_of, operation, source_bit, alu_class, jump_class, code_number, cond_number, size_number};
+ghost use Rattle.bpf_insn.specs.declared.opcode.Opcode.{Opcode};
+
+use crate::insn::{ByteOrder, Cond, SignedSize, Size, Width};
+
+/// The codes of the operations of two operands: the high four bits of the opcode.
+#[derive(Clone, Copy)]
+pub enum AluCode {
+    Add,
+    Sub,
+    Mul,
+    Div,
+    Or,
+    And,
+    Lsh,
+    Rsh,
+    Mod,
+    Xor,
+    Mov,
+    Arsh,
+}
+
+/// Where the second operand stands: in imm (K) or in the source register (X).
+#[derive(Clone, Copy)]
+pub enum Source {
+    K,
+    X,
+}
+
+/// What an opcode says of its instruction. 116 bytes are opcodes.
+#[derive(Clone, Copy)]
+pub enum Opcode {
+    Alu(Width, AluCode, Source),
+    Neg(Width),
+    End(ByteOrder),
+    Ja,
+    Ja32,
+    Jump(Width, Cond, Source),
+    Exit,
+    Ldx(Size),
+    Ldsx(SignedSize),
+    Stx(Size),
+    St(Size),
+    Wide,
+}
+
+impl Opcode {
+    /// The byte of the opcode.
+    pub fn number(self) -> u8
+        ensures { result ≡ number_of self }
+    {
+        match self {
+            Opcode::Alu(width, code, source) => alu_number(width, code_number(code), source),
+            Opcode::Neg(width) => alu_number(width, 0x8, Source::K),
+            Opcode::End(ByteOrder::Little) => 0xd4,
+            Opcode::End(ByteOrder::Big) => 0xdc,
+            Opcode::End(ByteOrder::Swap) => 0xd7,
+            Opcode::Ja => 0x05,
+            Opcode::Ja32 => 0x06,
+            Opcode::Jump(width, cond, source) => jump_number(width, cond_number(cond), source),
+            Opcode::Exit => 0x95,
+            Opcode::Ldx(size) => 0x61 + 8 * size_number(size),
+            Opcode::Ldsx(SignedSize::B8) => 0x91,
+            Opcode::Ldsx(SignedSize::B16) => 0x89,
+            Opcode::Ldsx(SignedSize::B32) => 0x81,
+            Opcode::Stx(size) => 0x63 + 8 * size_number(size),
+            Opcode::St(size) => 0x62 + 8 * size_number(size),
+            Opcode::Wide => 0x18,
+        }
+    }
+}
+
+fn alu_number(width: Width, code: u8, source: Source) -> u8
+    requires { code < 16 }
+    ensures { result ≡ operation code (source_bit source) (alu_class width) }
+{
+    let class = match width {
+        Width::W32 => 4,
+        Width::W64 => 7,
+    };
+    16 * code + 8 * source as u8 + class
+}
+
+fn jump_number(width: Width, code: u8, source: Source) -> u8
+    requires { code < 16 }
+    ensures { result ≡ operation code (source_bit source) (jump_class width) }
+{
+    let class = match width {
+        Width::W32 => 6,
+        Width::W64 => 5,
+    };
+    16 * code + 8 * source as u8 + class
+}
+
+fn code_number(code: AluCode) -> u8
+    ensures number { result ≡ code_number code }
+    ensures small { result < 16 }
+{
+    match code {
+        AluCode::Add => 0x0,
+        AluCode::Sub => 0x1,
+        AluCode::Mul => 0x2,
+        AluCode::Div => 0x3,
+        AluCode::Or => 0x4,
+        AluCode::And => 0x5,
+        AluCode::Lsh => 0x6,
+        AluCode::Rsh => 0x7,
+        AluCode::Mod => 0x9,
+        AluCode::Xor => 0xa,
+        AluCode::Mov => 0xb,
+        AluCode::Arsh => 0xc,
+    }
+}
+
+fn cond_number(cond: Cond) -> u8
+    ensures number { result ≡ cond_number cond }
+    ensures small { result < 16 }
+{
+    match cond {
+        Cond::Eq => 0x1,
+        Cond::Gt => 0x2,
+        Cond::Ge => 0x3,
+        Cond::Set => 0x4,
+        Cond::Ne => 0x5,
+        Cond::Sgt => 0x6,
+        Cond::Sge => 0x7,
+        Cond::Lt => 0xa,
+        Cond::Le => 0xb,
+        Cond::Slt => 0xc,
+        Cond::Sle => 0xd,
+    }
+}
+
+fn size_number(size: Size) -> u8
+    ensures { result ≡ size_number size }
+{
+    match size {
+        Size::B32 => 0,
+        Size::B16 => 1,
+        Size::B8 => 2,
+        Size::B64 => 3,
+    }
+}
+
+/// The opcodes of the classes ALU and ALU64.
+fn alu(width: Width, code: u8, source: Source) -> Option<Opcode>
+    requires { code < 16 }
+    ensures some { IfSome result (λ o. number_of o ≡ operation code (source_bit source) (alu_class width)) }
+    ensures none { IfNone result ((o : Opcode) → number_of o ≢ operation code (source_bit source) (alu_class width)) }
+{
+    let code = match code {
+        0 => AluCode::Add,
+        1 => AluCode::Sub,
+        2 => AluCode::Mul,
+        3 => AluCode::Div,
+        4 => AluCode::Or,
+        5 => AluCode::And,
+        6 => AluCode::Lsh,
+        7 => AluCode::Rsh,
+        9 => AluCode::Mod,
+        10 => AluCode::Xor,
+        11 => AluCode::Mov,
+        12 => AluCode::Arsh,
+        8 => {
+            return match source {
+                Source::K => Some(Opcode::Neg(width)),
+                Source::X => None,
+            };
+        }
+        13 => {
+            return match (width, source) {
+                (Width::W32, Source::K) => Some(Opcode::End(ByteOrder::Little)),
+                (Width::W32, Source::X) => Some(Opcode::End(ByteOrder::Big)),
+                (Width::W64, Source::K) => Some(Opcode::End(ByteOrder::Swap)),
+                (Width::W64, Source::X) => None,
+            };
+        }
+        _ => return None,
+    };
+    Some(Opcode::Alu(width, code, source))
+}
+
+/// The opcodes of the classes JMP and JMP32.
+fn jump(width: Width, code: u8, source: Source) -> Option<Opcode>
+    requires { code < 16 }
+    ensures some { IfSome result (λ o. number_of o ≡ operation code (source_bit source) (jump_class width)) }
+    ensures none { IfNone result ((o : Opcode) → number_of o ≢ operation code (source_bit source) (jump_class width)) }
+{
+    let cond = match code {
+        1 => Cond::Eq,
+        2 => Cond::Gt,
+        3 => Cond::Ge,
+        4 => Cond::Set,
+        5 => Cond::Ne,
+        6 => Cond::Sgt,
+        7 => Cond::Sge,
+        10 => Cond::Lt,
+        11 => Cond::Le,
+        12 => Cond::Slt,
+        13 => Cond::Sle,
+        _ => {
+            return match (code, width, source) {
+                (0, Width::W64, Source::K) => Some(Opcode::Ja),
+                (0, Width::W32, Source::K) => Some(Opcode::Ja32),
+                (9, Width::W64, Source::K) => Some(Opcode::Exit),
+                _ => None,
+            };
+        }
+    };
+    Some(Opcode::Jump(width, cond, source))
+}
+
+/// What the byte says, where it is an opcode of the profile.
+pub fn opcode_of(byte: u8) -> Option<Opcode>
+    ensures some { IfSome result (λ o. number_of o ≡ byte) }
+    ensures none { IfNone result ((o : Opcode) → number_of o ≢ byte) }
+{
+    let source = if byte / 8 % 2 == 0 {
+        Source::K
+    } else {
+        Source::X
+    };
+    match byte % 8 {
+        4 => alu(Width::W32, byte / 16, source),
+        7 => alu(Width::W64, byte / 16, source),
+        5 => jump(Width::W64, byte / 16, source),
+        6 => jump(Width::W32, byte / 16, source),
+        _ => match byte {
+            0x71 => Some(Opcode::Ldx(Size::B8)),
+            0x69 => Some(Opcode::Ldx(Size::B16)),
+            0x61 => Some(Opcode::Ldx(Size::B32)),
+            0x79 => Some(Opcode::Ldx(Size::B64)),
+            0x91 => Some(Opcode::Ldsx(SignedSize::B8)),
+            0x89 => Some(Opcode::Ldsx(SignedSize::B16)),
+            0x81 => Some(Opcode::Ldsx(SignedSize::B32)),
+            0x73 => Some(Opcode::Stx(Size::B8)),
+            0x6b => Some(Opcode::Stx(Size::B16)),
+            0x63 => Some(Opcode::Stx(Size::B32)),
+            0x7b => Some(Opcode::Stx(Size::B64)),
+            0x72 => Some(Opcode::St(Size::B8)),
+            0x6a => Some(Opcode::St(Size::B16)),
+            0x62 => Some(Opcode::St(Size::B32)),
+            0x7a => Some(Opcode::St(Size::B64)),
+            0x18 => Some(Opcode::Wide),
+            _ => None,
+        },
+    }
+}

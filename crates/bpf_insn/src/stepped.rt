@@ -1,0 +1,13 @@
+//! What a step answers.
+use crate::fault::Fault;
+
+/// What a step of the machine answers.
+#[derive(Clone, Copy, Debug, PartialEq, Eq)]
+pub enum Stepped {
+    /// The machine went on to another slot.
+    Went,
+    /// The machine is done, with this value.
+    Done(u64),
+    /// The machine is stuck at this slot, since the instruction there breaks this rule.
+    Stuck(Fault),
+}

@@ -1,0 +1,162 @@
+//! Each call once with ample memory, the refusals in their order, and a full builder. Every test but the full one also
+//! passes where any one allocation is refused: it then asks again, and finds what was put before.
+use crate::{Builder, Matrix, StoreError, Version};
+use std::alloc::AllocError;
+use std::process::Abort;
+use std::sync::Arc;
+use std::test::Fail;
+
+/// An entry: its row, its column and its value.
+type Triple = (u64, u64, u64);
+
+/// Puts an entry, and once more where memory was refused.
+fn put_again(builder: &mut Builder, (row, column, value): Triple) -> Result<(), StoreError> {
+    match builder.put(row, column, value) {
+        Err(StoreError::Memory) => builder.put(row, column, value),
+        other => other,
+    }
+}
+
+/// The matrix of a builder, asked for once more where memory was refused.
+fn finish_again(builder: Builder) -> Result<Matrix, AllocError> {
+    let builder = match builder.finish() {
+        Ok(matrix) => return Ok(matrix),
+        Err(builder) => builder,
+    };
+    builder.finish().map_err(|_| AllocError)
+}
+
+/// Every position of the matrix has the value of `entries`, or none.
+fn assert_holds(rt: &impl Abort, matrix: &Matrix, entries: &[Triple]) {
+    assert_eq!(rt; matrix.entries(), entries.len() as u64);
+    for i in 0..matrix.rows() {
+        for j in 0..matrix.columns() {
+            let wanted = entries.iter().find(|e| e.0 == i && e.1 == j).map(|e| e.2);
+            assert_eq!(rt; matrix.get(i, j), wanted, "at {i}, {j}");
+        }
+    }
+}
+
+#[test]
+fn finds_what_was_put(rt: HostRuntime) -> Result<(), Fail> {
+    let entries = [(2, 1, 5), (0, 3, 7), (0, 0, u64::MAX), (2, 0, 0), (0, 1, 3)];
+    let mut builder = Builder::new(rt.alloc(), 3, 4);
+    for entry in entries {
+        put_again(&mut builder, entry)?;
+    }
+    let matrix = finish_again(builder)?;
+    assert_eq!(rt; matrix.rows(), 3);
+    assert_eq!(rt; matrix.columns(), 4);
+    assert_holds(&rt, &matrix, &entries);
+    assert_eq!(rt; matrix.get(3, 0), None);
+    assert_eq!(rt; matrix.get(0, 4), None);
+    assert!(rt; matrix.rows() == 3);
+    assert_eq!(rt; matrix.row(0), [(0, u64::MAX), (1, 3), (3, 7)].as_slice());
+    assert_eq!(rt; matrix.row(1), [].as_slice());
+    assert_eq!(rt; matrix.row(2), [(0, 0), (1, 5)].as_slice());
+    Ok(())
+}
+
+#[test]
+fn refuses_and_goes_on(rt: HostRuntime) -> Result<(), Fail> {
+    let mut builder = Builder::new(rt.alloc(), 3, 4);
+    put_again(&mut builder, (1, 2, 10))?;
+    let refused = [
+        ((3, 0, 1), StoreError::IndexOutOfRange),
+        ((0, 4, 1), StoreError::IndexOutOfRange),
+        ((u64::MAX, u64::MAX, 1), StoreError::IndexOutOfRange),
+        ((1, 2, 11), StoreError::PositionGivenTwice),
+        ((1, 2, 10), StoreError::PositionGivenTwice),
+    ];
+    for (entry, error) in refused {
+        assert_eq!(rt; put_again(&mut builder, entry), Err(error));
+    }
+    put_again(&mut builder, (2, 3, 12))?;
+    assert_holds(&rt, &finish_again(builder)?, &[(1, 2, 10), (2, 3, 12)]);
+    Ok(())
+}
+
+#[test]
+fn sizes_reach_from_nothing_to_the_limit(rt: HostRuntime) -> Result<(), Fail> {
+    let mut none = Builder::new(rt.alloc(), 0, 0);
+    assert_eq!(rt; none.put(0, 0, 1), Err(StoreError::IndexOutOfRange));
+    assert_holds(&rt, &finish_again(none)?, &[]);
+
+    let last = 16_777_215;
+    let mut wide = Builder::new(rt.alloc(), 16_777_216, 16_777_216);
+    put_again(&mut wide, (last, last, 2))?;
+    put_again(&mut wide, (0, last, 1))?;
+    let wide = finish_again(wide)?;
+    assert_eq!(rt; wide.entries(), 2);
+    assert_eq!(rt; wide.get(0, last), Some(1));
+    assert_eq!(rt; wide.get(last, last), Some(2));
+    assert_eq!(rt; wide.get(last, 0), None);
+    assert!(rt; wide.rows() == 16_777_216);
+    assert_eq!(rt; wide.row(last), [(last, 2)].as_slice());
+    Ok(())
+}
+
+#[test]
+fn full_builder_refuses_in_order(rt: HostRuntime) -> Result<(), Fail> {
+    let mut builder = Builder::new(rt.alloc(), 4096, 4097);
+    for row in 0..4096 {
+        for column in 0..4096 {
+            builder.put(row, column, row ^ column)?;
+        }
+    }
+    assert_eq!(rt; builder.put(4096, 0, 1), Err(StoreError::IndexOutOfRange));
+    assert_eq!(rt; builder.put(17, 5, 1), Err(StoreError::PositionGivenTwice));
+    assert_eq!(rt; builder.put(17, 4096, 1), Err(StoreError::TooManyEntries));
+    let matrix = builder.finish().map_err(|_| AllocError)?;
+    assert_eq!(rt; matrix.entries(), 16_777_216);
+    assert_eq!(rt; matrix.get(4095, 4094), Some(1));
+    assert_eq!(rt; matrix.get(17, 4096), None);
+    Ok(())
+}
+
+#[test]
+fn version_has_several_owners(rt: HostRuntime) -> Result<(), Fail> {
+    let mut builder = Builder::new(rt.alloc(), 1, 1);
+    put_again(&mut builder, (0, 0, 41))?;
+    let matrix = finish_again(builder)?;
+    let first: Version = match Arc::new(rt.alloc(), matrix) {
+        Ok(version) => version,
+        Err(refused) => Arc::new(rt.alloc(), refused.value)?,
+    };
+    let second = Arc::try_clone(&first)?;
+    drop(first);
+    assert_eq!(rt; second.get(0, 0), Some(41));
+    Ok(())
+}
+
+#[test]
+fn errors_are_named(rt: HostRuntime) -> Result<(), Fail> {
+    let texts = [
+        (
+            StoreError::IndexOutOfRange,
+            "J1",
+            "J1: the row or the column is outside the matrix",
+        ),
+        (
+            StoreError::PositionGivenTwice,
+            "J2",
+            "J2: the position has an entry already",
+        ),
+        (
+            StoreError::TooManyEntries,
+            "J3",
+            "J3: a matrix has at most 16777216 entries",
+        ),
+        (StoreError::Memory, "memory", "no memory for the entry"),
+    ];
+    for (error, name, text) in texts {
+        assert_eq!(rt; error.name(), name);
+        let mut shown = String::new(rt.alloc());
+        if write!(shown, "{error}").is_err() {
+            shown.clear();
+            write!(shown, "{error}")?;
+        }
+        assert_eq!(rt; shown.as_str(), text);
+    }
+    Ok(())
+}

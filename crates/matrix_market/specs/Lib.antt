@@ -1,0 +1,4 @@
+pub mod CanonicalText
+pub mod Reading
+pub mod Refusal
+pub mod Rule

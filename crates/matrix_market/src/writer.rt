@@ -1,0 +1,65 @@
+//! Matrices to text.
+ghost use Rattle.std.specs.Prelude.{◌≡◌, ◌<◌, ◌≤◌, ◌+◌, ◌++◌, All, IfOk, OnOk};
+ghost use Rattle.csr_store.specs.Grid.{Cell, at_row, limit};
+ghost use Rattle.matrix_market.specs.CanonicalText.{canonical_text, entry_line, entry_lines, size_line};
+
+use crate::canonical::BANNER;
+use csr_store::Matrix;
+use csr_store::matrix::Cell;
+use itoa::Buffer;
+use std::alloc::{AllocError, Global};
+
+/// Adds the size line.
+fn push_sizes(out: &mut Vec<u8>, rows: u64, columns: u64, entries: u64) -> Result<(), AllocError>
+    ensures { OnOk result (out.new.items ≡ out.old.items ++ size_line rows columns entries) }
+{
+    let mut buffer = Buffer::new();
+    out.extend_from_slice(buffer.format(rows).as_bytes())?;
+    out.push(b' ')?;
+    out.extend_from_slice(buffer.format(columns).as_bytes())?;
+    out.push(b' ')?;
+    out.extend_from_slice(buffer.format(entries).as_bytes())?;
+    out.push(b'\n')?;
+    Ok(())
+}
+
+/// Adds the line of an entry.
+fn push_entry(out: &mut Vec<u8>, row: u64, column: u64, word: u64) -> Result<(), AllocError>
+    requires row { row < limit }
+    requires column { column < limit }
+    ensures { OnOk result (out.new.items ≡ out.old.items ++ entry_line ((row, column), word)) }
+{
+    let mut buffer = Buffer::new();
+    out.extend_from_slice(buffer.format(row + 1).as_bytes())?;
+    out.push(b' ')?;
+    out.extend_from_slice(buffer.format(column + 1).as_bytes())?;
+    out.push(b' ')?;
+    out.extend_from_slice(buffer.format(word.cast_signed()).as_bytes())?;
+    out.push(b'\n')?;
+    Ok(())
+}
+
+/// Adds the lines of the entries of a row.
+fn push_row(out: &mut Vec<u8>, row: u64, cells: &[Cell]) -> Result<(), AllocError>
+    requires row { row < limit }
+    requires columns { All (λ (c : Cell). c.0 < limit) cells.now }
+    ensures { OnOk result (out.new.items ≡ out.old.items ++ entry_lines (at_row row cells.now)) }
+{
+    for (column, word) in cells {
+        push_entry(out, row, *column, *word)?;
+    }
+    Ok(())
+}
+
+/// The canonical text of a matrix: the first line, the size line, and a line for each entry by
+/// ascending row and column.
+pub fn write(alloc: Global, matrix: &Matrix) -> Result<Vec<u8>, AllocError>
+    ensures { IfOk result (λ text. text.items ≡ canonical_text matrix.now) }
+{
+    let mut out = Vec::from_slice(alloc, BANNER)?;
+    push_sizes(&mut out, matrix.rows(), matrix.columns(), matrix.entries())?;
+    for row in 0..matrix.rows() {
+        push_row(&mut out, row, matrix.row(row))?;
+    }
+    Ok(out)
+}

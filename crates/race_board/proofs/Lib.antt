@@ -1,0 +1,11 @@
+pub mod Sums
+pub mod Balances
+pub mod Events
+pub mod Laws
+pub mod Replays
+pub mod Views
+pub mod Steps
+pub mod Seats
+pub mod Closing
+pub mod Turns
+pub mod Finishing

@@ -1,0 +1,187 @@
+//! A board on which workers in threads draw chunks, over two atomic words.
+ghost use Rattle.std.specs.Prelude.{◌≡◌, ℕ, ◌+◌, ◌^◌, ◌<◌, ◌≤◌, [], length, sum, slice_get, slice_index, All, Some, IfOk, IfSome, IfNone, vec_len};
+ghost use Rattle.race_board.specs.declared.stand.Stand.TheVariants.{Free, Holds};
+ghost use Rattle.race_board.specs.Race.{Worker, SeatState, IsSeatOf, MayDrawAt, IsFinished, RanOneRace, IsAboveDraws, IsToldEnd, IsWithinPrices, fresh_worker, fresh_workers, holding, told_end, completed, failed, total_of, one_if_below, times_completed, times_drawn, draws_of, steps_of, workers_of};
+ghost use Rattle.race_board.specs.Naming.{name_of};
+ghost use Rattle.race_board.specs.Crews.{IsClosedWith};
+
+use crate::crew::Crew;
+use crate::rule::{Place, SplitStep, Words};
+use crate::seat::BoardSeat;
+use crate::terms::Terms;
+use crate::totals::Totals;
+use std::alloc::{AllocError, Global};
+use std::marker::Model;
+
+/// A board for up to 64 workers. Each draws the next number by one atomic step, and adds the steps
+/// of a chunk by another; nobody waits. Contracts see it as a `BoardState` of `specs/Race.antt`.
+#[derive(Drop)]
+pub struct Board {
+    table: Words,
+    chunks: u64,
+}
+
+impl Model for Board {
+    ghost use Rattle.std.specs.Prelude.{◌≡◌, length};
+    ghost use Rattle.race_board.specs.Race.{BoardState};
+    ghost use Rattle.race_board.specs.Naming.{name_of};
+
+    ghost Value = { BoardState };
+
+    ghost view = { λ b. record { name = name_of b.table.shared.table_id; prices = b.table.shared.key.prices.items; workers = b.table.shared.key.workers } };
+
+    ghost invariant = { λ b. (b.table.shared.table_id.words ≡ 2) × (b.table.shared.table_id.slots ≡ 0) × (b.chunks ≡ length b.table.shared.key.prices.items) };
+}
+
+impl Board {
+    /// A board for chunks of these prices, and a seat for each of so many workers, in the order of
+    /// their numbers.
+    pub fn open(
+        alloc: Global,
+        prices: Vec<u64>,
+        workers: u64,
+    ) -> Result<(Board, Vec<BoardSeat>), AllocError>
+        requires workers { (0 < workers) × (workers ≤ 64) }
+        requires prices { sum prices.items ≤ 2 ^ 62 }
+        ensures board { IfOk result (λ r. (r.0.prices ≡ prices.items) × (r.0.workers ≡ workers)) }
+        ensures seats { IfOk result (λ r. vec_len r.1 ≡ workers) }
+        ensures ready { IfOk result (λ r. All (MayDrawAt r.0) r.1.items) }
+        ensures fresh { IfOk result (λ r. (k : ℕ) (s : SeatState) → slice_get r.1.items k ≡ Some s → s.worker ≡ fresh_worker k) }
+    {
+        let terms = Terms { prices, workers };
+        let (table, place) = Words::of_words(alloc, &[0, 0], &terms)?;
+        let chunks = terms.prices.len() as u64;
+        let seats = deal(&table, alloc, place, workers)?;
+        Ok((Board { table, chunks }, seats))
+    }
+
+    /// The worker draws: it gets a chunk, which it holds from then on, or is told the end.
+    pub fn draw(&self, seat: &mut BoardSeat) -> Option<u64>
+        requires own { IsSeatOf self.now seat.old }
+        requires free { seat.old.worker.stand ≡ Free }
+        ensures own { IsSeatOf self.now seat.new }
+        ensures chunk { IfSome result (λ c. (c < length self.now.prices) × (seat.new.worker ≡ holding c seat.old.worker)) }
+        ensures above { IfSome result (λ c. IsAboveDraws seat.old.worker c) }
+        ensures end { IfNone result (seat.new.worker ≡ told_end seat.old.worker) }
+    {
+        seat.crew.draw(&self.table, self.chunks)
+    }
+
+    /// The worker records the chunk that it holds as complete, with the steps that it took.
+    pub fn complete(&self, seat: &mut BoardSeat, chunk: u64, steps: u64)
+        requires own { IsSeatOf self.now seat.old }
+        requires holds { seat.old.worker.stand ≡ Holds chunk }
+        requires price { steps ≤ slice_index self.now.prices chunk }
+        ensures own { IsSeatOf self.now seat.new }
+        ensures completed { seat.new.worker ≡ completed chunk steps seat.old.worker }
+    {
+        seat.crew.complete(&self.table, chunk, steps);
+    }
+
+    /// The worker records the chunk that it holds as failed, with the steps that it took, and draws
+    /// no more.
+    pub fn fail(&self, seat: &mut BoardSeat, chunk: u64, steps: u64)
+        requires own { IsSeatOf self.now seat.old }
+        requires holds { seat.old.worker.stand ≡ Holds chunk }
+        requires price { steps ≤ slice_index self.now.prices chunk }
+        ensures own { IsSeatOf self.now seat.new }
+        ensures failed { seat.new.worker ≡ failed chunk steps seat.old.worker }
+    {
+        seat.crew.fail(&self.table, chunk, steps);
+    }
+
+    /// Puts an end to the board, with the seats that are left: all, or some where a seat was lost
+    /// with its thread, or none.
+    pub fn close(self, seats: Vec<BoardSeat>) -> Totals
+        requires own { All (IsSeatOf self) seats.items }
+
+        // Exact sums over the workers whose seats these are.
+        ensures draws { result.draws ≡ total_of draws_of (workers_of seats.items) }
+        ensures spent { result.spent ≡ total_of steps_of (workers_of seats.items) }
+
+        // No chunk was drawn by two of them, and none that isn't there.
+        ensures once { (c : ℕ) → total_of (times_drawn c) (workers_of seats.items) ≤ one_if_below c (length self.prices) }
+        ensures within { All (IsWithinPrices self.prices) (workers_of seats.items) }
+
+        // With the workers whose seats were lost, they ran one race that meets the law.
+        ensures race { RanOneRace self (workers_of seats.items) }
+
+        // With all workers, of whom one was told the end, each chunk was drawn.
+        ensures all { IsFinished self (workers_of seats.items) → result.draws ≡ length self.prices }
+        ensures each { IsFinished self (workers_of seats.items) → (c : ℕ) → total_of (times_drawn c) (workers_of seats.items) ≡ one_if_below c (length self.prices) }
+
+        // Where all of them were told the end, so that none failed, each chunk was completed once.
+        ensures completed { IsFinished self (workers_of seats.items) → All IsToldEnd (workers_of seats.items) → (c : ℕ) → total_of (times_completed c) (workers_of seats.items) ≡ one_if_below c (length self.prices) }
+    {
+        let mut seats = seats;
+        let Some(first) = seats.pop() else {
+            return Totals { draws: 0, spent: 0 };
+        };
+        let Board { table, chunks: _ } = self;
+        let all = gather(&table, first, seats);
+        end(table, all)
+    }
+}
+
+// A seat for each worker: the place in hand has those that are not yet split off.
+fn deal(
+    table: &Words,
+    alloc: Global,
+    place: Place,
+    workers: u64,
+) -> Result<Vec<BoardSeat>, AllocError>
+    requires workers { 0 < workers }
+    requires words { table.now.shared.table_id.words ≡ 2 }
+    requires own { place.table_id ≡ table.now.shared.table_id }
+    requires all { place.me ≡ (fresh_workers 0 workers, []) }
+    ensures len { IfOk result (λ v. vec_len v ≡ workers) }
+    ensures fresh { IfOk result (λ v. (k : ℕ) (s : SeatState) → slice_get v.items k ≡ Some s → (s.board ≡ name_of table.now.shared.table_id) × (s.worker ≡ fresh_worker k)) }
+{
+    let mut place = place;
+    let mut seats = Vec::with_capacity(alloc, workers as usize)?;
+    for _worker in 0..workers - 1 {
+        let first = table.shared.split_seat::<SplitStep>(&mut place);
+        seats.push(BoardSeat {
+            crew: Crew::new(first),
+        })?;
+    }
+    seats.push(BoardSeat {
+        crew: Crew::new(place),
+    })?;
+    Ok(seats)
+}
+
+// One crew of all these seats' workers.
+fn gather(table: &Words, first: BoardSeat, seats: Vec<BoardSeat>) -> Crew
+    requires words { table.now.shared.table_id.words ≡ 2 }
+    requires first { first.board ≡ name_of table.now.shared.table_id }
+    requires own { All (λ s. s.board ≡ name_of table.now.shared.table_id) seats.items }
+    ensures own { result.place.table_id ≡ table.now.shared.table_id }
+    ensures all { (f : Worker → ℕ) → total_of f result.place.me.0 ≡ total_of f (workers_of seats.items) + f first.worker }
+{
+    let BoardSeat { crew } = first;
+    let mut all = crew;
+    let mut seats = seats;
+    while let Some(next) = seats.pop() {
+        let BoardSeat { crew } = next;
+        all = all.join(table, crew);
+    }
+    all
+}
+
+fn end(table: Words, all: Crew) -> Totals
+    requires slots { table.shared.table_id.slots ≡ 0 }
+    requires own { all.place.table_id ≡ table.shared.table_id }
+    ensures draws { result.draws ≡ total_of draws_of all.place.me.0 }
+    ensures spent { result.spent ≡ total_of steps_of all.place.me.0 }
+    ensures held { IsClosedWith table.shared.key all.place.me.0 }
+{
+    let Crew {
+        place,
+        draws,
+        spent,
+    } = all;
+    let closed = table.close_with(place);
+    closed.free();
+    Totals { draws, spent }
+}

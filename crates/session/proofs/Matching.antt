@@ -1,0 +1,209 @@
+-- Each amount that was taken is settled once, in order, or is still held.
+use Rattle.std.proofs.Common.{◌≡◌, ℕ, Bool, true, false, List, [], ◌∷◌, ◌++◌, map, Option, None, Some, Result, Ok, Err, MatchBool, ◌⊎◌, inl, inr, refl, sym, ap, ◌∙◌, append_assoc}
+use Rattle.std.proofs.lemmas.List.{map-append}
+use Rattle.std.specs.Prelude.{nat_lt, nat_le, length, ◌&&◌}
+use Rattle.hex.specs.Hex.{decode_of}
+use Rattle.session.specs.Words.{is_name, kind_of_word, without_gaps}
+use Rattle.session.specs.declared.steps.Reserved.TheVariants.{Took, NotEnough}
+use Rattle.session.specs.declared.end.End.{End}
+use Rattle.session.specs.Budget.{Dealing, Reserve, Settle, Tell, amounts_taken, amounts_settled}
+use Rattle.session.specs.State.{State, Job, price}
+use Rattle.session.specs.Calls.{Finished, AreMatricesOf}
+use Rattle.session.specs.Request.{Command, Blank, Matrix, Op, Apply, Run, Show, Budget, Quit, Refuse, Next}
+use Rattle.session.specs.Talk.{released}
+use Rattle.session.specs.Turn.{Turn, TakesMatrix, TakesOperator, TakesDigits, TakesKind, Submits, Prices, FindsOperands, Shows, RunTurn, Refuses, Replies, is_unary, settled, charged}
+use Rattle.session.specs.Exchange.{IsLast}
+use Rattle.session.specs.declared.refusal.Refusal.TheVariants as no
+use Rattle.session.specs.declared.rule.SessionRule.TheVariants.{MalformedName}
+use Rattle.session.specs.declared.rule.JobRule.TheVariants.{WrongKind, QueueFull, PriceTooHigh}
+use Rattle.session.specs.declared.operator.Operator.{Operator}
+use Rattle.session.specs.Replies.{refusal_text}
+use Rattle.csr_store.specs.Grid.{Grid}
+use Rattle.session.proofs.Known.{append_nil}
+
+pub taken-append : (ds es : List Dealing) → amounts_taken (ds ++ es) ≡ amounts_taken ds ++ amounts_taken es
+taken-append [] es = refl
+taken-append (Reserve amount (Took taken) ∷ ds) es = ap (λ xs. amount ∷ xs) (taken-append ds es)
+taken-append (Reserve amount (NotEnough left) ∷ ds) es = taken-append ds es
+taken-append (Settle amount spent ∷ ds) es = taken-append ds es
+taken-append (Tell totals ∷ ds) es = taken-append ds es
+
+pub settled-append : (ds es : List Dealing) → amounts_settled (ds ++ es) ≡ amounts_settled ds ++ amounts_settled es
+settled-append [] es = refl
+settled-append (Reserve amount reply ∷ ds) es = settled-append ds es
+settled-append (Settle amount spent ∷ ds) es = ap (λ xs. amount ∷ xs) (settled-append ds es)
+settled-append (Tell totals ∷ ds) es = settled-append ds es
+
+pub settled-released : (jobs : List Job) → amounts_settled (released jobs) ≡ map price jobs
+settled-released [] = refl
+settled-released (j ∷ js) = ap (λ xs. price j ∷ xs) (settled-released js)
+
+pub taken-released : (jobs : List Job) → amounts_taken (released jobs) ≡ []
+taken-released [] = refl
+taken-released (j ∷ js) = taken-released js
+
+settled-settled : (jobs : List Job) (ended : List Finished) → AreMatricesOf jobs ended → amounts_settled (settled jobs ended) ≡ map price jobs
+settled-settled [] ended a = refl
+settled-settled (j ∷ js) [] a = absurd (let bad = a.4 in cc)
+settled-settled (j ∷ js) (e ∷ es) a =
+    let same : es ≡ a.1 = let q = a.4 in cc in
+    ap (λ xs. price j ∷ xs) (settled-settled js es (rw same a.3))
+
+taken-settled : (jobs : List Job) (ended : List Finished) → amounts_taken (settled jobs ended) ≡ []
+taken-settled [] ended = refl
+taken-settled (j ∷ js) [] = refl
+taken-settled (j ∷ js) (e ∷ es) = taken-settled js es
+
+settled-charged : (jobs : List Job) (spent : ℕ) → amounts_settled (charged jobs spent) ≡ map price jobs
+settled-charged [] spent = refl
+settled-charged (j ∷ js) spent = ap (λ xs. price j ∷ xs) (settled-charged js _)
+
+taken-charged : (jobs : List Job) (spent : ℕ) → amounts_taken (charged jobs spent) ≡ []
+taken-charged [] spent = refl
+taken-charged (j ∷ js) spent = taken-charged js _
+
+-- The prices that are held before, and what is taken, are what is settled, and the prices that are held after.
+abbrev pub IsMatched : State → List Dealing → State → Type 0
+IsMatched s ds t = map price s.queue ++ amounts_taken ds ≡ amounts_settled ds ++ map price t.queue
+
+module _ (s t : State) (ds : List Dealing) where
+  -- no call was made, and the jobs stay
+  quiet : ds ≡ [] → t.queue ≡ s.queue → IsMatched s ds t
+  quiet e q = rw (e, q) (append_nil (map price s.queue))
+
+  said : (text reply : List ℕ) → Replies text s ds reply t → IsMatched s ds t
+  said text reply h = quiet h.0 (ap (λ (x : State). x.queue) h.2)
+
+  -- all prices are settled, and no job waits
+  emptied : amounts_settled ds ≡ map price s.queue → amounts_taken ds ≡ [] → t.queue ≡ [] → IsMatched s ds t
+  emptied a b q = rw (a, b, q) refl
+
+  operator_matched : (name : List ℕ) (code reply : List ℕ) (kind : _) → TakesOperator s name kind code ds reply t → IsMatched s ds t
+  operator_matched name code reply kind h = elim h [
+    | inl w ↦ quiet w.2 (ap (λ (x : State). x.queue) w.4)
+    | inr w ↦ said _ reply w.2
+  ]
+
+  digits_matched : (name reply : List ℕ) (kind : _) (r : _) → TakesDigits s name kind r ds reply t → IsMatched s ds t
+  digits_matched name reply kind (Err e) h = said _ reply h
+  digits_matched name reply kind (Ok code) h = operator_matched name code reply kind h
+
+  kind_matched : (name body reply : List ℕ) (kind : _) → TakesKind s name kind body ds reply t → IsMatched s ds t
+  kind_matched name body reply None h = said _ reply h
+  kind_matched name body reply (Some kind) h =
+      elim (is_name name) as (λ v. MatchBool v (TakesDigits s name kind (decode_of (without_gaps body)) ds reply t) (Refuses (no.Session MalformedName) s ds reply t) → IsMatched s ds t) [
+        | true ↦ λ w. digits_matched name reply kind (decode_of (without_gaps body)) w
+        | false ↦ λ w. said _ reply w
+      ] h
+
+  submits_matched : (job : Job) (reply : List ℕ) → Submits s job ds reply t → IsMatched s ds t
+  submits_matched job reply h = elim h [
+    | inl w ↦ let q : t.queue ≡ s.queue ++ job ∷ [] = ap (λ (x : State). x.queue) w.2 in rw (w.0, q) (sym (map-append price s.queue (job ∷ [])))
+    | inr w ↦ let q : t.queue ≡ s.queue = ap (λ (x : State). x.queue) w.3 in rw (w.1, q) (append_nil (map price s.queue))
+  ]
+
+  prices_matched : (job : Job) (reply : List ℕ) → Prices s job ds reply t → IsMatched s ds t
+  prices_matched job reply h =
+      let wrong = Refuses (no.Job WrongKind) s ds reply t in
+      let dear = Refuses (no.Job PriceTooHigh) s ds reply t in
+      elim (is_unary job.operator.kind) as (λ v. MatchBool v (MatchBool (nat_le (price job) 4294967296) (Submits s job ds reply t) dear) wrong → IsMatched s ds t) [
+        | true ↦ λ w. elim (nat_le (price job) 4294967296) as (λ v. MatchBool v (Submits s job ds reply t) dear → IsMatched s ds t) [
+          | true ↦ λ x. submits_matched job reply x
+          | false ↦ λ x. said (refusal_text (no.Job PriceTooHigh)) reply x
+        ] w
+        | false ↦ λ w. said (refusal_text (no.Job WrongKind)) reply w
+      ] h
+
+  operands_matched : (output reply : List ℕ) (operator : Option Operator) (operand : Option Grid) → FindsOperands s output operator operand ds reply t → IsMatched s ds t
+  operands_matched output reply None operand h = said _ reply h
+  operands_matched output reply (Some operator) None h = said _ reply h
+  operands_matched output reply (Some operator) (Some operand) h =
+      let job : Job = record { output = output; operator = operator; operand = operand } in
+      let full = Refuses (no.Job QueueFull) s ds reply t in
+      elim (nat_lt (length s.queue) 64) as (λ v. MatchBool v (Refuses no.Memory s ds reply t ⊎ Prices s job ds reply t) full → IsMatched s ds t) [
+        | true ↦ λ w. elim w [
+          | inl x ↦ said _ reply x
+          | inr x ↦ prices_matched job reply x
+        ]
+        | false ↦ λ w. said (refusal_text (no.Job QueueFull)) reply w
+      ] h
+
+  shows_matched : (reply : List ℕ) (g : _) → Shows s g ds reply t → IsMatched s ds t
+  shows_matched reply None h = said _ reply h
+  shows_matched reply (Some g) h = elim h [ inl w ↦ said _ reply w | inr w ↦ said _ reply w ]
+
+  run_matched : (reply : List ℕ) → RunTurn s ds reply t → IsMatched s ds t
+  run_matched reply h = elim h [
+    | inl w ↦ emptied (ap amounts_settled w.2 ∙ settled-settled s.queue w.0 w.1) (ap amounts_taken w.2 ∙ taken-settled s.queue w.0) (ap (λ (x : State). x.queue) w.4)
+    | inr m ↦ elim m [
+      | inl w ↦ emptied (ap amounts_settled w.3.0 ∙ settled-charged s.queue w.1) (ap amounts_taken w.3.0 ∙ taken-charged s.queue w.1) (ap (λ (x : State). x.queue) w.3.2)
+      | inr w ↦ emptied (ap amounts_settled w.2.0 ∙ settled-charged s.queue w.0) (ap amounts_taken w.2.0 ∙ taken-charged s.queue w.0) (ap (λ (x : State). x.queue) w.2.2)
+    ]
+  ]
+
+  matrix_matched : (name body reply : List ℕ) → TakesMatrix s name body ds reply t → IsMatched s ds t
+  matrix_matched name body reply h = elim h [
+    | inl w ↦ quiet w.3 (ap (λ (x : State). x.queue) w.5)
+    | inr w ↦ said _ reply w.1
+  ]
+
+  -- a turn
+  pub turn_matched : (c : Command) (reply : List ℕ) → Turn s c ds reply t → IsMatched s ds t
+  turn_matched Blank reply h = said _ reply h
+  turn_matched (Matrix name body) reply h = elim h [
+    | inl w ↦ said _ reply w
+    | inr w ↦ elim (is_name name) as (λ v. MatchBool v (TakesMatrix s name body ds reply t) (Refuses (no.Session MalformedName) s ds reply t) → IsMatched s ds t) [
+      | true ↦ λ x. matrix_matched name body reply x
+      | false ↦ λ x. said _ reply x
+    ] w
+  ]
+  turn_matched (Op name kind body) reply h = elim h [
+    | inl w ↦ said _ reply w
+    | inr w ↦ kind_matched name body reply (kind_of_word kind) w
+  ]
+  turn_matched (Apply output operator operand) reply h =
+      elim (is_name output && (is_name operator && is_name operand)) as (λ v. MatchBool v (FindsOperands s output (s.operators operator) (s.matrices operand) ds reply t) (Refuses (no.Session MalformedName) s ds reply t) → IsMatched s ds t) [
+        | true ↦ λ x. operands_matched output reply (s.operators operator) (s.matrices operand) x
+        | false ↦ λ x. said _ reply x
+      ] h
+  turn_matched Run reply h = run_matched reply h
+  turn_matched (Show name) reply h =
+      elim (is_name name) as (λ v. MatchBool v (Shows s (s.matrices name) ds reply t) (Refuses (no.Session MalformedName) s ds reply t) → IsMatched s ds t) [
+        | true ↦ λ x. shows_matched reply (s.matrices name) x
+        | false ↦ λ x. said _ reply x
+      ] h
+  turn_matched Budget reply h = let q : t.queue ≡ s.queue = ap (λ (x : State). x.queue) h.3 in rw (h.1, q) (append_nil (map price s.queue))
+  turn_matched Quit reply h = said _ reply h
+  turn_matched (Refuse rule) reply h = said _ reply h
+
+  -- the last thing that is said
+  pub last_matched : (cut : Bool) (is : Next) (text : List ℕ) (end : Option End) → IsLast cut is s ds text end t → IsMatched s ds t
+  last_matched cut is text end l = elim l [
+    | inl w ↦ quiet w.2 (ap (λ (x : State). x.queue) w.4)
+    | inr m ↦ elim m [
+      | inl w ↦ quiet w.2 (ap (λ (x : State). x.queue) w.4)
+      | inr n ↦ elim n [
+        | inl w ↦ turn_matched w.0 text w.4
+        | inr w ↦ turn_matched w.0 text w.5
+      ]
+    ]
+  ]
+
+-- what was taken and settled so far, and then by one thing more
+pub matched_more : (s t : State) (ds es : List Dealing) → amounts_taken ds ≡ amounts_settled ds ++ map price s.queue → IsMatched s es t → amounts_taken (ds ++ es) ≡ amounts_settled (ds ++ es) ++ map price t.queue
+matched_more s t ds es m n =
+    taken-append ds es
+    ∙ (ap (λ xs. xs ++ amounts_taken es) m
+    ∙ (append_assoc (amounts_settled ds) (map price s.queue) (amounts_taken es)
+    ∙ (ap (λ xs. amounts_settled ds ++ xs) n
+    ∙ (sym (append_assoc (amounts_settled ds) (amounts_settled es) (map price t.queue))
+    ∙ ap (λ xs. xs ++ map price t.queue) (sym (settled-append ds es))))))
+
+-- at the end nothing is held
+pub matched_last : (t : State) (ds : List Dealing) → amounts_taken ds ≡ amounts_settled ds ++ map price t.queue → amounts_settled (ds ++ released t.queue) ≡ amounts_taken (ds ++ released t.queue)
+matched_last t ds m =
+    settled-append ds (released t.queue)
+    ∙ (ap (λ xs. amounts_settled ds ++ xs) (settled-released t.queue)
+    ∙ (sym m
+    ∙ (sym (append_nil (amounts_taken ds))
+    ∙ (ap (λ xs. amounts_taken ds ++ xs) (sym (taken-released t.queue)) ∙ sym (taken-append ds (released t.queue))))))

@@ -1,0 +1,12 @@
+use Rattle.std.proofs.Common.{rules, sym, subst, ℕ, ◌≤◌, ◌^◌, []}
+use Rattle.crossbeam_utils.specs.Register.{Forks}
+use Rattle.step_purse.specs.declared.views.View.{View}
+use Rattle.step_purse.specs.Rule.{Kept, idle}
+use Rattle.step_purse.proofs.Steps.{opens}
+use Rattle.step_purse.proofs.shared.steps.open.Goals as goal
+
+pub split_pass-requires : goal.split_pass-requires
+split_pass-requires g c =
+    let allowance = g.S.Step.allowance in
+    let begun = opens c.args.first.now.id allowance (subst (λ (a : ℕ). a ≤ 2 ^ 62) (sym c.requires.pick) c.requires.small) in
+    (search rules, (search rules, (search rules, subst (λ (v : View). Forks Kept c.args.first.now.id v (idle allowance []) (idle allowance [])) (sym c.requires.blank) begun)))

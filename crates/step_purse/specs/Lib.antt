@@ -1,0 +1,5 @@
+pub mod Plain
+pub mod Histories
+pub mod Rule
+pub mod Seats
+pub mod Passes

@@ -1,0 +1,59 @@
+-- The purse of one thread: what each call replies and leaves, and which histories of calls are legal. This project's own.
+use Rattle.std.specs.Prelude.{◌≡◌, ℕ, ◌+◌, ◌-◌, ◌<◌, ◌≤◌, nat_le, List, [], ◌∷◌, if◌then◌else◌}
+use Rattle.step_purse.specs.declared.dealings.Totals.{Totals}
+use Rattle.step_purse.specs.declared.dealings.Reply.{Reply}
+use Rattle.step_purse.specs.declared.dealings.Reply.TheVariants.{Took, NotEnough}
+use Rattle.step_purse.specs.declared.dealings.Dealing.{Dealing}
+use Rattle.step_purse.specs.declared.dealings.Dealing.TheVariants.{Reserved, Settled, Told}
+
+-- a purse as it is opened: its whole allowance is left
+abbrev pub opened : ℕ → Totals
+opened allowance = record { left = allowance; reserved = 0; spent = 0 }
+
+-- all steps of a purse
+abbrev pub total : Totals → ℕ
+total t = t.left + t.reserved + t.spent
+
+-- what `reserve` replies: the whole amount is taken, or nothing of it
+abbrev pub reply_to : Totals → ℕ → Reply
+reply_to t amount = if nat_le amount t.left then Took amount else NotEnough t.left
+
+-- a reply that `reserve` may give where the purse isn't known
+abbrev pub IsReplyTo : ℕ → Reply → Type 0
+IsReplyTo amount (Took taken) = taken ≡ amount
+IsReplyTo amount (NotEnough left) = left < amount
+
+-- the call may be made of this purse, and the reply is the one that it gives
+abbrev pub IsAnswered : Totals → Dealing → Type 0
+IsAnswered t (Reserved amount reply) = reply ≡ reply_to t amount
+IsAnswered t (Settled amount spent) = (spent ≤ amount) × (amount ≤ t.reserved)
+IsAnswered t (Told reply) = reply ≡ t
+
+-- what a call leaves
+abbrev pub after : Totals → Dealing → Totals
+after t (Reserved amount (Took taken)) = record { left = t.left - taken; reserved = t.reserved + taken; spent = t.spent }
+after t (Reserved amount (NotEnough left)) = t
+after t (Settled amount spent) = record { left = t.left + (amount - spent); reserved = t.reserved - amount; spent = t.spent + spent }
+after t (Told reply) = t
+
+-- what the calls of a history leave, made from the first to the last
+abbrev pub after_all : Totals → List Dealing → Totals
+after_all t [] = t
+after_all t (d ∷ ds) = after_all (after t d) ds
+
+-- each reply of the history is the one that the purse gives at that point
+abbrev pub IsLegal : Totals → List Dealing → Type 0
+IsLegal t [] = Unit {0}
+IsLegal t (d ∷ ds) = IsAnswered t d × IsLegal (after t d) ds
+
+-- what a caller owes after a call of its own: what was reserved for it and is not yet settled
+abbrev pub owed_after : ℕ → Dealing → ℕ
+owed_after owed (Reserved amount (Took taken)) = owed + taken
+owed_after owed (Reserved amount (NotEnough left)) = owed
+owed_after owed (Settled amount spent) = owed - amount
+owed_after owed (Told reply) = owed
+
+-- what it owes after several
+abbrev pub owed_after_all : ℕ → List Dealing → ℕ
+owed_after_all owed [] = owed
+owed_after_all owed (d ∷ ds) = owed_after_all (owed_after owed d) ds

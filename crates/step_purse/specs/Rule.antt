@@ -1,0 +1,112 @@
+-- The rule that a purse's cell is kept by: what its three words say, and what each pass knows. This project's own.
+-- The words are what is left, reserved and spent. The first counts what the purse withholds too: the greatest allowance less its own.
+-- So the three add up to 2^62 in every purse, and every cell begins with the same words.
+use Rattle.std.specs.Prelude.{◌≡◌, ◌⊎◌, ℕ, ◌+◌, ◌-◌, ◌^◌, ◌≤◌, nat_lt, nat_le, nat_eq, List, [], ◌∷◌, ◌++◌, length, slice_index, MatchBool, true, false, if◌then◌else◌}
+use mathlib.Core.Option.{some}
+use lib.ListN.{get_elem?}
+use lib.Pointwise.{pointwise}
+use Rattle.step_purse.specs.declared.dealings.Totals.{Totals}
+use Rattle.step_purse.specs.declared.dealings.Reply.TheVariants.{NotEnough}
+use Rattle.step_purse.specs.declared.dealings.Dealing.{Dealing}
+use Rattle.step_purse.specs.declared.dealings.Dealing.TheVariants.{Reserved, Settled, Told}
+use Rattle.step_purse.specs.declared.views.View.{View}
+use Rattle.step_purse.specs.Plain.{opened, total, after_all, IsLegal}
+use Rattle.step_purse.specs.Histories.{Begins, Stand, total_of, times_at, newcomer, IsSound, Makes}
+
+-- what a purse of this allowance never gives out
+abbrev pub withheld : ℕ → ℕ
+withheld allowance = 2 ^ 62 - allowance
+
+abbrev pub words_of : ℕ → Totals → List ℕ
+words_of allowance t = (t.left + withheld allowance) ∷ t.reserved ∷ t.spent ∷ []
+
+abbrev pub totals_in : ℕ → List ℕ → Totals
+totals_in allowance words = record { left = slice_index words 0 - withheld allowance; reserved = slice_index words 1; spent = slice_index words 2 }
+
+-- the words are those of a purse of this allowance
+pub record AddsUp (allowance : ℕ) (words : List ℕ) : Type 0 where
+  pub held : withheld allowance ≤ slice_index words 0
+  pub total : total (totals_in allowance words) ≡ allowance
+
+-- what a pass knows is true of the history
+pub record Knows (allowance : ℕ) (history : List Dealing) (v : View) : Type 0 where
+  pub opened : v.opened ≡ true
+  pub agrees : v.allowance ≡ allowance
+  pub seen : Begins v.known.seen history
+  pub beside : Begins v.beside history
+  pub calls : Stand history v.known.calls
+
+abbrev pub once_below : ℕ → ℕ → ℕ
+once_below k n = if nat_lt k n then 1 else 0
+
+-- A legal history from the allowance leads to the words. Each of its calls is one pass's own, and what the passes owe is what is reserved
+pub record IsOpened (allowance : ℕ) (words : List ℕ) (views : List View) : Type 0 where
+  pub history : List Dealing
+  pub small : allowance ≤ 2 ^ 62
+  pub legal : IsLegal (opened allowance) history
+  pub now : words ≡ words_of allowance (after_all (opened allowance) history)
+  pub once : (place : ℕ) → total_of (λ (v : View). times_at place v.known.calls) views ≡ once_below place (length history)
+  pub owed : total_of (λ (v : View). v.known.owes) views ≡ (after_all (opened allowance) history).reserved
+  pub knows : (id : ℕ) (v : View) → get_elem? views id ≡ some v → Knows allowance history v
+
+-- the first view, of a cell that is no purse's yet
+abbrev pub blank : View
+blank = record { opened = false; allowance = 0; known = newcomer []; beside = [] }
+
+-- a view that has made no call
+abbrev pub idle : ℕ → List Dealing → View
+idle allowance seen = record { opened = true; allowance = allowance; known = newcomer seen; beside = [] }
+
+abbrev pub IsUnopened : List ℕ → List View → Type 0
+IsUnopened words views = (words ≡ 2 ^ 62 ∷ 0 ∷ 0 ∷ []) × (views ≡ blank ∷ [])
+
+abbrev pub Kept : List ℕ → List View → Type 0
+Kept words views = IsUnopened words views ⊎ ((allowance : ℕ) × IsOpened allowance words views)
+
+-- what the pass knows changes, and all else of its view stays
+pub record SameBut (v w : View) : Type 0 where
+  pub opened : w.opened ≡ v.opened
+  pub allowance : w.allowance ≡ v.allowance
+  pub beside : w.beside ≡ v.beside
+
+-- Refuse or Look: a load is a call of `reserve` where too little is left, and else changes nothing
+abbrev pub asked : ℕ → View → List ℕ → List ℕ → View → Type 0
+asked amount v x y w =
+    let left = (totals_in v.allowance x).left in
+    AddsUp v.allowance x × SameBut v w × MatchBool (nat_le amount left) (w.known ≡ v.known) (Makes v.allowance v.known (Reserved amount (NotEnough left)) w.known)
+
+-- Reserve, Settle or Look: an exchange is the call where it finds the words that it expects, and else changes nothing
+abbrev pub exchanged : List ℕ → Dealing → View → List ℕ → List ℕ → View → Type 0
+exchanged expected call v x y w = SameBut v w × MatchBool (pointwise nat_eq x expected) (Makes v.allowance v.known call w.known) (w.known ≡ v.known)
+
+-- Read: a load is a call of `totals`
+abbrev pub counted : View → List ℕ → List ℕ → View → Type 0
+counted v x y w = AddsUp v.allowance x × SameBut v w × Makes v.allowance v.known (Told (totals_in v.allowance x)) w.known
+
+-- Look: a load before a try of `settle`
+abbrev pub peeked : View → List ℕ → List ℕ → View → Type 0
+peeked v x y w = AddsUp v.allowance x × (v.known.owes ≤ slice_index x 1) × (w ≡ v)
+
+-- the last step of Join: a load that shows the history, which begins with both beginnings
+pub record SeesBoth (v w : View) : Type 0 where
+  pub opened : w.opened ≡ v.opened
+  pub allowance : w.allowance ≡ v.allowance
+  pub beside : w.beside ≡ []
+  pub first_seen : Begins v.known.seen w.known.seen
+  pub second_seen : Begins v.beside w.known.seen
+  pub calls : w.known.calls ≡ v.known.calls
+  pub owes : w.known.owes ≡ v.known.owes
+  pub sound : IsSound v.allowance w.known
+
+abbrev pub learned : View → List ℕ → List ℕ → View → Type 0
+learned v x y w = SeesBoth v w
+
+-- two views made one
+abbrev pub joined : View → View → View
+joined v u = record { opened = v.opened; allowance = v.allowance; known = record { seen = v.known.seen; calls = v.known.calls ++ u.known.calls; owes = v.known.owes + u.known.owes }; beside = u.known.seen }
+
+-- which calls a pass may make with what it owes
+abbrev pub MayMake : ℕ → Dealing → Type 0
+MayMake owes (Reserved amount reply) = Unit {0}
+MayMake owes (Settled amount spent) = amount ≤ owes
+MayMake owes (Told reply) = Unit {0}
