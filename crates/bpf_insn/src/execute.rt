@@ -15,7 +15,10 @@ impl Frame {
     /// Writes what the instruction writes, into a register or the stack.
     pub fn execute(&mut self, insn: Insn)
         requires { IsAllowed self.old.registers insn }
-        ensures { self.new ≡ record self.old { stack = new_stack self.old.registers self.old.stack insn; registers = new_registers self.old.registers (written self.old.registers self.old.stack insn) } }
+        ensures { self.new ≡ record self.old {
+          stack = new_stack self.old.registers self.old.stack insn;
+          registers = new_registers self.old.registers (written self.old.registers self.old.stack insn);
+        } }
     {
         let written = self.written(insn);
         self.write_stack(insn);

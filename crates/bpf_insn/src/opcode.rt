@@ -148,7 +148,8 @@ fn size_number(size: Size) -> u8
 fn alu(width: Width, code: u8, source: Source) -> Option<Opcode>
     requires { code < 16 }
     ensures some { IfSome result (λ o. number_of o ≡ operation code (source_bit source) (alu_class width)) }
-    ensures none { IfNone result ((o : Opcode) → number_of o ≢ operation code (source_bit source) (alu_class width)) }
+    ensures none { IfNone result ((o : Opcode) →
+        number_of o ≢ operation code (source_bit source) (alu_class width)) }
 {
     let code = match code {
         0 => AluCode::Add,
@@ -186,7 +187,8 @@ fn alu(width: Width, code: u8, source: Source) -> Option<Opcode>
 fn jump(width: Width, code: u8, source: Source) -> Option<Opcode>
     requires { code < 16 }
     ensures some { IfSome result (λ o. number_of o ≡ operation code (source_bit source) (jump_class width)) }
-    ensures none { IfNone result ((o : Opcode) → number_of o ≢ operation code (source_bit source) (jump_class width)) }
+    ensures none { IfNone result ((o : Opcode) →
+        number_of o ≢ operation code (source_bit source) (jump_class width)) }
 {
     let cond = match code {
         1 => Cond::Eq,

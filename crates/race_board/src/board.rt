@@ -46,7 +46,8 @@ impl Board {
         ensures board { IfOk result (λ r. (r.0.prices ≡ prices.items) × (r.0.workers ≡ workers)) }
         ensures seats { IfOk result (λ r. vec_len r.1 ≡ workers) }
         ensures ready { IfOk result (λ r. All (MayDrawAt r.0) r.1.items) }
-        ensures fresh { IfOk result (λ r. (k : ℕ) (s : SeatState) → slice_get r.1.items k ≡ Some s → s.worker ≡ fresh_worker k) }
+        ensures fresh { IfOk result (λ r. (k : ℕ) (s : SeatState) → slice_get r.1.items k ≡ Some s →
+            s.worker ≡ fresh_worker k) }
     {
         let terms = Terms { prices, workers };
         let (table, place) = Words::of_words(alloc, &[0, 0], &terms)?;
@@ -60,7 +61,8 @@ impl Board {
         requires own { IsSeatOf self.now seat.old }
         requires free { seat.old.worker.stand ≡ Free }
         ensures own { IsSeatOf self.now seat.new }
-        ensures chunk { IfSome result (λ c. (c < length self.now.prices) × (seat.new.worker ≡ holding c seat.old.worker)) }
+        ensures chunk { IfSome result (λ c. (c < length self.now.prices) ×
+            (seat.new.worker ≡ holding c seat.old.worker)) }
         ensures above { IfSome result (λ c. IsAboveDraws seat.old.worker c) }
         ensures end { IfNone result (seat.new.worker ≡ told_end seat.old.worker) }
     {
@@ -100,7 +102,8 @@ impl Board {
         ensures spent { result.spent ≡ total_of steps_of (workers_of seats.items) }
 
         // No chunk was drawn by two of them, and none that isn't there.
-        ensures once { (c : ℕ) → total_of (times_drawn c) (workers_of seats.items) ≤ one_if_below c (length self.prices) }
+        ensures once { (c : ℕ) →
+            total_of (times_drawn c) (workers_of seats.items) ≤ one_if_below c (length self.prices) }
         ensures within { All (IsWithinPrices self.prices) (workers_of seats.items) }
 
         // With the workers whose seats were lost, they ran one race that meets the law.
@@ -108,10 +111,14 @@ impl Board {
 
         // With all workers, of whom one was told the end, each chunk was drawn.
         ensures all { IsFinished self (workers_of seats.items) → result.draws ≡ length self.prices }
-        ensures each { IsFinished self (workers_of seats.items) → (c : ℕ) → total_of (times_drawn c) (workers_of seats.items) ≡ one_if_below c (length self.prices) }
+        ensures each { IsFinished self (workers_of seats.items) → (c : ℕ) →
+            total_of (times_drawn c) (workers_of seats.items) ≡ one_if_below c (length self.prices) }
 
         // Where all of them were told the end, so that none failed, each chunk was completed once.
-        ensures completed { IsFinished self (workers_of seats.items) → All IsToldEnd (workers_of seats.items) → (c : ℕ) → total_of (times_completed c) (workers_of seats.items) ≡ one_if_below c (length self.prices) }
+        ensures completed { IsFinished self (workers_of seats.items) →
+            All IsToldEnd (workers_of seats.items) → (c : ℕ) →
+            total_of (times_completed c) (workers_of seats.items) ≡
+            one_if_below c (length self.prices) }
     {
         let mut seats = seats;
         let Some(first) = seats.pop() else {
@@ -135,7 +142,8 @@ fn deal(
     requires own { place.table_id ≡ table.now.shared.table_id }
     requires all { place.me ≡ (fresh_workers 0 workers, []) }
     ensures len { IfOk result (λ v. vec_len v ≡ workers) }
-    ensures fresh { IfOk result (λ v. (k : ℕ) (s : SeatState) → slice_get v.items k ≡ Some s → (s.board ≡ name_of table.now.shared.table_id) × (s.worker ≡ fresh_worker k)) }
+    ensures fresh { IfOk result (λ v. (k : ℕ) (s : SeatState) → slice_get v.items k ≡ Some s →
+        (s.board ≡ name_of table.now.shared.table_id) × (s.worker ≡ fresh_worker k)) }
 {
     let mut place = place;
     let mut seats = Vec::with_capacity(alloc, workers as usize)?;
@@ -157,7 +165,8 @@ fn gather(table: &Words, first: BoardSeat, seats: Vec<BoardSeat>) -> Crew
     requires first { first.board ≡ name_of table.now.shared.table_id }
     requires own { All (λ s. s.board ≡ name_of table.now.shared.table_id) seats.items }
     ensures own { result.place.table_id ≡ table.now.shared.table_id }
-    ensures all { (f : Worker → ℕ) → total_of f result.place.me.0 ≡ total_of f (workers_of seats.items) + f first.worker }
+    ensures all { (f : Worker → ℕ) → total_of f result.place.me.0 ≡
+        total_of f (workers_of seats.items) + f first.worker }
 {
     let BoardSeat { crew } = first;
     let mut all = crew;

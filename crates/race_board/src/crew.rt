@@ -44,7 +44,8 @@ impl Crew {
         requires chunks { chunks ≡ length table.now.shared.key.prices.items }
         requires free { MayDraw self.old.place.me.0 }
         ensures own { self.new.place.table_id ≡ self.old.place.table_id }
-        ensures drew { IsAnswer table.now.shared.key.prices.items self.old.place.me.0 result self.new.place.me.0 }
+        ensures drew { IsAnswer table.now.shared.key.prices.items self.old.place.me.0 result
+            self.new.place.me.0 }
     {
         let found = draw_at::<Brand>(table, &mut self.place);
         if found < chunks {
@@ -119,7 +120,8 @@ fn draw_at<T: Priced>(table: &Words, place: &mut Place) -> u64
     requires prices { T.prices ≡ table.now.shared.key.prices.items }
     requires free { MayDraw place.old.me.0 }
     ensures own { place.new.table_id ≡ place.old.table_id }
-    ensures drew { Draws table.now.shared.key.prices.items (step table.now.shared.table_id.slots 0 1 0 none) place.old.me result place.new.me }
+    ensures drew { Draws table.now.shared.key.prices.items
+        (step table.now.shared.table_id.slots 0 1 0 none) place.old.me result place.new.me }
 {
     table.shared.fetch_add::<DrawStep<T>>(place, COUNT, 1)
 }

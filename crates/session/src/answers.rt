@@ -44,7 +44,8 @@ fn add_field(reply: &mut Reply, number: u64)
 fn add_place(reply: &mut Reply, rule: &str, number: u64)
     requires name { length rule.now ≤ 3 }
     requires room { length reply.old.line + 24 ≤ 8192 }
-    ensures value { reply.new ≡ record reply.old { line = reply.old.line ++ (rule.now ++ (codes " " ++ decimal number)) } }
+    ensures value { reply.new ≡
+        record reply.old { line = reply.old.line ++ (rule.now ++ (codes " " ++ decimal number)) } }
     ensures short { length reply.new.line ≤ length reply.old.line + 24 }
 {
     reply.add(rule.as_bytes());
@@ -54,7 +55,8 @@ fn add_place(reply: &mut Reply, rule: &str, number: u64)
 /// Adds where a call is stuck, and by which rule.
 fn add_stuck(reply: &mut Reply, fault: Fault)
     requires { length reply.old.line + 64 ≤ 8192 }
-    ensures value { reply.new ≡ record reply.old { line = reply.old.line ++ refusal_words (Refusal.Stuck fault) } }
+    ensures value { reply.new ≡
+        record reply.old { line = reply.old.line ++ refusal_words (Refusal.Stuck fault) } }
     ensures short { length reply.new.line ≤ length reply.old.line + 64 }
 {
     reply.add(b"stuck");
@@ -66,7 +68,8 @@ fn add_stuck(reply: &mut Reply, fault: Fault)
 /// Adds that fewer steps are left than the price.
 fn add_shortage(reply: &mut Reply, price: u64, left: u64)
     requires { length reply.old.line + 64 ≤ 8192 }
-    ensures value { reply.new ≡ record reply.old { line = reply.old.line ++ refusal_words (Refusal.Budget price left) } }
+    ensures value { reply.new ≡
+        record reply.old { line = reply.old.line ++ refusal_words (Refusal.Budget price left) } }
     ensures short { length reply.new.line ≤ length reply.old.line + 64 }
 {
     reply.add(SessionRule::NotEnoughSteps.name().as_bytes());
@@ -169,7 +172,11 @@ pub fn show(reply: &mut Reply, text: Vec<u8>)
 /// The line has at most 117 bytes: a name of 32, four numbers of 20 digits, and 5 around them.
 fn add_job(reply: &mut Reply, job: &Job, ended: &Ended)
     requires { length reply.old.line + 117 ≤ 8192 }
-    ensures value { reply.new ≡ record reply.old { line = reply.old.line ++ job_text (job_of job.now) (finished_of ended.now) } }
+    ensures value { reply.new ≡
+        record reply.old {
+          line = reply.old.line ++ job_text (job_of job.now)
+              (finished_of ended.now);
+        } }
     ensures short { length reply.new.line ≤ length reply.old.line + 117 }
 {
     reply.add(job.output.as_bytes());

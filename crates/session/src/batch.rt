@@ -37,10 +37,14 @@ fn apply(alloc: Global, operator: &Operator, operand: &Matrix) -> Result<(Matrix
     requires { fin.len operand.now.cells * length operator.now.program < 2 ^ 63 }
     ensures rows { IfOk result (λ p. p.0.rows ≡ operand.now.rows) }
     ensures columns { IfOk result (λ p. p.0.columns ≡ operand.now.columns) }
-    ensures applied { IfOk result (λ p. AreApplied operator.now.program (fin.entries operand.now.cells) (fin.entries p.0.cells) p.1) }
+    ensures applied { IfOk result
+        (λ p. AreApplied operator.now.program (fin.entries operand.now.cells)
+        (fin.entries p.0.cells) p.1) }
     ensures within { IfOk result (λ p. p.1 ≤ fin.len operand.now.cells * length operator.now.program) }
-    ensures fault { IfErr result (ExplainsFault (calls_on operator.now.program (fin.entries operand.now.cells))) }
-    ensures fault_within { IfErr result (λ f. spent_of f ≤ fin.len operand.now.cells * length operator.now.program) }
+    ensures fault { IfErr result
+        (ExplainsFault (calls_on operator.now.program (fin.entries operand.now.cells))) }
+    ensures fault_within { IfErr result
+        (λ f. spent_of f ≤ fin.len operand.now.cells * length operator.now.program) }
 {
     let mut builder = Builder::new(alloc, operand.rows(), operand.columns());
     let mut steps: u64 = 0;

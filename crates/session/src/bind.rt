@@ -20,7 +20,8 @@ use std::alloc::Global;
 
 /// `matrix NAME LEN`: reads the body as matrix text, and binds the name to the matrix.
 pub fn matrix(alloc: Global, workspace: &mut Workspace, name: &[u8], body: &[u8], reply: &mut Reply)
-    ensures { MatrixTurn (state_of workspace.old) name.now body.now [] (whole reply.new) (state_of workspace.new) }
+    ensures { MatrixTurn (state_of workspace.old) name.now body.now [] (whole reply.new)
+        (state_of workspace.new) }
 {
     let Some(name) = as_name(name) else {
         return refuse(reply, Refusal::Session(SessionRule::MalformedName));
@@ -46,7 +47,8 @@ fn take_code(
     code: &[u8],
     reply: &mut Reply,
 )
-    ensures { BindsCode (state_of workspace.old) name.now kind code.now (whole reply.new) (state_of workspace.new) }
+    ensures { BindsCode (state_of workspace.old) name.now kind code.now (whole reply.new)
+        (state_of workspace.new) }
 {
     match decode(alloc, code) {
         Ok(program) => {
@@ -72,7 +74,8 @@ pub fn operator(
     body: Vec<u8>,
     reply: &mut Reply,
 )
-    ensures { OperatorTurn (state_of workspace.old) name.now kind.now body.items [] (whole reply.new) (state_of workspace.new) }
+    ensures { OperatorTurn (state_of workspace.old) name.now kind.now body.items []
+        (whole reply.new) (state_of workspace.new) }
 {
     let Some(kind) = parse_kind(kind) else {
         return refuse(reply, Refusal::Session(SessionRule::MalformedWords));

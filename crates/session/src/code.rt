@@ -35,7 +35,8 @@ fn is_gap(byte: u8) -> bool
 /// `Malformed` where what is left is not an even number of hexadecimal digits, and `Memory`.
 pub fn unhex(alloc: Global, mut text: Vec<u8>) -> Result<Vec<u8>, HexFault>
     ensures ok { IfOk result (λ bytes. decode_of (without_gaps text.items) ≡ Ok bytes.items) }
-    ensures malformed { result ≡ Err HexFault.Malformed → (e : FromHexError) × (decode_of (without_gaps text.items) ≡ Err e) }
+    ensures malformed { result ≡ Err HexFault.Malformed → (e : FromHexError) ×
+        (decode_of (without_gaps text.items) ≡ Err e) }
 {
     text.retain(|byte| !is_gap(*byte));
     match hex::decode(alloc, text.as_slice()) {

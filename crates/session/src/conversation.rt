@@ -56,7 +56,8 @@ fn complete<'a, R: Source>(
     reader: &mut R,
     left: &mut u64,
 ) -> Result<Heard<'a>, ServeFault>
-    ensures fetched { Fetched (R.remaining reader.old) (R.remaining reader.new) input.old input.new (IsCompleted (request_of asked.entry) result input.new) }
+    ensures fetched { Fetched (R.remaining reader.old) (R.remaining reader.new) input.old input.new
+        (IsCompleted (request_of asked.entry) result input.new) }
     ensures calls { R.calls reader.new + left.new ≡ R.calls reader.old + left.old }
     ensures failures { ReaderFailed result (R.failures reader.old) (R.failures reader.new) }
     ensures turns { result ≡ Err ServeFault.Turns → left.new ≡ 0 }
@@ -82,7 +83,8 @@ fn answer_body(
     workspace: &mut Workspace,
     reply: &mut Reply,
 )
-    ensures turn { Turn (state_of workspace.old) (with_body (headed_of head.entry) body.items) [] (whole reply.new) (state_of workspace.new) }
+    ensures turn { Turn (state_of workspace.old) (with_body (headed_of head.entry) body.items) []
+        (whole reply.new) (state_of workspace.new) }
 {
     match head {
         Head::Matrix { name } => matrix(alloc, workspace, name, &body, reply),
@@ -100,7 +102,9 @@ fn answer_order<T: Steps, H: Wait>(
     reply: &mut Reply,
 )
     requires owed { total_price (map job_of workspace.old.queue.items) ≤ T.owes steps.old }
-    ensures turn { (dealings : List Dealing) × Turn (state_of workspace.old) (command_of order.entry) dealings (whole reply.new) (state_of workspace.new) × Deals T.leads steps.old dealings steps.new }
+    ensures turn { (dealings : List Dealing) ×
+        Turn (state_of workspace.old) (command_of order.entry) dealings (whole reply.new)
+        (state_of workspace.new) × Deals T.leads steps.old dealings steps.new }
     ensures owed { total_price (state_of workspace.new).queue ≤ T.owes steps.new }
 {
     match order {
@@ -135,7 +139,9 @@ fn respond<T: Steps, H: Wait>(
     reply: &mut Reply,
 ) -> Option<End>
     requires owed { total_price (state_of workspace.old).queue ≤ T.owes steps.old }
-    ensures turn { (dealings : List Dealing) × Responds (state_of workspace.old) heard.entry dealings (whole reply.new) (state_of workspace.new) result × Deals T.leads steps.old dealings steps.new }
+    ensures turn { (dealings : List Dealing) ×
+        Responds (state_of workspace.old) heard.entry dealings (whole reply.new)
+        (state_of workspace.new) result × Deals T.leads steps.old dealings steps.new }
     ensures owed { total_price (state_of workspace.new).queue ≤ T.owes steps.new }
 {
     match heard {
@@ -163,8 +169,10 @@ fn respond<T: Steps, H: Wait>(
 
 /// Writes a reply, whole.
 fn say<W: Sink>(writer: &mut W, reply: &Reply) -> Result<(), ServeFault>
-    ensures written { OnOk result (Appends (W.contents writer.old) (W.contents writer.new) (whole reply.now)) }
-    ensures cut { OnErr result ((front : List ℕ) × IsPrefixOf front (whole reply.now) × Appends (W.contents writer.old) (W.contents writer.new) front) }
+    ensures written { OnOk result
+        (Appends (W.contents writer.old) (W.contents writer.new) (whole reply.now)) }
+    ensures cut { OnErr result ((front : List ℕ) × IsPrefixOf front (whole reply.now) ×
+        Appends (W.contents writer.old) (W.contents writer.new) front) }
     ensures fault { IfErr result (λ f. f ≡ ServeFault.Write) }
     ensures fine { OnOk result (W.failures writer.new ≡ W.failures writer.old) }
     ensures failed { OnErr result (W.failures writer.old < W.failures writer.new) }
@@ -218,7 +226,8 @@ fn respond_and_say<W: Sink, T: Steps, H: Wait>(
     reply: &mut Reply,
 ) -> Result<Option<End>, ServeFault>
     requires owed { total_price (state_of workspace.old).queue ≤ T.owes steps.old }
-    ensures told { Tells T.leads steps.old steps.new (W.contents writer.old) (W.contents writer.new) (state_of workspace.old) (state_of workspace.new) heard.entry result }
+    ensures told { Tells T.leads steps.old steps.new (W.contents writer.old) (W.contents writer.new)
+        (state_of workspace.old) (state_of workspace.new) heard.entry result }
     ensures owed { total_price (state_of workspace.new).queue ≤ T.owes steps.new }
     ensures writes { WriterFailed result (W.failures writer.old) (W.failures writer.new) }
 {
@@ -239,7 +248,10 @@ fn answer_line<R: Source, W: Sink, T: Steps, H: Wait>(
     steps: &mut T,
 ) -> Result<Option<End>, ServeFault>
     requires owed { total_price (state_of desk.old.workspace).queue ≤ T.owes steps.old }
-    ensures exchanged { Exchanged (behind desk.old.line.items) T.leads steps.old steps.new (R.remaining reader.old) (R.remaining reader.new) (W.contents writer.old) (W.contents writer.new) desk.old.input desk.new.input (state_of desk.old.workspace) (state_of desk.new.workspace) result }
+    ensures exchanged { Exchanged (behind desk.old.line.items) T.leads steps.old steps.new
+        (R.remaining reader.old) (R.remaining reader.new) (W.contents writer.old)
+        (W.contents writer.new) desk.old.input desk.new.input (state_of desk.old.workspace)
+        (state_of desk.new.workspace) result }
     ensures owed { total_price (state_of desk.new.workspace).queue ≤ T.owes steps.new }
     ensures calls { R.calls reader.new + desk.new.left ≡ R.calls reader.old + desk.old.left }
     ensures reads { ReaderFailed result (R.failures reader.old) (R.failures reader.new) }
@@ -277,13 +289,16 @@ fn exchange<R: Source, W: Sink, T: Steps, H: Wait>(
     steps: &mut T,
 ) -> Result<Option<End>, ServeFault>
     requires owed { total_price (state_of desk.old.workspace).queue ≤ T.owes steps.old }
-    ensures exchanged { Exchanged next T.leads steps.old steps.new (R.remaining reader.old) (R.remaining reader.new) (W.contents writer.old) (W.contents writer.new) desk.old.input desk.new.input (state_of desk.old.workspace) (state_of desk.new.workspace) result }
+    ensures exchanged { Exchanged next T.leads steps.old steps.new (R.remaining reader.old)
+        (R.remaining reader.new) (W.contents writer.old) (W.contents writer.new) desk.old.input
+        desk.new.input (state_of desk.old.workspace) (state_of desk.new.workspace) result }
     ensures owed { total_price (state_of desk.new.workspace).queue ≤ T.owes steps.new }
     ensures calls { R.calls reader.new + desk.new.left ≡ R.calls reader.old + desk.old.left }
     ensures reads { ReaderFailed result (R.failures reader.old) (R.failures reader.new) }
     ensures turns { result ≡ Err ServeFault.Turns → desk.new.left ≡ 0 }
     ensures writes { WriterFailed result (W.failures writer.old) (W.failures writer.new) }
-    ensures less { result ≡ Ok None → allowance desk.new.left desk.new.input < allowance desk.old.left desk.old.input }
+    ensures less { result ≡ Ok None →
+        allowance desk.new.left desk.new.input < allowance desk.old.left desk.old.input }
 {
     match next_line(&mut desk.input, reader, &mut desk.left, &mut desk.line) {
         Ok(Lined::Whole) => answer_line(rt, alloc, desk, reader, writer, steps),
@@ -315,7 +330,9 @@ fn converse<R: Source, W: Sink, T: Steps, H: Wait>(
 ) -> Result<End, ServeFault>
     requires input { desk.old.input ≡ record { bytes = []; ended = false } }
     requires state { state_of desk.old.workspace ≡ empty }
-    ensures conversed { Conversed T.leads steps.old steps.new (R.remaining reader.old) (R.remaining reader.new) (W.contents writer.old) (W.contents writer.new) (state_of desk.new.workspace) result }
+    ensures conversed { Conversed T.leads steps.old steps.new (R.remaining reader.old)
+        (R.remaining reader.new) (W.contents writer.old) (W.contents writer.new)
+        (state_of desk.new.workspace) result }
     ensures owed { total_price (state_of desk.new.workspace).queue ≤ T.owes steps.new }
     ensures calls { R.calls reader.new + desk.new.left ≡ R.calls reader.old + desk.old.left }
     ensures reads { ReaderFailed result (R.failures reader.old) (R.failures reader.new) }
@@ -350,7 +367,8 @@ fn serve_turns<R: Source, W: Sink, T: Steps, H: Wait>(
     steps: &mut T,
     turns: u64,
 ) -> Result<End, ServeFault>
-    ensures said { Outcome T.leads steps.old steps.new (R.remaining reader.old) (R.remaining reader.new) (W.contents writer.old) (W.contents writer.new) result }
+    ensures said { Outcome T.leads steps.old steps.new (R.remaining reader.old)
+        (R.remaining reader.new) (W.contents writer.old) (W.contents writer.new) result }
     ensures reads { ReaderFailed result (R.failures reader.old) (R.failures reader.new) }
     ensures turns { result ≡ Err ServeFault.Turns → R.calls reader.new ≡ R.calls reader.old + turns }
     ensures writes { WriterFailed result (W.failures writer.old) (W.failures writer.new) }
@@ -384,7 +402,8 @@ pub fn serve<R: Source, W: Sink, T: Steps, H: Wait>(
 ) -> Result<End, ServeFault>
     requires some { 1 ≤ workers }
     requires few { workers ≤ 64 }
-    ensures said { Outcome T.leads steps.old steps.new (R.remaining reader.old) (R.remaining reader.new) (W.contents writer.old) (W.contents writer.new) result }
+    ensures said { Outcome T.leads steps.old steps.new (R.remaining reader.old)
+        (R.remaining reader.new) (W.contents writer.old) (W.contents writer.new) result }
     ensures reads { ReaderFailed result (R.failures reader.old) (R.failures reader.new) }
     ensures turns { result ≡ Err ServeFault.Turns → R.calls reader.new ≡ R.calls reader.old + 4294967296 }
     ensures writes { WriterFailed result (W.failures writer.old) (W.failures writer.new) }

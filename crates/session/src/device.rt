@@ -49,7 +49,8 @@ pub trait Sink {
         ensures bytes { WriteAppends (contents self.old) (contents self.new) result buf.now }
         ensures fine { IfOk result (λ n. 0 < n → failures self.new ≡ failures self.old) }
         ensures empty { length buf.now ≡ 0 → OnOk result (failures self.new ≡ failures self.old) }
-        ensures stuck { IfOk result (λ n. n ≡ 0 → 0 < length buf.now → failures self.new ≡ failures self.old + 1) }
+        ensures stuck { IfOk result (λ n. n ≡ 0 → 0 < length buf.now → failures self.new ≡
+            failures self.old + 1) }
         ensures failed { OnErr result (failures self.new ≡ failures self.old + 1) };
 }
 
@@ -65,7 +66,8 @@ pub struct WriteFailed;
 /// The first call that fails ends it. What was written by then is a front part of the text.
 pub fn put<W: Sink>(writer: &mut W, text: &[u8]) -> Result<(), WriteFailed>
     ensures written { OnOk result (Appends (W.contents writer.old) (W.contents writer.new) text.now) }
-    ensures cut { OnErr result ((front : List ℕ) × IsPrefixOf front text.now × Appends (W.contents writer.old) (W.contents writer.new) front) }
+    ensures cut { OnErr result ((front : List ℕ) × IsPrefixOf front text.now ×
+        Appends (W.contents writer.old) (W.contents writer.new) front) }
     ensures fine { OnOk result (W.failures writer.new ≡ W.failures writer.old) }
     ensures failed { OnErr result (W.failures writer.old < W.failures writer.new) }
 {

@@ -34,7 +34,8 @@ pub enum Body {
 fn read_on<R: Source>(input: &mut Input, reader: &mut R, left: &mut u64) -> Result<(), ServeFault>
     requires room { length input.old.bytes < 8192 }
     requires open { input.old.ended ≡ false }
-    ensures fetched { Fetched (R.remaining reader.old) (R.remaining reader.new) input.old input.new (IsReadOn result input.old input.new) }
+    ensures fetched { Fetched (R.remaining reader.old) (R.remaining reader.new) input.old input.new
+        (IsReadOn result input.old input.new) }
     ensures room { length input.new.bytes ≤ 8192 }
     ensures calls { R.calls reader.new + left.new ≡ R.calls reader.old + left.old }
     ensures failures { ReaderFailed result (R.failures reader.old) (R.failures reader.new) }
@@ -60,7 +61,8 @@ pub fn next_line<R: Source>(
     line: &mut Vec<u8>,
 ) -> Result<Lined, ServeFault>
     requires room { 1026 ≤ vec_capacity line.old }
-    ensures fetched { Fetched (R.remaining reader.old) (R.remaining reader.new) input.old input.new (IsLined result line.new.items input.new) }
+    ensures fetched { Fetched (R.remaining reader.old) (R.remaining reader.new) input.old input.new
+        (IsLined result line.new.items input.new) }
     ensures room { 1026 ≤ vec_capacity line.new }
     ensures calls { R.calls reader.new + left.new ≡ R.calls reader.old + left.old }
     ensures failures { ReaderFailed result (R.failures reader.old) (R.failures reader.new) }
@@ -128,7 +130,8 @@ pub fn read_body<R: Source>(
     left: &mut u64,
     length: u64,
 ) -> Result<Body, ServeFault>
-    ensures fetched { Fetched (R.remaining reader.old) (R.remaining reader.new) input.old input.new (IsBody length result input.new) }
+    ensures fetched { Fetched (R.remaining reader.old) (R.remaining reader.new) input.old input.new
+        (IsBody length result input.new) }
     ensures calls { R.calls reader.new + left.new ≡ R.calls reader.old + left.old }
     ensures failures { ReaderFailed result (R.failures reader.old) (R.failures reader.new) }
     ensures turns { result ≡ Err ServeFault.Turns → left.new ≡ 0 }

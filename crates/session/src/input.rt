@@ -38,7 +38,8 @@ fn read_behind<S: Source>(source: &mut S, room: &mut [u8], at: usize) -> io::Res
     ensures len { length room.new ≡ length room.old }
     ensures bound { IfOk result (λ n. at + n ≤ length room.old) }
     ensures front { take at room.new ≡ take at room.old }
-    ensures got { IfOk result (λ n. Consumes (S.remaining source.old) (S.remaining source.new) (take n (drop at room.new))) }
+    ensures got { IfOk result
+        (λ n. Consumes (S.remaining source.old) (S.remaining source.new) (take n (drop at room.new))) }
     ensures end { IfOk result (λ n. n ≡ 0 → IsAtEnd (S.remaining source.new)) }
     ensures kept { OnErr result (Keeps (S.remaining source.old) (S.remaining source.new)) }
     ensures called { S.calls source.new ≡ S.calls source.old + 1 }
@@ -102,11 +103,13 @@ impl Input {
     /// That of the source. The bytes are then as before.
     pub fn fill<S: Source>(&mut self, source: &mut S) -> io::Result<()>
         requires { length self.old.bytes < 8192 }
-        ensures ok { OnOk result ((got : List ℕ) × Consumes (S.remaining source.old) (S.remaining source.new) got
+        ensures ok { OnOk result ((got : List ℕ) ×
+            Consumes (S.remaining source.old) (S.remaining source.new) got
             × (self.new.bytes ≡ self.old.bytes ++ got) × (self.new.ended ≡ ended_after self.old.ended got)
             × (got ≡ [] → IsAtEnd (S.remaining source.new))) }
         ensures room { length self.new.bytes ≤ 8192 }
-        ensures err { OnErr result ((self.new ≡ self.old) × Keeps (S.remaining source.old) (S.remaining source.new)) }
+        ensures err { OnErr result ((self.new ≡ self.old) ×
+            Keeps (S.remaining source.old) (S.remaining source.new)) }
         ensures called { S.calls source.new ≡ S.calls source.old + 1 }
         ensures fine { OnOk result (S.failures source.new ≡ S.failures source.old) }
         ensures failed { OnErr result (S.failures source.new ≡ S.failures source.old + 1) }

@@ -47,7 +47,8 @@ pub fn show(alloc: Global, workspace: &Workspace, name: &[u8], reply: &mut Reply
 
 /// `budget`: what the budget holds.
 pub fn budget<T: Steps, H: Wait>(rt: &H, steps: &mut T, reply: &mut Reply)
-    ensures turn { (totals : Totals) × (whole reply.new ≡ budget_text totals) × T.leads steps.old (Tell totals) steps.new }
+    ensures turn { (totals : Totals) × (whole reply.new ≡ budget_text totals) ×
+        T.leads steps.old (Tell totals) steps.new }
     ensures owed { T.owes steps.new ≡ T.owes steps.old }
 {
     let totals = steps.totals(rt);
@@ -74,7 +75,9 @@ fn share(
 /// A job with its price: an operator's calls on each entry, each of as many steps as it has instructions at most.
 fn priced(output: String, operator: Arc<Operator>, operand: Version) -> Result<Job, JobRule>
     requires { length (string_bytes output) ≤ 32 }
-    ensures { IsPriced (record { output = string_bytes output; operator = arc_value operator; operand = arc_value operand }) result }
+    ensures { IsPriced (record
+        { output = string_bytes output; operator = arc_value operator; operand = arc_value operand })
+        result }
 {
     match operator.kind {
         Kind::Unary => {}
@@ -104,8 +107,11 @@ fn submit<T: Steps, H: Wait>(
     reply: &mut Reply,
 )
     requires { vec_len workspace.old.queue < 64 }
-    ensures turn { (dealings : List Dealing) × Submits (state_of workspace.old) (job_of job) dealings (whole reply.new) (state_of workspace.new) × Deals T.leads steps.old dealings steps.new }
-    ensures owed { total_price (map job_of workspace.new.queue.items) + T.owes steps.old ≡ total_price (map job_of workspace.old.queue.items) + T.owes steps.new }
+    ensures turn { (dealings : List Dealing) ×
+        Submits (state_of workspace.old) (job_of job) dealings (whole reply.new)
+        (state_of workspace.new) × Deals T.leads steps.old dealings steps.new }
+    ensures owed { total_price (map job_of workspace.new.queue.items) + T.owes steps.old ≡
+        total_price (map job_of workspace.old.queue.items) + T.owes steps.new }
 {
     let price = job.price;
     match steps.reserve(rt, price) {
@@ -126,8 +132,12 @@ pub fn apply<T: Steps, H: Wait>(
     steps: &mut T,
     reply: &mut Reply,
 )
-    ensures turn { (dealings : List Dealing) × ApplyTurn (state_of workspace.old) words.entry.0.now words.entry.1.now words.entry.2.now dealings (whole reply.new) (state_of workspace.new) × Deals T.leads steps.old dealings steps.new }
-    ensures owed { total_price (map job_of workspace.new.queue.items) + T.owes steps.old ≡ total_price (map job_of workspace.old.queue.items) + T.owes steps.new }
+    ensures turn { (dealings : List Dealing) ×
+        ApplyTurn (state_of workspace.old) words.entry.0.now words.entry.1.now words.entry.2.now
+        dealings (whole reply.new) (state_of workspace.new) ×
+        Deals T.leads steps.old dealings steps.new }
+    ensures owed { total_price (map job_of workspace.new.queue.items) + T.owes steps.old ≡
+        total_price (map job_of workspace.old.queue.items) + T.owes steps.new }
 {
     let (output, operator, operand) = words;
     let Some(output) = as_name(output) else {

@@ -34,6 +34,8 @@ mod reply;
 mod request;
 mod rule;
 mod run;
+#[cfg(test)]
+mod session_tests;
 mod steps;
 mod words;
 mod workspace;

@@ -7,7 +7,8 @@ use std::str;
 
 /// A word as a name, if it is one.
 pub fn as_name(word: &[u8]) -> Option<&str>
-    ensures { MatchOption result (spec.is_name word.now ≡ false) (λ name. (spec.is_name word.now ≡ true) × (name.now ≡ word.now)) }
+    ensures { MatchOption result (spec.is_name word.now ≡ false)
+        (λ name. (spec.is_name word.now ≡ true) × (name.now ≡ word.now)) }
 {
     if !is_name(word) {
         return None;

@@ -43,7 +43,8 @@ impl<V: Drop> Names<V> {
     pub fn make_place(&mut self, name: &str) -> Result<(), AllocError>
         ensures made { OnOk result (IsTrue (has_place self.new.places name.now)) }
         ensures same { (other : List ℕ) → value_at self.new.places other ≡ value_at self.old.places other }
-        ensures kept { (other : List ℕ) → IsTrue (has_place self.old.places other) → IsTrue (has_place self.new.places other) }
+        ensures kept { (other : List ℕ) → IsTrue (has_place self.old.places other) →
+            IsTrue (has_place self.new.places other) }
     {
         if self.places.contains_key(name) {
             return Ok(());
@@ -56,8 +57,10 @@ impl<V: Drop> Names<V> {
     /// Binds a name, which has a place, to a value.
     pub fn bind(&mut self, name: &str, value: V)
         requires { IsTrue (has_place self.old.places name.now) }
-        ensures bound { (other : List ℕ) → value_at self.new.places other ≡ update bytes_eq (value_at self.old.places) name.now (Some value) other }
-        ensures kept { (other : List ℕ) → IsTrue (has_place self.old.places other) → IsTrue (has_place self.new.places other) }
+        ensures bound { (other : List ℕ) → value_at self.new.places other ≡
+            update bytes_eq (value_at self.old.places) name.now (Some value) other }
+        ensures kept { (other : List ℕ) → IsTrue (has_place self.old.places other) →
+            IsTrue (has_place self.new.places other) }
     {
         if let Some(place) = self.places.get_mut(name) {
             *place = Some(value);

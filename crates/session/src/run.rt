@@ -46,7 +46,8 @@ fn settle_all<T: Steps, H: Wait>(rt: &H, steps: &mut T, jobs: &[Job], ended: &[E
     requires same { length jobs.now ≡ length ended.now }
     requires within { AreWithin (map job_of jobs.now) (map finished_of ended.now) }
     requires owed { total_price (map job_of jobs.now) ≤ T.owes steps.old }
-    ensures dealt { Deals T.leads steps.old (settled (map job_of jobs.now) (map finished_of ended.now)) steps.new }
+    ensures dealt { Deals T.leads steps.old
+        (settled (map job_of jobs.now) (map finished_of ended.now)) steps.new }
     ensures owed { T.owes steps.new + total_price (map job_of jobs.now) ≡ T.owes steps.old }
 {
     for (job, end) in jobs.iter().zip(ended) {
@@ -72,7 +73,9 @@ fn charge_all<T: Steps, H: Wait>(rt: &H, steps: &mut T, jobs: &[Job], spent: u64
 fn bind_all(matrices: &mut Names<Version>, jobs: &[Job], ended: Vec<Ended>)
     requires places { HavePlaces matrices.old.places jobs.now }
     requires same { length jobs.now ≡ vec_len ended }
-    ensures { (name : List ℕ) → grid_at matrices.new.places name ≡ all_bound (grid_at matrices.old.places) (map job_of jobs.now) (map finished_of ended.items) name }
+    ensures { (name : List ℕ) → grid_at matrices.new.places name ≡
+        all_bound (grid_at matrices.old.places) (map job_of jobs.now) (map finished_of ended.items)
+        name }
 {
     for (job, end) in jobs.iter().zip(ended) {
         matrices.bind(&job.output, end.version);
@@ -83,7 +86,8 @@ fn bind_all(matrices: &mut Names<Version>, jobs: &[Job], ended: Vec<Ended>)
 fn attempt(alloc: Global, workspace: &mut Workspace) -> Result<(Vec<Ended>, u64), BatchFault>
     ensures state { state_of workspace.new ≡ state_of workspace.old }
     ensures places { IfOk result (λ _. HavePlaces workspace.new.matrices.places workspace.new.queue.items) }
-    ensures matrices { IfOk result (λ p. AreMatricesOf (state_of workspace.old).queue (map finished_of p.0.items)) }
+    ensures matrices { IfOk result
+        (λ p. AreMatricesOf (state_of workspace.old).queue (map finished_of p.0.items)) }
     ensures within { IfOk result (λ p. AreWithin (state_of workspace.old).queue (map finished_of p.0.items)) }
     ensures spent { IfOk result (λ p. p.1 ≡ total_steps (map finished_of p.0.items)) }
     ensures fault { IfErr result (ExplainsFault (calls (state_of workspace.old).queue)) }
@@ -108,10 +112,16 @@ fn complete<T: Steps, H: Wait>(
     requires within { AreWithin (state_of workspace.old).queue (map finished_of ended.items) }
     requires spent { spent ≡ total_steps (map finished_of ended.items) }
     requires owed { total_price (state_of workspace.old).queue ≤ T.owes steps.old }
-    ensures dealt { Deals T.leads steps.old (settled (state_of workspace.old).queue (map finished_of ended.items)) steps.new }
+    ensures dealt { Deals T.leads steps.old
+        (settled (state_of workspace.old).queue (map finished_of ended.items)) steps.new }
     ensures owed { T.owes steps.new + total_price (state_of workspace.old).queue ≡ T.owes steps.old }
     ensures said { whole reply.new ≡ run_text (state_of workspace.old).queue (map finished_of ended.items) }
-    ensures state { state_of workspace.new ≡ record (state_of workspace.old) { matrices = all_bound (state_of workspace.old).matrices (state_of workspace.old).queue (map finished_of ended.items); queue = [] } }
+    ensures state { state_of workspace.new ≡
+        record (state_of workspace.old) {
+          matrices = all_bound (state_of workspace.old).matrices (state_of workspace.old).queue
+              (map finished_of ended.items);
+          queue = [];
+        } }
 {
     settle_all(rt, steps, &workspace.queue, &ended);
     answers::ran(reply, &workspace.queue, &ended, spent);
@@ -130,7 +140,8 @@ fn break_off<T: Steps, H: Wait>(
     spent: u64,
 )
     requires owed { total_price (state_of workspace.old).queue ≤ T.owes steps.old }
-    ensures refused { BatchRefused refusal spent (state_of workspace.old) (charged (state_of workspace.old).queue spent) (whole reply.new) (state_of workspace.new) }
+    ensures refused { BatchRefused refusal spent (state_of workspace.old)
+        (charged (state_of workspace.old).queue spent) (whole reply.new) (state_of workspace.new) }
     ensures dealt { Deals T.leads steps.old (charged (state_of workspace.old).queue spent) steps.new }
     ensures owed { T.owes steps.new + total_price (state_of workspace.old).queue ≡ T.owes steps.old }
 {
@@ -150,7 +161,9 @@ pub fn run<T: Steps, H: Wait>(
     reply: &mut Reply,
 )
     requires owed { total_price (map job_of workspace.old.queue.items) ≤ T.owes steps.old }
-    ensures turn { (dealings : List Dealing) × RunTurn (state_of workspace.old) dealings (whole reply.new) (state_of workspace.new) × Deals T.leads steps.old dealings steps.new }
+    ensures turn { (dealings : List Dealing) ×
+        RunTurn (state_of workspace.old) dealings (whole reply.new) (state_of workspace.new) ×
+        Deals T.leads steps.old dealings steps.new }
     ensures owed { T.owes steps.new + total_price (map job_of workspace.old.queue.items) ≡ T.owes steps.old }
 {
     match attempt(alloc, workspace) {

@@ -35,7 +35,8 @@ pub trait Steps {
     /// Takes an amount from the steps that are left, or nothing where fewer are left.
     fn reserve<H: Wait>(&mut self, rt: &H, amount: u64) -> Reserved
         ensures dealt { leads self.old (Reserve amount result) self.new }
-        ensures took { (taken : ℕ) → result ≡ Reserved.Took taken → (taken ≡ amount) × (owes self.new ≡ owes self.old + amount) }
+        ensures took { (taken : ℕ) → result ≡ Reserved.Took taken → (taken ≡ amount) ×
+            (owes self.new ≡ owes self.old + amount) }
         ensures kept { (left : ℕ) → result ≡ Reserved.NotEnough left → owes self.new ≡ owes self.old };
 
     /// Settles an amount that this caller has reserved: `spent` of it is spent, and the rest is

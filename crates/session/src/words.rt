@@ -31,7 +31,8 @@ fn skip_blanks(text: &[u8]) -> &[u8]
 fn word_length(text: &[u8]) -> usize
     requires { IsAtWord text.now }
     ensures within { result ≤ length text.now }
-    ensures word { 0 < length text.now → words text.now ≡ take result text.now ∷ words (drop result text.now) }
+    ensures word { 0 < length text.now → words text.now ≡
+        take result text.now ∷ words (drop result text.now) }
 {
     for (i, b) in text.iter().enumerate() {
         if is_blank(*b) {

@@ -68,7 +68,9 @@ impl Workspace {
         name: &str,
         matrix: Matrix,
     ) -> Result<(), AllocError>
-        ensures bound { OnOk result (state_of self.new ≡ record (state_of self.old) { matrices = bound (state_of self.old).matrices name.now matrix }) }
+        ensures bound { OnOk result (state_of self.new ≡
+            record (state_of self.old)
+            { matrices = bound (state_of self.old).matrices name.now matrix }) }
         ensures same { OnErr result (state_of self.new ≡ state_of self.old) }
     {
         let version = Arc::new(alloc, matrix)?;
@@ -88,7 +90,9 @@ impl Workspace {
         name: &str,
         operator: Operator,
     ) -> Result<(), AllocError>
-        ensures bound { OnOk result (state_of self.new ≡ record (state_of self.old) { operators = bound (state_of self.old).operators name.now operator }) }
+        ensures bound { OnOk result (state_of self.new ≡
+            record (state_of self.old)
+            { operators = bound (state_of self.old).operators name.now operator }) }
         ensures same { OnErr result (state_of self.new ≡ state_of self.old) }
     {
         let operator = Arc::new(alloc, operator)?;
@@ -108,7 +112,8 @@ impl Workspace {
     /// Puts a job last, where fewer than 64 wait.
     pub fn submit(&mut self, job: Job)
         requires { vec_len self.old.queue < 64 }
-        ensures queue { state_of self.new ≡ record (state_of self.old) { queue = (state_of self.old).queue ++ job_of job ∷ [] } }
+        ensures queue { state_of self.new ≡
+            record (state_of self.old) { queue = (state_of self.old).queue ++ job_of job ∷ [] } }
         ensures len { vec_len self.new.queue ≡ length (state_of self.old).queue + 1 }
     {
         self.queue.push(job).unwrap();

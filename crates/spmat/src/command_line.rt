@@ -75,7 +75,8 @@ fn fault_of(alloc: Global, error: &clap::Error) -> SettingsFault
 
 /// The number that an option has, where it lies in a range.
 fn number(matches: &ArgMatches<'_>, name: &str, least: u64, most: u64) -> Option<u64>
-    ensures { IfSome result (λ n. (least ≤ n) × (n ≤ most) × IsNumberOf (one_of name.now (rows_of (found_of matches.now))) n) }
+    ensures { IfSome result (λ n. (least ≤ n) × (n ≤ most) ×
+        IsNumberOf (one_of name.now (rows_of (found_of matches.now))) n) }
 {
     let number = matches.get_one::<u64>(name)?;
     if least <= number && number <= most {
