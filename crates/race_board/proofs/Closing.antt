@@ -1,5 +1,5 @@
 -- What a board was left with says of the workers whose seats were handed in.
-use Rattle.std.proofs.Common.{◌≡◌, ℕ, zero, suc, ◌++◌, ◌+◌, ◌<◌, ◌≤◌, List, [], ◌∷◌, ◌-◌, length, set, refl, sym, ap, ◌∙◌, subst, arith}
+use Rattle.std.proofs.Common.{◌≡◌, ℕ, zero, suc, ◌++◌, ◌+◌, ◌<◌, ◌≤◌, List, [], ◌∷◌, ◌-◌, length, set, refl, sym, ap, ◌∙◌, subst, arith, length-append}
 use Rattle.std.specs.Prelude.{min, slice_index, slice_index_or, All, Any}
 use mathlib.Core.Option.{some}
 use lib.ListN.{get_elem?}
@@ -8,19 +8,19 @@ use Rattle.std.proofs.lemmas.Option.{slice_get-get_or}
 use Rattle.race_board.specs.declared.stand.Stand.{Stand}
 use Rattle.race_board.specs.declared.stand.Stand.TheVariants.{Free, Holds, ToldEnd, Failed}
 use Rattle.race_board.specs.declared.terms.Terms.{Terms}
-use Rattle.race_board.specs.Race.{Worker, BoardState, SeatState, workers_of, total_of, one_if_below, times_drawn, times_completed, draws_of, AreWithin, StandsWithin, IsWithinPrices, IsToldEnd, IsFinished, IsLawful, RanOneRace, fresh_workers, one_if_same}
-use Rattle.race_board.specs.Balance.{ends_of, AllSound}
-use Rattle.race_board.specs.Rule.{weigh}
-use Rattle.race_board.specs.Crews.{IsClosedWith}
+use Rattle.race_board.specs.declared.totals.Totals.{Totals}
+use Rattle.atomic_table.specs.Table.{State}
+use Rattle.race_board.specs.Race.{Worker, BoardState, SeatState, workers_of, total_of, one_if_below, times_drawn, times_completed, draws_of, AreWithin, StandsWithin, IsWithinPrices, IsToldEnd, IsFinished, IsLawful, RanOneRace, IsClosing, one_if_same, steps_of, ends_of}
+use Rattle.race_board.specs.Balance.{AllSound}
+use Rattle.race_board.specs.Rule.{weigh, IsHeld}
+use Rattle.race_board.specs.Crews.{IsClosedWith, IsClosed}
 use Rattle.race_board.proofs.Sums.{sum_append, sum_set_view, sum_has_view, sum_has, count_of_all}
 use Rattle.race_board.proofs.Balances.{balanced_same}
-use Rattle.race_board.proofs.Events.{fresh_sum, fresh_sound, start_balanced}
-use Rattle.race_board.proofs.Steps.{fresh_numbers}
-use Rattle.race_board.proofs.Laws.{past_end, any_ended, drawn_is_completed, all_within, lawful_of}
+use Rattle.race_board.proofs.Lawful.{past_end, any_ended, drawn_is_completed, lawful_of}
 
 -- no chunk was drawn by two of these workers
-pub closed_once : (t : Terms) (ws : List Worker) → IsClosedWith t ws → (c : ℕ) → total_of (times_drawn c) ws ≤ one_if_below c (length t.prices.items)
-closed_once t ws h c =
+pub closed_once : (t : Terms) (ws : List Worker) (count recorded : ℕ) → IsClosedWith t ws count recorded → (c : ℕ) → total_of (times_drawn c) ws ≤ one_if_below c (length t.prices.items)
+closed_once t ws count recorded h c =
     let a = sum_has_view (total_of (times_drawn c)) h.0.views h.1 ws h.3 in
     let b = h.2.balanced.drawn c in
     let e = below_least c h.2.count (length t.prices.items) in
@@ -38,8 +38,8 @@ no_workers f [] z = refl
 no_workers f (v ∷ vs) z = let a = no_workers f vs (omega arith) in let b = no_worker f v (omega arith) in omega arith
 
 -- where all workers are here, every sum is theirs
-whole_sum : (t : Terms) (ws : List Worker) → (h : IsClosedWith t ws) → total_of (λ (w : Worker). 1) ws ≡ t.workers → (f : Worker → ℕ) → weigh h.0.views f ≡ total_of f ws
-whole_sum t ws h all f =
+whole_sum : (t : Terms) (ws : List Worker) (count recorded : ℕ) → (h : IsClosedWith t ws count recorded) → total_of (λ (w : Worker). 1) ws ≡ t.workers → (f : Worker → ℕ) → weigh h.0.views f ≡ total_of f ws
+whole_sum t ws count recorded h all f =
     let rest : List (List Worker) = set h.0.views h.1 [] in
     let a = sum_set_view (total_of (λ (w : Worker). 1)) h.0.views h.1 ws [] h.3 in
     let m = h.2.many in
@@ -49,18 +49,18 @@ whole_sum t ws h all f =
     omega arith
 
 -- with all workers, of whom one was told the end, the draws are the chunks, each once
-pub closed_each : (t : Terms) (ws : List Worker) → IsClosedWith t ws → total_of (λ (w : Worker). 1) ws ≡ t.workers → 0 < total_of ends_of ws → (c : ℕ) → total_of (times_drawn c) ws ≡ one_if_below c (length t.prices.items)
-closed_each t ws h all told c =
-    let a = whole_sum t ws h all (times_drawn c) in
-    let e = whole_sum t ws h all ends_of in
+pub closed_each : (t : Terms) (ws : List Worker) (count recorded : ℕ) → IsClosedWith t ws count recorded → total_of (λ (w : Worker). 1) ws ≡ t.workers → 0 < total_of ends_of ws → (c : ℕ) → total_of (times_drawn c) ws ≡ one_if_below c (length t.prices.items)
+closed_each t ws count recorded h all told c =
+    let a = whole_sum t ws count recorded h all (times_drawn c) in
+    let e = whole_sum t ws count recorded h all ends_of in
     let past = past_end t.prices.items h.2.count h.2.spent (weigh h.0.views) h.2.balanced (omega arith) in
     let least : min h.2.count (length t.prices.items) ≡ length t.prices.items = omega arith in
     sym a ∙ (h.2.balanced.drawn c ∙ ap (one_if_below c) least)
 
-pub closed_all : (t : Terms) (ws : List Worker) → IsClosedWith t ws → total_of (λ (w : Worker). 1) ws ≡ t.workers → 0 < total_of ends_of ws → total_of draws_of ws ≡ length t.prices.items
-closed_all t ws h all told =
-    let a = whole_sum t ws h all draws_of in
-    let e = whole_sum t ws h all ends_of in
+pub closed_all : (t : Terms) (ws : List Worker) (count recorded : ℕ) → IsClosedWith t ws count recorded → total_of (λ (w : Worker). 1) ws ≡ t.workers → 0 < total_of ends_of ws → total_of draws_of ws ≡ length t.prices.items
+closed_all t ws count recorded h all told =
+    let a = whole_sum t ws count recorded h all draws_of in
+    let e = whole_sum t ws count recorded h all ends_of in
     let past = past_end t.prices.items h.2.count h.2.spent (weigh h.0.views) h.2.balanced (omega arith) in
     let d = h.2.balanced.draws in
     omega arith
@@ -113,42 +113,42 @@ all_without_excess prices ws e k d l =
     (are_within prices w.done (omega arith), stands_within prices w.stand (omega arith))
 
 -- the workers ws, whose seats were handed in, are those of a crew that the words were left with
-pub record AreHanded (b : BoardState) (ws : List Worker) : Type 0 where
+pub record AreHanded (b : BoardState) (ws : List Worker) (count recorded : ℕ) : Type 0 where
   pub terms : Terms
   pub crew : List Worker
-  pub closed : IsClosedWith terms crew
+  pub closed : IsClosedWith terms crew count recorded
   pub same : (f : Worker → ℕ) → total_of f crew ≡ total_of f ws
   pub prices : terms.prices.items ≡ b.prices
   pub workers : terms.workers ≡ b.workers
 
-handed_all : (b : BoardState) (ws : List Worker) → (h : AreHanded b ws) → length ws ≡ b.workers → total_of (λ (w : Worker). 1) h.crew ≡ h.terms.workers
-handed_all b ws h all = h.same (λ (w : Worker). 1) ∙ (count_of_all ws ∙ (all ∙ sym h.workers))
+handed_all : (b : BoardState) (ws : List Worker) (count recorded : ℕ) → (h : AreHanded b ws count recorded) → length ws ≡ b.workers → total_of (λ (w : Worker). 1) h.crew ≡ h.terms.workers
+handed_all b ws count recorded h all = h.same (λ (w : Worker). 1) ∙ (count_of_all ws ∙ (all ∙ sym h.workers))
 
-handed_told : (b : BoardState) (ws : List Worker) → (h : AreHanded b ws) → Any IsToldEnd ws → 0 < total_of ends_of h.crew
-handed_told b ws h told = let a = any_ended ws told in let e = h.same ends_of in omega arith
+handed_told : (b : BoardState) (ws : List Worker) (count recorded : ℕ) → (h : AreHanded b ws count recorded) → Any IsToldEnd ws → 0 < total_of ends_of h.crew
+handed_told b ws count recorded h told = let a = any_ended ws told in let e = h.same ends_of in omega arith
 
-pub handed_once : (b : BoardState) (ws : List Worker) → AreHanded b ws → (c : ℕ) → total_of (times_drawn c) ws ≤ one_if_below c (length b.prices)
-handed_once b ws h c =
-    let a = closed_once h.terms h.crew h.closed c in
+pub handed_once : (b : BoardState) (ws : List Worker) (count recorded : ℕ) → AreHanded b ws count recorded → (c : ℕ) → total_of (times_drawn c) ws ≤ one_if_below c (length b.prices)
+handed_once b ws count recorded h c =
+    let a = closed_once h.terms h.crew count recorded h.closed c in
     let e = h.same (times_drawn c) in
     let p = ap (λ (l : List ℕ). one_if_below c (length l)) h.prices in
     omega arith
 
-pub handed_within : (b : BoardState) (ws : List Worker) → AreHanded b ws → All (IsWithinPrices b.prices) ws
-handed_within b ws h =
+pub handed_within : (b : BoardState) (ws : List Worker) (count recorded : ℕ) → AreHanded b ws count recorded → All (IsWithinPrices b.prices) ws
+handed_within b ws count recorded h =
     let a = sound_no_excess h.terms.prices.items h.closed.2.count h.crew (h.closed.2.sound h.closed.1 h.crew h.closed.3) in
     subst (λ (l : List ℕ). All (IsWithinPrices l) ws) h.prices (all_without_excess h.terms.prices.items ws (sym (h.same (excess h.terms.prices.items)) ∙ a))
 
-pub handed_each : (b : BoardState) (ws : List Worker) → AreHanded b ws → IsFinished b ws → (c : ℕ) → total_of (times_drawn c) ws ≡ one_if_below c (length b.prices)
-handed_each b ws h f c =
-    sym (h.same (times_drawn c)) ∙ (closed_each h.terms h.crew h.closed (handed_all b ws h f.0) (handed_told b ws h f.1) c ∙ ap (λ (l : List ℕ). one_if_below c (length l)) h.prices)
+pub handed_each : (b : BoardState) (ws : List Worker) (count recorded : ℕ) → AreHanded b ws count recorded → IsFinished b ws → (c : ℕ) → total_of (times_drawn c) ws ≡ one_if_below c (length b.prices)
+handed_each b ws count recorded h f c =
+    sym (h.same (times_drawn c)) ∙ (closed_each h.terms h.crew count recorded h.closed (handed_all b ws count recorded h f.0) (handed_told b ws count recorded h f.1) c ∙ ap (λ (l : List ℕ). one_if_below c (length l)) h.prices)
 
-pub handed_draws : (b : BoardState) (ws : List Worker) → AreHanded b ws → IsFinished b ws → total_of draws_of ws ≡ length b.prices
-handed_draws b ws h f =
-    sym (h.same draws_of) ∙ (closed_all h.terms h.crew h.closed (handed_all b ws h f.0) (handed_told b ws h f.1) ∙ ap (λ (l : List ℕ). length l) h.prices)
+pub handed_draws : (b : BoardState) (ws : List Worker) (count recorded : ℕ) → AreHanded b ws count recorded → IsFinished b ws → total_of draws_of ws ≡ length b.prices
+handed_draws b ws count recorded h f =
+    sym (h.same draws_of) ∙ (closed_all h.terms h.crew count recorded h.closed (handed_all b ws count recorded h f.0) (handed_told b ws count recorded h f.1) ∙ ap (λ (l : List ℕ). length l) h.prices)
 
-pub handed_completed : (b : BoardState) (ws : List Worker) → AreHanded b ws → IsFinished b ws → All IsToldEnd ws → (c : ℕ) → total_of (times_completed c) ws ≡ one_if_below c (length b.prices)
-handed_completed b ws h f told c = sym (drawn_is_completed c ws told) ∙ handed_each b ws h f c
+pub handed_completed : (b : BoardState) (ws : List Worker) (count recorded : ℕ) → AreHanded b ws count recorded → IsFinished b ws → All IsToldEnd ws → (c : ℕ) → total_of (times_completed c) ws ≡ one_if_below c (length b.prices)
+handed_completed b ws count recorded h f told c = sym (drawn_is_completed c ws told) ∙ handed_each b ws count recorded h f c
 
 -- the workers of all views
 abbrev all_of : List (List Worker) → List Worker
@@ -166,12 +166,30 @@ views_no_excess prices count (v ∷ vs) h =
     let b = views_no_excess prices count vs (λ j u e. h (suc j) u e) in
     omega arith
 
+-- workers who share their sums with the views of a state that meets the rule ran one race, those of them who are lost included
+ran : (b : BoardState) (t : Terms) (s : State ℕ (List Worker)) (h : IsHeld t s) (ws lost : List Worker) → t.prices.items ≡ b.prices → t.workers ≡ b.workers → ((f : Worker → ℕ) → total_of f (ws ++ lost) ≡ weigh s.views f) → RanOneRace b ws h.count h.spent
+ran b t s h ws lost prices workers sums =
+    let ps : List ℕ = t.prices.items in
+    let balanced = balanced_same ps h.count h.spent (weigh s.views) (λ f. total_of f (ws ++ lost)) sums h.balanced in
+    let within = all_without_excess ps (ws ++ lost) (sums (excess ps) ∙ views_no_excess ps h.count s.views h.sound) in
+    record {
+      lost = lost;
+      many = sym (count_of_all (ws ++ lost)) ∙ (sums (λ (w : Worker). 1) ∙ (h.many ∙ workers));
+      numbers = λ k. sums (λ (w : Worker). one_if_same k w.number) ∙ (h.numbers k ∙ ap (one_if_below k) workers);
+      lawful = subst (λ (l : List ℕ). IsLawful l h.count (ws ++ lost)) prices (lawful_of ps h.count h.spent (ws ++ lost) balanced within);
+      counted = balanced.counted;
+      steps = balanced.steps;
+    }
+
+-- the same of another count and other steps, which are equal
+ran_same : (b : BoardState) (ws : List Worker) (count recorded c r : ℕ) → count ≡ c → recorded ≡ r → RanOneRace b ws count recorded → RanOneRace b ws c r
+ran_same b ws count recorded c r e f o = subst (λ (n : ℕ). RanOneRace b ws n r) e (subst (λ (n : ℕ). RanOneRace b ws count n) f o)
+
 -- the workers handed in and the others ran one race
-pub handed_race : (b : BoardState) (ws : List Worker) → AreHanded b ws → RanOneRace b ws
-handed_race b ws h =
+pub handed_race : (b : BoardState) (ws : List Worker) (count recorded : ℕ) → AreHanded b ws count recorded → RanOneRace b ws count recorded
+handed_race b ws count recorded h =
     let held = h.closed.2 in
     let views : List (List Worker) = h.closed.0.views in
-    let ps : List ℕ = h.terms.prices.items in
     let lost : List Worker = all_of (set views h.closed.1 []) in
     let sums : (f : Worker → ℕ) → total_of f (ws ++ lost) ≡ weigh views f = (λ f.
     let a = sum_append f ws lost in
@@ -179,17 +197,53 @@ handed_race b ws h =
     let d = total_all f (set views h.closed.1 []) in
     let g = sum_set_view (total_of f) views h.closed.1 h.crew [] h.closed.3 in
     omega arith) in
-    let balanced = balanced_same ps held.count held.spent (weigh views) (λ f. total_of f (ws ++ lost)) sums held.balanced in
-    let within = all_without_excess ps (ws ++ lost) (sums (excess ps) ∙ views_no_excess ps held.count views held.sound) in
-    (lost, held.count, subst (λ (l : List ℕ). IsLawful l held.count (ws ++ lost)) h.prices (lawful_of ps held.count held.spent (ws ++ lost) balanced within), λ k. sums (λ (w : Worker). one_if_same k w.number) ∙ (held.numbers k ∙ ap (one_if_below k) h.workers))
+    ran_same b ws held.count held.spent count recorded h.closed.4 h.closed.5 (ran b h.terms h.closed.0 held ws lost h.prices h.workers sums)
 
--- where no seat is handed in, the others may have done nothing
-pub none_race : (b : BoardState) (seats : List SeatState) → length seats ≡ 0 → RanOneRace b (workers_of seats)
-none_race b (s ∷ ss) none = absurd (omega arith)
-none_race b [] none =
-    let ws : List Worker = fresh_workers 0 b.workers in
-    let balanced = start_balanced b.prices (λ f. total_of f ws) (λ f z. fresh_sum f z 0 b.workers) in
-    (ws, 0, lawful_of b.prices 0 0 ws balanced (all_within b.prices 0 ws (fresh_sound b.prices 0 0 b.workers)), λ k. let a = fresh_numbers k 0 b.workers in let z = none_at k in let e : 0 + b.workers ≡ b.workers = omega arith in let e' = ap (one_if_below k) e in omega arith)
+-- with all workers, nothing was lost
+pub none_lost : (b : BoardState) (ws : List Worker) (count recorded : ℕ) → RanOneRace b ws count recorded → length ws ≡ b.workers → total_of steps_of ws ≡ recorded
+none_lost b ws count recorded r all =
+    let l = length-append ws r.lost in
+    let m = r.many in
+    let z = nothing r.lost (omega arith) in
+    let a = sum_append steps_of ws r.lost in
+    let e = r.steps in
+    omega arith
   where
-    none_at : (k : ℕ) → one_if_below k 0 ≡ 0
-    none_at k = grind (arith, nat_tests)
+    nothing : (xs : List Worker) → length xs ≡ 0 → total_of steps_of xs ≡ 0
+    nothing [] e = refl
+    nothing (x ∷ xs) e = absurd (omega arith)
+
+-- what closing says, where seats were handed in
+pub closing_with : (b : BoardState) (ws : List Worker) (t : Totals) → AreHanded b ws t.count t.recorded → t.draws ≡ total_of draws_of ws → t.spent ≡ total_of steps_of ws → IsClosing b ws t
+closing_with b ws t h draws spent = record {
+  draws = draws;
+  spent = spent;
+  once = handed_once b ws t.count t.recorded h;
+  within = handed_within b ws t.count t.recorded h;
+  race = handed_race b ws t.count t.recorded h;
+  nothing_lost = λ all. sym (none_lost b ws t.count t.recorded (handed_race b ws t.count t.recorded h) all) ∙ sym spent;
+  all = λ f. draws ∙ handed_draws b ws t.count t.recorded h f;
+  each = handed_each b ws t.count t.recorded h;
+  completed = handed_completed b ws t.count t.recorded h;
+}
+
+-- where no seat is handed in
+pub none_closing : (b : BoardState) (seats : List SeatState) (terms : Terms) (t : Totals) → length seats ≡ 0 → IsClosed terms t.count t.recorded → terms.prices.items ≡ b.prices → terms.workers ≡ b.workers → t.draws ≡ 0 → t.spent ≡ 0 → IsClosing b (workers_of seats) t
+none_closing b (s ∷ ss) terms t none h prices workers draws spent = absurd (omega arith)
+none_closing b [] terms t none h prices workers draws spent =
+    let views : List (List Worker) = h.0.views in
+    let race : RanOneRace b [] t.count t.recorded = ran_same b [] h.1.count h.1.spent t.count t.recorded h.2 h.3 (ran b terms h.0 h.1 [] (all_of views) prices workers (λ f. total_all f views)) in
+    record {
+      draws = draws;
+      spent = spent;
+      once = λ c. omega arith;
+      within = λ k d l. absurd (omega arith);
+      race = race;
+      nothing_lost = λ all. sym (none_lost b [] t.count t.recorded race all) ∙ sym spent;
+      all = λ f. absurd (nobody f.1);
+      each = λ f. absurd (nobody f.1);
+      completed = λ f. absurd (nobody f.1);
+    }
+  where
+    nobody : Any IsToldEnd [] → ⊥
+    nobody a = let l = a.2 in omega arith

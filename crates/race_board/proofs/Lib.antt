@@ -1,7 +1,9 @@
+pub mod Elements
 pub mod Sums
+pub mod Chunks
 pub mod Balances
 pub mod Events
-pub mod Laws
+pub mod Lawful
 pub mod Replays
 pub mod Views
 pub mod Steps
@@ -9,3 +11,5 @@ pub mod Seats
 pub mod Closing
 pub mod Turns
 pub mod Finishing
+pub mod Words
+pub mod Calls

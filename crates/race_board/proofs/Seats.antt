@@ -1,8 +1,7 @@
 -- A crew of one, as the seat that shows it; seats that are dealt and gathered.
-use Rattle.std.proofs.Common.{◌≡◌, ◌⊎◌, ℕ, zero, suc, ◌+◌, ◌-◌, ◌<◌, List, [], ◌∷◌, ◌++◌, length, Option, Some, None, refl, sym, ap, ◌∙◌, ⊎_elim, inl, inr, arith, length-append}
+use Rattle.std.proofs.Common.{◌≡◌, ◌⊎◌, ℕ, zero, suc, ◌+◌, ◌-◌, ◌<◌, List, [], ◌∷◌, ◌++◌, length, Option, Some, None, refl, sym, ap, ◌∙◌, ⊎_elim, inl, inr, arith}
 use Rattle.std.specs.Prelude.{slice_get, slice_index_or, IfSome, All}
 use Rattle.std.proofs.lemmas.Option.{slice_get-get_or}
-use Rattle.std.proofs.Math.ListN.{get_or-append}
 use Rattle.race_board.specs.declared.stand.Stand.{Stand}
 use Rattle.race_board.specs.declared.stand.Stand.TheVariants.{Free, Holds}
 use Rattle.race_board.specs.Race.{Worker, worker, fresh_worker, fresh_workers, BoardState, SeatState, MayDrawAt, IsAboveDraws, workers_of, total_of, times_drawn}
@@ -60,11 +59,6 @@ dealt_ready board seats all k d l =
     let f = all k (slice_index_or seats k d) (slice_get-get_or seats k d l) in
     (f.0, ap (λ (w : Worker). w.stand) f.1)
 
--- the first seats of some that are all of one board
-pub all_front : (name : List ℕ) (seats front back : List SeatState) → seats ≡ front ++ back → All (λ s. s.board ≡ name) seats → All (λ s. s.board ≡ name) front
-all_front name seats front back e all k d l =
-    let many = ap (λ (x : List SeatState). length x) e in
-    let both = length-append front back in
-    let here = ap (λ (x : List SeatState). (slice_index_or x k d).board) e in
-    let same = ap (λ (s : SeatState). s.board) (get_or-append front back d k l) in
-    sym same ∙ (sym here ∙ all k d (omega arith))
+pub workers_snoc : (seats : List SeatState) (s : SeatState) → workers_of (seats ++ s ∷ []) ≡ workers_of seats ++ s.worker ∷ []
+workers_snoc [] s = refl
+workers_snoc (x ∷ xs) s = ap (λ (l : List Worker). x.worker ∷ l) (workers_snoc xs s)

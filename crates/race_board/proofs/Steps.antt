@@ -8,8 +8,8 @@ use Rattle.atomic_table.specs.Table.{State, Me, step, keeps, stepped, Allows, Sp
 use Rattle.atomic_table.proofs.Lists.{at_set, at_snoc, set_again}
 use Rattle.race_board.specs.declared.stand.Stand.TheVariants.{Free, Holds, Failed}
 use Rattle.race_board.specs.declared.terms.Terms.{Terms}
-use Rattle.race_board.specs.Race.{Worker, worker, fresh_worker, fresh_workers, drawn, total_of, one_if_same, one_if_below, times_drawn, draws_of, steps_of}
-use Rattle.race_board.specs.Balance.{first_prices, held_price, ends_of, IsBalanced, AllSound}
+use Rattle.race_board.specs.Race.{Worker, worker, fresh_worker, fresh_workers, drawn, total_of, one_if_same, one_if_below, times_drawn, draws_of, steps_of, ends_of}
+use Rattle.race_board.specs.Balance.{first_prices, held_price, IsBalanced, AllSound}
 use Rattle.race_board.specs.Rule.{weigh, IsSmall, IsHeld, everyone, acted, first_of, rest_of, completes, fails, Draws, Completes, Fails, Learns}
 use Rattle.race_board.specs.Crews.{MayDraw, HoldsChunk}
 use Rattle.race_board.proofs.Sums.{sum_set_view, sum_append, sum_has_view, sum_le, prices_below}

@@ -3,7 +3,7 @@
 use Rattle.std.specs.Prelude.{◌≡◌, ℕ, zero, suc, ◌+◌, ◌^◌, ◌<◌, ◌≤◌, List, [], ◌∷◌, length, slice_index, min}
 use Rattle.race_board.specs.declared.stand.Stand.{Stand}
 use Rattle.race_board.specs.declared.stand.Stand.TheVariants.{Free, Holds, ToldEnd, Failed}
-use Rattle.race_board.specs.Race.{Worker, RaceState, total_of, one_if_below, times_drawn, draws_of, steps_of, IsWithinPrices}
+use Rattle.race_board.specs.Race.{Worker, RaceState, total_of, one_if_below, times_drawn, draws_of, ends_of, steps_of, IsWithinPrices}
 
 abbrev pub price_now : List ℕ → Stand → ℕ
 price_now prices Free = 0
@@ -14,16 +14,6 @@ price_now prices (Failed x s) = 0
 -- the price of the chunk that the worker holds
 abbrev pub held_price : List ℕ → Worker → ℕ
 held_price prices w = price_now prices w.stand
-
-abbrev pub ends_now : Stand → ℕ
-ends_now Free = 0
-ends_now (Holds x) = 0
-ends_now ToldEnd = 1
-ends_now (Failed x s) = 0
-
--- 1 where the worker was told the end
-abbrev pub ends_of : Worker → ℕ
-ends_of w = ends_now w.stand
 
 -- the prices of the first chunks, added up
 abbrev pub first_prices : List ℕ → ℕ → ℕ

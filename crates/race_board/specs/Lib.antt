@@ -1,4 +1,5 @@
 pub mod Race
+pub mod Chunks
 pub mod Balance
 pub mod Naming
 pub mod Rule

@@ -1,5 +1,5 @@
--- How a board and its seats show what they are: the name of a board, from the table that it keeps its words in, and the one worker of a
--- seat. This project's own.
+-- How a board and its seats show what they are: the name of a board, from the table that it keeps its words in, and the one
+-- worker of a seat. This project's own.
 use Rattle.std.specs.Prelude.{◌≡◌, ℕ, List, [], ◌∷◌}
 use Rattle.atomic_table.specs.Seated.{TableId}
 use Rattle.race_board.specs.Race.{Worker, fresh_worker}

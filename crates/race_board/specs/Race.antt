@@ -1,13 +1,14 @@
 -- The race of workers over chunks, and the board on which workers in threads run it. This project's own.
 --
--- There are n chunks, numbered from 0, and each has a price in steps. A worker draws: it gets the next number, and the count of draws grows
--- by one. Below n the number is a chunk, which the worker then holds; from n on the worker is told the end. A worker that holds a chunk
--- records it as complete, or as failed, with the steps that it took, at most the chunk's price, and holds it no more. Who completed a chunk
--- may draw again; who failed one, or was told the end, may not.
+-- There are n chunks, numbered from 0, and each has a price in steps. A worker draws: it gets the next number, and the count of
+-- draws grows by one. Below n the number is a chunk, which the worker then holds; from n on the worker is told the end. A worker
+-- that holds a chunk records it as complete, or as failed, with the steps that it took, at most the chunk's price, and holds it
+-- no more. Who completed a chunk may draw again; who failed one, or was told the end, may not.
 use Rattle.std.specs.Prelude.{◌≡◌, ℕ, zero, suc, ◌+◌, ◌<◌, ◌≤◌, ◌==◌, ◌&&◌, List, [], ◌∷◌, ◌++◌, length, map, fold, min, slice_index, slice_get, slice_set, nat_lt, nat_le, Bool, true, false, if◌then◌else◌, Option, Some, None, All, Any, Contains}
 use Rattle.race_board.specs.declared.stand.Stand.{Stand}
 use Rattle.race_board.specs.declared.stand.Stand.TheVariants.{Free, Holds, ToldEnd, Failed}
 use Rattle.race_board.specs.declared.event.RaceEvent.{RaceEvent}
+use Rattle.race_board.specs.declared.totals.Totals.{Totals}
 use Rattle.race_board.specs.declared.event.RaceEvent.TheVariants.{Draw, Complete, Fail}
 
 -- 1. The record of a worker: its number, the chunks that it completed, each with its steps, in order, and how it stands now.
@@ -52,7 +53,8 @@ stand_after n found = if nat_lt found n then Holds found else ToldEnd
 abbrev pub drawn : List ℕ → ℕ → Worker → Worker
 drawn prices found w = worker w.number w.done (stand_after (length prices) found)
 
--- 2. What a record says: how often the worker drew a chunk, how many it drew, what it spent. Of several workers these are added up.
+-- 2. What a record says: how often the worker drew a chunk, how many it drew, what it spent. Of several workers these are added
+-- up.
 abbrev pub total_of : {A : Type 0} → (A → ℕ) → List A → ℕ
 total_of f [] = 0
 total_of f (x ∷ xs) = f x + total_of f xs
@@ -86,6 +88,16 @@ draws_now (Failed x s) = 1
 -- how many chunks a worker drew
 abbrev pub draws_of : Worker → ℕ
 draws_of w = total_of (λ (d : ℕ × ℕ). 1) w.done + draws_now w.stand
+
+abbrev pub ends_now : Stand → ℕ
+ends_now Free = 0
+ends_now (Holds x) = 0
+ends_now ToldEnd = 1
+ends_now (Failed x s) = 0
+
+-- 1 where the worker was told the end
+abbrev pub ends_of : Worker → ℕ
+ends_of w = ends_now w.stand
 
 abbrev pub steps_now : Stand → ℕ
 steps_now Free = 0
@@ -145,11 +157,13 @@ may_record_by prices c s (Some x) = may_record prices c s x.stand
 
 abbrev pub draw_by : RaceState → ℕ → Option Worker → RaceState
 draw_by r w None = r
-draw_by r w (Some x) = if may_draw x.stand then race r.prices (r.count + 1) (slice_set r.workers w (drawn r.prices r.count x)) else r
+draw_by r w (Some x) =
+    if may_draw x.stand then race r.prices (r.count + 1) (slice_set r.workers w (drawn r.prices r.count x)) else r
 
 abbrev pub record_by : RaceState → ℕ → ℕ → ℕ → (Worker → Worker) → Option Worker → RaceState
 record_by r w c s recorded None = r
-record_by r w c s recorded (Some x) = if may_record r.prices c s x.stand then race r.prices r.count (slice_set r.workers w (recorded x)) else r
+record_by r w c s recorded (Some x) =
+    if may_record r.prices c s x.stand then race r.prices r.count (slice_set r.workers w (recorded x)) else r
 
 -- what an event makes of a race: one that doesn't apply, or is of a worker that isn't there, leaves the race as it is
 abbrev pub after_event : RaceState → RaceEvent → RaceState
@@ -169,7 +183,8 @@ pub record IsLawful (prices : List ℕ) (count : ℕ) (workers : List Worker) : 
   -- once a worker was told the end, every chunk was drawn
   pub end_is_true : Any IsToldEnd workers → (c : ℕ) → c < length prices → total_of (times_drawn c) workers ≡ 1
   -- where all were told the end, so that none failed, each chunk was completed once
-  pub all_completed : 0 < length workers → All IsToldEnd workers → (c : ℕ) → c < length prices → total_of (times_completed c) workers ≡ 1
+  pub all_completed : 0 < length workers → All IsToldEnd workers
+      → (c : ℕ) → c < length prices → total_of (times_completed c) workers ≡ 1
 
 -- each worker stands at the place of its number
 abbrev pub AreInPlace : List Worker → Type 0
@@ -205,7 +220,8 @@ IfThere P (Some w) = P w
 abbrev pub IsCompletedBy : List Worker → ℕ → ℕ → ℕ → Type 0
 IsCompletedBy workers c n s = IfThere (λ w. Contains w.done (c, s)) (slice_get workers n)
 
--- 6. The board, as its callers see it: its name, which no other board has, the prices of its chunks, and how many workers it is for.
+-- 6. The board, as its callers see it: its name, which no other board has, the prices of its chunks, and how many workers it is
+-- for.
 pub record BoardState : Type 0 where
   pub name : List ℕ
   pub prices : List ℕ
@@ -238,6 +254,31 @@ IsFinished board workers = (length workers ≡ board.workers) × Any IsToldEnd w
 abbrev pub AreNumbersBelow : ℕ → List Worker → Type 0
 AreNumbersBelow n workers = (k : ℕ) → total_of (λ (w : Worker). one_if_same k w.number) workers ≡ one_if_below k n
 
--- with some others, whose seats were lost, these workers are all of the board's, and they ran one race
-abbrev pub RanOneRace : BoardState → List Worker → Type 0
-RanOneRace board workers = (lost : List Worker) × (count : ℕ) × IsLawful board.prices count (workers ++ lost) × AreNumbersBelow board.workers (workers ++ lost)
+-- With some others, whose seats were lost, these workers are all of the board's, and they ran one race. Its count is what they
+-- all drew, and how many were told the end; the steps are what they all recorded
+pub record RanOneRace (board : BoardState) (workers : List Worker) (count recorded : ℕ) : Type 0 where
+  pub lost : List Worker
+  pub many : length (workers ++ lost) ≡ board.workers
+  pub numbers : AreNumbersBelow board.workers (workers ++ lost)
+  pub lawful : IsLawful board.prices count (workers ++ lost)
+  pub counted : total_of draws_of (workers ++ lost) + total_of ends_of (workers ++ lost) ≡ count
+  pub steps : total_of steps_of (workers ++ lost) ≡ recorded
+
+-- What closing a board says of the workers whose seats were handed in
+pub record IsClosing (board : BoardState) (workers : List Worker) (totals : Totals) : Type 0 where
+  -- exact sums over these workers
+  pub draws : totals.draws ≡ total_of draws_of workers
+  pub spent : totals.spent ≡ total_of steps_of workers
+  -- no chunk was drawn by two of them, and none that isn't there
+  pub once : (c : ℕ) → total_of (times_drawn c) workers ≤ one_if_below c (length board.prices)
+  pub within : All (IsWithinPrices board.prices) workers
+  -- with the workers whose seats were lost, they ran one race
+  pub race : RanOneRace board workers totals.count totals.recorded
+  -- with all workers, nothing was lost
+  pub nothing_lost : length workers ≡ board.workers → totals.recorded ≡ totals.spent
+  -- with all workers, of whom one was told the end, each chunk was drawn
+  pub all : IsFinished board workers → totals.draws ≡ length board.prices
+  pub each : IsFinished board workers → (c : ℕ) → total_of (times_drawn c) workers ≡ one_if_below c (length board.prices)
+  -- where all of them were told the end, so that none failed, each chunk was completed once
+  pub completed : IsFinished board workers → All IsToldEnd workers
+      → (c : ℕ) → total_of (times_completed c) workers ≡ one_if_below c (length board.prices)

@@ -17,8 +17,9 @@ weigh views f = total_of (total_of f) views
 abbrev pub IsSmall : Terms → Type 0
 IsSmall t = (length t.prices.items < 2 ^ 63) × (first_prices t.prices.items (length t.prices.items) ≤ 2 ^ 62) × (t.workers ≤ 64)
 
--- At each moment the views together are a race, of which word 0 is the count and word 1 the steps spent: it has the balance of a run, its
--- records are sound, and each worker is in one view, once. A seat that was joined to another leaves a view with no workers.
+-- At each moment the views together are a race, of which word 0 is the count and word 1 the steps spent: it has the balance of a
+-- run, its records are sound, and each worker is in one view, once. A seat that was joined to another leaves a view with no
+-- workers.
 pub record IsHeld (t : Terms) (s : State ℕ (List Worker)) : Type 0 where
   pub count : ℕ
   pub spent : ℕ
@@ -75,6 +76,7 @@ Completes st m found m' = (m'.0 ≡ acted (completes st.first) m.0) × (m'.1 ≡
 abbrev pub Fails : Step ℕ → Me ℕ (List Worker) → ℕ → Me ℕ (List Worker) → Type 0
 Fails st m found m' = (m'.0 ≡ acted (fails st.first) m.0) × (m'.1 ≡ m.1) × (total_of steps_of m.0 + st.first ≤ 2 ^ 62)
 
--- Join: loads of word 0. A seat takes in another's workers behind its own, and learns that what they drew and spent together stays in a word
+-- Join: loads of word 0. A seat takes in another's workers behind its own, and learns that what they drew and spent together
+-- stays in a word
 abbrev pub Learns : Step ℕ → Me ℕ (List Worker) → ℕ → Me ℕ (List Worker) → Type 0
 Learns st m found m' = (m'.0 ≡ m.0) × (m'.1 ≡ m.1) × (total_of draws_of m.0 < 2 ^ 63) × (total_of steps_of m.0 ≤ 2 ^ 62)

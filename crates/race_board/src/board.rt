@@ -1,12 +1,12 @@
 //! A board on which workers in threads draw chunks, over two atomic words.
 ghost use Rattle.std.specs.Prelude.{◌≡◌, ℕ, ◌+◌, ◌^◌, ◌<◌, ◌≤◌, [], length, sum, slice_get, slice_index, All, Some, IfOk, IfSome, IfNone, vec_len};
 ghost use Rattle.race_board.specs.declared.stand.Stand.TheVariants.{Free, Holds};
-ghost use Rattle.race_board.specs.Race.{Worker, SeatState, IsSeatOf, MayDrawAt, IsFinished, RanOneRace, IsAboveDraws, IsToldEnd, IsWithinPrices, fresh_worker, fresh_workers, holding, told_end, completed, failed, total_of, one_if_below, times_completed, times_drawn, draws_of, steps_of, workers_of};
+ghost use Rattle.race_board.specs.Race.{Worker, SeatState, IsSeatOf, MayDrawAt, IsClosing, IsAboveDraws, fresh_worker, fresh_workers, holding, told_end, completed, failed, total_of, draws_of, steps_of, workers_of};
 ghost use Rattle.race_board.specs.Naming.{name_of};
-ghost use Rattle.race_board.specs.Crews.{IsClosedWith};
+ghost use Rattle.race_board.specs.Crews.{IsClosedWith, IsClosed};
 
 use crate::crew::Crew;
-use crate::rule::{Place, SplitStep, Words};
+use crate::rule::{COUNT, Place, SPENT, SplitStep, Words};
 use crate::seat::BoardSeat;
 use crate::terms::Terms;
 use crate::totals::Totals;
@@ -22,15 +22,20 @@ pub struct Board {
 }
 
 impl Model for Board {
-    ghost use Rattle.std.specs.Prelude.{◌≡◌, length};
+    ghost use Rattle.std.specs.Prelude.{◌≡◌, ◌<◌, ◌^◌, length};
     ghost use Rattle.race_board.specs.Race.{BoardState};
     ghost use Rattle.race_board.specs.Naming.{name_of};
 
     ghost Value = { BoardState };
 
-    ghost view = { λ b. record { name = name_of b.table.shared.table_id; prices = b.table.shared.key.prices.items; workers = b.table.shared.key.workers } };
+    ghost view = { λ b. record {
+      name = name_of b.table.shared.table_id;
+      prices = b.table.shared.key.prices.items;
+      workers = b.table.shared.key.workers;
+    } };
 
-    ghost invariant = { λ b. (b.table.shared.table_id.words ≡ 2) × (b.table.shared.table_id.slots ≡ 0) × (b.chunks ≡ length b.table.shared.key.prices.items) };
+    ghost invariant = { λ b. (b.table.shared.table_id.words ≡ 2) × (b.table.shared.table_id.slots ≡ 0) ×
+        (b.chunks ≡ length b.table.shared.key.prices.items) × (length b.table.shared.key.prices.items < 2 ^ 63) };
 }
 
 impl Board {
@@ -45,6 +50,7 @@ impl Board {
         requires prices { sum prices.items ≤ 2 ^ 62 }
         ensures board { IfOk result (λ r. (r.0.prices ≡ prices.items) × (r.0.workers ≡ workers)) }
         ensures seats { IfOk result (λ r. vec_len r.1 ≡ workers) }
+        ensures few { length prices.items < 2 ^ 63 }
         ensures ready { IfOk result (λ r. All (MayDrawAt r.0) r.1.items) }
         ensures fresh { IfOk result (λ r. (k : ℕ) (s : SeatState) → slice_get r.1.items k ≡ Some s →
             s.worker ≡ fresh_worker k) }
@@ -56,6 +62,14 @@ impl Board {
         Ok((Board { table, chunks }, seats))
     }
 
+    /// How many chunks there are. A chunk's number is below it, so the number after it is one too.
+    pub fn chunks(&self) -> u64
+        ensures number { result ≡ length self.now.prices }
+        ensures few { length self.now.prices < 2 ^ 63 }
+    {
+        self.chunks
+    }
+
     /// The worker draws: it gets a chunk, which it holds from then on, or is told the end.
     pub fn draw(&self, seat: &mut BoardSeat) -> Option<u64>
         requires own { IsSeatOf self.now seat.old }
@@ -63,6 +77,7 @@ impl Board {
         ensures own { IsSeatOf self.now seat.new }
         ensures chunk { IfSome result (λ c. (c < length self.now.prices) ×
             (seat.new.worker ≡ holding c seat.old.worker)) }
+        ensures few { length self.now.prices < 2 ^ 63 }
         ensures above { IfSome result (λ c. IsAboveDraws seat.old.worker c) }
         ensures end { IfNone result (seat.new.worker ≡ told_end seat.old.worker) }
     {
@@ -96,35 +111,13 @@ impl Board {
     /// with its thread, or none.
     pub fn close(self, seats: Vec<BoardSeat>) -> Totals
         requires own { All (IsSeatOf self) seats.items }
-
-        // Exact sums over the workers whose seats these are.
-        ensures draws { result.draws ≡ total_of draws_of (workers_of seats.items) }
-        ensures spent { result.spent ≡ total_of steps_of (workers_of seats.items) }
-
-        // No chunk was drawn by two of them, and none that isn't there.
-        ensures once { (c : ℕ) →
-            total_of (times_drawn c) (workers_of seats.items) ≤ one_if_below c (length self.prices) }
-        ensures within { All (IsWithinPrices self.prices) (workers_of seats.items) }
-
-        // With the workers whose seats were lost, they ran one race that meets the law.
-        ensures race { RanOneRace self (workers_of seats.items) }
-
-        // With all workers, of whom one was told the end, each chunk was drawn.
-        ensures all { IsFinished self (workers_of seats.items) → result.draws ≡ length self.prices }
-        ensures each { IsFinished self (workers_of seats.items) → (c : ℕ) →
-            total_of (times_drawn c) (workers_of seats.items) ≡ one_if_below c (length self.prices) }
-
-        // Where all of them were told the end, so that none failed, each chunk was completed once.
-        ensures completed { IsFinished self (workers_of seats.items) →
-            All IsToldEnd (workers_of seats.items) → (c : ℕ) →
-            total_of (times_completed c) (workers_of seats.items) ≡
-            one_if_below c (length self.prices) }
+        ensures { IsClosing self (workers_of seats.items) result }
     {
+        let Board { table, chunks: _ } = self;
         let mut seats = seats;
         let Some(first) = seats.pop() else {
-            return Totals { draws: 0, spent: 0 };
+            return end_without_seats(table);
         };
-        let Board { table, chunks: _ } = self;
         let all = gather(&table, first, seats);
         end(table, all)
     }
@@ -178,12 +171,14 @@ fn gather(table: &Words, first: BoardSeat, seats: Vec<BoardSeat>) -> Crew
     all
 }
 
+// Closes the words, which tell what all workers did.
 fn end(table: Words, all: Crew) -> Totals
+    requires words { table.shared.table_id.words ≡ 2 }
     requires slots { table.shared.table_id.slots ≡ 0 }
     requires own { all.place.table_id ≡ table.shared.table_id }
     ensures draws { result.draws ≡ total_of draws_of all.place.me.0 }
     ensures spent { result.spent ≡ total_of steps_of all.place.me.0 }
-    ensures held { IsClosedWith table.shared.key all.place.me.0 }
+    ensures held { IsClosedWith table.shared.key all.place.me.0 result.count result.recorded }
 {
     let Crew {
         place,
@@ -191,6 +186,32 @@ fn end(table: Words, all: Crew) -> Totals
         spent,
     } = all;
     let closed = table.close_with(place);
+    let count = closed.word(COUNT);
+    let recorded = closed.word(SPENT);
     closed.free();
-    Totals { draws, spent }
+    Totals {
+        draws,
+        spent,
+        count,
+        recorded,
+    }
+}
+
+// The same where every seat was lost.
+fn end_without_seats(table: Words) -> Totals
+    requires words { table.shared.table_id.words ≡ 2 }
+    requires slots { table.shared.table_id.slots ≡ 0 }
+    ensures draws { result.draws ≡ 0 }
+    ensures spent { result.spent ≡ 0 }
+    ensures held { IsClosed table.shared.key result.count result.recorded }
+{
+    let closed = table.close();
+    let totals = Totals {
+        draws: 0,
+        spent: 0,
+        count: closed.word(COUNT),
+        recorded: closed.word(SPENT),
+    };
+    closed.free();
+    totals
 }

@@ -2,22 +2,32 @@
 //!
 //! Each chunk is drawn by exactly one worker, and the steps spent are counted exactly: that is the
 //! contract, in the words seat, worker, chunk and record of `specs/Race.antt`. It is proved of every
-//! list of events by `race::replay`, a core without threads, and of workers in threads by
-//! `board::Board`, whose every atomic step is one event of such a race.
+//! list of events by `replay`, a core without threads, and of workers in threads by `Board`: each of
+//! its calls changes its worker's record as an event does, and its workers meet the same law.
 //!
-//! Read `specs/Race.antt` first, then `race`, then `board` and `seat`. How the board keeps its
-//! promise is in `rule` (what holds between any two steps) and `crew` (the steps themselves).
+//! Read `specs/Race.antt` with `stand`, `event` and `totals` first, then `race` with `worker` (the
+//! core), then `board` and `seat`. `laws` with `specs/Chunks.antt` joins calls with events, and says
+//! what the lists of all workers say together. How the board keeps its promise is in `terms`, `rule` (what holds between any two
+//! steps) and `crew` (the steps themselves); `tests` runs threads, and is a client as a batch is.
 #![tactic(auto)]
 
-pub mod board;
+mod board;
 mod crew;
-pub mod event;
-pub mod race;
+mod event;
+pub mod laws;
+mod race;
 mod rule;
-pub mod seat;
-pub mod stand;
+mod seat;
+mod stand;
 mod terms;
 #[cfg(test)]
 mod tests;
-pub mod totals;
+mod totals;
 mod worker;
+
+pub use board::Board;
+pub use event::RaceEvent;
+pub use race::{Race, replay};
+pub use seat::BoardSeat;
+pub use stand::Stand;
+pub use totals::Totals;

@@ -2,15 +2,20 @@
 ghost use Rattle.std.specs.Prelude.{◌≡◌, ◌≤◌, ◌<◌, IfOk, All};
 ghost use Rattle.race_board.specs.Race.{IsSeatOf, IsToldEnd, MayDrawAt};
 
-use crate::board::Board;
-use crate::event::RaceEvent;
-use crate::race::{Race, replay};
-use crate::seat::BoardSeat;
-use crate::totals::Totals;
+use crate::{Board, BoardSeat, Race, RaceEvent, Totals, replay};
 use std::alloc::{AllocError, Global};
 use std::test::Fail;
 use std::thread;
-use std::thread::Threads;
+use std::thread::{Builder, Threads};
+
+mod joined;
+
+const NOTHING: Totals = Totals {
+    draws: 0,
+    spent: 0,
+    count: 0,
+    recorded: 0,
+};
 
 #[test]
 fn two_workers_over_two_chunks(rt: HostRuntime) -> Result<(), Fail> {
@@ -137,7 +142,9 @@ fn two_threads_over_a_thousand_chunks(rt: HostRuntime) -> Result<(), Fail> {
         totals,
         Totals {
             draws: 1000,
-            spent: 1000
+            spent: 1000,
+            count: 1002,
+            recorded: 1000
         }
     );
     Ok(())
@@ -151,7 +158,9 @@ fn sixty_four_threads_over_few_and_many_chunks(rt: HostRuntime) -> Result<(), Fa
             totals,
             Totals {
                 draws: u64::from(chunks),
-                spent: u64::from(chunks)
+                spent: u64::from(chunks),
+                count: u64::from(chunks) + 64,
+                recorded: u64::from(chunks)
             }
         );
     }
@@ -171,7 +180,61 @@ fn a_board_closed_with_a_seat_lost(rt: HostRuntime) -> Result<(), Fail> {
     drop(lost);
     let left = draw_each(rt.alloc(), &board, prices.as_slice(), seats)?;
     assert_eq!(rt; left.len(), 2);
-    assert_eq!(rt; board.close(left), Totals { draws: 9, spent: 9 });
+    assert_eq!(rt;
+        board.close(left),
+        Totals {
+            draws: 9,
+            spent: 9,
+            count: 12,
+            recorded: 9
+        }
+    );
+    Ok(())
+}
+
+/// A thread whose stack no machine has can't start, and the seat that was to go there is lost: the other worker draws all
+/// chunks, and the board says that nothing else was drawn or spent.
+#[test]
+fn a_seat_lost_with_a_refused_thread(rt: HostRuntime) -> Result<(), Fail> {
+    let prices = vec![in rt.alloc(); 1u64; 10]?;
+    let (board, mut seats) = Board::open(rt.alloc(), prices.as_slice().to_vec(rt.alloc())?, 2)?;
+    let Some(lost) = seats.pop() else {
+        unreachable!()
+    };
+    let started = Builder::new().stack_size(1 << 60).spawn(&rt, move || lost);
+    assert!(rt; started.is_err());
+    drop(started);
+    let left = draw_each(rt.alloc(), &board, prices.as_slice(), seats)?;
+    assert_eq!(rt; left.len(), 1);
+    let totals = board.close(left);
+    let want = Totals {
+        draws: 10,
+        spent: 10,
+        count: 11,
+        recorded: 10,
+    };
+    assert_eq!(rt; totals, want);
+    Ok(())
+}
+
+/// A worker whose seat is lost had completed a chunk: the board still tells its draw and its steps.
+#[test]
+fn what_a_lost_seat_recorded(rt: HostRuntime) -> Result<(), Fail> {
+    let prices = vec![in rt.alloc(); 3u64, 5]?;
+    let (board, mut seats) = Board::open(rt.alloc(), prices, 2)?;
+    let Some(mut lost) = seats.pop() else {
+        unreachable!()
+    };
+    assert_eq!(rt; board.draw(&mut lost), Some(0));
+    board.complete(&mut lost, 0, 2);
+    drop(lost);
+    let want = Totals {
+        draws: 0,
+        spent: 0,
+        count: 1,
+        recorded: 2,
+    };
+    assert_eq!(rt; board.close(seats), want);
     Ok(())
 }
 
@@ -180,10 +243,7 @@ fn a_board_closed_with_no_seats(rt: HostRuntime) -> Result<(), Fail> {
     let prices = vec![in rt.alloc(); 1u64; 10]?;
     let (board, seats) = Board::open(rt.alloc(), prices, 2)?;
     assert_eq!(rt; seats.len(), 2);
-    assert_eq!(rt;
-        board.close(Vec::new(rt.alloc())),
-        Totals { draws: 0, spent: 0 }
-    );
+    assert_eq!(rt; board.close(Vec::new(rt.alloc())), NOTHING);
     Ok(())
 }
 
@@ -196,7 +256,15 @@ fn a_board_with_no_prices(rt: HostRuntime) -> Result<(), Fail> {
     assert_eq!(rt; board.draw(&mut seat), None);
     seats.push(seat)?;
     assert_eq!(rt; seats.len(), 2);
-    assert_eq!(rt; board.close(seats), Totals { draws: 0, spent: 0 });
+    assert_eq!(rt;
+        board.close(seats),
+        Totals {
+            draws: 0,
+            spent: 0,
+            count: 1,
+            recorded: 0
+        }
+    );
     Ok(())
 }
 
@@ -212,7 +280,15 @@ fn a_chunk_that_fails_charges_its_steps(rt: HostRuntime) -> Result<(), Fail> {
     assert_eq!(rt; board.draw(&mut seat), Some(1));
     board.fail(&mut seat, 1, 4);
     seats.push(seat)?;
-    assert_eq!(rt; board.close(seats), Totals { draws: 2, spent: 6 });
+    assert_eq!(rt;
+        board.close(seats),
+        Totals {
+            draws: 2,
+            spent: 6,
+            count: 2,
+            recorded: 6
+        }
+    );
     Ok(())
 }
 
@@ -226,7 +302,7 @@ fn open_with_each_allocation_refused(rt: HostRuntime) -> Result<(), Fail> {
         Err(AllocError) => open_with_two_prices(rt.alloc())?,
     };
     assert_eq!(rt; seats.len(), 64);
-    assert_eq!(rt; board.close(seats), Totals { draws: 0, spent: 0 });
+    assert_eq!(rt; board.close(seats), NOTHING);
     Ok(())
 }
 

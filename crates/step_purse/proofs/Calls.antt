@@ -6,8 +6,7 @@ use Rattle.step_purse.specs.declared.dealings.Totals.{Totals}
 use Rattle.step_purse.specs.declared.dealings.Reply.TheVariants.{Took, NotEnough}
 use Rattle.step_purse.specs.declared.dealings.Dealing.{Dealing}
 use Rattle.step_purse.specs.declared.dealings.Dealing.TheVariants.{Reserved, Settled, Told}
-use Rattle.step_purse.specs.Plain.{opened, total, reply_to, IsAnswered, after, after_all, IsLegal, owed_after, owed_after_all}
-use Rattle.step_purse.specs.Rule.{MayMake}
+use Rattle.step_purse.specs.Plain.{opened, total, reply_to, IsAnswered, after, after_all, IsLegal, owed_after, owed_after_all, MayMake, amount_taken, amount_settled}
 
 -- what was taken is what was asked for, and was left
 pub taken : (t : Totals) (amount a : ℕ) → Took a ≡ reply_to t amount → (a ≡ amount) × (amount ≤ t.left)
@@ -66,3 +65,15 @@ owed_by_one t (d ∷ ds) l = ap (λ (n : ℕ). owed_after_all n ds) (one t d l.0
     one t (Reserved amount (NotEnough left)) r = refl
     one t (Settled amount spent) r = refl
     one t (Told reply) r = refl
+
+-- a call adds to what its caller owes what it takes, and takes from it what it settles
+pub owed_balance : (owed : ℕ) (d : Dealing) → MayMake owed d → owed_after owed d + amount_settled d ≡ owed + amount_taken d
+owed_balance owed (Reserved amount (Took a)) m = omega arith
+owed_balance owed (Reserved amount (NotEnough left)) m = omega arith
+owed_balance owed (Settled amount spent) m = omega arith
+owed_balance owed (Told reply) m = omega arith
+
+-- the last call of a legal history is answered
+pub legal_last : (t : Totals) (history : List Dealing) (d : Dealing) → IsLegal t (history ++ d ∷ []) → IsAnswered (after_all t history) d
+legal_last t [] d l = l.0
+legal_last t (x ∷ xs) d l = legal_last (after t x) xs d l.1

@@ -1,4 +1,5 @@
 pub mod Plain
+pub mod Shares
 pub mod Histories
 pub mod Rule
 pub mod Seats

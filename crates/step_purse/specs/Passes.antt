@@ -1,19 +1,19 @@
 -- What contracts see of a purse and its passes. This project's own.
-use Rattle.std.specs.Prelude.{ℕ}
-use Rattle.crossbeam_utils.specs.Seq.{cell_view}
-use Rattle.step_purse.specs.declared.shared.Pass.{Pass}
-use Rattle.step_purse.specs.declared.shared.Purse.{Purse}
+use Rattle.std.specs.Prelude.{◌≡◌, ℕ}
+use Rattle.atomic_table.specs.Seated.{TableId}
 use Rattle.step_purse.specs.declared.views.Known.{Known}
-use Rattle.step_purse.specs.Seats.{IsSeatOf}
 
--- what the purse was opened with
-abbrev pub allowance_of : Purse → ℕ
-allowance_of purse = purse.allowance
+-- A purse: its name, which no other purse has, and what it was opened with
+pub record PurseState : Type 0 where
+  pub name : TableId
+  pub allowance : ℕ
 
--- what the pass knows of the one history of its purse
-abbrev pub known : Pass → Known
-known pass = (cell_view pass.seat).known
+-- A pass: the name and the allowance of its purse, and what it knows of the one history
+pub record PassState : Type 0 where
+  pub purse : TableId
+  pub allowance : ℕ
+  pub known : Known
 
 -- the pass is one of this purse
-abbrev pub IsPassOf : Purse → Pass → Type 0
-IsPassOf purse pass = IsSeatOf purse pass.seat
+abbrev pub IsPassOf : PurseState → PassState → Type 0
+IsPassOf purse pass = (pass.purse ≡ purse.name) × (pass.allowance ≡ purse.allowance)

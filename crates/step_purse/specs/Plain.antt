@@ -33,8 +33,13 @@ IsAnswered t (Told reply) = reply ≡ t
 abbrev pub after : Totals → Dealing → Totals
 after t (Reserved amount (Took taken)) = record { left = t.left - taken; reserved = t.reserved + taken; spent = t.spent }
 after t (Reserved amount (NotEnough left)) = t
-after t (Settled amount spent) = record { left = t.left + (amount - spent); reserved = t.reserved - amount; spent = t.spent + spent }
+after t (Settled amount spent) =
+    record { left = t.left + (amount - spent); reserved = t.reserved - amount; spent = t.spent + spent }
 after t (Told reply) = t
+
+-- the call with its reply leads from these totals to those
+abbrev pub PlainlyLeads : Totals → Dealing → Totals → Type 0
+PlainlyLeads t d now = IsAnswered t d × (now ≡ after t d)
 
 -- what the calls of a history leave, made from the first to the last
 abbrev pub after_all : Totals → List Dealing → Totals
@@ -57,3 +62,32 @@ owed_after owed (Told reply) = owed
 abbrev pub owed_after_all : ℕ → List Dealing → ℕ
 owed_after_all owed [] = owed
 owed_after_all owed (d ∷ ds) = owed_after_all (owed_after owed d) ds
+
+-- a caller that owes this much may make the call: it settles no more than it owes
+abbrev pub MayMake : ℕ → Dealing → Type 0
+MayMake owed (Reserved amount reply) = Unit {0}
+MayMake owed (Settled amount spent) = amount ≤ owed
+MayMake owed (Told reply) = Unit {0}
+
+-- what a call takes for its caller
+abbrev pub amount_taken : Dealing → ℕ
+amount_taken (Reserved amount (Took taken)) = taken
+amount_taken (Reserved amount (NotEnough left)) = 0
+amount_taken (Settled amount spent) = 0
+amount_taken (Told reply) = 0
+
+-- what a call settles
+abbrev pub amount_settled : Dealing → ℕ
+amount_settled (Reserved amount reply) = 0
+amount_settled (Settled amount spent) = amount
+amount_settled (Told reply) = 0
+
+-- what several take
+abbrev pub total_taken : List Dealing → ℕ
+total_taken [] = 0
+total_taken (d ∷ ds) = amount_taken d + total_taken ds
+
+-- and settle
+abbrev pub total_settled : List Dealing → ℕ
+total_settled [] = 0
+total_settled (d ∷ ds) = amount_settled d + total_settled ds

@@ -1,17 +1,20 @@
--- The rule that a purse's cell is kept by: what its three words say, and what each pass knows. This project's own.
--- The words are what is left, reserved and spent. The first counts what the purse withholds too: the greatest allowance less its own.
--- So the three add up to 2^62 in every purse, and every cell begins with the same words.
-use Rattle.std.specs.Prelude.{◌≡◌, ◌⊎◌, ℕ, ◌+◌, ◌-◌, ◌^◌, ◌≤◌, nat_lt, nat_le, nat_eq, List, [], ◌∷◌, ◌++◌, length, slice_index, MatchBool, true, false, if◌then◌else◌}
+-- The rule that a purse's cell is kept by: what its three words say, and what each pass knows. This project's own. The words are
+-- what is left, reserved and spent. The first counts what the purse withholds too: the greatest allowance less its own. So the
+-- three add up to 2^62 in every purse, and every cell begins with the same words.
+use Rattle.std.specs.Prelude.{◌≡◌, ◌⊎◌, ℕ, ◌+◌, ◌-◌, ◌^◌, ◌≤◌, ◌<◌, nat_le, nat_eq, List, [], ◌∷◌, ◌++◌, length, slice_index, MatchBool, true, false}
 use mathlib.Core.Option.{some}
 use lib.ListN.{get_elem?}
 use lib.Pointwise.{pointwise}
 use Rattle.step_purse.specs.declared.dealings.Totals.{Totals}
 use Rattle.step_purse.specs.declared.dealings.Reply.TheVariants.{NotEnough}
 use Rattle.step_purse.specs.declared.dealings.Dealing.{Dealing}
-use Rattle.step_purse.specs.declared.dealings.Dealing.TheVariants.{Reserved, Settled, Told}
+use Rattle.step_purse.specs.declared.dealings.Dealing.TheVariants.{Reserved, Told}
+use Rattle.step_purse.specs.declared.views.Known.{Known}
 use Rattle.step_purse.specs.declared.views.View.{View}
 use Rattle.step_purse.specs.Plain.{opened, total, after_all, IsLegal}
-use Rattle.step_purse.specs.Histories.{Begins, Stand, total_of, times_at, newcomer, IsSound, Makes}
+use Rattle.step_purse.specs.declared.views.Share.{Share}
+use Rattle.step_purse.specs.Shares.{no_share, both_shares, has_part, IsWhole}
+use Rattle.step_purse.specs.Histories.{Begins, Stand, total_of, times_at, once_below, newcomer, gives_one, IsSound, Makes}
 
 -- what a purse of this allowance never gives out
 abbrev pub withheld : ℕ → ℕ
@@ -21,12 +24,23 @@ abbrev pub words_of : ℕ → Totals → List ℕ
 words_of allowance t = (t.left + withheld allowance) ∷ t.reserved ∷ t.spent ∷ []
 
 abbrev pub totals_in : ℕ → List ℕ → Totals
-totals_in allowance words = record { left = slice_index words 0 - withheld allowance; reserved = slice_index words 1; spent = slice_index words 2 }
+totals_in allowance words =
+    record { left = slice_index words 0 - withheld allowance; reserved = slice_index words 1; spent = slice_index words 2 }
 
 -- the words are those of a purse of this allowance
 pub record AddsUp (allowance : ℕ) (words : List ℕ) : Type 0 where
   pub held : withheld allowance ≤ slice_index words 0
   pub total : total (totals_in allowance words) ≡ allowance
+
+-- each of these calls stands in one of two beginnings of the history
+abbrev pub AreSeen : List Dealing → List Dealing → List (ℕ × Dealing) → Type 0
+AreSeen seen beside [] = Unit {0}
+AreSeen seen beside (c ∷ cs) = ((c.0 < length seen) ⊎ (c.0 < length beside)) × AreSeen seen beside cs
+
+-- a share is no less than nothing, and who has none has made no call and owes nothing
+pub record IsFair (k : Known) : Type 0 where
+  pub least : k.share.wholes ≡ 0 → k.share.gave ≤ k.share.got
+  pub none : has_part k.share ≡ false → (k.calls ≡ []) × (k.owes ≡ 0)
 
 -- what a pass knows is true of the history
 pub record Knows (allowance : ℕ) (history : List Dealing) (v : View) : Type 0 where
@@ -35,11 +49,11 @@ pub record Knows (allowance : ℕ) (history : List Dealing) (v : View) : Type 0 
   pub seen : Begins v.known.seen history
   pub beside : Begins v.beside history
   pub calls : Stand history v.known.calls
+  pub own_seen : AreSeen v.known.seen v.beside v.known.calls
+  pub fair : IsFair v.known
 
-abbrev pub once_below : ℕ → ℕ → ℕ
-once_below k n = if nat_lt k n then 1 else 0
-
--- A legal history from the allowance leads to the words. Each of its calls is one pass's own, and what the passes owe is what is reserved
+-- A legal history from the allowance leads to the words. Each of its calls is one pass's own, and what the passes owe is what is
+-- reserved. Their shares are one whole
 pub record IsOpened (allowance : ℕ) (words : List ℕ) (views : List View) : Type 0 where
   pub history : List Dealing
   pub small : allowance ≤ 2 ^ 62
@@ -47,15 +61,21 @@ pub record IsOpened (allowance : ℕ) (words : List ℕ) (views : List View) : T
   pub now : words ≡ words_of allowance (after_all (opened allowance) history)
   pub once : (place : ℕ) → total_of (λ (v : View). times_at place v.known.calls) views ≡ once_below place (length history)
   pub owed : total_of (λ (v : View). v.known.owes) views ≡ (after_all (opened allowance) history).reserved
+  pub one : total_of (λ (v : View). v.known.share.wholes) views ≡ 1
+  pub parts : total_of (λ (v : View). v.known.share.got) views ≡ total_of (λ (v : View). v.known.share.gave) views
   pub knows : (id : ℕ) (v : View) → get_elem? views id ≡ some v → Knows allowance history v
 
 -- the first view, of a cell that is no purse's yet
 abbrev pub blank : View
-blank = record { opened = false; allowance = 0; known = newcomer []; beside = [] }
+blank = record { opened = false; allowance = 0; known = newcomer [] no_share; beside = [] }
 
 -- a view that has made no call
-abbrev pub idle : ℕ → List Dealing → View
-idle allowance seen = record { opened = true; allowance = allowance; known = newcomer seen; beside = [] }
+abbrev pub idle : ℕ → List Dealing → Share → View
+idle allowance seen share = record { opened = true; allowance = allowance; known = newcomer seen share; beside = [] }
+
+-- a view of which nothing is left
+abbrev pub spent : ℕ → View
+spent allowance = idle allowance [] no_share
 
 abbrev pub IsUnopened : List ℕ → List View → Type 0
 IsUnopened words views = (words ≡ 2 ^ 62 ∷ 0 ∷ 0 ∷ []) × (views ≡ blank ∷ [])
@@ -73,11 +93,13 @@ pub record SameBut (v w : View) : Type 0 where
 abbrev pub asked : ℕ → View → List ℕ → List ℕ → View → Type 0
 asked amount v x y w =
     let left = (totals_in v.allowance x).left in
-    AddsUp v.allowance x × SameBut v w × MatchBool (nat_le amount left) (w.known ≡ v.known) (Makes v.allowance v.known (Reserved amount (NotEnough left)) w.known)
+    AddsUp v.allowance x × SameBut v w
+    × MatchBool (nat_le amount left) (w.known ≡ v.known) (Makes v.allowance v.known (Reserved amount (NotEnough left)) w.known)
 
 -- Reserve, Settle or Look: an exchange is the call where it finds the words that it expects, and else changes nothing
 abbrev pub exchanged : List ℕ → Dealing → View → List ℕ → List ℕ → View → Type 0
-exchanged expected call v x y w = SameBut v w × MatchBool (pointwise nat_eq x expected) (Makes v.allowance v.known call w.known) (w.known ≡ v.known)
+exchanged expected call v x y w =
+    SameBut v w × MatchBool (pointwise nat_eq x expected) (Makes v.allowance v.known call w.known) (w.known ≡ v.known)
 
 -- Read: a load is a call of `totals`
 abbrev pub counted : View → List ℕ → List ℕ → View → Type 0
@@ -96,17 +118,34 @@ pub record SeesBoth (v w : View) : Type 0 where
   pub second_seen : Begins v.beside w.known.seen
   pub calls : w.known.calls ≡ v.known.calls
   pub owes : w.known.owes ≡ v.known.owes
+  pub share : w.known.share ≡ v.known.share
+  pub alone : IsWhole w.known.share → (w.known.seen ≡ v.known.seen) ⊎ (w.known.seen ≡ v.beside)
   pub sound : IsSound v.allowance w.known
 
 abbrev pub learned : View → List ℕ → List ℕ → View → Type 0
 learned v x y w = SeesBoth v w
 
+-- a view that gave one part of its share
+abbrev pub giving : View → View
+giving v = record { opened = v.opened; allowance = v.allowance; known = gives_one v.known; beside = v.beside }
+
 -- two views made one
 abbrev pub joined : View → View → View
-joined v u = record { opened = v.opened; allowance = v.allowance; known = record { seen = v.known.seen; calls = v.known.calls ++ u.known.calls; owes = v.known.owes + u.known.owes }; beside = u.known.seen }
+joined v u =
+    record {
+      opened = v.opened;
+      allowance = v.allowance;
+      known = record {
+        seen = v.known.seen;
+        calls = v.known.calls ++ u.known.calls;
+        owes = v.known.owes + u.known.owes;
+        share = both_shares v.known.share u.known.share;
+      };
+      beside = u.known.seen;
+    }
 
--- which calls a pass may make with what it owes
-abbrev pub MayMake : ℕ → Dealing → Type 0
-MayMake owes (Reserved amount reply) = Unit {0}
-MayMake owes (Settled amount spent) = amount ≤ owes
-MayMake owes (Told reply) = Unit {0}
+-- a pass with this view may call the purse: it has a part of it, and isn't amid a join
+pub record MayCall (v : View) : Type 0 where
+  pub opened : v.opened ≡ true
+  pub rested : v.beside ≡ []
+  pub part : has_part v.known.share ≡ true

@@ -1,6 +1,7 @@
 //! The cell of a purse, its rule, and what each kind of step tells.
 ghost use Rattle.std.specs.Prelude.{[]};
-ghost use Rattle.step_purse.specs.Rule.{Kept, blank, idle, asked, exchanged, counted, peeked, learned, joined};
+ghost use Rattle.step_purse.specs.Shares.{whole, one_part};
+ghost use Rattle.step_purse.specs.Rule.{Kept, blank, idle, spent, giving, asked, exchanged, counted, peeked, learned, joined};
 
 use crate::views::View;
 use atomic_table::{Join, Split};
@@ -23,27 +24,41 @@ pub type Cell = seq_cell::RuledSeqCell<[u64; 3], View, OneHistory, 3>;
 /// A right to take steps at a cell.
 pub type Seat = seq_cell::Pass<[u64; 3], View>;
 
-/// What a step is about. Each call picks these for itself.
-pub trait Step {
-    ghost use Rattle.std.specs.Prelude.{ℕ, List};
-    ghost use Rattle.step_purse.specs.declared.dealings.Dealing.{Dealing};
+/// What the purse was opened with. Its first step and a join pick this, since a step can't look into the cell.
+pub trait Allowed {
+    ghost use Rattle.std.specs.Prelude.{ℕ};
 
     ghost allowance: { ℕ };
+}
+
+impl Allowed for Brand {
+    ghost allowance = { 0 };
+}
+
+/// The amount that a call of `reserve` asks for.
+pub trait Asking {
+    ghost use Rattle.std.specs.Prelude.{ℕ};
 
     ghost amount: { ℕ };
+}
+
+impl Asking for Brand {
+    ghost amount = { 0 };
+}
+
+/// The call that an exchange makes, and the words at which it makes it.
+pub trait Calling {
+    ghost use Rattle.std.specs.Prelude.{ℕ, List};
+    ghost use Rattle.step_purse.specs.declared.dealings.Dealing.{Dealing};
 
     ghost expected: { List ℕ };
 
     ghost call: { Dealing };
 }
 
-impl Step for Brand {
+impl Calling for Brand {
     ghost use Rattle.std.specs.Prelude.{[]};
     ghost use Rattle.step_purse.specs.declared.dealings.Dealing.TheVariants.{Settled};
-
-    ghost allowance = { 0 };
-
-    ghost amount = { 0 };
 
     ghost expected = { [] };
 
@@ -51,16 +66,16 @@ impl Step for Brand {
 }
 
 /// Refuse, or Look: a load that refuses a reservation where too little is left.
-pub struct Asks<S: Step>(PhantomData<S>);
+pub struct Asks<S: Asking>(PhantomData<S>);
 
-impl<S: Step> Outcome<[u64; 3], View> for Asks<S> {
+impl<S: Asking> Outcome<[u64; 3], View> for Asks<S> {
     ghost then = { asked S.amount };
 }
 
 /// Reserve, Settle, or Look: an exchange that makes the call where no other came between.
-pub struct Exchanges<S: Step>(PhantomData<S>);
+pub struct Exchanges<S: Calling>(PhantomData<S>);
 
-impl<S: Step> Outcome<[u64; 3], View> for Exchanges<S> {
+impl<S: Calling> Outcome<[u64; 3], View> for Exchanges<S> {
     ghost then = { exchanged S.expected S.call };
 }
 
@@ -86,37 +101,37 @@ impl Outcome<[u64; 3], View> for Learns {
 }
 
 /// The first step of a cell: it becomes the cell of a purse with this allowance.
-pub struct Opens<S: Step>(PhantomData<S>);
+pub struct Opens<S: Allowed>(PhantomData<S>);
 
-impl<S: Step> Split<View> for Opens<S> {
-    ghost left = { λ v. idle S.allowance [] };
+impl<S: Allowed> Split<View> for Opens<S> {
+    ghost left = { λ v. spent S.allowance };
 
-    ghost right = { λ v. idle S.allowance [] };
+    ghost right = { λ v. idle S.allowance [] whole };
 }
 
-/// Split: a new pass has seen the same.
+/// Split: a new pass has seen the same, and has one part of the share.
 pub struct Tells;
 
 impl Split<View> for Tells {
-    ghost left = { λ v. v };
+    ghost left = { giving };
 
-    ghost right = { λ v. idle v.allowance v.known.seen };
+    ghost right = { λ v. idle v.allowance v.known.seen one_part };
 }
 
 /// The start of Join: all of a view goes to a new pass, which has not stepped yet.
 pub struct Moves;
 
 impl Split<View> for Moves {
-    ghost left = { λ v. idle v.allowance [] };
+    ghost left = { λ v. spent v.allowance };
 
     ghost right = { λ v. v };
 }
 
 /// Join: one pass has the calls of both, and the other is left with nothing.
-pub struct Both<S: Step>(PhantomData<S>);
+pub struct Both<S: Allowed>(PhantomData<S>);
 
-impl<S: Step> Join<View> for Both<S> {
+impl<S: Allowed> Join<View> for Both<S> {
     ghost both = { joined };
 
-    ghost spent = { idle S.allowance [] };
+    ghost spent = { spent S.allowance };
 }

@@ -1,11 +1,54 @@
 ghost use Rattle.std.specs.Prelude.{◌≡◌, ◌≤◌, ◌+◌, ◌<◌, ◌^◌};
 ghost use Rattle.std.specs.Thread.{IsSync};
+ghost use Rattle.std.specs.Prelude.{IfOk};
 ghost use Rattle.step_purse.specs.Passes.{IsPassOf};
+ghost use Rattle.step_purse.specs.declared.dealings.Reply.TheVariants.{Took};
 
 use crate::{GREATEST_ALLOWANCE, Pass, PlainPurse, Purse, Reply, Totals};
+use std::alloc::{AllocError, Global};
 use std::sync::Wait;
 use std::test::Fail;
 use std::thread::{Threads, join};
+
+// A pass that nobody else shares is proved to answer as a purse of one thread: of 12 that were just opened, 12 are taken.
+fn reserve_all<R: Wait>(rt: &R, alloc: Global) -> Result<Reply, AllocError>
+    ensures { IfOk result (λ reply. reply ≡ Took 12) }
+{
+    let (purse, mut pass) = Purse::open(alloc, 12)?;
+    Ok(purse.reserve(rt, &mut pass, 12))
+}
+
+#[test]
+fn all_of_a_new_purse_is_taken(rt: HostRuntime) -> Result<(), Fail> {
+    assert_eq!(rt; reserve_all(&rt, rt.alloc())?, Reply::Took(12));
+    Ok(())
+}
+
+// What two passes owe is proved to add up to what is reserved, once they are joined.
+fn reserve_by_two<R: Wait>(rt: &R, alloc: Global, amount: u64) -> Result<(u64, Totals), AllocError>
+    ensures { IfOk result (λ r. r.1.reserved ≡ r.0) }
+{
+    let (purse, pass) = Purse::open(alloc, 12)?;
+    let (mut first, mut second) = purse.split(rt, pass);
+    let _reply = purse.reserve(rt, &mut first, amount);
+    let _reply = purse.reserve(rt, &mut second, 4);
+    let mut both = purse.join(rt, first, second);
+    let owed = both.owed();
+    Ok((owed, purse.totals(rt, &mut both)))
+}
+
+#[test]
+fn joined_passes_owe_what_is_reserved(rt: HostRuntime) -> Result<(), Fail> {
+    let (owed, totals) = reserve_by_two(&rt, rt.alloc(), 5)?;
+    assert_eq!(rt; owed, 9);
+    let want = Totals {
+        left: 3,
+        reserved: 9,
+        spent: 0,
+    };
+    assert_eq!(rt; totals, want);
+    Ok(())
+}
 
 #[test]
 fn one_budget_for_both_passes(rt: HostRuntime) -> Result<(), Fail> {
@@ -113,10 +156,10 @@ fn four<R: Threads + Wait + Sync>(
 #[test]
 fn four_threads_lose_no_step(rt: HostRuntime) -> Result<(), Fail> {
     let (purse, pass) = Purse::open(rt.alloc(), 12)?;
-    let (first, second) = purse.split(&rt, pass);
-    let front = purse.split(&rt, first);
-    let back = purse.split(&rt, second);
-    let (front, back) = four(&rt, &purse, front, back, 40_000);
+    let (pass, second) = purse.split(&rt, pass);
+    let (pass, third) = purse.split(&rt, pass);
+    let (first, fourth) = purse.split(&rt, pass);
+    let (front, back) = four(&rt, &purse, (first, second), (third, fourth), 40_000);
     let ((first, first_spent), (second, second_spent)) = front;
     let ((third, third_spent), (fourth, fourth_spent)) = back;
     let front = purse.join(&rt, first, second);

@@ -2,6 +2,14 @@
 use crate::dealings::Dealing;
 use std::collections::LinkedList;
 
+/// A pass's share in its purse. It is some wholes, of which there is one, and the parts that the pass got, less those that
+/// it gave. A whole is more than any number of parts.
+pub struct Share {
+    pub wholes: u64,
+    pub got: u64,
+    pub gave: u64,
+}
+
 /// What a pass knows of the one history of its purse.
 pub struct Known {
     /// The history as the pass last saw it.
@@ -10,6 +18,8 @@ pub struct Known {
     pub calls: LinkedList<(u64, Dealing)>,
     /// What was reserved by these calls and is not yet settled.
     pub owes: u64,
+    /// How much of the purse is this pass's.
+    pub share: Share,
 }
 
 /// A pass as the rule sees it.

@@ -1,6 +1,0 @@
-use Rattle.std.proofs.Common.{rules}
-use Rattle.step_purse.proofs.Steps.{tells}
-use Rattle.step_purse.proofs.shared.Purse.tell.Goals as goal
-
-pub split_pass-requires : goal.split_pass-requires
-split_pass-requires c = (search rules, (search rules, (search rules, tells _ _ c.requires.opened)))

@@ -1,0 +1,230 @@
+//! The cell of a purse with its allowance, and one method for each kind of step: Refuse or Look (`ask`), Look (`look`),
+//! Read (`count`), Reserve, Settle or Look (`exchange`), Split (`tell`) and Join (`gather`), besides the first one (`open`).
+//! Only `exchange` changes the words. `reserve` and `settle` try until an exchange makes the call.
+ghost use Rattle.std.specs.Prelude.{◌≡◌, ◌+◌, ◌^◌, ◌≤◌, [], nat_le, slice_index, true, MatchBool, IfOk};
+ghost use Rattle.crossbeam_utils.specs.Seq.{cell_view};
+ghost use Rattle.step_purse.specs.Plain.{total, IsReplyTo, IsAnswered, after, MayMake};
+ghost use Rattle.step_purse.specs.Shares.{whole, one_part, less_one, has_part, IsWhole};
+ghost use Rattle.step_purse.specs.Histories.{Makes};
+ghost use Rattle.step_purse.specs.Rule.{AddsUp, SeesBoth, SameBut, blank, idle, giving, joined, words_of, totals_in, withheld};
+ghost use Rattle.step_purse.specs.declared.dealings.Dealing.TheVariants.{Reserved, Settled, Told};
+ghost use Rattle.step_purse.specs.declared.dealings.Reply.TheVariants.{NotEnough};
+
+use crate::dealings::{Dealing, Reply, Totals};
+use crate::plain::{GREATEST_ALLOWANCE, PlainPurse};
+use crate::rule::{
+    Allowed, Asking, Asks, Both, Calling, Cell, Counts, Exchanges, Learns, Moves, Opens, Peeks,
+    Seat, Tells,
+};
+use std::alloc::{AllocError, Global};
+use std::marker::Brand;
+use std::sync::Wait;
+
+/// The cell of a purse, and what the purse was opened with.
+#[derive(Drop)]
+pub struct Account {
+    cell: Cell,
+    allowance: u64,
+    ghost small: { allowance ≤ 2 ^ 62 },
+}
+
+// The cell's first step gives its views the allowance.
+fn begin<S: Allowed>(cell: &Cell, first: &mut Seat, allowance: u64) -> Seat
+    requires pick { S.allowance ≡ allowance }
+    requires small { allowance ≤ 2 ^ 62 }
+    requires cell { first.old.table_id ≡ cell.now.table.shared.table_id }
+    requires blank { cell_view first.old ≡ blank }
+    ensures cell { result.table_id ≡ cell.now.table.shared.table_id }
+    ensures view { cell_view result ≡ idle allowance [] whole }
+{
+    cell.split_pass::<Opens<S>>(first)
+}
+
+impl Account {
+    ghost use Rattle.step_purse.specs.Seats.{IsSeatOf};
+
+    /// A new cell of this allowance, with the whole of it for one seat.
+    pub fn open(alloc: Global, allowance: u64) -> Result<(Account, Seat), AllocError>
+        requires { allowance ≤ 2 ^ 62 }
+        ensures allowance { IfOk result (λ r. r.0.allowance ≡ allowance) }
+        ensures own { IfOk result (λ r. IsSeatOf r.0 r.1) }
+        ensures view { IfOk result (λ r. cell_view r.1 ≡ idle allowance [] whole) }
+    {
+        // The rule of a cell can't name a number that is known at run time only, so every cell begins with the same words,
+        // those of the greatest allowance. A smaller purse withholds the difference for ever, and its first word counts it
+        // (`read` and `words` below).
+        let (cell, mut first) = Cell::ruled(alloc, [GREATEST_ALLOWANCE, 0, 0])?;
+        let seat = begin::<Brand>(&cell, &mut first, allowance);
+        Ok((Account { cell, allowance }, seat))
+    }
+
+    /// Moves the amount from left to reserved, or changes nothing where less is left.
+    pub fn reserve<R: Wait>(&self, rt: &R, seat: &mut Seat, amount: u64) -> Reply
+        requires { IsSeatOf self.now seat.old }
+        ensures own { IsSeatOf self.now seat.new }
+        ensures amount { IsReplyTo amount result }
+        ensures made { Makes self.now.allowance (cell_view seat.old).known (Reserved amount result)
+            (cell_view seat.new).known }
+    {
+        for _ in rt.forever() {
+            let now = self.ask::<Brand, R>(rt, seat, amount);
+            let mut next = PlainPurse::at(now);
+            let reply = next.reserve(amount);
+            let Reply::Took(_) = reply else {
+                return reply;
+            };
+            let call = Dealing::Reserved(amount, reply);
+            if self.exchange::<Brand, R>(rt, seat, now, next.totals(), call) {
+                return reply;
+            }
+        }
+        unreachable!()
+    }
+
+    /// Takes the amount from reserved, adds `spent` to spent and the rest to left.
+    pub fn settle<R: Wait>(&self, rt: &R, seat: &mut Seat, amount: u64, spent: u64)
+        requires own { IsSeatOf self.now seat.old }
+        requires spent { spent ≤ amount }
+        requires owed { amount ≤ (cell_view seat.old).known.owes }
+        ensures own { IsSeatOf self.now seat.new }
+        ensures made { Makes self.now.allowance (cell_view seat.old).known (Settled amount spent)
+            (cell_view seat.new).known }
+    {
+        for _ in rt.forever() {
+            let now = self.look(rt, seat);
+            let mut next = PlainPurse::at(now);
+            next.settle(amount, spent);
+            let call = Dealing::Settled(amount, spent);
+            if self.exchange::<Brand, R>(rt, seat, now, next.totals(), call) {
+                return;
+            }
+        }
+        unreachable!()
+    }
+
+    /// What a purse of this allowance never gives out.
+    fn withheld(&self) -> u64
+        ensures { result ≡ withheld self.now.allowance }
+    {
+        GREATEST_ALLOWANCE - self.allowance
+    }
+
+    // What the words say.
+    fn read(&self, words: [u64; 3]) -> Totals
+        requires { AddsUp self.now.allowance words }
+        ensures { result ≡ totals_in self.now.allowance words }
+    {
+        Totals {
+            left: words[0] - self.withheld(),
+            reserved: words[1],
+            spent: words[2],
+        }
+    }
+
+    // The words that say so.
+    fn words(&self, totals: Totals) -> [u64; 3]
+        requires { total totals ≡ self.now.allowance }
+        ensures { result ≡ words_of self.now.allowance totals }
+    {
+        [totals.left + self.withheld(), totals.reserved, totals.spent]
+    }
+
+    /// Refuses the amount where less is left, and else looks.
+    fn ask<S: Asking, R: Wait>(&self, rt: &R, seat: &mut Seat, amount: u64) -> Totals
+        requires pick { S.amount ≡ amount }
+        requires seat { IsSeatOf self.now seat.old }
+        ensures seat { IsSeatOf self.now seat.new }
+        ensures same { SameBut (cell_view seat.old) (cell_view seat.new) }
+        ensures adds_up { total result ≡ self.now.allowance }
+        ensures asked { let v = (cell_view seat.old).known in
+            let w = (cell_view seat.new).known in
+            MatchBool (nat_le amount result.left) (w ≡ v)
+            (Makes self.now.allowance v (Reserved amount (NotEnough result.left)) w) }
+    {
+        let words = self.cell.load_as::<Asks<S>, R>(rt, seat);
+        self.read(words)
+    }
+
+    /// Looks.
+    fn look<R: Wait>(&self, rt: &R, seat: &mut Seat) -> Totals
+        requires { IsSeatOf self.now seat.old }
+        ensures seat { IsSeatOf self.now seat.new }
+        ensures same { cell_view seat.new ≡ cell_view seat.old }
+        ensures adds_up { total result ≡ self.now.allowance }
+        ensures reserved { (cell_view seat.old).known.owes ≤ result.reserved }
+    {
+        let words = self.cell.load_as::<Peeks, R>(rt, seat);
+        self.read(words)
+    }
+
+    /// Reads the totals.
+    pub fn count<R: Wait>(&self, rt: &R, seat: &mut Seat) -> Totals
+        requires { IsSeatOf self.now seat.old }
+        ensures seat { IsSeatOf self.now seat.new }
+        ensures same { SameBut (cell_view seat.old) (cell_view seat.new) }
+        ensures adds_up { total result ≡ self.now.allowance }
+        ensures made { Makes self.now.allowance (cell_view seat.old).known (Told result)
+            (cell_view seat.new).known }
+        ensures owed { IsWhole (cell_view seat.old).known.share →
+            result.reserved ≡ (cell_view seat.old).known.owes }
+    {
+        let words = self.cell.load_as::<Counts, R>(rt, seat);
+        self.read(words)
+    }
+
+    /// Makes the call, if the totals are still these. False if they aren't.
+    fn exchange<S: Calling, R: Wait>(
+        &self,
+        rt: &R,
+        seat: &mut Seat,
+        now: Totals,
+        next: Totals,
+        call: Dealing,
+    ) -> bool
+        requires pick { (S.call ≡ call) × (S.expected ≡ words_of self.now.allowance now) }
+        requires seat { IsSeatOf self.now seat.old }
+        requires adds_up { total now ≡ self.now.allowance }
+        requires answered { IsAnswered now call }
+        requires next { next ≡ after now call }
+        requires owes { MayMake (cell_view seat.old).known.owes call }
+        ensures seat { IsSeatOf self.now seat.new }
+        ensures same { SameBut (cell_view seat.old) (cell_view seat.new) }
+        ensures made { let v = (cell_view seat.old).known in
+            let w = (cell_view seat.new).known in
+            MatchBool result (Makes self.now.allowance v call w) (w ≡ v) }
+    {
+        let expected = self.words(now);
+        let written = self.words(next);
+        self.cell
+            .compare_exchange_as::<Exchanges<S>, R>(rt, seat, expected, written)
+            .is_ok()
+    }
+
+    /// A new seat that has seen the same, with one part of the share.
+    pub fn tell(&self, seat: &mut Seat) -> Seat
+        requires seat { IsSeatOf self.now seat.old }
+        requires part { has_part (less_one (cell_view seat.old).known.share) ≡ true }
+        ensures own { IsSeatOf self.now seat.new × IsSeatOf self.now result }
+        ensures same { cell_view seat.new ≡ giving (cell_view seat.old) }
+        ensures told { cell_view result ≡
+            idle self.now.allowance (cell_view seat.old).known.seen one_part }
+    {
+        self.cell.split_pass::<Tells>(seat)
+    }
+
+    /// One seat of two, which has looked.
+    pub fn gather<S: Allowed, R: Wait>(&self, rt: &R, first: Seat, second: Seat) -> Seat
+        requires pick { S.allowance ≡ self.now.allowance }
+        requires first { IsSeatOf self.now first }
+        requires second { IsSeatOf self.now second }
+        ensures own { IsSeatOf self.now result }
+        ensures learned { SeesBoth (joined (cell_view first) (cell_view second)) (cell_view result) }
+    {
+        let mut first = first;
+        let mut second = second;
+        let moved = self.cell.split_pass::<Moves>(&mut second);
+        self.cell.join_pass::<Both<S>>(&mut first, moved);
+        self.cell.load_as::<Learns, R>(rt, &mut first);
+        first
+    }
+}
