@@ -1,0 +1,16 @@
+pub mod Tables
+pub mod Mnemonics
+pub mod Cuts
+pub mod FirstLine
+pub mod Numbers
+pub mod Operands
+pub mod Statements
+pub mod Breaking
+pub mod Listings
+pub mod Standing
+pub mod OneReading
+pub mod Assembling
+pub mod Words
+pub mod Written
+pub mod Slots
+pub mod CanonicalTexts

@@ -1,0 +1,15 @@
+use Rattle.std.proofs.Common.{sym, ◌∙◌, rules, tests}
+use Rattle.std.specs.Str.{bytes_eq}
+use Rattle.std.proofs.lemmas.Iterator.{YieldsList-from_slice}
+use Rattle.std.proofs.lemmas.Iterator.Consumers.{YieldsList-from_copied}
+use Rattle.std.proofs.lemmas.Iterator.Search.{find_from_yields_List}
+use Rattle.bpf_text.specs.Names.{register_name}
+use Rattle.bpf_text.specs.Tables.{all_registers}
+use Rattle.bpf_text.proofs.Tables.{option_map-same}
+use Rattle.bpf_text.proofs.names.register_named.Goals as goal
+
+pub returns : goal.returns
+returns c =
+    sym (option_map-same c.find.result)
+    ∙ find_from_yields_List (λ x. bytes_eq (register_name x) c.args.name.now) _ _ c.find.result c.find.ensures.ran
+    (YieldsList-from_copied (YieldsList-from_slice all_registers cc)) (λ x b q k. search (rules, tests))

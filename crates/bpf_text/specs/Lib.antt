@@ -1,0 +1,11 @@
+pub mod Rule
+pub mod Names
+pub mod Forms
+pub mod Lines
+pub mod Text
+pub mod Canonical
+pub mod Tables
+pub mod Cuts
+pub mod Numbers
+pub mod Arguments
+pub mod Reading

@@ -1,0 +1,186 @@
+//! The operands of a line, before an instruction is made of them.
+ghost use Rattle.std.specs.Prelude.{◌≡◌, ◌≢◌, ◌≤◌, ◌∷◌, [], List, Some, None, length, map, MatchOption};
+ghost use Rattle.bpf_text.specs.declared.argument.Argument.{Argument};
+ghost use Rattle.bpf_text.specs.Lines as spec;
+ghost use Rattle.bpf_text.specs.Numbers.{held_number};
+ghost use Rattle.bpf_text.specs.Arguments.{list_of};
+ghost use Rattle.bpf_text.specs.Text.{is_unknown};
+ghost use Rattle.bpf_text.specs.Reading.{cleared};
+ghost use Rattle.std.specs.List.{list_any};
+
+use crate::line::{Separator, cut, first_word, is_blank_text};
+use crate::names::register_named;
+use bpf_insn::Reg;
+
+/// The magnitude of the least number of 64 bits.
+const LEAST_MAGNITUDE: u64 = 1 << 63;
+
+/// What a word in the place of an operand says.
+#[derive(Clone, Copy)]
+pub enum Argument {
+    /// One of `r0` to `r10`.
+    Register(Reg),
+    /// Another word of `r` and digits.
+    UnknownRegister,
+    /// A signed number of 64 bits.
+    Number(i64),
+    /// A number that 64 bits do not hold.
+    HugeNumber,
+}
+
+/// The operands of a line. No instruction has more than three.
+#[derive(Clone, Copy)]
+pub enum Arguments {
+    Empty,
+    One(Argument),
+    Two(Argument, Argument),
+    Three(Argument, Argument, Argument),
+}
+
+/// The number that a word writes in decimal digits, or 2^64 - 1 where it is larger.
+fn decimal(word: &[u8]) -> Option<u64>
+    ensures { result ≡ held_number (spec.decimal_in word.now) }
+{
+    if word.is_empty() {
+        return None;
+    }
+    let mut value: u64 = 0;
+    for byte in word {
+        if !byte.is_ascii_digit() {
+            return None;
+        }
+        value = value
+            .saturating_mul(10)
+            .saturating_add(u64::from(*byte - b'0'));
+    }
+    Some(value)
+}
+
+/// A number behind no sign or `+`.
+fn positive(magnitude: u64) -> Argument
+    ensures { result ≡ spec.positive magnitude }
+{
+    match i64::try_from(magnitude) {
+        Ok(number) => Argument::Number(number),
+        Err(_) => Argument::HugeNumber,
+    }
+}
+
+/// A number behind `-`.
+fn negative(magnitude: u64) -> Argument
+    ensures { result ≡ spec.negative magnitude }
+{
+    if magnitude == LEAST_MAGNITUDE {
+        return Argument::Number(i64::MIN);
+    }
+    match i64::try_from(magnitude) {
+        Ok(number) => Argument::Number(-number),
+        Err(_) => Argument::HugeNumber,
+    }
+}
+
+/// What a word in the place of an operand says, if it says anything.
+fn parse_word(word: &[u8]) -> Option<Argument>
+    ensures { result ≡ spec.argument_of word.now }
+{
+    if let Some(register) = register_named(word) {
+        return Some(Argument::Register(register));
+    }
+    match word {
+        [b'r', digits @ ..] => {
+            decimal(digits)?;
+            Some(Argument::UnknownRegister)
+        }
+        [b'-', digits @ ..] => Some(negative(decimal(digits)?)),
+        [b'+', digits @ ..] => Some(positive(decimal(digits)?)),
+        _ => Some(positive(decimal(word)?)),
+    }
+}
+
+/// What an operand says: one word, with blanks round it.
+fn parse_operand(text: &[u8]) -> Option<Argument>
+    ensures { result ≡ spec.argument_in text.now }
+{
+    let (word, behind) = first_word(text);
+    if !is_blank_text(behind) {
+        return None;
+    }
+    parse_word(word)
+}
+
+impl Arguments {
+    /// The operands in the text behind a mnemonic, where they are three at most and each says
+    /// something.
+    pub fn parse(text: &[u8]) -> Option<Arguments>
+        ensures { MatchOption result
+            ((all : List Argument) → length all ≤ 3 → map spec.argument_in (spec.operand_texts_of text.now) ≢ map Some all)
+            (λ found. map spec.argument_in (spec.operand_texts_of text.now) ≡ map Some (list_of found)) }
+    {
+        if is_blank_text(text) {
+            return Some(Arguments::Empty);
+        }
+        let (operand, rest) = cut(text, Separator::Comma);
+        let first = parse_operand(operand)?;
+        let Some(rest) = rest else {
+            return Some(Arguments::One(first));
+        };
+        let (operand, rest) = cut(rest, Separator::Comma);
+        let second = parse_operand(operand)?;
+        let Some(rest) = rest else {
+            return Some(Arguments::Two(first, second));
+        };
+        let (operand, rest) = cut(rest, Separator::Comma);
+        let third = parse_operand(operand)?;
+        match rest {
+            None => Some(Arguments::Three(first, second, third)),
+            Some(_) => None,
+        }
+    }
+}
+
+impl Argument {
+    /// R0 in the place of a register, and 0 in that of a number.
+    fn cleared(self) -> Argument
+        ensures { result ≡ cleared self }
+    {
+        match self {
+            Argument::Register(_) | Argument::UnknownRegister => Argument::Register(Reg::R0),
+            Argument::Number(_) | Argument::HugeNumber => Argument::Number(0),
+        }
+    }
+
+    fn is_unknown(self) -> bool
+        ensures { result ≡ is_unknown (Some self) }
+    {
+        match self {
+            Argument::UnknownRegister => true,
+            Argument::Register(_) | Argument::Number(_) | Argument::HugeNumber => false,
+        }
+    }
+}
+
+impl Arguments {
+    /// R0 in the place of each register, and 0 in that of each number.
+    pub fn cleared(self) -> Arguments
+        ensures { list_of result ≡ map cleared (list_of self) }
+    {
+        match self {
+            Arguments::Empty => Arguments::Empty,
+            Arguments::One(a) => Arguments::One(a.cleared()),
+            Arguments::Two(a, b) => Arguments::Two(a.cleared(), b.cleared()),
+            Arguments::Three(a, b, c) => Arguments::Three(a.cleared(), b.cleared(), c.cleared()),
+        }
+    }
+
+    /// Whether one of them is `r` and digits, and no register.
+    pub fn have_unknown_register(self) -> bool
+        ensures { result ≡ list_any is_unknown (map Some (list_of self)) }
+    {
+        match self {
+            Arguments::Empty => false,
+            Arguments::One(a) => a.is_unknown(),
+            Arguments::Two(a, b) => a.is_unknown() || b.is_unknown(),
+            Arguments::Three(a, b, c) => a.is_unknown() || b.is_unknown() || c.is_unknown(),
+        }
+    }
+}

@@ -1,0 +1,71 @@
+//! The instruction of a line, or the rule that the line breaks.
+ghost use Rattle.std.specs.Prelude.{◌≡◌, ◌≢◌, ◌≤◌, List, Some, length, map, IfOk, IfErr, MatchResult};
+ghost use Rattle.bpf_insn.specs.declared.insn.Insn.{Insn};
+ghost use Rattle.bpf_insn.specs.Spelling.{Fits};
+ghost use Rattle.bpf_text.specs.Arguments.{list_of};
+ghost use Rattle.bpf_text.specs.Forms.{form_of, mnemonic, operands_of};
+ghost use Rattle.bpf_text.specs.Lines.{argument_in, operand_texts_of};
+ghost use Rattle.bpf_text.specs.Text.{Names, IsShort, IsLowestBroken};
+ghost use Rattle.bpf_text.specs.Reading.{Gives, IsLowestMisnamed};
+
+use crate::argument::Arguments;
+use crate::build::build;
+use crate::form::Form;
+use crate::line::{MOST_BYTES, Separator, cut, first_word, is_blank_text};
+use crate::rule::AsmRule;
+use bpf_insn::Insn;
+
+/// The instruction of a line, or None where the line is skipped; or the lowest rule that it breaks,
+/// but for that of the length of the whole.
+pub fn read_line(line: &[u8]) -> Result<Option<Insn>, AsmRule>
+    ensures short { IfOk result (λ _. IsShort line.now) }
+    ensures gives { IfOk result (Gives line.now) }
+    ensures err { IfErr result (λ rule. (before : List Insn) → IsLowestBroken before line.now rule) }
+{
+    if line.len() > MOST_BYTES {
+        return Err(AsmRule::LineTooLong);
+    }
+    let (code, _) = cut(line, Separator::CommentMark);
+    if is_blank_text(code) {
+        return Ok(None);
+    }
+    let (word, operands) = first_word(code);
+    match read_statement(word, operands) {
+        Ok(insn) => Ok(Some(insn)),
+        Err(rule) => Err(rule),
+    }
+}
+
+/// The instruction of a mnemonic with what stands behind it, or the lowest rule that they break.
+fn read_statement(word: &[u8], operands: &[u8]) -> Result<Insn, AsmRule>
+    ensures { MatchResult result
+        (Names word.now (map argument_in (operand_texts_of operands.now)))
+        (IsLowestMisnamed word.now (map argument_in (operand_texts_of operands.now))) }
+{
+    let Some(form) = Form::parse(word) else {
+        return Err(AsmRule::UnknownMnemonic);
+    };
+    let Some(arguments) = Arguments::parse(operands) else {
+        return Err(AsmRule::MalformedOperands);
+    };
+    match build(form, arguments) {
+        Some(insn) => Ok(insn),
+        None => Err(broken_rule(form, arguments)),
+    }
+}
+
+/// The lowest rule that is broken where no instruction of the form has these operands.
+fn broken_rule(form: Form, arguments: Arguments) -> AsmRule
+    requires { (i : Insn) → Fits i → form_of i ≡ form → operands_of i ≢ list_of arguments }
+    ensures { IsLowestMisnamed (mnemonic form) (map Some (list_of arguments)) result }
+{
+    // An instruction with operands of these kinds is one with R0 and 0 in their places, too.
+    let Some(_) = build(form, arguments.cleared()) else {
+        return AsmRule::MalformedOperands;
+    };
+    if arguments.have_unknown_register() {
+        AsmRule::UnknownRegister
+    } else {
+        AsmRule::NumberOutOfRange
+    }
+}
