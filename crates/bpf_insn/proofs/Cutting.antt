@@ -1,16 +1,18 @@
 -- Bytes are cut into instructions, one after the other.
-use Rattle.std.proofs.Common.{◌≡◌, ◌≤◌, ◌+◌, ◌*◌, false, ℕ, arith, List, [], ◌∷◌, ◌++◌, drop, length, sym, ◌∙◌, ap, refl, append_assoc, length-append}
+use Rattle.std.proofs.Common.{subst, vec_len, vec_capacity, ◌≡◌, ◌≤◌, ◌+◌, ◌*◌, false, ℕ, arith, List, [], ◌∷◌, ◌++◌, drop, length, sym, ◌∙◌, ap, refl, append_assoc}
 use Rattle.std.proofs.lemmas.List.{append-nil}
-use Rattle.std.specs.Prelude.{Option}
+use Rattle.std.specs.Prelude.{Option, Some, None, is_some, IfSome}
+use Rattle.std.specs.Global.{Vec}
 use Rattle.std.specs.List.{AllByRecursion}
 use Rattle.bpf_insn.specs.declared.insn.Insn.{Insn}
 use Rattle.bpf_insn.specs.declared.rule.CodeRule.{CodeRule}
 use Rattle.bpf_insn.specs.Spelling.{spelling, Fits}
 use Rattle.bpf_insn.specs.Broken.{IsBrokenAtFront}
-use Rattle.bpf_insn.specs.Right.{BeginsWith}
-use Rattle.bpf_insn.specs.Program.{slots_of, slot_count, insns_of, cells_of, layout, IsLaid}
+use Rattle.bpf_insn.specs.Code.{BeginsWith}
+use Rattle.bpf_insn.specs.Program.{slots_of, slot_count, insns_of, cells_of, layout, IsLaid, IsProgram}
 use Rattle.bpf_insn.specs.Code.{code_of, IsBroken, Spells, has_bad_length}
-use Rattle.bpf_insn.proofs.Layouts.{insns_of-one, code_of-one, layout-one, all-append, length-code_of, length-layout}
+use Rattle.bpf_insn.proofs.Laying.{layout-laid}
+use Rattle.bpf_insn.proofs.Layouts.{code_of-one, layout-one, insns_of-layout, all-append, length-code_of, length-layout}
 
 -- the bytes are the code of these instructions and then the rest
 pub record IsCut (bytes : List ℕ) (before : List Insn) (rest : List ℕ) : Type 0 where
@@ -29,7 +31,7 @@ IsCut-more bytes before rest i c b =
     }
 
 pub IsCut-broken : (bytes : List ℕ) (before : List Insn) (rest : List ℕ) (slot : ℕ) (rule : CodeRule) → IsCut bytes before rest → slot_count before ≡ slot → IsBrokenAtFront rest rule → IsBroken bytes slot rule
-IsCut-broken bytes before rest slot rule c e f = record { before = before; rest = rest; fits = c.fits; cut = c.same; place = e; fault = f }
+IsCut-broken bytes before rest slot rule c e f = record { before = before; rest = rest; fits = c.fits; cut = c.same; at = e; fault = f }
 
 pub few_bytes : (n : ℕ) → has_bad_length n ≡ false → n ≤ 32768
 few_bytes n h = grind arith
@@ -46,29 +48,33 @@ IsCut-end bytes is [] c e h =
     record { program = record { fits = c.fits; some = k.0; few = k.1 }; same = same }
 IsCut-end bytes is (x ∷ rest) c e h = absurd (omega arith)
 
--- the slots that were stored are those of the instructions before the rest
-pub record IsStored (bytes : List ℕ) (cells : List (Option Insn)) (len : ℕ) (rest : List ℕ) : Type 0 where
-  pub cut : IsCut bytes (insns_of cells) rest
-  pub same : cells ≡ layout (insns_of cells)
-  pub count : len ≡ length (insns_of cells)
+-- ---- the cells, where there is room for them
 
-pub IsStored-begin : (bytes : List ℕ) (cells : List (Option Insn)) → cells ≡ [] → IsStored bytes cells 0 bytes
-IsStored-begin bytes cells e = rw e (record { cut = IsCut-begin bytes; same = refl; count = refl })
+-- the cells are those of the instructions so far, in room for all of the code
+abbrev pub AreKept : Option (Vec (Option Insn)) → List Insn → ℕ → Type 0
+AreKept cells before bytes = IfSome cells (λ c. (c.items ≡ layout before) × (bytes ≤ 8 * vec_capacity c))
 
-pub IsStored-more : (bytes : List ℕ) (cells : List (Option Insn)) (len : ℕ) (rest : List ℕ) (i : Insn) → IsStored bytes cells len rest → BeginsWith rest i → IsStored bytes (cells ++ cells_of i) (len + 1) (drop (8 * slots_of i) rest)
-IsStored-more bytes cells len rest i s b =
-    let is = insns_of cells in
-    let now = insns_of-one cells i in
-    record {
-      cut = rw now (IsCut-more bytes is rest i s.cut b);
-      same = rw (now, layout-one is i) (ap (λ x. x ++ cells_of i) s.same);
-      count = rw now (omega (arith, s.count, length-append is (i ∷ [])));
-    }
+pub kept-begin : (cells : Option (Vec (Option Insn))) (bytes : ℕ) → IfSome cells (λ c. (c.items ≡ []) × (bytes ≤ 8 * vec_capacity c)) → AreKept cells [] bytes
+kept-begin None bytes h = h
+kept-begin (Some c) bytes h = h
 
-pub IsStored-slots : (bytes : List ℕ) (cells : List (Option Insn)) (len : ℕ) (rest : List ℕ) → IsStored bytes cells len rest → slot_count (insns_of cells) ≡ length cells
-IsStored-slots bytes cells len rest s = sym (ap length s.same ∙ length-layout (insns_of cells))
+-- there is room for one instruction more
+pub kept-room : (cells : Option (Vec (Option Insn))) (before : List Insn) (i : Insn) (bytes : ℕ) → AreKept cells before bytes → 8 * (slot_count before + slots_of i) ≤ bytes → IfSome cells (λ c. vec_len c + slots_of i ≤ vec_capacity c)
+kept-room None before i bytes k h = k
+kept-room (Some c) before i bytes k h = let n : length c.items ≡ slot_count before = ap length k.0 ∙ length-layout before in omega (arith, n, k.1)
 
-pub IsStored-end : (bytes : List ℕ) (cells : List (Option Insn)) (len : ℕ) (rest : List ℕ) → IsStored bytes cells len rest → length rest ≡ 0 → has_bad_length (length bytes) ≡ false → IsLaid cells × Spells bytes (insns_of cells)
-IsStored-end bytes cells len rest s e h =
-    let spelled = IsCut-end bytes (insns_of cells) rest s.cut e h in
-    (record { same = s.same; program = spelled.program }, spelled)
+pub kept-more : (cells more : Option (Vec (Option Insn))) (before : List Insn) (i : Insn) (bytes : ℕ) → is_some more ≡ is_some cells → IfSome more (λ now. IfSome cells (λ was. (now.items ≡ was.items ++ cells_of i) × (vec_capacity was ≤ vec_capacity now))) → AreKept cells before bytes → AreKept more (before ++ i ∷ []) bytes
+kept-more None None before i bytes s m k = k
+kept-more None (Some now) before i bytes s m k = absurd (cc)
+kept-more (Some was) None before i bytes s m k = absurd (cc)
+kept-more (Some was) (Some now) before i bytes s m k = (m.0 ∙ ap (λ x. x ++ cells_of i) k.0 ∙ sym (layout-one before i), omega (arith, m.1, k.1))
+
+-- in the end they are laid out as the program
+kept-same : (room : Option (Vec (Option Insn))) (cells : Vec (Option Insn)) (is : List Insn) (bytes : ℕ) → AreKept room is bytes → room ≡ Some cells → cells.items ≡ layout is
+kept-same room cells is bytes k e = (subst (λ r. AreKept r is bytes) e k).0
+
+pub kept-back : (room : Option (Vec (Option Insn))) (cells : Vec (Option Insn)) (is : List Insn) (bytes : ℕ) → AreKept room is bytes → room ≡ Some cells → insns_of cells.items ≡ is
+kept-back room cells is bytes k e = ap insns_of (kept-same room cells is bytes k e) ∙ insns_of-layout is
+
+pub kept-laid : (room : Option (Vec (Option Insn))) (cells : Vec (Option Insn)) (is : List Insn) (bytes : ℕ) → AreKept room is bytes → room ≡ Some cells → IsProgram is → IsLaid cells.items
+kept-laid room cells is bytes k e p = subst IsLaid (sym (kept-same room cells is bytes k e)) (layout-laid is p)

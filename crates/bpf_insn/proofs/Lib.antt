@@ -1,4 +1,5 @@
 pub mod Opcodes
+pub mod Lowest
 pub mod Faults
 pub mod Front
 pub mod Layouts

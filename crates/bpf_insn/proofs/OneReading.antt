@@ -1,18 +1,19 @@
 -- Code is that of one program at most, or has one fault.
-use Rattle.std.proofs.Common.{◌≡◌, ◌<◌, ◌≤◌, ◌*◌, ◌==◌, if◌then◌else◌, ℕ, arith, Bool, true, false, List, [], ◌∷◌, ◌++◌, length, sym, ◌∙◌, ap, refl, append_assoc, length-append, inl, inr, subst}
+use Rattle.std.proofs.Common.{◌≡◌, ◌≤◌, ◌*◌, ℕ, arith, Bool, true, false, List, [], ◌∷◌, ◌++◌, length, sym, ◌∙◌, ap, refl, append_assoc, length-append, inl, inr, subst}
+use Rattle.std.specs.Prelude.{Result, Ok, Err, IfOk, IfErr, MatchResult}
 use Rattle.std.specs.List.{AllByRecursion}
 use Rattle.bpf_insn.specs.declared.slot.Slot.{Slot}
 use Rattle.bpf_insn.specs.declared.fault.Fault.{Fault}
 use Rattle.bpf_insn.specs.declared.fault.DecodeError.{DecodeError}
 use Rattle.bpf_insn.specs.declared.fault.DecodeError.TheVariants as errors
 use Rattle.bpf_insn.specs.declared.rule.CodeRule.{CodeRule}
-use Rattle.bpf_insn.specs.declared.rule.CodeRule.TheVariants.{BadLength, UnknownOpcode, OutsideProfile, RegisterAboveTen, UnusedField, BrokenWideLoad, JumpsBack, JumpsNowhere, StackTopWritten, NoExitAtEnd, UnsetRead, MixedRead, NumberWanted, PlaceWanted, OutsideStack}
 use Rattle.bpf_insn.specs.declared.insn.Insn.{Insn}
-use Rattle.bpf_insn.specs.Rule.{rule_number}
+use Rattle.bpf_insn.specs.Rule.{IsLowest}
 use Rattle.bpf_insn.specs.Spelling.{spelling, slot_bytes, Fits}
-use Rattle.bpf_insn.specs.Broken.{IsLowestBroken, IsBrokenAtFront}
+use Rattle.bpf_insn.specs.Broken.{SlotBreaks, IsBrokenAtFront}
 use Rattle.bpf_insn.specs.Program.{slot_count, slots_of}
 use Rattle.bpf_insn.specs.Code.{code_of, Spells, IsCodeFault, ExplainsRefusal, HasOneReading, IsOnlyCodeOf, has_bad_length}
+use Rattle.bpf_insn.proofs.Lowest.{lowest-one}
 use Rattle.bpf_insn.proofs.Layouts.{length-code_of, length-spelling, slots_of-some}
 use Rattle.bpf_insn.proofs.Inverse.{same_fields}
 use Rattle.bpf_insn.proofs.Reading.{spelling-injective}
@@ -63,29 +64,12 @@ Spells-no_fault code is f s c =
       | inr broken ↦ let b = broken.1 in spelled-no_fault is b.before b.rest f.rule s.program.fits b.fits (sym s.same ∙ b.cut) b.fault
     ]
 
--- a rule is told by its number
-rule_of : ℕ → CodeRule
-rule_of n = if n == 1 then BadLength else (if n == 2 then UnknownOpcode else (if n == 3 then OutsideProfile else (if n == 4 then RegisterAboveTen else (if n == 5 then UnusedField else (if n == 6 then BrokenWideLoad else (if n == 7 then JumpsBack else (if n == 8 then JumpsNowhere else (if n == 9 then StackTopWritten else (if n == 10 then NoExitAtEnd else (if n == 11 then UnsetRead else (if n == 12 then MixedRead else (if n == 13 then NumberWanted else (if n == 14 then PlaceWanted else OutsideStack)))))))))))))
-
-rule_back : (r : CodeRule) → rule_of (rule_number r) ≡ r
-unfolding rule_of
-rule_back r = grind arith
-
-rule_number-injective : (r s : CodeRule) → rule_number r ≡ rule_number s → r ≡ s
-rule_number-injective r s e = sym (rule_back r) ∙ ap rule_of e ∙ rule_back s
-
-lowest-one : (s : Slot) (bytes : List ℕ) (q r : CodeRule) → IsLowestBroken s bytes q → IsLowestBroken s bytes r → q ≡ r
-lowest-one s bytes q r a b =
-    let above : rule_number q < rule_number r → ⊥ = λ h. b.lowest q h a.broken in
-    let below : rule_number r < rule_number q → ⊥ = λ h. a.lowest r h b.broken in
-    rule_number-injective q r (omega (arith, above, below))
-
 front-one : (bytes : List ℕ) (q r : CodeRule) → IsBrokenAtFront bytes q → IsBrokenAtFront bytes r → q ≡ r
 front-one bytes q r a b =
     let read : slot_bytes b.slot ++ [] ≡ slot_bytes a.slot ++ [] = ap (λ z. z ++ []) (b.read ∙ sym a.read) in
     let same : b.slot ≡ a.slot = (same_fields b.slot a.slot [] [] b.fits a.fits read).0 in
-    let P : Slot → Type 0 = λ s. IsLowestBroken s bytes r in
-    lowest-one a.slot bytes q r a.fault (subst P same b.fault)
+    let P : Slot → Type 0 = λ s. IsLowest (SlotBreaks s bytes) r in
+    lowest-one (SlotBreaks a.slot bytes) q r a.fault (subst P same b.fault)
 
 broken-one : (a b : List Insn) (x y : List ℕ) (q r : CodeRule) → AllByRecursion Fits a → AllByRecursion Fits b → code_of a ++ x ≡ code_of b ++ y → IsBrokenAtFront x q → IsBrokenAtFront y r → (slot_count a ≡ slot_count b) × (q ≡ r)
 broken-one [] [] x y q r f g e s t = let P : List ℕ → Type 0 = λ z. IsBrokenAtFront z r in (refl, front-one x q r s (subst P (sym e) t))
@@ -109,14 +93,14 @@ unfolding fault_of
 same_fault f g s r = let h : fault_of f.slot f.rule ≡ fault_of g.slot g.rule = rw (s, r) refl in h
 
 pub IsCodeFault-one : (code : List ℕ) (f g : Fault) → IsCodeFault code f → IsCodeFault code g → f ≡ g
-IsCodeFault-one code f g (inl a) (inl b) = same_fault f g (a.place ∙ sym b.place) (a.name ∙ sym b.name)
+IsCodeFault-one code f g (inl a) (inl b) = same_fault f g (a.at ∙ sym b.at) (a.name ∙ sym b.name)
 IsCodeFault-one code f g (inl a) (inr b) = absurd (not_both _ a.bad b.0)
 IsCodeFault-one code f g (inr a) (inl b) = absurd (not_both _ b.bad a.0)
 IsCodeFault-one code f g (inr a) (inr b) =
     let p = a.1 in
     let q = b.1 in
     let h = broken-one p.before q.before p.rest q.rest f.rule g.rule p.fits q.fits (sym p.cut ∙ q.cut) p.fault q.fault in
-    same_fault f g (sym p.place ∙ h.0 ∙ q.place) h.1
+    same_fault f g (sym p.at ∙ h.0 ∙ q.at) h.1
 
 pub one_reading : (code : List ℕ) → HasOneReading code
 one_reading code = record { one_program = Spells-one code; no_fault = Spells-no_fault code; one_fault = IsCodeFault-one code }
@@ -124,7 +108,12 @@ one_reading code = record { one_program = Spells-one code; no_fault = Spells-no_
 pub Spells-only : (code : List ℕ) (is : List Insn) → Spells code is → IsOnlyCodeOf code is
 Spells-only code is s = record { spells = s; one_program = λ other t. Spells-one code other is t s; one_code = λ other t. t.same ∙ sym s.same }
 
--- where the code is that of a program, it is refused for want of memory alone
+-- where the code is that of a program, it is refused where memory is out, and only there
 pub refused-memory : (code : List ℕ) (is : List Insn) (e : DecodeError) → Spells code is → ExplainsRefusal code e → e ≡ errors.Memory
 refused-memory code is (errors.Fault f) s x = absurd (Spells-no_fault code is f s x)
 refused-memory code is errors.Memory s x = refl
+
+-- of code that spells a program the answer is that program, or Memory
+pub read_exact : (code : List ℕ) (p : List Insn) (r : Result (List Insn) DecodeError) → Spells code p → IfOk r (Spells code) → IfErr r (ExplainsRefusal code) → MatchResult r (λ q. q ≡ p) (λ e. e ≡ errors.Memory)
+read_exact code p (Ok q) s ok err = Spells-one code q p ok s
+read_exact code p (Err e) s ok err = refused-memory code p e s err

@@ -4,8 +4,6 @@ pub mod Fields
 pub mod Spelling
 pub mod Broken
 pub mod Program
-pub mod Right
-pub mod Law
 pub mod Code
 pub mod Arithmetic
 pub mod Reads
@@ -13,4 +11,3 @@ pub mod Effects
 pub mod Machine
 pub mod Stepping
 pub mod Run
-pub mod Allowed

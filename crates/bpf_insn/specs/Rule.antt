@@ -1,7 +1,7 @@
 -- The names and the order of the rules of code. They are this project's own.
-use Rattle.std.specs.Prelude.{ℕ, List, codes}
+use Rattle.std.specs.Prelude.{ℕ, ◌<◌, List, codes}
 use Rattle.bpf_insn.specs.declared.rule.CodeRule.{CodeRule}
-use Rattle.bpf_insn.specs.declared.rule.CodeRule.TheVariants.{BadLength, UnknownOpcode, OutsideProfile, RegisterAboveTen, UnusedField, BrokenWideLoad, JumpsBack, JumpsNowhere, StackTopWritten, NoExitAtEnd, UnsetRead, MixedRead, NumberWanted, PlaceWanted, OutsideStack}
+use Rattle.bpf_insn.specs.declared.rule.CodeRule.TheVariants.{BadLength, UnknownOpcode, OutsideProfile, RegisterAboveTen, UnusedField, BrokenWideLoad, JumpsBack, JumpsNowhere, StackTopWritten, NoExitAtEnd, UnsetRead, MixedRead, NumberWanted, PlaceWanted, OutsideStack, UnstoredRead}
 
 -- how the product writes a rule
 abbrev pub rule_name : CodeRule → List ℕ
@@ -20,6 +20,7 @@ rule_name MixedRead = codes "V12"
 rule_name NumberWanted = codes "V13"
 rule_name PlaceWanted = codes "V14"
 rule_name OutsideStack = codes "V15"
+rule_name UnstoredRead = codes "V16"
 
 -- its number: where several rules are broken, the lowest is named
 abbrev pub rule_number : CodeRule → ℕ
@@ -38,3 +39,9 @@ rule_number MixedRead = 12
 rule_number NumberWanted = 13
 rule_number PlaceWanted = 14
 rule_number OutsideStack = 15
+rule_number UnstoredRead = 16
+
+-- of the rules that are broken, this is the one of the lowest number
+pub record IsLowest (IsBroken : CodeRule → Type 0) (rule : CodeRule) : Type 0 where
+  pub broken : IsBroken rule
+  pub lowest : (lower : CodeRule) → rule_number lower < rule_number rule → IsBroken lower → ⊥

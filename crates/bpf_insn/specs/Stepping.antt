@@ -4,7 +4,7 @@ use Rattle.bpf_insn.specs.declared.insn.Insn.{Insn}
 use Rattle.bpf_insn.specs.declared.stepped.Stepped.{Stepped}
 use Rattle.bpf_insn.specs.declared.stepped.Stepped.TheVariants.{Went, Done, Stuck}
 use Rattle.bpf_insn.specs.Program.{slot_count}
-use Rattle.bpf_insn.specs.Machine.{State, Goes, Breaks, slot_of, step, is_at_insn}
+use Rattle.bpf_insn.specs.Machine.{State, slot_of, IsStep, IsStuckBy, is_at_insn}
 use Rattle.bpf_insn.specs.Machine as machine
 
 -- any program may be stepped from here: its instruction begins where the machine stands
@@ -14,6 +14,6 @@ IsReady s = (insns : List Insn) → 1 ≤ slot_count insns → is_at_insn insns 
 -- A step answers so, and leaves the new state: it went to a state that runs on; it is done, with a value; or it is
 -- stuck at a slot, by the rule of the lowest number that it breaks there, and the state is as it was.
 abbrev pub IsStepped : List Insn → State → Stepped → State → Type 0
-IsStepped insns old Went new = (step insns old ≡ Goes new) × (is_at_insn insns new ≡ true)
-IsStepped insns old (Done v) new = (step insns old ≡ Goes new) × (new ≡ machine.Done v)
-IsStepped insns old (Stuck fault) new = (step insns old ≡ Breaks fault.rule) × (slot_of old ≡ Some fault.slot) × (new ≡ old)
+IsStepped insns old Went new = IsStep insns old new × (is_at_insn insns new ≡ true)
+IsStepped insns old (Done v) new = IsStep insns old new × (new ≡ machine.Done v)
+IsStepped insns old (Stuck fault) new = IsStuckBy insns old fault.rule × (slot_of old ≡ Some fault.slot) × (new ≡ old)

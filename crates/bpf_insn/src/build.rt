@@ -83,7 +83,7 @@ fn end_size(imm: u32) -> EndSize
 }
 
 /// The second operand: the register of the source field (X), or imm (K).
-fn operand(source: Source, slot: Slot) -> Operand
+fn operand_of(source: Source, slot: Slot) -> Operand
     requires { source ≡ Source.X → slot.src < 11 }
     ensures source { source_of result ≡ source }
     ensures fits { OperandFits result }
@@ -110,7 +110,7 @@ pub fn insn_of(opcode: Opcode, slot: Slot) -> Insn
     let offset = slot.offset.cast_signed();
     let imm = slot.imm.cast_signed();
     match opcode {
-        Opcode::Alu(width, code, source) => alu(width, code, source, slot),
+        Opcode::Alu(width, code, source) => alu_insn(width, code, source, slot),
         Opcode::Neg(width) => Insn::Neg {
             width,
             dst: reg(slot.dst),
@@ -126,7 +126,7 @@ pub fn insn_of(opcode: Opcode, slot: Slot) -> Insn
             width,
             cond,
             left: reg(slot.dst),
-            right: operand(source, slot),
+            right: operand_of(source, slot),
             offset,
         },
         Opcode::Exit => Insn::Exit,
@@ -159,7 +159,7 @@ pub fn insn_of(opcode: Opcode, slot: Slot) -> Insn
 }
 
 /// The operation of two operands, or the MOVSX, of a slot.
-fn alu(width: Width, code: AluCode, source: Source, slot: Slot) -> Insn
+fn alu_insn(width: Width, code: AluCode, source: Source, slot: Slot) -> Insn
     requires opcode { number_of (Opcode.Alu width code source) ≡ slot.opcode }
     requires registers { has_bad_register (Opcode.Alu width code source) slot ≡ false }
     requires fields { has_bad_field (Opcode.Alu width code source) slot ≡ false }
@@ -183,7 +183,7 @@ fn alu(width: Width, code: AluCode, source: Source, slot: Slot) -> Insn
         width,
         op: op(code, slot.offset),
         dst,
-        src: operand(source, slot),
+        src: operand_of(source, slot),
     }
 }
 

@@ -1,15 +1,16 @@
 //! The rules that one slot is held to.
-ghost use Rattle.std.specs.Prelude.{◌≡◌, ℕ, List, IfOk, IfErr};
-ghost use Rattle.bpf_insn.specs.Broken.{is_outside, IsLowestBroken, has_bad_register, has_bad_field};
-ghost use Rattle.bpf_insn.specs.Right.{IsRight};
+ghost use Rattle.std.specs.Prelude.{◌≡◌, ℕ, false, List, IfOk, IfErr};
+ghost use Rattle.bpf_insn.specs.Rule.{IsLowest};
+ghost use Rattle.bpf_insn.specs.Broken.{is_outside_profile, SlotBreaks, has_bad_register, has_bad_field};
+ghost use Rattle.bpf_insn.specs.Opcode.{number_of};
 
 use crate::fields::{allows_imm, allows_offset, uses_dst, uses_src};
 use crate::opcode::{Opcode, opcode_of};
 use crate::rule::CodeRule;
 use crate::slot::Slot;
 
-fn is_outside(slot: Slot) -> bool
-    ensures { result ≡ is_outside slot }
+fn is_outside_profile(slot: Slot) -> bool
+    ensures { result ≡ is_outside_profile slot }
 {
     match slot.opcode {
         0x85 | 0xc3 | 0xdb | 0x20 | 0x28 | 0x30 | 0x40 | 0x48 | 0x50 => true,
@@ -37,10 +38,13 @@ fn has_bad_field(opcode: Opcode, slot: Slot) -> bool
 /// load is looked at elsewhere.
 #[tactic(auto, using(crate::proofs::Faults::bad_register_is_lowest, crate::proofs::Faults::bad_field_is_lowest))]
 pub fn check(slot: Slot) -> Result<Opcode, CodeRule>
-    ensures ok { IfOk result (λ o. IsRight o slot) }
-    ensures err { IfErr result (λ rule. (bytes : List ℕ) → IsLowestBroken slot bytes rule) }
+    ensures opcode { IfOk result (λ o. number_of o ≡ slot.opcode) }
+    ensures inside { IfOk result (λ o. is_outside_profile slot ≡ false) }
+    ensures registers { IfOk result (λ o. has_bad_register o slot ≡ false) }
+    ensures fields { IfOk result (λ o. has_bad_field o slot ≡ false) }
+    ensures lowest { IfErr result (λ rule. (bytes : List ℕ) → IsLowest (SlotBreaks slot bytes) rule) }
 {
-    if is_outside(slot) {
+    if is_outside_profile(slot) {
         return Err(CodeRule::OutsideProfile);
     }
     let Some(opcode) = opcode_of(slot.opcode) else {

@@ -1,17 +1,17 @@
 //! The decoder: from the bytes of code to a program.
-ghost use Rattle.std.specs.Prelude.{◌≡◌, ◌≢◌, ℕ, ◌*◌, ◌/◌, ◌%◌, ◌≤◌, ◌⊎◌, false, List, take, length, IfOk, IfErr, MatchResult, IfSome, IfNone, [], ◌∷◌, vec_len, vec_capacity};
+ghost use Rattle.std.specs.Prelude.{◌+◌, ◌++◌, is_some, ◌≡◌, ◌≢◌, ℕ, ◌*◌, ◌/◌, ◌%◌, ◌≤◌, ◌⊎◌, false, List, take, length, IfOk, IfErr, MatchResult, IfSome, IfNone, [], ◌∷◌, vec_len, vec_capacity};
 ghost use Rattle.std.specs.Int.{w32, to_le_bytes};
 ghost use Rattle.bpf_insn.specs.declared.insn.Insn.{Insn};
 ghost use Rattle.bpf_insn.specs.Broken.{IsBrokenAtFront};
-ghost use Rattle.bpf_insn.specs.Right.{BeginsWith};
-ghost use Rattle.bpf_insn.specs.Code.{Spells, ExplainsRefusal, IsBroken, HasOneReading, has_bad_length};
+ghost use Rattle.bpf_insn.specs.Program.{slots_of, cells_of};
+ghost use Rattle.bpf_insn.specs.Code.{Spells, BeginsWith, ExplainsRefusal, IsBroken, HasOneReading, has_bad_length};
 
 use crate::build::{insn_of, wide_of};
 use crate::check::check;
 use crate::fault::{DecodeError, Fault};
 use crate::insn::Insn;
 use crate::opcode::Opcode;
-use crate::program::{MOST_SLOTS, Program, push_cells, slots_of};
+use crate::program::{MOST_SLOTS, Program, push_cells};
 use crate::rule::CodeRule;
 use crate::slot::Slot;
 use std::alloc::Global;
@@ -37,13 +37,9 @@ pub fn decode(alloc: Global, code: &[u8]) -> Result<Program, DecodeError>
         let rule = CodeRule::BadLength;
         return Err(DecodeError::Fault(Fault { slot, rule }));
     }
-    match Vec::with_capacity(alloc, code.len() / 8) {
-        Ok(room) => match cut(code, room) {
-            Ok(program) => Ok(program),
-            Err(fault) => Err(DecodeError::Fault(fault)),
-        },
-        Err(_) => Err(refusal(code)),
-    }
+    // Where there is no memory, the code is read all the same: its fault goes before the refusal.
+    let room = Vec::with_capacity(alloc, code.len() / 8).ok();
+    read_program(code, room)
 }
 
 fn has_bad_length(len: usize) -> bool
@@ -52,53 +48,48 @@ fn has_bad_length(len: usize) -> bool
     len == 0 || len % 8 != 0 || len > 8 * MOST_SLOTS
 }
 
-/// The program of code of a right length, in room for all of its slots.
-fn cut(code: &[u8], room: Vec<Option<Insn>>) -> Result<Program, Fault>
+/// The program of code of a right length, in room for all of its slots; or the code's fault; or,
+/// where there is neither a fault nor room, `Memory`.
+fn read_program(code: &[u8], room: Option<Vec<Option<Insn>>>) -> Result<Program, DecodeError>
     requires length { has_bad_length (length code.now) ≡ false }
-    requires empty { room.items ≡ [] }
-    requires room { length code.now ≤ 8 * vec_capacity room }
+    requires room { IfSome room (λ r. (r.items ≡ []) × (length code.now ≤ 8 * vec_capacity r)) }
     ensures ok { IfOk result (Spells code.now) }
-    ensures err { IfErr result (λ f. IsBroken code.now f.slot f.rule) }
+    ensures err { IfErr result (ExplainsRefusal code.now) }
 {
     let mut cells = room;
+    let mut slot = 0;
     let mut len = 0;
     let mut rest = code;
     while !rest.is_empty() {
-        match front(rest) {
-            Ok(insn) => {
-                push_cells(&mut cells, insn);
-                len += 1;
-                let (_, after) = rest.split_at(8 * slots_of(insn));
-                rest = after;
-            }
-            Err(rule) => {
-                let slot = cells.len() as u64;
-                return Err(Fault { slot, rule });
-            }
-        }
+        let insn = match front(rest) {
+            Ok(insn) => insn,
+            Err(rule) => return Err(DecodeError::Fault(Fault { slot, rule })),
+        };
+        cells = with_cells(cells, insn);
+        let slots = insn.slots();
+        let (_, after) = rest.split_at(8 * slots);
+        rest = after;
+        slot += slots as u64;
+        len += 1;
     }
-    Ok(Program::from_cells(cells, len))
+    match cells {
+        Some(cells) => Ok(Program::from_cells(cells, len)),
+        None => Err(DecodeError::Memory),
+    }
 }
 
-/// Why code of a right length is refused where there is no memory: a fault is named all the same.
-fn refusal(code: &[u8]) -> DecodeError
-    requires { has_bad_length (length code.now) ≡ false }
-    ensures { ExplainsRefusal code.now result }
+/// The cells with those of the instruction, where there is room for them.
+fn with_cells(cells: Option<Vec<Option<Insn>>>, insn: Insn) -> Option<Vec<Option<Insn>>>
+    requires { IfSome cells (λ was. vec_len was + slots_of insn ≤ vec_capacity was) }
+    ensures some { is_some result ≡ is_some cells }
+    ensures more { IfSome result (λ now. IfSome cells (λ was.
+        (now.items ≡ was.items ++ cells_of insn) × (vec_capacity was ≤ vec_capacity now))) }
 {
-    let mut slot = 0;
-    let mut rest = code;
-    while !rest.is_empty() {
-        match front(rest) {
-            Ok(insn) => {
-                let slots = slots_of(insn);
-                slot += slots as u64;
-                let (_, after) = rest.split_at(8 * slots);
-                rest = after;
-            }
-            Err(rule) => return DecodeError::Fault(Fault { slot, rule }),
-        }
-    }
-    DecodeError::Memory
+    let Some(mut cells) = cells else {
+        return None;
+    };
+    push_cells(&mut cells, insn);
+    Some(cells)
 }
 
 /// The instruction at the front of bytes that are whole slots.

@@ -1,9 +1,8 @@
 //! The encoder: from a program to the bytes of its code.
 ghost use Rattle.std.specs.Prelude.{◌≡◌, ◌++◌, [], ◌∷◌, IfOk, OnOk};
 ghost use Rattle.bpf_insn.specs.Spelling.{spelling};
-ghost use Rattle.bpf_insn.specs.Code.{Spells, IsOnlyCodeOf, code_of};
+ghost use Rattle.bpf_insn.specs.Code.{Spells, IsOnlyCodeOf, NoSpellingBeginsAnother, code_of};
 ghost use Rattle.bpf_insn.specs.Program.{insns_of};
-ghost use Rattle.bpf_insn.specs.Law.{NoSpellingBeginsAnother};
 
 use crate::insn::Insn;
 use crate::program::Program;

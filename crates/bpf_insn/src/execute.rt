@@ -1,20 +1,19 @@
 //! What an instruction writes (RFC 9669, sections 4 and 5).
 ghost use Rattle.std.specs.Prelude.{◌≡◌, false};
-ghost use Rattle.bpf_insn.specs.Reads.{content, leaves_stack, moves_outside};
-ghost use Rattle.bpf_insn.specs.Allowed.{IsAllowed};
-ghost use Rattle.bpf_insn.specs.Effects.{written, alu_content, new_registers, new_stack, moved};
+ghost use Rattle.bpf_insn.specs.Reads.{content, byte_count, signed_byte_count, reaches_outside, leaves_stack, moves_outside};
+ghost use Rattle.bpf_insn.specs.Effects.{written, alu_content, stack_index, loaded, loaded_signed, new_registers, new_stack, moved};
 
 use crate::alu::{arithmetic, end_value, extended};
 use crate::content::Content;
 use crate::frame::Frame;
-use crate::insn::{AluOp, Insn, Operand, Width};
+use crate::insn::{AluOp, Insn, Operand, SignedSize, Size, Width};
 use crate::memory::{load, load_signed, store};
 use crate::reg::Reg;
 
 impl Frame {
     /// Writes what the instruction writes, into a register or the stack.
     pub fn execute(&mut self, insn: Insn)
-        requires { IsAllowed self.old.registers insn }
+        requires { leaves_stack self.old.registers insn ≡ false }
         ensures { self.new ≡ record self.old {
           stack = new_stack self.old.registers self.old.stack insn;
           registers = new_registers self.old.registers (written self.old.registers self.old.stack insn);
@@ -29,7 +28,7 @@ impl Frame {
 
     /// The register that the instruction writes, with what is then in it.
     fn written(&self, insn: Insn) -> Option<(Reg, Content)>
-        requires { IsAllowed self.now.registers insn }
+        requires { leaves_stack self.now.registers insn ≡ false }
         ensures { result ≡ written self.now.registers self.now.stack insn }
     {
         match insn {
@@ -59,22 +58,34 @@ impl Frame {
                 dst,
                 base,
                 offset,
-            } => {
-                let index = self.stack_index(base, offset) as usize;
-                Some((dst, Content::Number(load(size, &self.stack, index))))
-            }
+            } => Some((dst, Content::Number(self.loaded(size, base, offset)))),
             Insn::Ldsx {
                 size,
                 dst,
                 base,
                 offset,
-            } => {
-                let index = self.stack_index(base, offset) as usize;
-                Some((dst, Content::Number(load_signed(size, &self.stack, index))))
-            }
+            } => Some((dst, Content::Number(self.loaded_signed(size, base, offset)))),
             Insn::Wide { dst, value } => Some((dst, Content::Number(value))),
             _ => None,
         }
+    }
+
+    /// The number that a load takes from the stack.
+    fn loaded(&self, size: Size, base: Reg, offset: i16) -> u64
+        requires { reaches_outside (content self.now.registers base) offset (byte_count size) ≡ false }
+        ensures { result ≡ loaded size self.now.stack (stack_index (content self.now.registers base) offset) }
+    {
+        let index = self.stack_index(base, offset) as usize;
+        load(size, &self.stack, index)
+    }
+
+    /// The number that a load takes from the stack, with its sign extended to 64 bits.
+    fn loaded_signed(&self, size: SignedSize, base: Reg, offset: i16) -> u64
+        requires { reaches_outside (content self.now.registers base) offset (signed_byte_count size) ≡ false }
+        ensures { result ≡ loaded_signed size self.now.stack (stack_index (content self.now.registers base) offset) }
+    {
+        let index = self.stack_index(base, offset) as usize;
+        load_signed(size, &self.stack, index)
     }
 
     /// What an operation of two operands makes of them.
@@ -91,7 +102,7 @@ impl Frame {
 
     /// Writes what the instruction stores.
     fn write_stack(&mut self, insn: Insn)
-        requires { IsAllowed self.old.registers insn }
+        requires { leaves_stack self.old.registers insn ≡ false }
         ensures { self.new ≡ record self.old { stack = new_stack self.old.registers self.old.stack insn } }
     {
         match insn {

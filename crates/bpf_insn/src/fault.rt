@@ -16,8 +16,8 @@ pub enum DecodeError {
     /// The bytes are not the code of a program.
     #[error("slot {slot}: {rule}", slot = .0.slot, rule = .0.rule)]
     Fault(Fault),
-    /// The bytes are the code of a program, for which there was no memory.
-    #[error("no memory for the program")]
+    /// The bytes are the code of a program, and there was not enough memory for it.
+    #[error("out of memory for the program")]
     Memory,
 }
 
@@ -27,7 +27,7 @@ pub enum InsnsError {
     /// There are no instructions, or they have more than 4,096 slots: `V1`, at slot 0 or 4,096.
     #[error("slot {slot}: {rule}", slot = .0.slot, rule = .0.rule)]
     Fault(Fault),
-    /// There was no memory for the program.
-    #[error("no memory for the program")]
+    /// There was not enough memory for the program.
+    #[error("out of memory for the program")]
     Memory,
 }

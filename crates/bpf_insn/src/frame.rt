@@ -12,8 +12,8 @@ pub struct Frame {
     pub slot: u32,
     /// R0 to R10.
     pub registers: [Content; 11],
-    /// The stack, from its lowest byte up to its top.
-    pub stack: [u8; 512],
+    /// The stack, from its lowest byte up to its top: each byte, if it was stored.
+    pub stack: [Option<u8>; 512],
 }
 
 impl Frame {

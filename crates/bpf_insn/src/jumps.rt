@@ -1,18 +1,20 @@
 //! Which slot follows an instruction (RFC 9669, section 4.3), and whether a program may go on there.
-ghost use Rattle.std.specs.Prelude.{◌≡◌, ◌<◌, ◌≤◌, false, true};
-ghost use Rattle.std.specs.Bool.{OnFalse, OnTrue};
+ghost use Rattle.std.specs.Prelude.{◌≡◌, ◌<◌, true, false, Some, IfOk, IfErr, pos};
+ghost use Rattle.std.specs.Bool.{OnTrue};
+ghost use Rattle.std.specs.Option.{option_map};
 ghost use Rattle.bpf_insn.specs.Program.{insn_at};
-ghost use Rattle.bpf_insn.specs.Machine.{begins, fetched, goes_back, goes_nowhere};
-ghost use Rattle.bpf_insn.specs.Allowed.{LeadsOn};
+ghost use Rattle.bpf_insn.specs.Reads.{are_numbers, number_reads};
+ghost use Rattle.bpf_insn.specs.Effects.{next_slot};
+ghost use Rattle.bpf_insn.specs.Machine.{begins, goes_back, goes_nowhere};
 
 use crate::alu::holds;
 use crate::frame::Frame;
 use crate::insn::Insn;
 use crate::program::Program;
+use crate::reads::Reads;
+use crate::rule::CodeRule;
 
 impl Frame {
-    ghost use Rattle.bpf_insn.specs.Effects.{next_slot};
-
     /// The slot that follows the instruction, if one does.
     pub fn next_slot(&self, insn: Insn) -> Option<i64>
         ensures { result ≡ next_slot self.now.registers self.now.slot insn }
@@ -29,7 +31,7 @@ impl Frame {
                 right,
                 offset,
             } => {
-                if self.reads_unset(insn) || self.wants_number(insn) {
+                if !self.are_numbers(insn) {
                     return None;
                 }
                 if holds(width, cond, self.number(left), self.operand(right)) {
@@ -40,6 +42,19 @@ impl Frame {
             }
             Insn::Wide { .. } => Some(after + 1),
             _ => Some(after),
+        }
+    }
+
+    /// Whether numbers stand where the instruction wants them.
+    fn are_numbers(&self, insn: Insn) -> bool
+        ensures { result ≡ are_numbers self.now.registers (number_reads insn) }
+    {
+        match insn.reads() {
+            Reads::AsNumber(reg) | Reads::AsPlaceAndNumber(_, reg) => self.content(reg).is_number(),
+            Reads::AsNumbers(first, second) => {
+                self.content(first).is_number() && self.content(second).is_number()
+            }
+            Reads::Nothing | Reads::AsContent(_) | Reads::AsPlace(_) => true,
         }
     }
 }
@@ -55,7 +70,7 @@ pub fn begins(program: &Program, slot: u64) -> bool
 /// The instruction that begins at the slot.
 pub fn fetch(program: &Program, slot: u64) -> Insn
     requires { begins program.now slot ≡ true }
-    ensures { result ≡ fetched (insn_at program.now slot) }
+    ensures { insn_at program.now slot ≡ Some result }
 {
     let Some(insn) = program.insn_at(slot) else {
         unreachable!();
@@ -73,14 +88,18 @@ pub fn goes_back(slot: u32, next: Option<i64>) -> bool
     }
 }
 
-/// Whether no instruction of the program begins at the next slot.
-pub fn goes_nowhere(program: &Program, slot: u32, next: Option<i64>) -> bool
-    requires { goes_back slot next ≡ false }
-    ensures value { result ≡ goes_nowhere program.now next }
-    ensures leads { OnFalse result (LeadsOn program.now slot next) }
+/// The next slot, if there is one, or `V8` where no instruction of the program begins there.
+pub fn landing(program: &Program, next: Option<i64>) -> Result<Option<u32>, CodeRule>
+    ensures slot { IfOk result (λ slot. next ≡ option_map pos slot) }
+    ensures begins { IfOk result (λ slot. goes_nowhere program.now next ≡ false) }
+    ensures rule { IfErr result (λ rule. rule ≡ CodeRule.JumpsNowhere) }
+    ensures nowhere { IfErr result (λ rule. goes_nowhere program.now next ≡ true) }
 {
-    match next {
-        Some(to) => !begins(program, to as u64),
-        None => false,
+    let Some(to) = next else {
+        return Ok(None);
+    };
+    if to < 0 || !begins(program, to as u64) {
+        return Err(CodeRule::JumpsNowhere);
     }
+    Ok(Some(to as u32))
 }

@@ -6,16 +6,16 @@
 //! gives a program's value on operands with its number of steps, or the slot and the rule at which
 //! it is stuck, exactly as the table of effects says, and ends on every program.
 //!
-//! Read `reg` and `insn` (what an instruction is), `rule` and `fault` (what can be wrong), `opcode`,
-//! `fields` and `slot` (the tables), `spell` and `encoder`, `check`, `build` and `decoder`, `program`;
-//! then `content`, `operands` and `tagged` (the machine), `execute`, `stepped` and `run`.
-//! What it all means stands in specs/: Opcode, Fields, Spelling, Broken, Program, Code, then Arithmetic,
-//! Reads, Effects, Machine, Run.
+//! Read `reg` and `insn` (what an instruction is), `rule` and `fault` (what can be wrong), `program`;
+//! `opcode`, `fields` and `slot` (the tables), `spell` and `encoder`, `check`, `build` and `decoder`;
+//! then the machine: `content`, `frame` and `operands` (its state), `reads`, `memory` and `alu` (what
+//! an instruction reads, loads, stores and computes), `jumps`, `rules` and `execute` (a step),
+//! `stepped`, `tagged` and `run`.
+//! What it all means stands in specs/: Rule, Opcode, Fields, Spelling, Broken, Program, Code, then
+//! Arithmetic, Reads, Effects, Machine, Stepping, Run.
 #![tactic(auto)]
 
 mod alu;
-mod alu32;
-mod alu64;
 mod build;
 mod check;
 mod content;
@@ -31,6 +31,7 @@ mod memory;
 mod opcode;
 mod operands;
 mod program;
+mod reads;
 mod reg;
 mod rule;
 mod rules;
@@ -49,8 +50,10 @@ pub use fault::{DecodeError, Fault, InsnsError};
 pub use insn::{
     AluOp, ByteOrder, Cond, EndSize, Extension, Insn, Operand, SignedSize, Size, Width,
 };
+pub use memory::is_outside_stack;
 pub use operands::{Kind, Operands};
 pub use program::{MOST_SLOTS, Program};
+pub use reads::{Access, Reads};
 pub use reg::Reg;
 pub use rule::CodeRule;
 pub use run::{Ran, run_tagged};

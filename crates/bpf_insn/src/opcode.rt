@@ -145,7 +145,7 @@ fn size_number(size: Size) -> u8
 }
 
 /// The opcodes of the classes ALU and ALU64.
-fn alu(width: Width, code: u8, source: Source) -> Option<Opcode>
+fn alu_opcode(width: Width, code: u8, source: Source) -> Option<Opcode>
     requires { code < 16 }
     ensures some { IfSome result (λ o. number_of o ≡ operation code (source_bit source) (alu_class width)) }
     ensures none { IfNone result ((o : Opcode) →
@@ -184,7 +184,7 @@ fn alu(width: Width, code: u8, source: Source) -> Option<Opcode>
 }
 
 /// The opcodes of the classes JMP and JMP32.
-fn jump(width: Width, code: u8, source: Source) -> Option<Opcode>
+fn jump_opcode(width: Width, code: u8, source: Source) -> Option<Opcode>
     requires { code < 16 }
     ensures some { IfSome result (λ o. number_of o ≡ operation code (source_bit source) (jump_class width)) }
     ensures none { IfNone result ((o : Opcode) →
@@ -225,10 +225,10 @@ pub fn opcode_of(byte: u8) -> Option<Opcode>
         Source::X
     };
     match byte % 8 {
-        4 => alu(Width::W32, byte / 16, source),
-        7 => alu(Width::W64, byte / 16, source),
-        5 => jump(Width::W64, byte / 16, source),
-        6 => jump(Width::W32, byte / 16, source),
+        4 => alu_opcode(Width::W32, byte / 16, source),
+        7 => alu_opcode(Width::W64, byte / 16, source),
+        5 => jump_opcode(Width::W64, byte / 16, source),
+        6 => jump_opcode(Width::W32, byte / 16, source),
         _ => match byte {
             0x71 => Some(Opcode::Ldx(Size::B8)),
             0x69 => Some(Opcode::Ldx(Size::B16)),

@@ -1,5 +1,5 @@
 //! Programs: the instructions of code, by the slots in which they begin.
-ghost use Rattle.std.specs.Prelude.{◌≡◌, ◌+◌, ◌<◌, ◌≤◌, ◌++◌, [], length, vec_len, vec_capacity, option_copied, IfOk, IfErr, IfSome, IfNone};
+ghost use Rattle.std.specs.Prelude.{◌≡◌, ◌+◌, ◌<◌, ◌≤◌, ◌++◌, [], length, vec_len, vec_capacity, None, unwrap_or, slice_get, option_copied, IfOk, IfErr, IfSome, IfNone};
 ghost use Rattle.std.specs.List.{AllByRecursion};
 ghost use Rattle.bpf_insn.specs.Program.{slots_of, slot_count, cells_of, layout, insn_at, insns_of, IsLaid, IsProgram, ExplainsInsnsRefusal};
 ghost use Rattle.bpf_insn.specs.Spelling.{Fits};
@@ -90,24 +90,34 @@ impl Program {
 
     /// The instruction that begins at the slot, or None where none begins: outside the program, and
     /// at the second slot of a wide load.
+    #[tactic(auto, using(crate::proofs::Slots::insn_at_layout))]
     pub fn insn_at(&self, slot: u64) -> Option<&Insn>
         ensures { option_copied result ≡ insn_at self.now slot }
     {
-        match self.cells.get(slot as usize) {
+        self.cell(slot as usize)
+    }
+
+    /// What stands in the cell of a slot, which None does past the end too.
+    fn cell(&self, slot: usize) -> Option<&Insn>
+        ensures { option_copied result ≡ unwrap_or (slice_get (layout self.now) slot) None }
+    {
+        match self.cells.get(slot) {
             Some(Some(insn)) => Some(insn),
             _ => None,
         }
     }
 }
 
-/// How many slots the instruction has.
-pub(crate) fn slots_of(insn: Insn) -> usize
-    ensures count { result ≡ slots_of insn }
-    ensures fits { Fits insn }
-{
-    match insn {
-        Insn::Wide { .. } => 2,
-        _ => 1,
+impl Insn {
+    /// How many slots the instruction has: a wide load 2, any other 1.
+    pub fn slots(self) -> usize
+        ensures count { result ≡ slots_of self }
+        ensures fits { Fits self }
+    {
+        match self {
+            Insn::Wide { .. } => 2,
+            _ => 1,
+        }
     }
 }
 
@@ -143,7 +153,7 @@ fn slots_of_all(insns: &[Insn]) -> Option<usize>
 {
     let mut slots = 0;
     for insn in insns {
-        slots += slots_of(*insn);
+        slots += insn.slots();
         if slots > MOST_SLOTS {
             return None;
         }

@@ -7,7 +7,7 @@ use std::fmt;
 /// lowest number is the one that is named.
 ///
 /// The decoder looks at the first six, the machine and the verifier at the others. The names,
-/// `V1` to `V15`, are part of the interface.
+/// `V1` to `V16`, are part of the interface.
 #[derive(Clone, Copy, Debug, PartialEq, Eq)]
 pub enum CodeRule {
     /// `V1`: the code has no slot, half a slot, or more than 4,096 slots.
@@ -41,12 +41,14 @@ pub enum CodeRule {
     PlaceWanted,
     /// `V15`: an access, or a moved place, lies outside the stack.
     OutsideStack,
+    /// `V16`: a load reads a byte of the stack that was never stored.
+    UnstoredRead,
 }
 
 impl CodeRule {
     ghost use Rattle.bpf_insn.specs.Rule.{rule_name};
 
-    /// The name of the rule, `V1` to `V15`.
+    /// The name of the rule, `V1` to `V16`.
     pub fn name(self) -> &'static str
         ensures { result.now ≡ rule_name self }
     {
@@ -66,6 +68,7 @@ impl CodeRule {
             CodeRule::NumberWanted => "V13",
             CodeRule::PlaceWanted => "V14",
             CodeRule::OutsideStack => "V15",
+            CodeRule::UnstoredRead => "V16",
         }
     }
 }

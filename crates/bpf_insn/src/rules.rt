@@ -1,111 +1,86 @@
 //! Which rule an instruction breaks, where it does.
-ghost use Rattle.std.specs.Prelude.{◌≡◌, IfOk, IfErr, Some};
-ghost use Rattle.bpf_insn.specs.Reads.{content, is_unset, is_place, any_stands, regs_of, is_outside, writes_r10, reads_unset, wants_number, wants_place, leaves_stack, accesses_outside, moves_outside};
-ghost use Rattle.bpf_insn.specs.Machine.{first_broken};
-ghost use Rattle.bpf_insn.specs.Allowed.{IsClear};
+ghost use Rattle.std.specs.Prelude.{◌≡◌, false, IfOk, IfErr, pos};
+ghost use Rattle.std.specs.Option.{option_map};
+ghost use Rattle.bpf_insn.specs.Reads.{content, is_unset, is_number, is_place, any_stands, all_reads, number_reads, place_reads, is_r10, load_access, leaves_stack, accesses_outside, moves_outside};
+ghost use Rattle.bpf_insn.specs.Effects.{next_slot, is_unstored};
+ghost use Rattle.bpf_insn.specs.Machine.{BreaksNone, BreaksFirst};
 
 use crate::content::Content;
 use crate::frame::Frame;
 use crate::insn::{AluOp, Insn, Operand, Width};
-use crate::jumps::{goes_back, goes_nowhere};
-use crate::memory::{byte_count, signed_byte_count};
+use crate::jumps::{goes_back, landing};
+use crate::memory::{is_outside_stack, is_unstored};
 use crate::program::Program;
+use crate::reads::{Access, Reads};
 use crate::reg::Reg;
 use crate::rule::CodeRule;
 
 impl Frame {
     /// The slot that follows the instruction, if one does; or, where the instruction breaks a
     /// rule, the rule of the lowest number that it breaks.
-    pub fn allowed_next(&self, program: &Program, insn: Insn) -> Result<Option<i64>, CodeRule>
-        ensures clear { IfOk result (λ next. IsClear program.now self.now insn next) }
-        ensures broken { IfErr result (λ rule. first_broken program.now self.now insn ≡ Some rule) }
+    pub fn allowed_next(&self, program: &Program, insn: Insn) -> Result<Option<u32>, CodeRule>
+        ensures next { IfOk result (λ next. next_slot self.now.registers self.now.slot insn ≡ option_map pos next) }
+        ensures unbroken { IfOk result (λ next. BreaksNone program.now self.now insn) }
+        ensures broken { IfErr result (BreaksFirst program.now self.now insn) }
     {
         let next = self.next_slot(insn);
         if goes_back(self.slot, next) {
-            Err(CodeRule::JumpsBack)
-        } else if goes_nowhere(program, self.slot, next) {
-            Err(CodeRule::JumpsNowhere)
-        } else if writes_r10(insn) {
+            return Err(CodeRule::JumpsBack);
+        }
+        let landing = landing(program, next)?;
+        if is_r10(insn.written_reg()) {
             Err(CodeRule::StackTopWritten)
         } else if self.reads_unset(insn) {
             Err(CodeRule::UnsetRead)
-        } else if self.wants_number(insn) {
+        } else if self.reads_place_as_number(insn) {
             Err(CodeRule::NumberWanted)
-        } else if self.wants_place(insn) {
+        } else if self.reads_number_as_place(insn) {
             Err(CodeRule::PlaceWanted)
         } else if self.leaves_stack(insn) {
             Err(CodeRule::OutsideStack)
+        } else if self.loads_unstored(insn) {
+            Err(CodeRule::UnstoredRead)
         } else {
-            Ok(next)
+            Ok(landing)
         }
     }
 
     /// Whether a register that the instruction reads is unset.
-    pub fn reads_unset(&self, insn: Insn) -> bool
-        ensures { result ≡ reads_unset self.now.registers insn }
+    fn reads_unset(&self, insn: Insn) -> bool
+        ensures { result ≡ any_stands is_unset self.now.registers (all_reads insn) }
     {
-        match insn {
-            Insn::Alu {
-                op: AluOp::Mov,
-                src,
-                ..
-            } => self.is_unset_operand(src),
-            Insn::Alu { dst, src, .. } => self.is_unset(dst) || self.is_unset_operand(src),
-            Insn::Neg { dst, .. } | Insn::End { dst, .. } => self.is_unset(dst),
-            Insn::Movsx { src, .. } => self.is_unset(src),
-            Insn::Jump { left, right, .. } => {
-                self.is_unset(left) || self.is_unset_operand(right)
+        match insn.reads() {
+            Reads::Nothing => false,
+            Reads::AsNumber(reg) | Reads::AsContent(reg) | Reads::AsPlace(reg) => {
+                self.content(reg).is_unset()
             }
-            Insn::Ldx { base, .. } | Insn::Ldsx { base, .. } | Insn::St { base, .. } => {
-                self.is_unset(base)
+            Reads::AsNumbers(first, second) | Reads::AsPlaceAndNumber(first, second) => {
+                self.content(first).is_unset() || self.content(second).is_unset()
             }
-            Insn::Stx { base, src, .. } => self.is_unset(base) || self.is_unset(src),
-            Insn::Exit => self.is_unset(Reg::R0),
-            Insn::Ja { .. } | Insn::Ja32 { .. } | Insn::Wide { .. } => false,
         }
     }
 
     /// Whether a place stands where the instruction wants a number.
-    pub fn wants_number(&self, insn: Insn) -> bool
-        ensures { result ≡ wants_number self.now.registers insn }
+    fn reads_place_as_number(&self, insn: Insn) -> bool
+        ensures { result ≡ any_stands is_place self.now.registers (number_reads insn) }
     {
-        match insn {
-            Insn::Alu {
-                width: Width::W64,
-                op: AluOp::Add,
-                src: Operand::Imm(_),
-                ..
-            } => false,
-            Insn::Alu {
-                width: Width::W64,
-                op: AluOp::Mov,
-                ..
-            } => false,
-            Insn::Alu {
-                op: AluOp::Mov,
-                src,
-                ..
-            } => self.is_place_operand(src),
-            Insn::Alu { dst, src, .. } => self.is_place(dst) || self.is_place_operand(src),
-            Insn::Neg { dst, .. } | Insn::End { dst, .. } => self.is_place(dst),
-            Insn::Movsx { src, .. } | Insn::Stx { src, .. } => self.is_place(src),
-            Insn::Jump { left, right, .. } => {
-                self.is_place(left) || self.is_place_operand(right)
+        match insn.reads() {
+            Reads::AsNumber(reg) | Reads::AsPlaceAndNumber(_, reg) => self.content(reg).is_place(),
+            Reads::AsNumbers(first, second) => {
+                self.content(first).is_place() || self.content(second).is_place()
             }
-            Insn::Exit => self.is_place(Reg::R0),
-            _ => false,
+            Reads::Nothing | Reads::AsContent(_) | Reads::AsPlace(_) => false,
         }
     }
 
     /// Whether a number stands where the instruction wants a place.
-    fn wants_place(&self, insn: Insn) -> bool
-        ensures { result ≡ wants_place self.now.registers insn }
+    fn reads_number_as_place(&self, insn: Insn) -> bool
+        ensures { result ≡ any_stands is_number self.now.registers (place_reads insn) }
     {
-        match insn {
-            Insn::Ldx { base, .. }
-            | Insn::Ldsx { base, .. }
-            | Insn::St { base, .. }
-            | Insn::Stx { base, .. } => self.content(base).is_number(),
+        match insn.reads() {
+            Reads::AsPlace(base) | Reads::AsPlaceAndNumber(base, _) => {
+                self.content(base).is_number()
+            }
             _ => false,
         }
     }
@@ -121,39 +96,35 @@ impl Frame {
                 dst,
                 src: Operand::Imm(n),
             } => self.moves_outside(dst, n),
-            Insn::Ldx {
-                size,
-                base,
-                offset,
-                ..
-            }
-            | Insn::Stx {
-                size,
-                base,
-                offset,
-                ..
-            }
-            | Insn::St {
-                size,
-                base,
-                offset,
-                ..
-            } => self.accesses_outside(base, offset, byte_count(size)),
-            Insn::Ldsx {
-                size,
-                base,
-                offset,
-                ..
-            } => self.accesses_outside(base, offset, signed_byte_count(size)),
-            _ => false,
+            _ => self.accesses_outside(insn.access()),
         }
     }
 
-    fn accesses_outside(&self, base: Reg, offset: i16, count: u8) -> bool
-        ensures { result ≡ accesses_outside (content self.now.registers base) offset count }
+    /// Whether the instruction loads a byte that was never stored.
+    fn loads_unstored(&self, insn: Insn) -> bool
+        requires { leaves_stack self.now.registers insn ≡ false }
+        ensures { result ≡ is_unstored self.now.registers self.now.stack (load_access insn) }
     {
-        match self.content(base) {
-            Content::Place(place) => is_outside(i64::from(place) + i64::from(offset), count),
+        match insn.load_access() {
+            Some(access) => {
+                let first = self.stack_index(access.base, access.offset);
+                is_unstored(&self.stack, first as usize, access.bytes)
+            }
+            None => false,
+        }
+    }
+
+    fn accesses_outside(&self, access: Option<Access>) -> bool
+        ensures { result ≡ accesses_outside self.now.registers access }
+    {
+        let Some(access) = access else {
+            return false;
+        };
+        match self.content(access.base) {
+            Content::Place(place) => is_outside_stack(
+                i64::from(place) + i64::from(access.offset),
+                access.bytes,
+            ),
             _ => false,
         }
     }
@@ -162,63 +133,14 @@ impl Frame {
         ensures { result ≡ moves_outside (content self.now.registers reg) by }
     {
         match self.content(reg) {
-            Content::Place(place) => is_outside(i64::from(place) + i64::from(by), 0),
+            Content::Place(place) => is_outside_stack(i64::from(place) + i64::from(by), 0),
             _ => false,
         }
     }
-
-    fn is_unset(&self, reg: Reg) -> bool
-        ensures { result ≡ is_unset (content self.now.registers reg) }
-    {
-        self.content(reg).is_unset()
-    }
-
-    /// Whether the operand is a register that is unset.
-    fn is_unset_operand(&self, operand: Operand) -> bool
-        ensures { result ≡ any_stands is_unset self.now.registers (regs_of operand) }
-    {
-        match operand {
-            Operand::Imm(_) => false,
-            Operand::Register(reg) => self.is_unset(reg),
-        }
-    }
-
-    /// Whether the operand is a register in which a place stands.
-    fn is_place_operand(&self, operand: Operand) -> bool
-        ensures { result ≡ any_stands is_place self.now.registers (regs_of operand) }
-    {
-        match operand {
-            Operand::Imm(_) => false,
-            Operand::Register(reg) => self.is_place(reg),
-        }
-    }
-
-    fn is_place(&self, reg: Reg) -> bool
-        ensures { result ≡ is_place (content self.now.registers reg) }
-    {
-        self.content(reg).is_place()
-    }
 }
 
-/// Whether some of `count` bytes from `first` on lie outside the stack.
-fn is_outside(first: i64, count: u8) -> bool
-    ensures { result ≡ is_outside first count }
+fn is_r10(reg: Option<Reg>) -> bool
+    ensures { result ≡ is_r10 reg }
 {
-    first < -512 || first > -i64::from(count)
-}
-
-/// Whether the instruction writes R10.
-fn writes_r10(insn: Insn) -> bool
-    ensures { result ≡ writes_r10 insn }
-{
-    match insn {
-        Insn::Alu { dst, .. }
-        | Insn::Neg { dst, .. }
-        | Insn::Movsx { dst, .. }
-        | Insn::End { dst, .. }
-        | Insn::Ldx { dst, .. }
-        | Insn::Ldsx { dst, .. }
-        | Insn::Wide { dst, .. } => matches!(dst, Reg::R10),
-        _ => false,
-    }
+    matches!(reg, Some(Reg::R10))
 }

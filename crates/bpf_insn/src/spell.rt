@@ -1,8 +1,7 @@
 //! The fields that spell an instruction.
 ghost use Rattle.std.specs.Prelude.{◌≡◌, ◌<◌};
 ghost use Rattle.std.specs.Int.{cast_unsigned, w16, w32};
-ghost use Rattle.bpf_insn.specs.Spelling.{first_slot, second_slot, code_of_op, offset_of_op, opcode_of_extension, offset_of_extension, imm_of_end, source_of, source_field, imm_field};
-ghost use Rattle.bpf_insn.specs.Opcode.{number_of};
+ghost use Rattle.bpf_insn.specs.Spelling.{number_of_reg, fields, first_slot, second_slot, code_of_op, offset_of_op, opcode_of_extension, offset_of_extension, imm_of_end, source_of, source_field, imm_field};
 
 use crate::insn::{AluOp, EndSize, Extension, Insn, Operand, Width};
 use crate::opcode::{AluCode, Opcode, Source};
@@ -15,12 +14,69 @@ pub fn first_slot(insn: Insn) -> Slot
     ensures dst { result.dst < 16 }
     ensures src { result.src < 16 }
 {
-    Slot {
-        opcode: opcode_of_insn(insn).number(),
-        dst: dst_of(insn),
-        src: src_of(insn),
-        offset: offset_of(insn),
-        imm: imm_of(insn),
+    match insn {
+        Insn::Alu {
+            width,
+            op,
+            dst,
+            src,
+        } => {
+            let opcode = Opcode::Alu(width, code_of_op(op), source_of(src));
+            with_operand(opcode, dst, src, offset_of_op(op))
+        }
+        Insn::Neg { width, dst } => with_imm(Opcode::Neg(width), dst, 0, 0),
+        Insn::Movsx {
+            extension,
+            dst,
+            src,
+        } => {
+            let bits = offset_of_extension(extension);
+            with_registers(opcode_of_extension(extension), dst, src, bits)
+        }
+        Insn::End { order, size, dst } => with_imm(Opcode::End(order), dst, 0, imm_of_end(size)),
+        Insn::Ja { offset } => fields(Opcode::Ja, 0, 0, offset.cast_unsigned(), 0),
+        Insn::Ja32 { offset } => fields(Opcode::Ja32, 0, 0, 0, offset.cast_unsigned()),
+        Insn::Jump {
+            width,
+            cond,
+            left,
+            right,
+            offset,
+        } => {
+            let opcode = Opcode::Jump(width, cond, source_of(right));
+            with_operand(opcode, left, right, offset.cast_unsigned())
+        }
+        Insn::Exit => fields(Opcode::Exit, 0, 0, 0, 0),
+        Insn::Ldx {
+            size,
+            dst,
+            base,
+            offset,
+        } => with_registers(Opcode::Ldx(size), dst, base, offset.cast_unsigned()),
+        Insn::Ldsx {
+            size,
+            dst,
+            base,
+            offset,
+        } => with_registers(Opcode::Ldsx(size), dst, base, offset.cast_unsigned()),
+        Insn::Stx {
+            size,
+            base,
+            offset,
+            src,
+        } => with_registers(Opcode::Stx(size), base, src, offset.cast_unsigned()),
+        Insn::St {
+            size,
+            base,
+            offset,
+            imm,
+        } => with_imm(
+            Opcode::St(size),
+            base,
+            offset.cast_unsigned(),
+            imm.cast_unsigned(),
+        ),
+        Insn::Wide { dst, value } => with_imm(Opcode::Wide, dst, 0, (value % 0x1_0000_0000) as u32),
     }
 }
 
@@ -37,94 +93,50 @@ pub fn second_slot(value: u64) -> Slot
     }
 }
 
-fn opcode_of_insn(insn: Insn) -> Opcode
-    ensures { number_of result ≡ (first_slot insn).opcode }
+/// A slot of these fields.
+fn fields(opcode: Opcode, dst: u8, src: u8, offset: u16, imm: u32) -> Slot
+    ensures { result ≡ fields opcode dst src offset imm }
 {
-    match insn {
-        Insn::Alu { width, op, src, .. } => Opcode::Alu(width, code_of_op(op), source_of(src)),
-        Insn::Neg { width, .. } => Opcode::Neg(width),
-        Insn::Movsx { extension, .. } => opcode_of_extension(extension),
-        Insn::End { order, .. } => Opcode::End(order),
-        Insn::Ja { .. } => Opcode::Ja,
-        Insn::Ja32 { .. } => Opcode::Ja32,
-        Insn::Jump {
-            width,
-            cond,
-            right,
-            ..
-        } => Opcode::Jump(width, cond, source_of(right)),
-        Insn::Exit => Opcode::Exit,
-        Insn::Ldx { size, .. } => Opcode::Ldx(size),
-        Insn::Ldsx { size, .. } => Opcode::Ldsx(size),
-        Insn::Stx { size, .. } => Opcode::Stx(size),
-        Insn::St { size, .. } => Opcode::St(size),
-        Insn::Wide { .. } => Opcode::Wide,
+    Slot {
+        opcode: opcode.number(),
+        dst,
+        src,
+        offset,
+        imm,
     }
 }
 
-/// The destination field: the register that is written or compared, or the base of a store.
-fn dst_of(insn: Insn) -> u8
-    ensures field { result ≡ (first_slot insn).dst }
-    ensures small { result < 16 }
+/// A slot with a second operand in its source field or its imm.
+fn with_operand(opcode: Opcode, dst: Reg, operand: Operand, offset: u16) -> Slot
+    ensures slot { result ≡ fields opcode (number_of_reg dst) (source_field operand) offset (imm_field operand) }
+    ensures dst { result.dst < 16 }
+    ensures src { result.src < 16 }
 {
-    match insn {
-        Insn::Alu { dst, .. }
-        | Insn::Neg { dst, .. }
-        | Insn::Movsx { dst, .. }
-        | Insn::End { dst, .. }
-        | Insn::Ldx { dst, .. }
-        | Insn::Ldsx { dst, .. }
-        | Insn::Wide { dst, .. } => dst.number(),
-        Insn::Jump { left, .. } => left.number(),
-        Insn::Stx { base, .. } | Insn::St { base, .. } => base.number(),
-        Insn::Ja { .. } | Insn::Ja32 { .. } | Insn::Exit => 0,
-    }
+    fields(
+        opcode,
+        dst.number(),
+        source_field(operand),
+        offset,
+        imm_field(operand),
+    )
 }
 
-/// The source field: a second operand, the value of a store, or the base of a load.
-fn src_of(insn: Insn) -> u8
-    ensures field { result ≡ (first_slot insn).src }
-    ensures small { result < 16 }
+/// A slot with two registers.
+fn with_registers(opcode: Opcode, dst: Reg, src: Reg, offset: u16) -> Slot
+    ensures slot { result ≡ fields opcode (number_of_reg dst) (number_of_reg src) offset 0 }
+    ensures dst { result.dst < 16 }
+    ensures src { result.src < 16 }
 {
-    match insn {
-        Insn::Alu { src, .. } => source_field(src),
-        Insn::Jump { right, .. } => source_field(right),
-        Insn::Movsx { src, .. } | Insn::Stx { src, .. } => src.number(),
-        Insn::Ldx { base, .. } | Insn::Ldsx { base, .. } => base.number(),
-        _ => 0,
-    }
+    fields(opcode, dst.number(), src.number(), offset, 0)
 }
 
-/// The bits of the offset field.
-fn offset_of(insn: Insn) -> u16
-    ensures { result ≡ (first_slot insn).offset }
+/// A slot with one register and an imm.
+fn with_imm(opcode: Opcode, dst: Reg, offset: u16, imm: u32) -> Slot
+    ensures slot { result ≡ fields opcode (number_of_reg dst) 0 offset imm }
+    ensures dst { result.dst < 16 }
+    ensures src { result.src < 16 }
 {
-    match insn {
-        Insn::Alu { op, .. } => offset_of_op(op),
-        Insn::Movsx { extension, .. } => offset_of_extension(extension),
-        Insn::Ja { offset } => offset.cast_unsigned(),
-        Insn::Jump { offset, .. } => offset.cast_unsigned(),
-        Insn::Ldx { offset, .. } => offset.cast_unsigned(),
-        Insn::Ldsx { offset, .. } => offset.cast_unsigned(),
-        Insn::Stx { offset, .. } => offset.cast_unsigned(),
-        Insn::St { offset, .. } => offset.cast_unsigned(),
-        _ => 0,
-    }
-}
-
-/// The bits of the imm field.
-fn imm_of(insn: Insn) -> u32
-    ensures { result ≡ (first_slot insn).imm }
-{
-    match insn {
-        Insn::Alu { src, .. } => imm_field(src),
-        Insn::Jump { right, .. } => imm_field(right),
-        Insn::End { size, .. } => imm_of_end(size),
-        Insn::Ja32 { offset } => offset.cast_unsigned(),
-        Insn::St { imm, .. } => imm.cast_unsigned(),
-        Insn::Wide { value, .. } => (value % 0x1_0000_0000) as u32,
-        _ => 0,
-    }
+    fields(opcode, dst.number(), 0, offset, imm)
 }
 
 fn code_of_op(op: AluOp) -> AluCode

@@ -32,7 +32,7 @@ impl Model for Tagged {
 
 impl Tagged {
     /// The machine at slot 0, with the operands in R1 onwards, the top of the stack in R10 and
-    /// 512 bytes of 0. `kind` is the operands' kind.
+    /// a stack of which no byte was stored. `kind` is the operands' kind.
     pub fn enter(kind: Kind, operands: &Operands) -> Self
         requires { kind_of operands.now ≡ kind }
         ensures entry { result ≡ enter operands.now }
@@ -89,7 +89,7 @@ impl Tagged {
             return Stepped::Done(value);
         };
         self.frame.execute(insn);
-        self.frame.slot = to as u32;
+        self.frame.slot = to;
         Stepped::Went
     }
 }
@@ -112,8 +112,8 @@ fn arguments(operands: &Operands) -> [Content; 4]
 }
 
 /// The stack at the entry.
-fn empty_stack() -> [u8; 512]
-    ensures { result ≡ replicate 512 0 }
+fn empty_stack() -> [Option<u8>; 512]
+    ensures { result ≡ replicate 512 None }
 {
-    [0; 512]
+    [None; 512]
 }

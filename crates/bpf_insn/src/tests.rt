@@ -1,8 +1,10 @@
 //! Code as bytes: what no clause shows, on values from outside. A slot is written as the eight
 //! bytes of its code in hexadecimal.
+mod sizes;
+
 use crate::{
-    AluOp, CodeRule, DecodeError, Fault, Insn, InsnsError, Operand, Program, Reg, Width, decode,
-    encode,
+    AluOp, CodeRule, DecodeError, Fault, Insn, InsnsError, Operand, Program, Reads, Reg, Width,
+    decode, encode, is_outside_stack,
 };
 use std::alloc::{AllocError, Global};
 use std::test::Fail;
@@ -206,6 +208,9 @@ fn a_broken_slot_is_refused(rt: HostRuntime) -> Result<(), Fail> {
         (0x05b0_0000_0000_0000, CodeRule::UnusedField),
         (0x1800_0000_0100_0000, CodeRule::BrokenWideLoad),
         (0x180b_0000_0100_0000, CodeRule::RegisterAboveTen),
+        (0x181b_0000_0100_0000, CodeRule::OutsideProfile),
+        (0x8400_0000_0100_0000, CodeRule::UnusedField),
+        (0x8410_0000_0000_0000, CodeRule::UnusedField),
     ];
     for (slot, rule) in rows {
         let alone = code_of(rt.alloc(), &[slot])?;
@@ -261,6 +266,7 @@ fn a_wide_load_is_one_instruction_in_two_slots(rt: HostRuntime) -> Result<(), Fa
     assert!(rt; program.insn_at(1).is_none());
     assert!(rt; matches!(program.insn_at(2), Some(Insn::Exit)));
     assert!(rt; program.insn_at(3).is_none());
+    assert!(rt; program.insn_at(0x1_0000_0000).is_none());
     Ok(())
 }
 
@@ -307,5 +313,54 @@ fn a_bad_number_of_instructions_is_refused(rt: HostRuntime) -> Result<(), Fail> 
     assert_eq!(rt; Program::from_insns(rt.alloc(), half)?.slots(), 4096);
     let more = vec![in rt.alloc(); wide; 2049]?;
     assert_eq!(rt; fault_of(more), Some(Fault { slot: 4096, rule }));
+    Ok(())
+}
+
+#[test]
+fn errors_name_the_slot_and_the_rule(rt: HostRuntime) -> Result<(), Fail> {
+    let alloc = rt.alloc();
+    let fault = Fault {
+        slot: 4094,
+        rule: CodeRule::BrokenWideLoad,
+    };
+    let code = DecodeError::Fault(fault);
+    assert_eq!(rt; format!(in alloc; "{code}")?.as_str(), "slot 4094: V6");
+    let insns = InsnsError::Fault(fault);
+    assert_eq!(rt; format!(in alloc; "{insns}")?.as_str(), "slot 4094: V6");
+    let code = DecodeError::Memory;
+    assert_eq!(rt;
+        format!(in alloc; "{code}")?.as_str(),
+        "out of memory for the program"
+    );
+    let insns = InsnsError::Memory;
+    assert_eq!(rt;
+        format!(in alloc; "{insns}")?.as_str(),
+        "out of memory for the program"
+    );
+    Ok(())
+}
+
+#[test]
+fn an_instruction_tells_what_it_touches(rt: HostRuntime) -> Result<(), Fail> {
+    let code = code_of(
+        rt.alloc(),
+        &[0x739a_f0ff_0000_0000, 0x89a0_f8ff_0000_0000, EXIT],
+    )?;
+    let program = decode(rt.alloc(), &code)?;
+    let insns = [program.insn_at(0), program.insn_at(1), program.insn_at(2)];
+    let [Some(store), Some(load), Some(exit)] = insns else {
+        panic!(rt; "no instruction");
+    };
+    assert!(rt; matches!(store.reads(), Reads::AsPlaceAndNumber(Reg::R10, Reg::R9)));
+    assert!(rt; matches!(load.reads(), Reads::AsPlace(Reg::R10)));
+    assert!(rt; matches!(exit.reads(), Reads::AsNumber(Reg::R0)));
+    assert_eq!(rt; load.written_reg(), Some(Reg::R0));
+    assert_eq!(rt; store.written_reg(), None);
+    assert_eq!(rt;
+        load.access().map(|access| (access.offset, access.bytes)),
+        Some((-8, 2))
+    );
+    assert!(rt; exit.access().is_none());
+    assert!(rt; is_outside_stack(-513, 1) && is_outside_stack(-1, 2) && !is_outside_stack(-512, 8));
     Ok(())
 }

@@ -3,4 +3,11 @@ pub mod Laws
 pub mod ByRow
 pub mod Copying
 pub mod InRow
-pub mod Kept
+pub mod Filling
+pub mod Adding
+pub mod Shuffled
+pub mod Slicing
+pub mod Collecting
+pub mod Merging
+pub mod Runs
+pub mod Joining

@@ -1,3 +1,6 @@
 pub mod Grid
 pub mod Refusal
-pub mod Triples
+pub mod ByRows
+pub mod Collected
+pub mod Merged
+pub mod Run

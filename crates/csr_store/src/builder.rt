@@ -1,12 +1,13 @@
 //! A matrix in the making.
-ghost use Rattle.std.specs.Prelude.{◌≡◌, ◌≤◌, length, None, unwrap_or, OnOk, OnErr, IfOk, IfErr};
+ghost use Rattle.std.specs.Prelude.{◌≡◌, ◌≤◌, ◌++◌, length, None, unwrap_or, OnOk, OnErr, IfOk, IfErr};
 ghost use Rattle.std.specs.FinMap as map;
 ghost use Rattle.csr_store.specs.Grid.{limit};
 ghost use Rattle.csr_store.specs.Refusal.{put_fault};
-ghost use Rattle.csr_store.specs.Triples.{triples, AreTriples};
 
 use crate::error::StoreError;
-use crate::matrix::{Cell, Matrix};
+use crate::filler::Filler;
+use crate::matrix::Matrix;
+use crate::merge::merged;
 use std::alloc::{AllocError, Global};
 use std::collections::BTreeMap;
 use std::marker::Model;
@@ -15,25 +16,30 @@ use std::marker::Model;
 pub const LIMIT: u64 = 16_777_216;
 
 /// Collects the entries of a matrix, in any order, each position once.
+///
+/// An entry above all earlier ones is pushed; any other goes into an ordered map.
 #[derive(Drop)]
 pub struct Builder {
-    rows: u64,
-    columns: u64,
-    entries: BTreeMap<(u64, u64), u64>,
+    ascending: Filler,
+    others: BTreeMap<(u64, u64), u64>,
     alloc: Global,
 }
 
 impl Model for Builder {
-    ghost use Rattle.csr_store.specs.Grid.{Grid, grid_code, IsGrid};
-    ghost use Rattle.csr_store.specs.Triples.{grid};
+    ghost use Rattle.std.specs.Prelude.{◌++◌};
+    ghost use Rattle.std.specs.FinMap as map;
+    ghost use Rattle.csr_store.specs.Grid.{Grid, grid_code};
+    ghost use Rattle.csr_store.specs.ByRows.{grid};
+    ghost use Rattle.csr_store.specs.Collected.{IsCollected};
 
     ghost Value = { Grid };
 
     ghost coded = { grid_code };
 
-    ghost view = { λ b. grid b.rows b.columns b.entries.entries };
+    ghost view = { λ b. grid b.ascending.rows b.ascending.columns
+        (map.entries b.ascending.cells ++ b.others.entries) };
 
-    ghost invariant = { λ b. IsGrid (grid b.rows b.columns b.entries.entries) };
+    ghost invariant = { λ b. IsCollected b.ascending b.others.entries };
 }
 
 impl Builder {
@@ -44,15 +50,21 @@ impl Builder {
         ensures { result ≡ record { rows = rows; columns = columns; cells = map.empty } }
     {
         Builder {
-            rows,
-            columns,
-            entries: BTreeMap::new(alloc),
+            ascending: Filler::begin(alloc, rows, columns),
+            others: BTreeMap::new(alloc),
             alloc,
         }
     }
 
-    /// Adds an entry at a position that has none, both indices counted from 0. Costs a search among the
-    /// entries so far.
+    /// Makes room for so many further entries, in ascending order.
+    pub fn reserve(&mut self, entries: usize) -> Result<(), AllocError>
+        ensures { self.new ≡ self.old }
+    {
+        self.ascending.reserve(entries)
+    }
+
+    /// Adds an entry at a position that has none, both indices counted from 0. Costs a few instructions
+    /// where the position is above all earlier ones, else a search among the entries so far.
     ///
     /// Refuses, in this order, a position outside the sizes, one that has an entry, and an entry beyond
     /// 16,777,216; and then answers `Memory` where its growth is refused. The builder is then as before.
@@ -64,16 +76,27 @@ impl Builder {
             (λ e. e ≡ unwrap_or (put_fault self.old (row, column)) StoreError.Memory) }
         ensures kept { OnErr result (self.new ≡ self.old) }
     {
-        if row >= self.rows || column >= self.columns {
+        if row >= self.ascending.rows() || column >= self.ascending.columns() {
             return Err(StoreError::IndexOutOfRange);
         }
-        if self.entries.contains_key(&(row, column)) {
+        if self.ascending.has(row, column) {
             return Err(StoreError::PositionGivenTwice);
         }
-        if self.entries.len() as u64 >= LIMIT {
+        if self.others.contains_key(&(row, column)) {
+            return Err(StoreError::PositionGivenTwice);
+        }
+        if self.ascending.entries() + self.others.len() as u64 >= LIMIT {
             return Err(StoreError::TooManyEntries);
         }
-        self.entries.insert((row, column), value)?;
+        match self.ascending.add(row, column, value) {
+            Ok(true) => return Ok(()),
+            Ok(false) => {}
+            Err(_) => return Err(StoreError::Memory),
+        }
+        match self.others.insert((row, column), value) {
+            Ok(_) => {}
+            Err(_) => return Err(StoreError::Memory),
+        }
         Ok(())
     }
 
@@ -82,31 +105,19 @@ impl Builder {
         ensures ok { IfOk result (λ m. m ≡ self) }
         ensures err { IfErr result (λ b. b ≡ self) }
     {
-        match listed(self.alloc, &self.entries) {
-            Ok((row_numbers, cells)) => Ok(Matrix::from_triples(
-                self.rows,
-                self.columns,
-                row_numbers,
-                cells,
-            )),
-            Err(_) => Err(self),
+        if !self.others.is_empty() {
+            return match merged(self.alloc, &self.ascending, &self.others) {
+                Ok(matrix) => Ok(matrix),
+                Err(_) => Err(self),
+            };
+        }
+        match self.ascending.finish() {
+            Ok(matrix) => Ok(matrix),
+            Err(ascending) => Err(Builder {
+                ascending,
+                others: self.others,
+                alloc: self.alloc,
+            }),
         }
     }
-}
-
-/// The entries by ascending position, as their rows and their cells.
-fn listed(
-    alloc: Global,
-    entries: &BTreeMap<(u64, u64), u64>,
-) -> Result<(Vec<u64>, Vec<Cell>), AllocError>
-    ensures listed { IfOk result (λ p. triples p.0.items p.1.items ≡ entries.now.entries) }
-    ensures triples { IfOk result (λ p. AreTriples p.0.items p.1.items) }
-{
-    let mut row_numbers = Vec::with_capacity(alloc, entries.len())?;
-    let mut cells = Vec::with_capacity(alloc, entries.len())?;
-    for (position, value) in entries.iter() {
-        row_numbers.push(position.0)?;
-        cells.push((position.1, *value))?;
-    }
-    Ok((row_numbers, cells))
 }

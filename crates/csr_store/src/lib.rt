@@ -4,22 +4,31 @@
 //! [`Matrix`], which never changes; a [`Version`] is a matrix with several owners.
 //!
 //! The one contract: a `Matrix` is a finite map from positions to words with its two sizes, a `Grid` of
-//! `specs/Grid.antt`. How it is kept is no caller's business. What callers need to know of grids is
-//! proved in `proofs/Laws.antt` (single entries), `proofs/ByRow.antt` (a grid row by row) and
-//! `proofs/Copying.antt` (a matrix put into a builder, entry by entry).
+//! `specs/Grid.antt`. That it is kept as compressed rows is no caller's business, but that a row is a
+//! slice, and that the starts of the rows are lent. [`Rows`] is a run of rows, a `Run` of
+//! `specs/Run.antt`, and [`join_rows`] makes the matrix of runs that follow one another. What callers
+//! need to know of grids is proved in `proofs/Laws.antt` (single entries), `proofs/ByRow.antt` (a grid
+//! row by row) and `proofs/Copying.antt` (a matrix put into a builder, entry by entry).
 //!
-//! Read `specs/Grid.antt` and `specs/Refusal.antt` first, then `error`, `builder`, `matrix`, and last
-//! `triples`, which searches the lists that a matrix is kept as.
+//! Read `specs/Grid.antt` and `specs/Refusal.antt` first, then `error`, `builder`, `matrix`, `rows` and
+//! `join`; below them `filler` (rows filled in ascending order), `merge` (two lists of entries as one
+//! matrix) and `row` (parts of a list of cells, and searches in a row), over `specs/ByRows.antt`.
 #![tactic(auto)]
 
 pub mod builder;
 pub mod error;
+mod filler;
+mod join;
 pub mod matrix;
-mod triples;
+mod merge;
+mod row;
+mod rows;
 
 pub use builder::Builder;
 pub use error::StoreError;
+pub use join::join_rows;
 pub use matrix::{Matrix, Version};
+pub use rows::Rows;
 
 #[cfg(test)]
 mod tests;

@@ -1,10 +1,11 @@
 //! A finished matrix.
-ghost use Rattle.std.specs.Prelude.{◌≡◌, ◌<◌};
-ghost use Rattle.std.specs.FinMap as map;
-ghost use Rattle.csr_store.specs.Grid.{IsGrid, row_of};
-ghost use Rattle.csr_store.specs.Triples.{grid, triples, AreTriples};
+ghost use Rattle.std.specs.Prelude.{◌≡◌, ◌<◌, ◌+◌, map};
+ghost use Rattle.std.specs.List.{range_with_len};
+ghost use Rattle.std.specs.FinMap as fin;
+ghost use Rattle.csr_store.specs.Grid.{IsGrid, row_of, row_start};
+ghost use Rattle.csr_store.specs.ByRows.{grid, by_rows, ends_of, AreStarts};
 
-use crate::triples::{cells_of_row, value_at};
+use crate::row::{cells_between, value_at};
 use std::marker::Model;
 use std::sync::Arc;
 
@@ -12,44 +13,42 @@ use std::sync::Arc;
 pub type Cell = (u64, u64);
 
 /// A sparse matrix of 64-bit words: its two sizes, and at most one value at each position.
+///
+/// It is kept as compressed rows: where each row starts, and behind the last row where it ends, and the
+/// cells of all rows. So it takes 16 bytes an entry and 8 a row.
 #[derive(Drop)]
 pub struct Matrix {
     rows: u64,
     columns: u64,
-    row_numbers: Vec<u64>,
+    starts: Vec<u64>,
     cells: Vec<Cell>,
 }
 
 impl Model for Matrix {
     ghost use Rattle.csr_store.specs.Grid.{Grid, grid_code, IsGrid};
-    ghost use Rattle.csr_store.specs.Triples.{grid, triples, AreTriples};
+    ghost use Rattle.csr_store.specs.ByRows.{grid, by_rows, ends_of, AreStarts};
 
     ghost Value = { Grid };
 
     ghost coded = { grid_code };
 
-    ghost view = { λ m. grid m.rows m.columns (triples m.row_numbers.items m.cells.items) };
+    ghost view = { λ m. grid m.rows m.columns (by_rows (ends_of m.starts.items) m.cells.items) };
 
-    ghost invariant = { λ m. IsGrid (grid m.rows m.columns (triples m.row_numbers.items m.cells.items))
-        × AreTriples m.row_numbers.items m.cells.items };
+    ghost invariant = { λ m. IsGrid (grid m.rows m.columns (by_rows (ends_of m.starts.items) m.cells.items))
+        × AreStarts m.rows m.starts.items m.cells.items };
 }
 
 impl Matrix {
-    /// The matrix of entries by ascending position, as their rows and their cells.
-    pub(crate) fn from_triples(
-        rows: u64,
-        columns: u64,
-        row_numbers: Vec<u64>,
-        cells: Vec<Cell>,
-    ) -> Self
-        requires is_grid { IsGrid (grid rows columns (triples row_numbers.items cells.items)) }
-        requires ascending { AreTriples row_numbers.items cells.items }
-        ensures { result ≡ grid rows columns (triples row_numbers.items cells.items) }
+    /// The matrix of compressed rows.
+    pub(crate) fn from_rows(rows: u64, columns: u64, starts: Vec<u64>, cells: Vec<Cell>) -> Self
+        requires is_grid { IsGrid (grid rows columns (by_rows (ends_of starts.items) cells.items)) }
+        requires starts { AreStarts rows starts.items cells.items }
+        ensures { result ≡ grid rows columns (by_rows (ends_of starts.items) cells.items) }
     {
         Matrix {
             rows,
             columns,
-            row_numbers,
+            starts,
             cells,
         }
     }
@@ -72,10 +71,18 @@ impl Matrix {
 
     /// The number of entries, those with the value 0 among them.
     pub fn entries(&self) -> u64
-        ensures entries { result ≡ map.len self.now.cells }
+        ensures entries { result ≡ fin.len self.now.cells }
         ensures is_grid { IsGrid self.now }
     {
         self.cells.len() as u64
+    }
+
+    /// How many entries stand in the rows before each row, counted from 0, and at last before the end: one
+    /// number more than there are rows.
+    pub fn starts(&self) -> &[u64]
+        ensures { result.now ≡ map (row_start self.now) (range_with_len 0 (self.now.rows + 1)) }
+    {
+        &self.starts
     }
 
     /// The entries of row `i`, counted from 0, by ascending column.
@@ -83,12 +90,15 @@ impl Matrix {
         requires { i < self.now.rows }
         ensures { result.now ≡ row_of self.now i }
     {
-        cells_of_row(&self.row_numbers, &self.cells, i)
+        let i = i as usize;
+        let from = self.starts[i] as usize;
+        let to = self.starts[i + 1] as usize;
+        cells_between(&self.cells, from, to)
     }
 
     /// The value at a position, where it has one.
     pub fn get(&self, i: u64, j: u64) -> Option<u64>
-        ensures { result ≡ map.get self.now.cells (i, j) }
+        ensures { result ≡ fin.get self.now.cells (i, j) }
     {
         if i < self.rows {
             value_at(self.row(i), j)

@@ -1,6 +1,6 @@
 //! Each call once with ample memory, the refusals in their order, and a full builder. Every test but the full one also
 //! passes where any one allocation is refused: it then asks again, and finds what was put before.
-use crate::{Builder, Matrix, StoreError, Version};
+use crate::{Builder, Matrix, Rows, StoreError, Version, join_rows};
 use std::alloc::AllocError;
 use std::process::Abort;
 use std::sync::Arc;
@@ -158,5 +158,95 @@ fn errors_are_named(rt: HostRuntime) -> Result<(), Fail> {
         }
         assert_eq!(rt; shown.as_str(), text);
     }
+    Ok(())
+}
+
+/// Whether two matrices have the same sizes, starts and rows.
+fn assert_equal(rt: &impl Abort, left: &Matrix, right: &Matrix) {
+    assert_eq!(rt;
+        (left.rows(), left.columns()),
+        (right.rows(), right.columns())
+    );
+    assert_eq!(rt; left.starts(), right.starts());
+    for i in 0..left.rows().min(right.rows()) {
+        assert_eq!(rt; left.row(i), right.row(i), "row {i}");
+    }
+}
+
+#[test]
+fn orders_give_equal_matrices(rt: HostRuntime) -> Result<(), Fail> {
+    let side = 200;
+    let mut ascending = Builder::new(rt.alloc(), side, side);
+    let mut descending = Builder::new(rt.alloc(), side, side);
+    let mut mixed = Builder::new(rt.alloc(), side, side);
+    for k in 0..30_000u64 {
+        put_again(&mut ascending, (k / side, k % side, k))?;
+        let from_end = 29_999 - k;
+        put_again(
+            &mut descending,
+            (from_end / side, from_end % side, from_end),
+        )?;
+        let jump = k.wrapping_mul(7_919) % 30_000;
+        put_again(&mut mixed, (jump / side, jump % side, jump))?;
+    }
+    assert_eq!(rt; mixed.put(3, 4, 0), Err(StoreError::PositionGivenTwice));
+    let ascending = finish_again(ascending)?;
+    assert_eq!(rt; ascending.entries(), 30_000);
+    assert_equal(&rt, &ascending, &finish_again(descending)?);
+    assert_equal(&rt, &ascending, &finish_again(mixed)?);
+    Ok(())
+}
+
+#[test]
+fn starts_count_the_entries_before(rt: HostRuntime) -> Result<(), Fail> {
+    let mut builder = Builder::new(rt.alloc(), 4, 3);
+    for entry in [(3, 0, 1), (1, 2, 2), (1, 0, 3)] {
+        put_again(&mut builder, entry)?;
+    }
+    let matrix = finish_again(builder)?;
+    assert_eq!(rt; matrix.starts(), [0, 0, 2, 2, 3].as_slice());
+    let none = finish_again(Builder::new(rt.alloc(), 0, 5))?;
+    assert_eq!(rt; none.starts(), [0].as_slice());
+    Ok(())
+}
+
+#[test]
+fn most_rows_without_an_entry(rt: HostRuntime) -> Result<(), Fail> {
+    let matrix = finish_again(Builder::new(rt.alloc(), 16_777_216, 1))?;
+    assert_eq!(rt; matrix.entries(), 0);
+    assert_eq!(rt; matrix.starts().len(), 16_777_217);
+    assert!(rt; matrix.rows() == 16_777_216);
+    assert_eq!(rt; matrix.row(16_777_215).len(), 0);
+    Ok(())
+}
+
+#[test]
+fn one_row_has_all_entries(rt: HostRuntime) -> Result<(), Fail> {
+    let mut builder = Builder::new(rt.alloc(), 2, 16_777_216);
+    for column in 0..16_777_216 {
+        builder.put(1, column, column)?;
+    }
+    assert_eq!(rt; builder.put(0, 5, 1), Err(StoreError::TooManyEntries));
+    let matrix = builder.finish().map_err(|_| AllocError)?;
+    assert!(rt; matrix.rows() == 2);
+    assert_eq!(rt; matrix.starts(), [0, 0, 16_777_216].as_slice());
+    assert_eq!(rt; matrix.row(1).last(), Some(&(16_777_215, 16_777_215)));
+    Ok(())
+}
+
+#[test]
+fn rows_are_joined(rt: HostRuntime) -> Result<(), Fail> {
+    let mut first = Rows::begin(rt.alloc(), 0, 3);
+    first.push(1, 10)?;
+    first.push(2, 11)?;
+    first.end_row()?;
+    first.end_row()?;
+    assert_eq!(rt; (first.first(), first.len()), (0, 2));
+    let mut second = Rows::begin(rt.alloc(), 2, 3);
+    second.push(0, 12)?;
+    second.end_row()?;
+    let matrix = join_rows(rt.alloc(), 3, 3, vec![in rt.alloc(); first, second]?)?;
+    assert_eq!(rt; matrix.starts(), [0, 2, 2, 3].as_slice());
+    assert_holds(&rt, &matrix, &[(0, 1, 10), (0, 2, 11), (2, 0, 12)]);
     Ok(())
 }

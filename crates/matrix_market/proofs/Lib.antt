@@ -1,5 +1,14 @@
+pub mod FirstLine
+pub mod WordCuts
 pub mod Numbers
-pub mod Lines
+pub mod Passing
+pub mod Puts
+pub mod Places
+pub mod Reading
 pub mod Writing
-pub mod Order
-pub mod Entries
+pub mod Unique
+pub mod Canonical
+pub mod WrittenText
+pub mod Scanning
+pub mod Fields
+pub mod Running

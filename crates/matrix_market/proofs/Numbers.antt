@@ -1,178 +1,98 @@
--- Decimal numbers at the front of a text.
-use Rattle.std.proofs.Common.{◌≡◌, ◌<◌, ◌≤◌, ◌+◌, ◌-◌, ◌*◌, ◌/◌, ◌%◌, ◌^◌, ℕ, suc, List, [], ◌∷◌, ◌++◌, true, length, get_or, take, drop, ⊎_elim, eq-zero-or-pos, refl, sym, ap, ◌∙◌, subst, arith, rules, length-append}
-use Rattle.std.proofs.lemmas.List.{drop_more, take_more, take_all, append-nil, length-take, take-append-drop}
-use Rattle.std.specs.Fmt.{decimal}
-use Rattle.std.specs.Int.{IsInRange}
-use Rattle.std.specs.List.{AllByRecursion}
-use Rattle.std.specs.Str.{all_ascii_digits}
-use Rattle.std.proofs.lemmas.Fmt.{decimal_digit, decimal_step, decimal_by_steps, decimal_nonempty, first_decimal, decimal_injective, digits_value-decimal}
-use Rattle.std.proofs.lemmas.Str.Parse.{IsNumeralModel, numerals_by_fold}
-use Rattle.matrix_market.specs.Reading.{BeginsWithNoNumber}
+-- Numbers in decimal digits, held below 2 ^ 64.
+use Rattle.std.proofs.Common.{◌≡◌, ◌≤◌, ◌<◌, ◌+◌, ◌-◌, ◌*◌, ◌^◌, ℕ, zero, suc, min, List, [], ◌∷◌, Bool, true, false, cond, Option, None, Some, length, get_or, drop, refl, sym, ap, ◌∙◌, subst, arith}
+use Rattle.std.proofs.lemmas.List.{at_drop_more, drop_all}
+use Rattle.std.specs.Char.{is_ascii_digit}
+use Rattle.std.proofs.Common.{not, ◌||◌, Ok, Err}
+use Rattle.std.proofs.lemmas.Bool.Decides.{nat_tests}
+use Rattle.matrix_market.specs.declared.rule.MarketRule.TheVariants.{IndexOutsideMatrix, ValueOutOfRange}
+use Rattle.matrix_market.specs.declared.kinds.Size.{Size}
+use Rattle.matrix_market.specs.declared.kinds.Found.{Found}
+use Rattle.matrix_market.specs.Market.{digits_after, digits, number, value, Value, outside, is_word, word_of, entry_from, entry_words}
+use Rattle.matrix_market.specs.Answers.{held, held_number, held_value, entry_checked, entry_answer}
 
-abbrev pub IsDigit : ℕ → Type 0
-IsDigit c = IsInRange 48 57 c
+abbrev found : ℕ → ℕ → Value → Found
+found i j v = record { row = i - 1; column = j - 1; word = word_of v }
 
-abbrev pub AreDigits : List ℕ → Type 0
-AreDigits ds = AllByRecursion IsDigit ds
+held_step : (n m d : ℕ) → held n ≡ held m → held (n * 10 + d) ≡ held (m * 10 + d)
+held_step n m d e = omega arith
 
--- the number that digits write after n
-abbrev number_after : ℕ → List ℕ → ℕ
-number_after n [] = n
-number_after n (c ∷ cs) = number_after (10 * n + (c - 48)) cs
+-- digits behind numbers that are held alike
+pub held_digits : (n m : ℕ) (bs : List ℕ) → held n ≡ held m → held_number (digits_after n bs) ≡ held_number (digits_after m bs)
+held_digits n m [] e = ap Some e
+held_digits n m (b ∷ bs) e =
+    elim (is_ascii_digit b) as (λ t. held_number (cond t (digits_after (n * 10 + (b - 48)) bs) None) ≡ held_number (cond t (digits_after (m * 10 + (b - 48)) bs) None)) [
+      | true ↦ held_digits (n * 10 + (b - 48)) (m * 10 + (b - 48)) bs (held_step n m (b - 48) e)
+      | false ↦ refl
+    ]
 
-own : IsNumeralModel (λ ds. all_ascii_digits ds ≡ true) (number_after 0)
-own = numerals_by_fold _ (search rules) number_after (search rules)
+pub digits_some : (word : List ℕ) → 0 < length word → digits word ≡ digits_after 0 word
+digits_some [] p = absurd (omega arith)
+digits_some (b ∷ bs) p = refl
 
-number_after-append : (n : ℕ) (xs ys : List ℕ) → number_after n (xs ++ ys) ≡ number_after (number_after n xs) ys
-number_after-append n [] ys = refl
-number_after-append n (x ∷ xs) ys = number_after-append (10 * n + (x - 48)) xs ys
+pub digits_none : (word : List ℕ) → length word ≡ 0 → digits word ≡ None
+digits_none [] p = refl
+digits_none (b ∷ bs) p = absurd (omega arith)
 
-number_after-le : (n : ℕ) (ds : List ℕ) → n ≤ number_after n ds
-number_after-le n [] = omega arith
-number_after-le n (d ∷ ds) = let more = number_after-le (10 * n + (d - 48)) ds in omega arith
+pub digit_more : (word : List ℕ) (i value next b : ℕ) → i < length word → b ≡ get_or word i 0 → is_ascii_digit b ≡ true → held next ≡ held (value * 10 + (b - 48))
+    → held_number (digits_after value (drop i word)) ≡ held_number (digits_after next (drop (i + 1) word))
+digit_more word i value next b l r d h =
+    let cell : digits_after value (drop i word) ≡ digits_after value (get_or word i 0 ∷ drop (i + 1) word) = at_drop_more (digits_after value) word i 0 l in
+    let step : digits_after value (b ∷ drop (i + 1) word) ≡ digits_after (value * 10 + (b - 48)) (drop (i + 1) word) = rw d refl in
+    ap held_number (cell ∙ (ap (λ x. digits_after value (x ∷ drop (i + 1) word)) (sym r) ∙ step)) ∙ held_digits (value * 10 + (b - 48)) next (drop (i + 1) word) (sym h)
 
-AreDigits-append : (xs ys : List ℕ) → AreDigits xs → AreDigits ys → AreDigits (xs ++ ys)
-AreDigits-append [] ys p q = q
-AreDigits-append (x ∷ xs) ys p q = (p.0, AreDigits-append xs ys p.1 q)
+pub digit_not : (word : List ℕ) (i value b : ℕ) → i < length word → b ≡ get_or word i 0 → is_ascii_digit b ≡ false → held_number (digits_after value (drop i word)) ≡ None
+digit_not word i value b l r d =
+    let cell : digits_after value (drop i word) ≡ digits_after value (get_or word i 0 ∷ drop (i + 1) word) = at_drop_more (digits_after value) word i 0 l in
+    let step : digits_after value (b ∷ drop (i + 1) word) ≡ None = rw d refl in
+    ap held_number (cell ∙ (ap (λ x. digits_after value (x ∷ drop (i + 1) word)) (sym r) ∙ step))
 
-AreDigits-behind : (xs ys : List ℕ) → AreDigits (xs ++ ys) → AreDigits ys
-AreDigits-behind [] ys p = p
-AreDigits-behind (x ∷ xs) ys p = AreDigits-behind xs ys p.1
+pub digit_end : (word : List ℕ) (i value : ℕ) → length word ≤ i → value < 2 ^ 64 → held_number (digits_after value (drop i word)) ≡ Some value
+digit_end word i value l v = ap (λ bs. held_number (digits_after value bs)) (drop_all i word l) ∙ ap Some (let e : held value ≡ value = omega arith in e)
 
-pub AreDigits-decimal : (n : ℕ) → n < 2 ^ 64 → AreDigits (decimal n)
-AreDigits-decimal n h =
-    decimal_by_steps (λ _ ds. AreDigits ds) (λ n l. ((omega arith, omega arith), tt))
-    (λ n ds l p. AreDigits-append ds _ p ((omega arith, omega arith), tt)) n h
+not_some : {X : Type 0} (x : X) → Some x ≡ None → ⊥
+not_some x e = cc
 
--- digits that begin a text begin the number with which it begins
-pub front_of_digits : (front rest ds tail : List ℕ) (end : ℕ) → end < 48 → AreDigits front → front ++ rest ≡ ds ++ end ∷ tail
-    → (more : List ℕ) × (ds ≡ front ++ more) × (rest ≡ more ++ end ∷ tail)
-front_of_digits [] rest ds tail end h p e = (ds, refl, e)
-front_of_digits (c ∷ front) rest [] tail end h p e = let same : c ≡ end = cc in let low = p.0.0 in absurd (omega arith)
-front_of_digits (c ∷ front) rest (d ∷ ds) tail end h p e =
-    let same : c ≡ d = cc in
-    let others : front ++ rest ≡ ds ++ end ∷ tail = cc in
-    let r = front_of_digits front rest ds tail end h p.1 others in
-    let joined : d ∷ ds ≡ c ∷ (front ++ r.0) = let e2 : ds ≡ front ++ r.0 = r.1 in cc in
-    (r.0, joined, r.2)
+same_some : {X : Type 0} (x y : X) → Some x ≡ Some y → x ≡ y
+same_some x y e = cc
 
--- one text begins with one number
-pub one_number : (m n end : ℕ) (rest tail : List ℕ) → m < 2 ^ 64 → n < 2 ^ 64 → end < 48 → decimal m ++ end ∷ rest ≡ decimal n ++ end ∷ tail → (m ≡ n) × (rest ≡ tail)
-one_number m n end rest tail a b h e =
-    let r = front_of_digits (decimal m) (end ∷ rest) (decimal n) tail end h (AreDigits-decimal m a) e in
-    joined r.0 r.1 r.2
-  where
-    joined : (more : List ℕ) → decimal n ≡ decimal m ++ more → end ∷ rest ≡ more ++ end ∷ tail → (m ≡ n) × (rest ≡ tail)
-    joined [] p q = (decimal_injective m n a b (sym (p ∙ append-nil (decimal m))), cc)
-    joined (c ∷ more) p q =
-        let same : end ≡ c = cc in
-        let digit = (AreDigits-behind (decimal m) (c ∷ more) (subst AreDigits p (AreDigits-decimal n b))).0 in
-        absurd (let low = digit.0 in omega arith)
+outside_held : (i n : ℕ) → n ≤ 16777216 → outside (held i) n ≡ outside i n
+outside_held i n h = grind (arith, nat_tests)
 
--- the digits that were read so far, and the number that they write
-abbrev pub Begun : List ℕ → ℕ → Type 0
-Begun [] value = value ≡ 0
-Begun (d ∷ ds) value = d ∷ ds ≡ decimal value
+word_held : (v : Value) → is_word (v.0, held v.1) ≡ is_word v
+word_held (true, n) = grind (arith, nat_tests)
+word_held (false, n) = grind (arith, nat_tests)
 
-begun_digits : (ds : List ℕ) (value : ℕ) → value < 2 ^ 64 → Begun ds value → AreDigits ds
-begun_digits [] value h b = tt
-begun_digits (d ∷ ds) value h b = subst AreDigits (sym b) (AreDigits-decimal value h)
+held_outside : (i n : ℕ) → n ≤ 16777216 → outside i n ≡ false → held i ≡ i
+held_outside i n h e = grind (arith, nat_tests)
 
-begun_value : (ds : List ℕ) (value : ℕ) → value < 2 ^ 64 → Begun ds value → number_after 0 ds ≡ value
-begun_value [] value h b = sym b
-begun_value (d ∷ ds) value h b = ap (number_after 0) b ∙ digits_value-decimal own value h
+held_word : (v : Value) → is_word v ≡ true → held v.1 ≡ v.1
+held_word (true, n) e = grind (arith, nat_tests)
+held_word (false, n) e = grind (arith, nat_tests)
 
-begun_decimal : (ds : List ℕ) (value : ℕ) → 0 < length ds → Begun ds value → ds ≡ decimal value
-begun_decimal [] value l b = absurd (omega arith)
-begun_decimal (d ∷ ds) value l b = b
+either_false : (a b : Bool) → (a || b) ≡ false → (a ≡ false) × (b ≡ false)
+either_false true b e = absurd (cc)
+either_false false b e = (refl, e)
 
-begun_push : (ds : List ℕ) (value digit : ℕ) → digit < 10 → (0 < length ds → 0 < value) → 10 * value + digit < 2 ^ 64 → Begun ds value → Begun (ds ++ (48 + digit) ∷ []) (10 * value + digit)
-begun_push [] value digit l f h b = let e : 10 * value + digit ≡ digit = omega arith in rw e (sym (decimal_digit digit l))
-begun_push (d ∷ ds) value digit l f h b =
-    let some : 0 < value = f (omega arith) in
-    let front : (10 * value + digit) / 10 ≡ value = omega arith in
-    let last : (10 * value + digit) % 10 ≡ digit = omega arith in
-    let step : decimal (10 * value + digit) ≡ decimal ((10 * value + digit) / 10) ++ (48 + (10 * value + digit) % 10) ∷ [] = decimal_step (10 * value + digit) (omega arith) h in
-    sym (step ∙ rw (front, last) (ap (λ x. x ++ (48 + digit) ∷ []) (sym b)))
+entry_held : (s : Size) (i j : ℕ) (v : Value) → s.rows ≤ 16777216 → s.columns ≤ 16777216 → entry_checked s (held i) (held j) (v.0, held v.1) ≡ entry_checked s i j v
+entry_held s i j v hr hc =
+    rw (outside_held i s.rows hr, outside_held j s.columns hc, word_held v)
+    (elim (outside i s.rows || outside j s.columns) as (λ t. (outside i s.rows || outside j s.columns) ≡ t → cond t (Err IndexOutsideMatrix) (cond (not (is_word v)) (Err ValueOutOfRange) (Ok (found (held i) (held j) (v.0, held v.1)))) ≡ cond t (Err IndexOutsideMatrix) (cond (not (is_word v)) (Err ValueOutOfRange) (Ok (found i j v)))) [
+      | true ↦ λ t. refl
+      | false ↦ λ t. elim (is_word v) as (λ u. is_word v ≡ u → cond (not u) (Err ValueOutOfRange) (Ok (found (held i) (held j) (v.0, held v.1))) ≡ cond (not u) (Err ValueOutOfRange) (Ok (found i j v))) [
+        | false ↦ λ u. refl
+        | true ↦ λ u. let o = either_false _ _ t in rw (held_outside i s.rows hr o.0, held_outside j s.columns hc o.1, held_word v u) refl
+      ] refl
+    ] refl)
 
--- a text around the byte at a place
-cut : (text : List ℕ) (i byte : ℕ) → i < length text → byte ≡ get_or text i 0 → text ≡ take i text ++ byte ∷ drop (i + 1) text
-cut text i byte l r = sym (take-append-drop i text) ∙ ap (λ t. take i text ++ t) (drop_more text i 0 l ∙ ap (λ c. c ∷ drop (i + 1) text) (sym r))
+entry_options : (s : Size) (o p : Option ℕ) (q : Option Value) (i j : ℕ) (v : Value) → s.rows ≤ 16777216 → s.columns ≤ 16777216 → Some i ≡ held_number o → Some j ≡ held_number p → Some v ≡ held_value q
+    → entry_checked s i j v ≡ entry_answer s (entry_from o p q)
+entry_options s None p q i j v hr hc a b d = absurd (not_some i a)
+entry_options s (Some x) None q i j v hr hc a b d = absurd (not_some j b)
+entry_options s (Some x) (Some y) None i j v hr hc a b d = absurd (not_some v d)
+entry_options s (Some x) (Some y) (Some z) i j v hr hc a b d =
+    ap (λ k. entry_checked s k j v) (same_some i (held x) a) ∙ (ap (λ k. entry_checked s (held x) k v) (same_some j (held y) b) ∙ (ap (entry_checked s (held x) (held y)) (same_some v (z.0, held z.1) d) ∙ entry_held s x y z hr hc))
 
--- one digit more was read
-pub begun_more : (text : List ℕ) (i byte value : ℕ) → i < length text → byte ≡ get_or text i 0 → IsDigit byte → (0 < i → 0 < value) → 10 * value + (byte - 48) < 2 ^ 64
-    → Begun (take i text) value → Begun (take (i + 1) text) (10 * value + (byte - 48))
-begun_more text i byte value l r d f h b =
-    let high = d.1 in
-    let low = d.0 in
-    let pushed = begun_push (take i text) value (byte - 48) (omega arith) (λ p. f (omega (arith, length-take i text))) h b in
-    let glyph : 48 + (byte - 48) ≡ byte = omega arith in
-    let more : take (i + 1) text ≡ take i text ++ byte ∷ [] = take_more text i 0 l ∙ ap (λ c. take i text ++ c ∷ []) (sym r) in
-    rw more (rw glyph at pushed)
-
--- a number was read whole
-pub number_found : (text : List ℕ) (i end value : ℕ) → i < length text → end ≡ get_or text i 0 → 0 < i → Begun (take i text) value → text ≡ decimal value ++ end ∷ drop (i + 1) text
-number_found text i end value l r p b =
-    cut text i end l r ∙ ap (λ ds. ds ++ end ∷ drop (i + 1) text) (begun_decimal (take i text) value (omega (arith, length-take i text)) b)
-
-module _ (text : List ℕ) (i byte value bound end : ℕ) (l : i < length text) (r : byte ≡ get_or text i 0) (small : bound < 2 ^ 64) (low : end < 48) (fits : value < 2 ^ 64) (b : Begun (take i text) value) where
-  stopped : ((n : ℕ) (tail more : List ℕ) → n ≤ bound → decimal n ≡ take i text ++ more → byte ∷ drop (i + 1) text ≡ more ++ end ∷ tail → ⊥) → BeginsWithNoNumber text bound end
-  stopped stop n rest h e =
-      let found = front_of_digits (take i text) (byte ∷ drop (i + 1) text) (decimal n) rest end low (begun_digits (take i text) value fits b) (sym (cut text i byte l r) ∙ e) in
-      stop n rest found.0 h found.1 found.2
-
-  -- the byte is no digit, and does not end a number
-  pub no_digit : ¬ (IsDigit byte) → (byte ≡ end → i ≡ 0) → BeginsWithNoNumber text bound end
-  no_digit other begins = stopped stop
-    where
-      stop : (n : ℕ) (tail more : List ℕ) → n ≤ bound → decimal n ≡ take i text ++ more → byte ∷ drop (i + 1) text ≡ more ++ end ∷ tail → ⊥
-      stop n tail [] h p q =
-          let same : byte ≡ end = cc in
-          let first = begins same in
-          let some = decimal_nonempty n (omega arith) in
-          omega (arith, ap length p, length-append (take i text) [], length-take i text)
-      stop n tail (m ∷ ms) h p q =
-          let same : byte ≡ m = cc in
-          let digits : AreDigits (take i text ++ m ∷ ms) = subst AreDigits p (AreDigits-decimal n (omega arith)) in
-          other (subst IsDigit (sym same) (AreDigits-behind (take i text) (m ∷ ms) digits).0)
-
-  -- a digit is behind a leading zero
-  pub leading_zero : IsDigit byte → 0 < i → value ≡ 0 → BeginsWithNoNumber text bound end
-  leading_zero digit some zero = stopped stop
-    where
-      front : take i text ≡ 48 ∷ []
-      front = begun_decimal (take i text) value (omega (arith, length-take i text)) b ∙ (ap decimal zero ∙ decimal_digit 0 (omega arith))
-
-      stop : (n : ℕ) (tail more : List ℕ) → n ≤ bound → decimal n ≡ take i text ++ more → byte ∷ drop (i + 1) text ≡ more ++ end ∷ tail → ⊥
-      stop n tail [] h p q = let same : byte ≡ end = cc in let least = digit.0 in omega arith
-      stop n tail (m ∷ ms) h p q =
-          let e : decimal n ≡ 48 ∷ m ∷ ms = p ∙ ap (λ t. t ++ m ∷ ms) front in
-          let long : length (decimal n) ≡ suc (suc (length ms)) = ap length e in
-          let first : get_or (decimal n) 0 0 ≡ 48 = ap (λ t. get_or t 0 0) e in
-          ⊎_elim (λ z. let short : length (decimal n) ≡ 1 = ap length (ap decimal z ∙ decimal_digit 0 (omega arith)) in omega arith)
-          (λ z. let high = first_decimal n z (omega arith) in omega arith) (eq-zero-or-pos n)
-
-  -- the number is above the bound
-  pub above_bound : IsDigit byte → bound < 10 * value + (byte - 48) → BeginsWithNoNumber text bound end
-  above_bound digit above = stopped stop
-    where
-      stop : (n : ℕ) (tail more : List ℕ) → n ≤ bound → decimal n ≡ take i text ++ more → byte ∷ drop (i + 1) text ≡ more ++ end ∷ tail → ⊥
-      stop n tail [] h p q = let same : byte ≡ end = cc in let least = digit.0 in omega arith
-      stop n tail (m ∷ ms) h p q =
-          let same : byte ≡ m = cc in
-          let whole : number_after 0 (decimal n) ≡ n = digits_value-decimal own n (omega arith) in
-          let parts : number_after 0 (decimal n) ≡ number_after (number_after 0 (take i text)) (m ∷ ms) = ap (number_after 0) p ∙ number_after-append 0 (take i text) (m ∷ ms) in
-          let read : number_after 0 (take i text) ≡ value = begun_value (take i text) value fits b in
-          let least : number_after 0 (take i text) * 10 + (m - 48) ≤ number_after (10 * number_after 0 (take i text) + (m - 48)) ms = omega (arith, number_after-le (10 * number_after 0 (take i text) + (m - 48)) ms) in
-          omega arith
-
--- the text ends in the number
-pub text_ends : (text : List ℕ) (i value bound end : ℕ) → length text ≤ i → bound < 2 ^ 64 → end < 48 → value < 2 ^ 64 → Begun (take i text) value → BeginsWithNoNumber text bound end
-text_ends text i value bound end l small low fits b n rest h e =
-    let all : take i text ≡ text = take_all i text l in
-    let found = front_of_digits text [] (decimal n) rest end low (subst AreDigits all (begun_digits (take i text) value fits b)) (append-nil text ∙ e) in
-    nothing found.0 found.2
-  where
-    nothing : (more : List ℕ) → [] ≡ more ++ end ∷ rest → ⊥
-    nothing [] q = cc
-    nothing (m ∷ ms) q = cc
+pub entry_three : (s : Size) (pattern : Bool) (ws : List (List ℕ)) (a b d : List ℕ) (i j : ℕ) (v : Value) → s.rows ≤ 16777216 → s.columns ≤ 16777216 → pattern ≡ false → ws ≡ a ∷ b ∷ d ∷ []
+    → Some i ≡ held_number (number a) → Some j ≡ held_number (number b) → Some v ≡ held_value (value d) → entry_checked s i j v ≡ entry_answer s (entry_words pattern ws)
+entry_three s pattern ws a b d i j v hr hc p w x y z =
+    entry_options s (number a) (number b) (value d) i j v hr hc x y z ∙ sym (ap (λ t. entry_answer s (entry_words t ws)) p ∙ ap (λ t. entry_answer s (entry_words false t)) w)

@@ -1,4 +1,7 @@
 pub mod CanonicalText
-pub mod Reading
-pub mod Refusal
 pub mod Rule
+pub mod Market
+pub mod Filling
+pub mod Answers
+pub mod Refusal
+pub mod Usual

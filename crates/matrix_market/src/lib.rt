@@ -1,20 +1,25 @@
 //! Matrices as text, in the coordinate format of the Matrix Market.
 //!
-//! The one contract is over `canonical_text` of `specs/CanonicalText.antt`: `write` gives the
-//! canonical text of a matrix; `read` answers the only matrix with that canonical text, and refuses
-//! a text only where no matrix has it, with the rule that it breaks and its line, or where memory
-//! was refused. So what is written is read back, and no two matrices have one text.
+//! The one contract is over `specs/Market.antt`. `read` answers the matrix that the text stands for,
+//! the only one, or the first line of the text that breaks a rule, with the rule: then no matrix has the
+//! text. `write` gives the canonical text of a matrix (`specs/CanonicalText.antt`), which is a text of it
+//! and of no other, so what is written is read back.
 //!
-//! Read `rule` first (what can be wrong with a text), then `writer`, then `reader`, which stands on
-//! `canonical` (the lines of a canonical text) and that on `number` (the numbers in them).
+//! Read `rule` first (what can be wrong with a text), then `writer`; of the reader first `reader`, which
+//! goes line by line and knows all the rules, over `kinds` (what a line of each kind says), `lines` and
+//! `words`; then `run` and `usual`, which read entry lines in their usual form fast and leave every other
+//! line to it.
 #![tactic(auto)]
 
-mod canonical;
-mod number;
+mod kinds;
+mod lines;
 mod reader;
 mod rule;
+mod run;
 #[cfg(test)]
 mod tests;
+mod usual;
+mod words;
 mod writer;
 
 pub use reader::read;

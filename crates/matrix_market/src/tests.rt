@@ -2,12 +2,8 @@
 use super::*;
 use csr_store::{Builder, Matrix};
 use std::alloc::Global;
+use std::process::Abort;
 use std::test::Fail;
-
-const OUTSIDE: MarketError = MarketError::Fault {
-    rule: MarketRule::OutsideProfile,
-    line: 1,
-};
 
 /// The matrix of 3 rows and 2 columns with these entries, each a position and a value.
 fn matrix_of(alloc: Global, entries: &[(u64, u64, i64)]) -> Result<Matrix, Fail> {
@@ -65,70 +61,214 @@ fn canonical_texts_are_written_and_read_back(rt: HostRuntime) -> Result<(), Fail
     Ok(())
 }
 
-#[test]
-fn other_texts_are_refused(rt: HostRuntime) -> Result<(), Fail> {
-    let banners = [
-        "",
-        "%%MatrixMarket matrix coordinate integer general",
-        "%%MatrixMarket MATRIX coordinate integer general\n3 2 1\n2 1 5\n",
-        "%%MatrixMarket matrix coordinate pattern general\n3 2 1\n2 1\n",
-        "%%MatrixMarket matrix coordinate integer general\r\n3 2 1\n2 1 5\n",
-        "3 2 1\n2 1 5\n",
-    ];
-    for text in banners {
-        assert_eq!(rt;
-            read(rt.alloc(), text.as_bytes()).err(),
-            Some(OUTSIDE),
-            "{text:?}"
-        );
+/// What a text is: its sizes and its entries by ascending position, or a rule with its line.
+#[derive(Clone, Copy)]
+enum Wanted {
+    Shown(&'static str),
+    Fault(&'static str, u64),
+}
+
+use Wanted::{Fault, Shown};
+
+/// Reads a text, and asks for what it is shown as or why it is refused.
+fn assert_reads(rt: &impl Abort, alloc: Global, text: &str, wanted: &Wanted) -> Result<(), Fail> {
+    match (read(alloc, text.as_bytes()), wanted) {
+        (Ok(matrix), Shown(lines)) => {
+            let written = write(alloc, &matrix)?;
+            let shown = format!(in alloc;
+                "%%MatrixMarket matrix coordinate integer general\n{lines}"
+            )?;
+            assert_eq!(rt; written.as_slice(), shown.as_bytes(), "{text:?}");
+        }
+        (Ok(_), Fault(rule, line)) => assert!(rt; false, "{text:?} is read, not {rule} {line}"),
+        (Err(error), Fault(rule, line)) => {
+            let shown = format!(in alloc; "{error}")?;
+            let asked = format!(in alloc; "line {line}: {rule}")?;
+            assert_eq!(rt; shown.as_str(), asked.as_str(), "{text:?}");
+        }
+        (Err(error), Shown(_)) => assert!(rt; false, "{text:?} is refused: {error}"),
     }
-    let lines = [
-        "",
-        "3 2\n",
-        "3 2 -0\n",
-        "3  2 0\n",
-        "% a comment\n3 2 0\n",
-        "16777217 2 0\n",
-        "18446744073709551617 2 0\n",
-        // not as many entries as the size line says
-        "3 2 1\n",
-        "3 2 2\n2 1 5\n",
-        "3 2 0\n2 1 5\n",
-        "3 2 7\n1 1 1\n1 2 1\n2 1 1\n2 2 1\n3 1 1\n3 2 1\n",
-        // an end that is missing, or something after it
-        "3 2 1\n2 1 5",
-        "3 2 1\n2 1 5\n\n",
-        "3 2 1\n2 1 5\nx",
-        // numbers in other forms
-        "03 2 1\n2 1 5\n",
-        "3 2 1\n02 1 5\n",
-        "3 2 1\n2 1 05\n",
-        "3 2 1\n2 1 +1\n",
-        "3 2 1\n2 1 -0\n",
-        "3 2 1\n2 1 -05\n",
-        "3 2 1\n2 1 -\n",
-        "3 2 1\n2 1 \n",
-        "3 2 1\n2 1 5 \n",
-        "3 2 1\n2 1 x\n",
-        "3 2 1\n2 1 9223372036854775808\n",
-        "3 2 1\n2 1 -9223372036854775809\n",
-        // positions that are outside, given twice or out of order
-        "3 2 1\n0 1 5\n",
-        "3 2 1\n4 1 5\n",
-        "3 2 1\n1 3 5\n",
-        "3 2 2\n2 1 5\n2 1 6\n",
-        "3 2 2\n2 2 5\n2 1 6\n",
-        "3 2 2\n2 1 5\n1 2 6\n",
+    Ok(())
+}
+
+const GENERAL: &str = "%%MatrixMarket matrix coordinate integer general\n";
+
+const SYMMETRIC: &str = "%%MatrixMarket matrix coordinate integer symmetric\n";
+
+const PATTERN: &str = "%%MatrixMarket matrix coordinate pattern general\n";
+
+#[test]
+fn first_lines(rt: HostRuntime) -> Result<(), Fail> {
+    let cases = [
+        ("", Fault("M1", 1)),
+        ("\n", Fault("M1", 1)),
+        (
+            "% comment\n%%MatrixMarket matrix coordinate integer general\n0 0 0\n",
+            Fault("M1", 1),
+        ),
+        (
+            "%%MatrixMarket matrix coordinate integer\n0 0 0\n",
+            Fault("M1", 1),
+        ),
+        (
+            "%%MatrixMarket matrix coordinate integer general more\n0 0 0\n",
+            Fault("M1", 1),
+        ),
+        (
+            "%%matrixmarket matrix coordinate integer general\n0 0 0\n",
+            Fault("M1", 1),
+        ),
+        (
+            "%%MatrixMarket vector coordinate integer general\n0 0 0\n",
+            Fault("M2", 1),
+        ),
+        (
+            "%%MatrixMarket matrix array integer general\n0 0 0\n",
+            Fault("M2", 1),
+        ),
+        (
+            "%%MatrixMarket matrix coordinate real general\n0 0 0\n",
+            Fault("M2", 1),
+        ),
+        (
+            "%%MatrixMarket matrix coordinate integer skew-symmetric\n",
+            Fault("M2", 1),
+        ),
+        (
+            "%%MatrixMarket MATRIX Coordinate INTEGER General\n0 0 0\n",
+            Shown("0 0 0\n"),
+        ),
+        (
+            " \t%%MatrixMarket\tmatrix  coordinate integer general \r\n0 0 0",
+            Shown("0 0 0\n"),
+        ),
     ];
-    for lines in lines {
-        let text = format!(in rt.alloc();
-            "%%MatrixMarket matrix coordinate integer general\n{lines}"
-        )?;
-        assert_eq!(rt;
-            read(rt.alloc(), text.as_bytes()).err(),
-            Some(OUTSIDE),
-            "{lines:?}"
-        );
+    for (text, wanted) in &cases {
+        assert_reads(&rt, rt.alloc(), text, wanted)?;
+    }
+    Ok(())
+}
+
+#[test]
+fn lines_behind_the_first(rt: HostRuntime) -> Result<(), Fail> {
+    let cases = [
+        (GENERAL, "", Fault("M3", 2)),
+        (GENERAL, "%\n\n", Fault("M3", 4)),
+        (GENERAL, "1 1\n", Fault("M3", 2)),
+        (GENERAL, "1 1 1 1\n", Fault("M3", 2)),
+        (GENERAL, "2 -2 0\n", Fault("M3", 2)),
+        (GENERAL, "2 x 16777217\n", Fault("M3", 2)),
+        (GENERAL, "16777217 1 0\n", Fault("M4", 2)),
+        (GENERAL, "1 16777217 0\n", Fault("M4", 2)),
+        (GENERAL, "1 1 16777217\n", Fault("M4", 2)),
+        (GENERAL, "1 1 18446744073709551617\n1 1 5\n", Fault("M4", 2)),
+        (SYMMETRIC, "2 3 8388609\n", Fault("M4", 2)),
+        (SYMMETRIC, "2 3 0\n", Fault("M12", 2)),
+        (GENERAL, "2 2 1\n1 1\n", Fault("M5", 3)),
+        (GENERAL, "2 2 1\n1 1 5 5\n", Fault("M5", 3)),
+        (GENERAL, "2 2 1\n-1 1 5\n", Fault("M5", 3)),
+        (GENERAL, "2 2 1\n0 1 5x\n", Fault("M5", 3)),
+        (GENERAL, "2 2 1\n1 1 +-5\n", Fault("M5", 3)),
+        (GENERAL, "2 2 1\n1 1 -\n", Fault("M5", 3)),
+        (GENERAL, "2 2 1\n1 1 5\r\r\n", Fault("M5", 3)),
+        (GENERAL, "2 2 1\n1 1 5\r", Fault("M5", 3)),
+        (PATTERN, "2 2 1\n1 1 1\n", Fault("M5", 3)),
+        (GENERAL, "2 3 1\n0 1 9223372036854775808\n", Fault("M6", 3)),
+        (GENERAL, "2 3 1\n3 1 5\n", Fault("M6", 3)),
+        (GENERAL, "2 3 1\n1 4 5\n", Fault("M6", 3)),
+        (
+            GENERAL,
+            "2 3 1\n1 99999999999999999999999 5\n",
+            Fault("M6", 3),
+        ),
+        (GENERAL, "2 3 1\n2 3 5\n", Shown("2 3 1\n2 3 5\n")),
+        (GENERAL, "1 1 1\n1 1 9223372036854775808\n", Fault("M7", 3)),
+        (GENERAL, "1 1 1\n1 1 -9223372036854775809\n", Fault("M7", 3)),
+        (
+            GENERAL,
+            "1 1 2\n1 1 1\n1 1 18446744073709551616\n",
+            Fault("M7", 4),
+        ),
+        (GENERAL, "1 1 2\n1 1 1\n%\n1 1 1\n", Fault("M8", 5)),
+        (SYMMETRIC, "2 2 2\n2 1 5\n1 2 9\n", Fault("M8", 4)),
+        (SYMMETRIC, "2 2 2\n2 1 5\n2 1 5\n", Fault("M8", 4)),
+        (GENERAL, "1 1 2\n1 1 5\n", Fault("M9", 4)),
+        (GENERAL, "1 1 2\n1 1 5\n\n% end\n", Fault("M9", 6)),
+        (GENERAL, "1 1 1\n1 1 5\nfoo\n", Fault("M10", 4)),
+        (GENERAL, "1 1 0\n0 0 0\n", Fault("M10", 3)),
+        (GENERAL, "1 1 1\n+1 01 +5\n", Shown("1 1 1\n1 1 5\n")),
+        (GENERAL, "1 1 1\n1 1 -0\n", Shown("1 1 1\n1 1 0\n")),
+        (
+            GENERAL,
+            "%\n \n1 1 1\n\t% %\n1\t1  -9223372036854775808",
+            Shown("1 1 1\n1 1 -9223372036854775808\n"),
+        ),
+        (
+            SYMMETRIC,
+            "2 2 2\n2 1 5\n1 1 7\n",
+            Shown("2 2 3\n1 1 7\n1 2 5\n2 1 5\n"),
+        ),
+        (PATTERN, "%\r\n2 2 1\r\n2 2", Shown("2 2 1\n2 2 1\n")),
+        (
+            GENERAL,
+            "3 2 3\n3 2 1\n1 1 2\n2 1 3\n",
+            Shown("3 2 3\n1 1 2\n2 1 3\n3 2 1\n"),
+        ),
+    ];
+    for (banner, lines, wanted) in &cases {
+        let text = format!(in rt.alloc(); "{banner}{lines}")?;
+        assert_reads(&rt, rt.alloc(), text.as_str(), wanted)?;
+    }
+    Ok(())
+}
+
+/// So many blanks.
+fn blanks(alloc: Global, count: usize) -> Result<String, Fail> {
+    let mut text = String::new(alloc);
+    for _ in 0..count {
+        text.push(' ')?;
+    }
+    Ok(text)
+}
+
+#[test]
+fn long_lines(rt: HostRuntime) -> Result<(), Fail> {
+    let most = blanks(rt.alloc(), 1024)?;
+    let long = blanks(rt.alloc(), 1025)?;
+    let texts = [
+        (format!(in rt.alloc(); "{long}")?, Fault("M11", 1)),
+        (format!(in rt.alloc(); "{most}")?, Fault("M1", 1)),
+        (
+            format!(in rt.alloc(); "{GENERAL}{most}\r\n1 1 0\n{most}")?,
+            Shown("1 1 0\n"),
+        ),
+        (
+            format!(in rt.alloc(); "{GENERAL}%{most}\n1 1 0\n")?,
+            Fault("M11", 2),
+        ),
+        (
+            format!(in rt.alloc(); "{GENERAL}1 1 x{long}\n")?,
+            Fault("M11", 2),
+        ),
+        (
+            format!(in rt.alloc(); "{GENERAL}1 1 1\n0 0 0{long}\n")?,
+            Fault("M11", 3),
+        ),
+        (
+            format!(in rt.alloc(); "{GENERAL}1 1 1\n0 0 0\n{long}\n")?,
+            Fault("M6", 3),
+        ),
+        (
+            format!(in rt.alloc(); "{GENERAL}1 1 0\nfoo{long}\n")?,
+            Fault("M11", 3),
+        ),
+        (
+            format!(in rt.alloc(); "{GENERAL}1 1 0\n{long}")?,
+            Fault("M11", 3),
+        ),
+    ];
+    for (text, wanted) in &texts {
+        assert_reads(&rt, rt.alloc(), text.as_str(), wanted)?;
     }
     Ok(())
 }
@@ -139,8 +279,103 @@ fn errors_are_shown_with_their_line(rt: HostRuntime) -> Result<(), Fail> {
         rule: MarketRule::LineAfterLastEntry,
         line: 7,
     };
-    assert_eq!(rt; format!(in rt.alloc(); "{OUTSIDE}")?.as_str(), "line 1: M2");
+    assert_eq!(rt;
+        format!(in rt.alloc(); "{}", MarketError::Memory)?.as_str(),
+        "no memory for the matrix"
+    );
     assert_eq!(rt; format!(in rt.alloc(); "{late}")?.as_str(), "line 7: M10");
     assert_eq!(rt; MarketRule::SymmetricNotSquare.name(), "M12");
+    Ok(())
+}
+
+/// A text with two blanks for each: no line of it has the usual form, so all of it is read by all the rules.
+fn with_wide_blanks(alloc: Global, text: &[u8]) -> Result<Vec<u8>, Fail> {
+    let mut wide = Vec::new(alloc);
+    for byte in text {
+        if *byte == b' ' {
+            wide.push(b' ')?;
+        }
+        wide.push(*byte)?;
+    }
+    Ok(wide)
+}
+
+/// A text is answered as the same text with wide blanks is, and what is read is written and read back.
+fn assert_answers(rt: &impl Abort, alloc: Global, text: &[u8]) -> Result<(), Fail> {
+    let wide = with_wide_blanks(alloc, text)?;
+    match (read(alloc, text), read(alloc, &wide)) {
+        (Ok(matrix), Ok(same)) => {
+            let written = write(alloc, &matrix)?;
+            assert_eq!(rt;
+                written.as_slice(),
+                write(alloc, &same)?.as_slice(),
+                "{text:?}"
+            );
+            let again = read(alloc, &written)?;
+            assert_eq!(rt;
+                written.as_slice(),
+                write(alloc, &again)?.as_slice(),
+                "{text:?}"
+            );
+        }
+        (Err(error), Err(same)) => assert_eq!(rt; error, same, "{text:?}"),
+        _ => assert!(rt; false, "{text:?}"),
+    }
+    Ok(())
+}
+
+#[test]
+fn bytes_replaced_and_prefixes(rt: HostRuntime) -> Result<(), Fail> {
+    let texts = [
+        "%%MatrixMarket matrix coordinate integer general\n2 3 3\n1 1 5\n1 3 -7\n2 1 9\n",
+        "%%MatrixMarket matrix coordinate integer symmetric\n2 2 2\n2 1 5\n1 1 7\n",
+        "%%MatrixMarket matrix coordinate pattern general\r\n%\r\n2 2 1\r\n2 2",
+    ];
+    for text in texts {
+        let mut bytes = Vec::from_slice(rt.alloc(), text.as_bytes())?;
+        for end in 0..bytes.len() {
+            assert_answers(&rt, rt.alloc(), &text.as_bytes()[..end])?;
+        }
+        for place in 0..bytes.len() {
+            let byte = bytes[place];
+            for other in 0..=255 {
+                bytes[place] = other;
+                assert_answers(&rt, rt.alloc(), &bytes)?;
+            }
+            bytes[place] = byte;
+        }
+    }
+    Ok(())
+}
+
+#[test]
+fn a_large_matrix_is_read_in_any_order(rt: HostRuntime) -> Result<(), Fail> {
+    let side = 200;
+    let mut ascending = String::new(rt.alloc());
+    let mut mixed = String::new(rt.alloc());
+    write!(ascending, "{GENERAL}{side} {side} 30000\n")?;
+    write!(mixed, "{GENERAL}{side} {side} 30000\n")?;
+    for k in 0..30_000u64 {
+        write!(ascending, "{} {} -{k}\n", k / side + 1, k % side + 1)?;
+        let jump = k.wrapping_mul(7_919) % 30_000;
+        write!(mixed, "{} {} -{jump}\n", jump / side + 1, jump % side + 1)?;
+    }
+    let first = read(rt.alloc(), ascending.as_bytes())?;
+    let second = read(rt.alloc(), mixed.as_bytes())?;
+    assert_eq!(rt; (first.entries(), second.entries()), (30_000, 30_000));
+    assert_eq!(rt; second.get(149, 199), Some((-29_999i64).cast_unsigned()));
+    assert_eq!(rt;
+        write(rt.alloc(), &first)?.as_slice(),
+        write(rt.alloc(), &second)?.as_slice()
+    );
+    Ok(())
+}
+
+#[test]
+fn most_rows_are_read_without_an_entry(rt: HostRuntime) -> Result<(), Fail> {
+    let text = format!(in rt.alloc(); "{GENERAL}16777216 16777216 0\n")?;
+    let matrix = read(rt.alloc(), text.as_bytes())?;
+    assert_eq!(rt; (matrix.rows(), matrix.entries()), (16_777_216, 0));
+    assert_eq!(rt; write(rt.alloc(), &matrix)?.as_slice(), text.as_bytes());
     Ok(())
 }

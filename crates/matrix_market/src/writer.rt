@@ -2,12 +2,16 @@
 ghost use Rattle.std.specs.Prelude.{◌≡◌, ◌<◌, ◌≤◌, ◌+◌, ◌++◌, All, IfOk, OnOk};
 ghost use Rattle.csr_store.specs.Grid.{Cell, at_row, limit};
 ghost use Rattle.matrix_market.specs.CanonicalText.{canonical_text, entry_line, entry_lines, size_line};
+ghost use Rattle.matrix_market.specs.Market.{IsTextOf};
+ghost use Rattle.matrix_market.specs.Refusal.{IsOnlyMatrix};
 
-use crate::canonical::BANNER;
 use csr_store::Matrix;
 use csr_store::matrix::Cell;
 use itoa::Buffer;
 use std::alloc::{AllocError, Global};
+
+/// The first line.
+const BANNER: &[u8] = b"%%MatrixMarket matrix coordinate integer general\n";
 
 /// Adds the size line.
 fn push_sizes(out: &mut Vec<u8>, rows: u64, columns: u64, entries: u64) -> Result<(), AllocError>
@@ -54,7 +58,9 @@ fn push_row(out: &mut Vec<u8>, row: u64, cells: &[Cell]) -> Result<(), AllocErro
 /// The canonical text of a matrix: the first line, the size line, and a line for each entry by
 /// ascending row and column.
 pub fn write(alloc: Global, matrix: &Matrix) -> Result<Vec<u8>, AllocError>
-    ensures { IfOk result (λ text. text.items ≡ canonical_text matrix.now) }
+    ensures text { IfOk result (λ text. text.items ≡ canonical_text matrix.now) }
+    ensures read_back { IfOk result (λ text. IsTextOf text.items matrix.now) }
+    ensures only { IfOk result (λ text. IsOnlyMatrix text.items matrix.now) }
 {
     let mut out = Vec::from_slice(alloc, BANNER)?;
     push_sizes(&mut out, matrix.rows(), matrix.columns(), matrix.entries())?;

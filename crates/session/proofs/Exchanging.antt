@@ -1,25 +1,30 @@
 -- How an exchange is made of its parts.
-use Rattle.std.proofs.Common.{◌≡◌, ℕ, Bool, true, false, List, [], ◌++◌, Option, None, Some, Result, Ok, Err, inl, inr, refl, sym, ap, ◌∙◌, subst}
-use Rattle.session.specs.Held.{Held}
-use Rattle.session.specs.Written.{IsPrefixOf}
-use Rattle.session.specs.Words.{words}
-use Rattle.session.specs.Flow.{Fetched, IsLined}
-use Rattle.session.specs.Budget.{Dealing}
-use Rattle.session.specs.State.{State}
-use Rattle.session.specs.Request.{Request, Next, Waits, Ends, Goes, refused, request, next, next_of, next_request}
-use Rattle.session.specs.Exchange.{Hears, IsCompleted, Responds, Tells, IsLast, Ahead, Went, Final, FinalWhole, Exchanged, behind}
+use Rattle.std.proofs.Common.{◌≡◌, ◌+◌, ℕ, Bool, true, false, List, [], ◌++◌, Option, None, Some, Result, Ok, Err, inl, inr, refl, sym, ap, ◌∙◌, subst, arith}
+use Rattle.wire.specs.Devices.{SinkState}
+use Rattle.wire.specs.Held.{Held, Stream}
+use Rattle.wire.specs.Prefixes.{IsPrefixOf}
+use Rattle.wire.specs.Fetching.{Fetched, IsLined, failed_reads}
+use Rattle.wire.specs.declared.fault.ReadFault.{ReadFault}
+use Rattle.wire.specs.declared.fault.ReadFault.TheVariants.{Failed, OutOfReads}
+use Rattle.wire.specs.declared.fetch.Lined.{Lined}
+use Rattle.wire.specs.declared.fetch.Lined.TheVariants as lined
+use Rattle.wire.specs.declared.device.WriteFailed.{WriteFailed}
+use Rattle.wire.proofs.Known.{append_nil, appends_nothing}
+use Rattle.wire.proofs.Fetching.{fetched_map, fetched_on}
+use Rattle.command_text.specs.Words.{words}
+use Rattle.command_text.specs.Requests.{Request, request}
+use Rattle.command_text.specs.declared.rules.FatalRule.{FatalRule}
+use Rattle.command_text.specs.declared.rules.FatalRule.TheVariants.{LineTooLong}
+use Rattle.step_purse.specs.declared.dealings.Dealing.{Dealing}
+use Rattle.workspace.specs.State.{State}
+use Rattle.session.specs.Next.{Next, Waits, Ends, Goes, refused, next, next_of, next_request}
+use Rattle.session.specs.Exchange.{Hears, IsHeard, Responds, Touched, Scene, Tells, IsLast, Ahead, Went, Final, FinalWhole, Exchanged, behind}
 use Rattle.session.specs.declared.end.End.{End}
 use Rattle.session.specs.declared.end.End.TheVariants.{InputEnd}
 use Rattle.session.specs.declared.end.ServeFault.{ServeFault}
 use Rattle.session.specs.declared.end.ServeFault.TheVariants.{Read, Write, Turns, Memory}
-use Rattle.session.specs.declared.flow.Lined.{Lined}
-use Rattle.session.specs.declared.flow.Lined.TheVariants as lined
-use Rattle.session.specs.declared.rule.SessionRule.TheVariants.{LineTooLong}
-use Rattle.session.specs.declared.rule.SessionRule.{SessionRule}
-use Rattle.session.specs.declared.conversation.Heard.{Heard}
-use Rattle.session.specs.declared.conversation.Heard.TheVariants as h
-use Rattle.session.proofs.Known.{append_nil, appends_nothing}
-use Rattle.session.proofs.Fetching.{fetched_map, fetched_on}
+use Rattle.session.specs.declared.hearing.Heard.{Heard}
+use Rattle.session.specs.declared.hearing.Heard.TheVariants as h
 use Rattle.session.proofs.Grammar.{next_behind}
 
 -- what comes of what a command's answer says next
@@ -31,157 +36,180 @@ last_of cut is rest old new heard ds reply (Some e) c r h = let w = r rest is h 
 whole_prefix : (text : List ℕ) → IsPrefixOf text text
 whole_prefix text = ([], sym (append_nil text))
 
-module _ {S : Type 0} (leads : S → Dealing → S → Type 0) (a b : S) (i j o p : Option (List ℕ)) (held_old held_new : Held) (old new : State) (ahead : Ahead) where
-  -- more is waited for
-  waits : Fetched i j held_old held_new (λ bytes. ahead held_new.ended bytes ≡ Waits) → FinalWhole ahead leads a a i j o o held_old held_new old old None
-  waits f = (
+-- the fault of a session that could not read on
+abbrev pub IsFaultOf : ReadFault → ServeFault → Type 0
+IsFaultOf fault result = (fault ≡ Failed → result ≡ Read) × (fault ≡ OutOfReads → result ≡ Turns)
+
+module _ {S : Type 0} (leads : S → Dealing → S → Type 0) (ahead : Ahead) (s t : Stream) (was : Touched S) where
+  abbrev before : Scene S
+  before = record { stream = s; touched = was }
+
+  abbrev after : Scene S
+  after = record { stream = t; touched = was }
+
+  -- nothing was said, since more is waited for or the input has ended
+  silent : (n : ℕ) (is : Next) (end : Option End) → ((bytes : List ℕ) → ahead t.held.ended bytes ≡ is → IsLast false (ahead t.held.ended bytes) was.state [] [] end was.state)
+      → Fetched n s t (λ bytes. ahead t.held.ended bytes ≡ is) → FinalWhole ahead leads n before after end
+  silent n is end last f = (
     record {
       dealings = [];
       text = [];
       written = [];
-      fetched = fetched_map i j held_old held_new (λ bytes. ahead held_new.ended bytes ≡ Waits) (λ bytes. IsLast false (ahead held_new.ended bytes) old [] [] None old) f (λ bytes w. inl (w, refl, refl, refl, refl));
+      fetched = fetched_map n s t (λ bytes. ahead t.held.ended bytes ≡ is) (λ bytes. IsLast false (ahead t.held.ended bytes) was.state [] [] end was.state) f last;
       dealt = refl;
       in_front = ([], refl);
-      appended = appends_nothing o;
+      appended = appends_nothing was.sink.contents;
+      failures = omega arith;
     },
     refl,
   )
+
+  waits : (n : ℕ) → Fetched n s t (λ bytes. ahead t.held.ended bytes ≡ Waits) → FinalWhole ahead leads n before after None
+  waits n f = silent n Waits None (λ bytes w. inl (w, refl, refl, refl, refl)) f
 
   -- the input ended
-  pub exchanged_end : Fetched i j held_old held_new (λ bytes. ahead held_new.ended bytes ≡ Ends) → FinalWhole ahead leads a a i j o o held_old held_new old old (Some InputEnd)
-  exchanged_end f = (
-    record {
-      dealings = [];
-      text = [];
-      written = [];
-      fetched = fetched_map i j held_old held_new (λ bytes. ahead held_new.ended bytes ≡ Ends) (λ bytes. IsLast false (ahead held_new.ended bytes) old [] [] (Some InputEnd) old) f (λ bytes w. inr (inl (w, refl, refl, refl, refl)));
-      dealt = refl;
-      in_front = ([], refl);
-      appended = appends_nothing o;
-    },
-    refl,
-  )
+  pub exchanged_end : Fetched 0 s t (λ bytes. ahead t.held.ended bytes ≡ Ends) → Exchanged ahead leads before after (Ok (Some InputEnd))
+  exchanged_end f = silent 0 Ends (Some InputEnd) (λ bytes w. inr (inl (w, refl, refl, refl, refl))) f
 
   -- a read failed, or was one too many
-  pub exchanged_fault : (fault : ServeFault) (q : Request) → ((e : Bool) (bytes : List ℕ) → ahead e bytes ≡ next_request e q bytes) → Fetched i j held_old held_new (IsCompleted q (Err fault) held_new) → Exchanged ahead leads a a i j o o held_old held_new old old (Err fault)
-  exchanged_fault Read q same f = waits (fetched_map i j held_old held_new (IsCompleted q (Err Read) held_new) (λ bytes. ahead held_new.ended bytes ≡ Waits) f (λ bytes w. same held_new.ended bytes ∙ w))
-  exchanged_fault Write q same f = absurd f.holds
-  exchanged_fault Turns q same f = waits (fetched_map i j held_old held_new (IsCompleted q (Err Turns) held_new) (λ bytes. ahead held_new.ended bytes ≡ Waits) f (λ bytes w. same held_new.ended bytes ∙ w))
-  exchanged_fault Memory q same f = absurd f.holds
+  pub exchanged_fault : (fault : ReadFault) (result : ServeFault) (q : Request) → IsFaultOf fault result → ((e : Bool) (bytes : List ℕ) → ahead e bytes ≡ next_request e q bytes)
+      → Fetched (failed_reads {A = Heard} (Err fault)) s t (IsHeard q (Err fault) t.held) → Exchanged ahead leads before after (Err result)
+  exchanged_fault Failed result q is same f =
+      subst (λ (r : ServeFault). Exchanged ahead leads before after (Err r)) (sym (is.0 refl))
+      (waits 1 (fetched_map 1 s t (IsHeard q (Err Failed) t.held) (λ bytes. ahead t.held.ended bytes ≡ Waits) f (λ bytes w. same t.held.ended bytes ∙ w)))
+  exchanged_fault OutOfReads result q is same f =
+      subst (λ (r : ServeFault). Exchanged ahead leads before after (Err r)) (sym (is.1 refl))
+      (waits 0 (fetched_map 0 s t (IsHeard q (Err OutOfReads) t.held) (λ bytes. ahead t.held.ended bytes ≡ Waits) f (λ bytes w. same t.held.ended bytes ∙ w.0)), f.holds.1)
 
   -- the same, before a line was there
-  pub exchanged_unlined : (fault : ServeFault) (line : List ℕ) → ((e : Bool) (bytes : List ℕ) → ahead e bytes ≡ next e bytes) → Fetched i j held_old held_new (IsLined (Err fault) line held_new) → Exchanged ahead leads a a i j o o held_old held_new old old (Err fault)
-  exchanged_unlined Read line same f = waits (fetched_map i j held_old held_new (IsLined (Err Read) line held_new) (λ bytes. ahead held_new.ended bytes ≡ Waits) f (λ bytes w. same held_new.ended bytes ∙ ap (next_of held_new.ended) w))
-  exchanged_unlined Write line same f = absurd f.holds
-  exchanged_unlined Turns line same f = waits (fetched_map i j held_old held_new (IsLined (Err Turns) line held_new) (λ bytes. ahead held_new.ended bytes ≡ Waits) f (λ bytes w. same held_new.ended bytes ∙ ap (next_of held_new.ended) w))
-  exchanged_unlined Memory line same f = absurd f.holds
+  pub exchanged_unlined : (fault : ReadFault) (result : ServeFault) (line : List ℕ) → IsFaultOf fault result → ((e : Bool) (bytes : List ℕ) → ahead e bytes ≡ next e bytes)
+      → Fetched (failed_reads {A = Lined} (Err fault)) s t (IsLined (Err fault) line t.held) → Exchanged ahead leads before after (Err result)
+  exchanged_unlined Failed result line is same f =
+      subst (λ (r : ServeFault). Exchanged ahead leads before after (Err r)) (sym (is.0 refl))
+      (waits 1 (fetched_map 1 s t (IsLined (Err Failed) line t.held) (λ bytes. ahead t.held.ended bytes ≡ Waits) f (λ bytes w. same t.held.ended bytes ∙ ap (next_of t.held.ended) w)))
+  exchanged_unlined OutOfReads result line is same f =
+      subst (λ (r : ServeFault). Exchanged ahead leads before after (Err r)) (sym (is.1 refl))
+      (waits 0 (fetched_map 0 s t (IsLined (Err OutOfReads) line t.held) (λ bytes. ahead t.held.ended bytes ≡ Waits) f (λ bytes w. same t.held.ended bytes ∙ ap (next_of t.held.ended) w.0)), f.holds.1)
+
+module _ {S : Type 0} (leads : S → Dealing → S → Type 0) (ahead : Ahead) (s t : Stream) (was now : Touched S) (heard : Heard) (f : Fetched 0 s t (λ bytes. Hears heard t.held.bytes (ahead t.held.ended bytes))) where
+  abbrev before_answer : Scene S
+  before_answer = record { stream = s; touched = was }
+
+  abbrev after_answer : Scene S
+  after_answer = record { stream = t; touched = now }
 
   -- what was heard was answered
-  pub exchanged_told : (heard : Heard) (result : Result (Option End) ServeFault) → Fetched i j held_old held_new (λ bytes. Hears heard held_new.bytes (ahead held_new.ended bytes))
-      → Tells leads a b o p old new heard result → Exchanged ahead leads a b i j o p held_old held_new old new result
-  exchanged_told heard (Ok None) f t =
-      let w = t.2 held_new.bytes (ahead held_new.ended (held_old.bytes ++ f.got)) f.holds in
+  pub exchanged_told : (end : Option End) → Tells leads was now heard (Ok end) → Exchanged ahead leads before_answer after_answer (Ok end)
+  exchanged_told None w =
+      let r = w.2 t.held.bytes (ahead t.held.ended (s.held.bytes ++ f.got)) f.holds in
       record {
-        command = w.0;
-        dealings = t.0;
-        reply = t.1;
-        fetched = record { got = f.got; consumed = f.consumed; follows = f.follows; at_end = f.at_end; holds = w.1 };
-        turn = w.2;
-        dealt = t.3;
-        appended = t.4;
+        command = r.0;
+        dealings = w.0;
+        reply = w.1;
+        fetched = record { got = f.got; consumed = f.consumed; follows = f.follows; at_end = f.at_end; told = f.told; reads = f.reads; failures = f.failures; holds = r.1 };
+        turn = r.2;
+        dealt = w.3;
+        appended = w.4;
+        no_failure = w.5;
       }
-  exchanged_told heard (Ok (Some e)) f t =
-      let w = t.2 held_new.bytes (ahead held_new.ended (held_old.bytes ++ f.got)) f.holds in (
+  exchanged_told (Some e) w =
+      let r = w.2 t.held.bytes (ahead t.held.ended (s.held.bytes ++ f.got)) f.holds in (
         record {
-          dealings = t.0;
-          text = t.1;
-          written = t.1;
-          fetched = record { got = f.got; consumed = f.consumed; follows = f.follows; at_end = f.at_end; holds = inr (inr (inl (w.0, e, w.1, refl, w.2))) };
-          dealt = t.3;
-          in_front = whole_prefix t.1;
-          appended = t.4;
+          dealings = w.0;
+          text = w.1;
+          written = w.1;
+          fetched = record { got = f.got; consumed = f.consumed; follows = f.follows; at_end = f.at_end; told = f.told; reads = f.reads; failures = f.failures; holds = inr (inr (inl (r.0, e, r.1, refl, r.2))) };
+          dealt = w.3;
+          in_front = whole_prefix w.1;
+          appended = w.4;
+          failures = let k = w.5 in omega arith;
         },
         refl,
       )
-  exchanged_told heard (Err Read) f t = absurd t
-  exchanged_told heard (Err Turns) f t = absurd t
-  exchanged_told heard (Err Memory) f t = absurd t
-  exchanged_told heard (Err Write) f t = (
-    t.2,
+
+  -- what was heard was answered, and the reply was not written whole
+  pub exchanged_cut : (failed : WriteFailed) → Tells leads was now heard (Err failed) → Exchanged ahead leads before_answer after_answer (Err Write)
+  exchanged_cut failed w = (
+    w.2,
     record {
-      dealings = t.0;
-      text = t.1;
-      written = t.5;
-      fetched = record {
-        got = f.got;
-        consumed = f.consumed;
-        follows = f.follows;
-        at_end = f.at_end;
-        holds = last_of true (ahead held_new.ended (held_old.bytes ++ f.got)) held_new.bytes old new heard t.0 t.1 t.2 refl t.3 f.holds;
-      };
-      dealt = t.4;
-      in_front = t.6;
-      appended = t.7;
+      dealings = w.0;
+      text = w.1;
+      written = w.5;
+      fetched = fetched_map 0 s t (λ bytes. Hears heard t.held.bytes (ahead t.held.ended bytes)) (λ bytes. IsLast true (ahead t.held.ended bytes) was.state w.0 w.1 w.2 now.state) f
+          (λ bytes k. last_of true (ahead t.held.ended bytes) t.held.bytes was.state now.state heard w.0 w.1 w.2 refl w.3 k);
+      dealt = w.4;
+      in_front = w.6;
+      appended = w.7;
+      failures = w.8;
     },
   )
 
-  -- a refusal by which the session ends doesn't let it go on
-  pub told_stopped : (rule : SessionRule) (result : Result (Option End) ServeFault) → Tells leads a b o p old new (h.Stopped rule) result → result ≡ Ok None → ⊥
-  told_stopped rule (Ok None) t e = let w = t.2 [] (refused rule) refl in let bad = w.1 in absurd (cc)
-  told_stopped rule (Ok (Some end)) t e = absurd (cc)
-  told_stopped rule (Err fault) t e = absurd (cc)
+-- a refusal by which the session ends doesn't let it go on
+pub told_stopped : {S : Type 0} (leads : S → Dealing → S → Type 0) (was now : Touched S) (rule : FatalRule) → Tells leads was now (h.Stopped rule) (Ok None) → ⊥
+told_stopped leads was now rule w = let r = w.2 [] (refused rule) refl in let bad = r.1 in absurd (cc)
 
-module _ {S : Type 0} (leads : S → Dealing → S → Type 0) (a b : S) (i j k o p : Option (List ℕ)) (h0 h1 h2 : Held) (old new : State) (line : List ℕ) (f : Fetched i j h0 h1 (IsLined (Ok lined.Whole) line h1)) where
-  went_then : Went (behind line) leads a b j k o p h1 h2 old new → Went next leads a b i k o p h0 h2 old new
+module _ {S : Type 0} (leads : S → Dealing → S → Type 0) (s t u : Stream) (was now : Touched S) (line : List ℕ) (f : Fetched 0 s t (IsLined (Ok lined.Whole) line t.held)) where
+  abbrev at_start : Scene S
+  at_start = record { stream = s; touched = was }
+
+  abbrev behind_line : Scene S
+  behind_line = record { stream = t; touched = was }
+
+  abbrev at_end : Scene S
+  at_end = record { stream = u; touched = now }
+
+  went_then : Went (behind line) leads behind_line at_end → Went next leads at_start at_end
   went_then w = record {
     command = w.command;
     dealings = w.dealings;
     reply = w.reply;
-    fetched = fetched_on i j k h0 h1 h2 (IsLined (Ok lined.Whole) line h1) (λ bytes. behind line h2.ended bytes ≡ Goes w.command h2.bytes) (λ bytes. next h2.ended bytes ≡ Goes w.command h2.bytes) f w.fetched
-        (λ bytes q. next_behind h1.ended h2.ended bytes w.fetched.got line h1.bytes q w.fetched.follows ∙ w.fetched.holds);
+    fetched = fetched_on 0 0 s t u (IsLined (Ok lined.Whole) line t.held) (λ bytes. behind line u.held.ended bytes ≡ Goes w.command u.held.bytes) (λ bytes. next u.held.ended bytes ≡ Goes w.command u.held.bytes) f w.fetched refl
+        (λ bytes q. next_behind t.held.ended u.held.ended bytes w.fetched.got line t.held.bytes q w.fetched.follows ∙ w.fetched.holds);
     turn = w.turn;
     dealt = w.dealt;
     appended = w.appended;
+    no_failure = w.no_failure;
   }
 
-  final_then : (cut : Bool) (end : Option End) → Final (behind line) cut leads a b j k o p h1 h2 old new end → Final next cut leads a b i k o p h0 h2 old new end
-  final_then cut end w = record {
+  final_then : (cut : Bool) (m n : ℕ) (end : Option End) → Final (behind line) cut leads m n behind_line at_end end → Final next cut leads m n at_start at_end end
+  final_then cut m n end w = record {
     dealings = w.dealings;
     text = w.text;
     written = w.written;
-    fetched = fetched_on i j k h0 h1 h2 (IsLined (Ok lined.Whole) line h1) (λ bytes. IsLast cut (behind line h2.ended bytes) old w.dealings w.text end new) (λ bytes. IsLast cut (next h2.ended bytes) old w.dealings w.text end new) f w.fetched
-        (λ bytes q. subst (λ is. IsLast cut is old w.dealings w.text end new) (sym (next_behind h1.ended h2.ended bytes w.fetched.got line h1.bytes q w.fetched.follows)) w.fetched.holds);
+    fetched = fetched_on 0 m s t u (IsLined (Ok lined.Whole) line t.held) (λ bytes. IsLast cut (behind line u.held.ended bytes) was.state w.dealings w.text end now.state) (λ bytes. IsLast cut (next u.held.ended bytes) was.state w.dealings w.text end now.state) f w.fetched refl
+        (λ bytes q. subst (λ is. IsLast cut is was.state w.dealings w.text end now.state) (sym (next_behind t.held.ended u.held.ended bytes w.fetched.got line t.held.bytes q w.fetched.follows)) w.fetched.holds);
     dealt = w.dealt;
     in_front = w.in_front;
     appended = w.appended;
+    failures = w.failures;
   }
 
   -- a line came first
-  pub exchanged_then : (result : Result (Option End) ServeFault) → Exchanged (behind line) leads a b j k o p h1 h2 old new result → Exchanged next leads a b i k o p h0 h2 old new result
+  pub exchanged_then : (result : Result (Option End) ServeFault) → Exchanged (behind line) leads behind_line at_end result → Exchanged next leads at_start at_end result
   unfolding final_then
   exchanged_then (Ok None) w = went_then w
-  exchanged_then (Ok (Some end)) w = (final_then false (Some end) w.0, w.1)
-  exchanged_then (Err Read) w = (final_then false None w.0, w.1)
-  exchanged_then (Err Turns) w = (final_then false None w.0, w.1)
-  exchanged_then (Err Write) w = (w.0, final_then true w.0 w.1)
+  exchanged_then (Ok (Some end)) w = (final_then false 0 0 (Some end) w.0, w.1)
+  exchanged_then (Err Read) w = (final_then false 1 0 None w.0, w.1)
+  exchanged_then (Err Turns) w = ((final_then false 0 0 None w.0.0, w.0.1), w.1)
+  exchanged_then (Err Write) w = (w.0, final_then true 0 1 w.0 w.1)
   exchanged_then (Err Memory) w = absurd w
 
-module _ (i j : Option (List ℕ)) (h0 h1 : Held) where
+module _ (s t : Stream) where
   -- what a line asked for was heard
-  pub heard_behind : (q : Request) (said line : List ℕ) (heard : Heard) → q ≡ request (words said) → said ≡ line → Fetched i j h0 h1 (IsCompleted q (Ok heard) h1)
-      → Fetched i j h0 h1 (λ bytes. Hears heard h1.bytes (behind line h1.ended bytes))
+  pub heard_behind : (q : Request) (said line : List ℕ) (heard : Heard) → q ≡ request (words said) → said ≡ line → Fetched 0 s t (IsHeard q (Ok heard) t.held)
+      → Fetched 0 s t (λ bytes. Hears heard t.held.bytes (behind line t.held.ended bytes))
   heard_behind q said line heard e same f =
-      fetched_map i j h0 h1 (IsCompleted q (Ok heard) h1) (λ bytes. Hears heard h1.bytes (behind line h1.ended bytes)) f
-      (λ bytes w. subst (λ r. Hears heard h1.bytes (next_request h1.ended r bytes)) (e ∙ ap (λ l. request (words l)) same) w)
+      fetched_map 0 s t (IsHeard q (Ok heard) t.held) (λ bytes. Hears heard t.held.bytes (behind line t.held.ended bytes)) f
+      (λ bytes w. subst (λ r. Hears heard t.held.bytes (next_request t.held.ended r bytes)) (e ∙ ap (λ l. request (words l)) same) w)
 
   -- a line was too long
-  pub heard_over : (line : List ℕ) (l : Lined) → l ≡ lined.Over → Fetched i j h0 h1 (IsLined (Ok l) line h1) → Fetched i j h0 h1 (λ bytes. Hears (h.Stopped LineTooLong) h1.bytes (next h1.ended bytes))
+  pub heard_over : (line : List ℕ) (l : Lined) → l ≡ lined.Over → Fetched 0 s t (IsLined (Ok l) line t.held) → Fetched 0 s t (λ bytes. Hears (h.Stopped LineTooLong) t.held.bytes (next t.held.ended bytes))
   heard_over line l e f =
-      fetched_map i j h0 h1 (IsLined (Ok l) line h1) (λ bytes. Hears (h.Stopped LineTooLong) h1.bytes (next h1.ended bytes)) f
-      (λ bytes w. ap (next_of h1.ended) (subst (λ m. IsLined (Ok m) line h1 bytes) e w))
+      fetched_map 0 s t (IsLined (Ok l) line t.held) (λ bytes. Hears (h.Stopped LineTooLong) t.held.bytes (next t.held.ended bytes)) f
+      (λ bytes w. ap (next_of t.held.ended) (subst (λ m. IsLined (Ok m) line t.held bytes) e w))
 
   -- the input ended
-  pub heard_end : (line : List ℕ) (l : Lined) → l ≡ lined.Nothing → Fetched i j h0 h1 (IsLined (Ok l) line h1) → Fetched i j h0 h1 (λ bytes. next h1.ended bytes ≡ Ends)
+  pub heard_end : (line : List ℕ) (l : Lined) → l ≡ lined.Nothing → Fetched 0 s t (IsLined (Ok l) line t.held) → Fetched 0 s t (λ bytes. next t.held.ended bytes ≡ Ends)
   heard_end line l e f =
-      fetched_map i j h0 h1 (IsLined (Ok l) line h1) (λ bytes. next h1.ended bytes ≡ Ends) f
-      (λ bytes w. ap (next_of h1.ended) (subst (λ m. IsLined (Ok m) line h1 bytes) e w))
+      fetched_map 0 s t (IsLined (Ok l) line t.held) (λ bytes. next t.held.ended bytes ≡ Ends) f
+      (λ bytes w. ap (next_of t.held.ended) (subst (λ m. IsLined (Ok m) line t.held bytes) e w))

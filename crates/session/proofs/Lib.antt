@@ -1,15 +1,5 @@
-pub mod Known
-pub mod WordCuts
-pub mod Digits
-pub mod Fetching
-pub mod Gathering
-pub mod Naming
-pub mod Applying
-pub mod Batching
-pub mod Turning
-pub mod Hearing
-pub mod Running
 pub mod Grammar
+pub mod Bodies
+pub mod Matching
 pub mod Exchanging
 pub mod Talking
-pub mod Matching

@@ -3,36 +3,40 @@ use Rattle.std.proofs.Common.{◌≡◌, ℕ, Bool, true, false, List, [], ◌�
 use Rattle.std.proofs.lemmas.List.{map-append}
 use Rattle.std.specs.Prelude.{nat_lt, nat_le, length, ◌&&◌}
 use Rattle.hex.specs.Hex.{decode_of}
-use Rattle.session.specs.Words.{is_name, kind_of_word, without_gaps}
-use Rattle.session.specs.declared.steps.Reserved.TheVariants.{Took, NotEnough}
-use Rattle.session.specs.declared.end.End.{End}
-use Rattle.session.specs.Budget.{Dealing, Reserve, Settle, Tell, amounts_taken, amounts_settled}
-use Rattle.session.specs.State.{State, Job, price}
-use Rattle.session.specs.Calls.{Finished, AreMatricesOf}
-use Rattle.session.specs.Request.{Command, Blank, Matrix, Op, Apply, Run, Show, Budget, Quit, Refuse, Next}
-use Rattle.session.specs.Talk.{released}
-use Rattle.session.specs.Turn.{Turn, TakesMatrix, TakesOperator, TakesDigits, TakesKind, Submits, Prices, FindsOperands, Shows, RunTurn, Refuses, Replies, is_unary, settled, charged}
-use Rattle.session.specs.Exchange.{IsLast}
-use Rattle.session.specs.declared.refusal.Refusal.TheVariants as no
-use Rattle.session.specs.declared.rule.SessionRule.TheVariants.{MalformedName}
-use Rattle.session.specs.declared.rule.JobRule.TheVariants.{WrongKind, QueueFull, PriceTooHigh}
-use Rattle.session.specs.declared.operator.Operator.{Operator}
-use Rattle.session.specs.Replies.{refusal_text}
+use Rattle.step_purse.specs.declared.dealings.Reply.TheVariants.{Took, NotEnough}
+use Rattle.step_purse.specs.declared.dealings.Dealing.{Dealing}
+use Rattle.step_purse.specs.declared.dealings.Dealing.TheVariants.{Reserved, Settled, Told}
+use Rattle.step_budget.specs.Budget.{amounts_taken, amounts_settled}
+use Rattle.command_text.specs.Words.{is_name, kind_of_word}
+use Rattle.command_text.specs.Hexadecimal.{without_gaps}
+use Rattle.command_text.specs.Replies.{refusal_text}
+use Rattle.command_text.specs.Requests.{Command, Blank, Matrix, Op, Asm, Dis, Apply, Run, Show, Types, Budget, Quit, Refuse, Break}
+use Rattle.command_text.specs.declared.refusal.Refusal.TheVariants as no
+use Rattle.command_text.specs.declared.rules.SessionRule.TheVariants.{MalformedName}
+use Rattle.command_text.specs.declared.rules.JobRule.TheVariants.{WrongKind, QueueFull, PriceTooHigh}
+use Rattle.workspace.specs.State.{State, Job, price}
+use Rattle.workspace.specs.Calls.{JobResult, AreMatricesOf}
+use Rattle.workspace.specs.Turn.{Turn, TakesMatrix, TakesOperator, TakesDigits, TakesKind, Submits, Prices, FindsOperands, Shows, TellsTypes, TakesProgram, TakesAssembly, TakesKindOfAssembly, TellsAssembly, RunTurn, Refuses, Replies, is_unary, settled, charged, released}
+use Rattle.bpf_verify.specs.Accepted.{Accepted}
+use Rattle.bpf_insn.specs.declared.insn.Insn.{Insn}
 use Rattle.csr_store.specs.Grid.{Grid}
-use Rattle.session.proofs.Known.{append_nil}
+use Rattle.session.specs.Next.{Next}
+use Rattle.session.specs.Exchange.{IsLast}
+use Rattle.session.specs.declared.end.End.{End}
+use Rattle.wire.proofs.Known.{append_nil}
 
 pub taken-append : (ds es : List Dealing) → amounts_taken (ds ++ es) ≡ amounts_taken ds ++ amounts_taken es
 taken-append [] es = refl
-taken-append (Reserve amount (Took taken) ∷ ds) es = ap (λ xs. amount ∷ xs) (taken-append ds es)
-taken-append (Reserve amount (NotEnough left) ∷ ds) es = taken-append ds es
-taken-append (Settle amount spent ∷ ds) es = taken-append ds es
-taken-append (Tell totals ∷ ds) es = taken-append ds es
+taken-append (Reserved amount (Took taken) ∷ ds) es = ap (λ xs. amount ∷ xs) (taken-append ds es)
+taken-append (Reserved amount (NotEnough left) ∷ ds) es = taken-append ds es
+taken-append (Settled amount spent ∷ ds) es = taken-append ds es
+taken-append (Told totals ∷ ds) es = taken-append ds es
 
 pub settled-append : (ds es : List Dealing) → amounts_settled (ds ++ es) ≡ amounts_settled ds ++ amounts_settled es
 settled-append [] es = refl
-settled-append (Reserve amount reply ∷ ds) es = settled-append ds es
-settled-append (Settle amount spent ∷ ds) es = ap (λ xs. amount ∷ xs) (settled-append ds es)
-settled-append (Tell totals ∷ ds) es = settled-append ds es
+settled-append (Reserved amount reply ∷ ds) es = settled-append ds es
+settled-append (Settled amount spent ∷ ds) es = ap (λ xs. amount ∷ xs) (settled-append ds es)
+settled-append (Told totals ∷ ds) es = settled-append ds es
 
 pub settled-released : (jobs : List Job) → amounts_settled (released jobs) ≡ map price jobs
 settled-released [] = refl
@@ -42,15 +46,15 @@ pub taken-released : (jobs : List Job) → amounts_taken (released jobs) ≡ []
 taken-released [] = refl
 taken-released (j ∷ js) = taken-released js
 
-settled-settled : (jobs : List Job) (ended : List Finished) → AreMatricesOf jobs ended → amounts_settled (settled jobs ended) ≡ map price jobs
-settled-settled [] ended a = refl
+settled-settled : (jobs : List Job) (results : List JobResult) → AreMatricesOf jobs results → amounts_settled (settled jobs results) ≡ map price jobs
+settled-settled [] results a = refl
 settled-settled (j ∷ js) [] a = absurd (let bad = a.4 in cc)
 settled-settled (j ∷ js) (e ∷ es) a =
     let same : es ≡ a.1 = let q = a.4 in cc in
     ap (λ xs. price j ∷ xs) (settled-settled js es (rw same a.3))
 
-taken-settled : (jobs : List Job) (ended : List Finished) → amounts_taken (settled jobs ended) ≡ []
-taken-settled [] ended = refl
+taken-settled : (jobs : List Job) (results : List JobResult) → amounts_taken (settled jobs results) ≡ []
+taken-settled [] results = refl
 taken-settled (j ∷ js) [] = refl
 taken-settled (j ∷ js) (e ∷ es) = taken-settled js es
 
@@ -78,9 +82,15 @@ module _ (s t : State) (ds : List Dealing) where
   emptied : amounts_settled ds ≡ map price s.queue → amounts_taken ds ≡ [] → t.queue ≡ [] → IsMatched s ds t
   emptied a b q = rw (a, b, q) refl
 
+  program_matched : (name : List ℕ) (program : List Insn) (reply : List ℕ) (kind : _) → TakesProgram s name kind program ds reply t → IsMatched s ds t
+  program_matched name program reply kind h = elim h [
+    | inl w ↦ quiet w.4 (ap (λ (x : State). x.queue) w.6)
+    | inr w ↦ said _ reply w.2
+  ]
+
   operator_matched : (name : List ℕ) (code reply : List ℕ) (kind : _) → TakesOperator s name kind code ds reply t → IsMatched s ds t
   operator_matched name code reply kind h = elim h [
-    | inl w ↦ quiet w.2 (ap (λ (x : State). x.queue) w.4)
+    | inl w ↦ program_matched name w.0 reply kind w.2
     | inr w ↦ said _ reply w.2
   ]
 
@@ -93,6 +103,20 @@ module _ (s t : State) (ds : List Dealing) where
   kind_matched name body reply (Some kind) h =
       elim (is_name name) as (λ v. MatchBool v (TakesDigits s name kind (decode_of (without_gaps body)) ds reply t) (Refuses (no.Session MalformedName) s ds reply t) → IsMatched s ds t) [
         | true ↦ λ w. digits_matched name reply kind (decode_of (without_gaps body)) w
+        | false ↦ λ w. said _ reply w
+      ] h
+
+  assembly_matched : (name body reply : List ℕ) (kind : _) → TakesAssembly s name kind body ds reply t → IsMatched s ds t
+  assembly_matched name body reply kind h = elim h [
+    | inl w ↦ program_matched name w.0 reply kind w.2
+    | inr w ↦ said _ reply w.2
+  ]
+
+  kind_of_assembly_matched : (name body reply : List ℕ) (kind : _) → TakesKindOfAssembly s name kind body ds reply t → IsMatched s ds t
+  kind_of_assembly_matched name body reply None h = said _ reply h
+  kind_of_assembly_matched name body reply (Some kind) h =
+      elim (is_name name) as (λ v. MatchBool v (TakesAssembly s name kind body ds reply t) (Refuses (no.Session MalformedName) s ds reply t) → IsMatched s ds t) [
+        | true ↦ λ w. assembly_matched name body reply kind w
         | false ↦ λ w. said _ reply w
       ] h
 
@@ -114,7 +138,7 @@ module _ (s t : State) (ds : List Dealing) where
         | false ↦ λ w. said (refusal_text (no.Job WrongKind)) reply w
       ] h
 
-  operands_matched : (output reply : List ℕ) (operator : Option Operator) (operand : Option Grid) → FindsOperands s output operator operand ds reply t → IsMatched s ds t
+  operands_matched : (output reply : List ℕ) (operator : Option Accepted) (operand : Option Grid) → FindsOperands s output operator operand ds reply t → IsMatched s ds t
   operands_matched output reply None operand h = said _ reply h
   operands_matched output reply (Some operator) None h = said _ reply h
   operands_matched output reply (Some operator) (Some operand) h =
@@ -132,19 +156,24 @@ module _ (s t : State) (ds : List Dealing) where
   shows_matched reply None h = said _ reply h
   shows_matched reply (Some g) h = elim h [ inl w ↦ said _ reply w | inr w ↦ said _ reply w ]
 
+  types_matched : (reply : List ℕ) (o : _) → TellsTypes s o ds reply t → IsMatched s ds t
+  types_matched reply None h = said _ reply h
+  types_matched reply (Some o) h = elim h [ inl w ↦ said _ reply w | inr w ↦ said _ reply w ]
+
+  assembly_told_matched : (reply : List ℕ) (o : _) → TellsAssembly s o ds reply t → IsMatched s ds t
+  assembly_told_matched reply None h = said _ reply h
+  assembly_told_matched reply (Some o) h = elim h [ inl w ↦ said _ reply w | inr w ↦ said _ reply w ]
+
   run_matched : (reply : List ℕ) → RunTurn s ds reply t → IsMatched s ds t
   run_matched reply h = elim h [
     | inl w ↦ emptied (ap amounts_settled w.2 ∙ settled-settled s.queue w.0 w.1) (ap amounts_taken w.2 ∙ taken-settled s.queue w.0) (ap (λ (x : State). x.queue) w.4)
-    | inr m ↦ elim m [
-      | inl w ↦ emptied (ap amounts_settled w.3.0 ∙ settled-charged s.queue w.1) (ap amounts_taken w.3.0 ∙ taken-charged s.queue w.1) (ap (λ (x : State). x.queue) w.3.2)
-      | inr w ↦ emptied (ap amounts_settled w.2.0 ∙ settled-charged s.queue w.0) (ap amounts_taken w.2.0 ∙ taken-charged s.queue w.0) (ap (λ (x : State). x.queue) w.2.2)
-    ]
+    | inr w ↦ emptied (ap amounts_settled w.2.0 ∙ settled-charged s.queue w.0) (ap amounts_taken w.2.0 ∙ taken-charged s.queue w.0) (ap (λ (x : State). x.queue) w.2.2)
   ]
 
   matrix_matched : (name body reply : List ℕ) → TakesMatrix s name body ds reply t → IsMatched s ds t
   matrix_matched name body reply h = elim h [
     | inl w ↦ quiet w.3 (ap (λ (x : State). x.queue) w.5)
-    | inr w ↦ said _ reply w.1
+    | inr w ↦ said _ reply w.3
   ]
 
   -- a turn
@@ -161,6 +190,15 @@ module _ (s t : State) (ds : List Dealing) where
     | inl w ↦ said _ reply w
     | inr w ↦ kind_matched name body reply (kind_of_word kind) w
   ]
+  turn_matched (Asm name kind body) reply h = elim h [
+    | inl w ↦ said _ reply w
+    | inr w ↦ kind_of_assembly_matched name body reply (kind_of_word kind) w
+  ]
+  turn_matched (Dis name) reply h =
+      elim (is_name name) as (λ v. MatchBool v (TellsAssembly s (s.operators name) ds reply t) (Refuses (no.Session MalformedName) s ds reply t) → IsMatched s ds t) [
+        | true ↦ λ x. assembly_told_matched reply (s.operators name) x
+        | false ↦ λ x. said _ reply x
+      ] h
   turn_matched (Apply output operator operand) reply h =
       elim (is_name output && (is_name operator && is_name operand)) as (λ v. MatchBool v (FindsOperands s output (s.operators operator) (s.matrices operand) ds reply t) (Refuses (no.Session MalformedName) s ds reply t) → IsMatched s ds t) [
         | true ↦ λ x. operands_matched output reply (s.operators operator) (s.matrices operand) x
@@ -172,9 +210,15 @@ module _ (s t : State) (ds : List Dealing) where
         | true ↦ λ x. shows_matched reply (s.matrices name) x
         | false ↦ λ x. said _ reply x
       ] h
+  turn_matched (Types name) reply h =
+      elim (is_name name) as (λ v. MatchBool v (TellsTypes s (s.operators name) ds reply t) (Refuses (no.Session MalformedName) s ds reply t) → IsMatched s ds t) [
+        | true ↦ λ x. types_matched reply (s.operators name) x
+        | false ↦ λ x. said _ reply x
+      ] h
   turn_matched Budget reply h = let q : t.queue ≡ s.queue = ap (λ (x : State). x.queue) h.3 in rw (h.1, q) (append_nil (map price s.queue))
   turn_matched Quit reply h = said _ reply h
   turn_matched (Refuse rule) reply h = said _ reply h
+  turn_matched (Break rule) reply h = said _ reply h
 
   -- the last thing that is said
   pub last_matched : (cut : Bool) (is : Next) (text : List ℕ) (end : Option End) → IsLast cut is s ds text end t → IsMatched s ds t

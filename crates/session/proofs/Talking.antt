@@ -1,18 +1,20 @@
 -- What was said so far, and whatever comes.
-use Rattle.std.proofs.Common.{◌≡◌, ℕ, Bool, true, false, List, [], ◌∷◌, ◌++◌, map, Option, None, Some, Result, Ok, Err, inl, inr, refl, sym, ap, ◌∙◌, subst, append_assoc}
+use Rattle.std.proofs.Common.{◌≡◌, ◌≤◌, ◌+◌, ◌&&◌, ◌||◌, not, ℕ, Bool, true, false, List, [], ◌∷◌, ◌++◌, map, Option, None, Some, Result, Ok, Err, inl, inr, refl, sym, ap, ◌∙◌, subst, append_assoc, arith}
 use Rattle.std.specs.Io.KnownBytes.{Consumes, Appends, IsAtEnd}
-use Rattle.session.specs.Held.{Held}
-use Rattle.session.specs.Flow.{Follows}
-use Rattle.session.specs.Budget.{Dealing, Deals, amounts_taken, amounts_settled}
-use Rattle.session.specs.State.{State, empty, price}
-use Rattle.session.specs.Request.{next}
-use Rattle.session.specs.Talk.{Talk, leave, wait, finish, stop, go, Said, SaidAll, Outcome, released}
-use Rattle.session.specs.Exchange.{IsLast, Went, Final, FinalWhole, Exchanged, Spoken, SpokenWhole, Conversed}
+use Rattle.wire.specs.Held.{Held, Stream}
+use Rattle.wire.specs.Fetching.{Follows, Fetched}
+use Rattle.wire.proofs.Known.{append_nil, consumes_nothing, appends_nothing, consumes_more, appends_more}
+use Rattle.wire.proofs.Fetching.{follows_more}
+use Rattle.step_purse.specs.declared.dealings.Dealing.{Dealing}
+use Rattle.step_budget.specs.Budget.{Deals, amounts_taken, amounts_settled}
+use Rattle.workspace.specs.State.{State, empty, price}
+use Rattle.workspace.specs.Turn.{released}
+use Rattle.session.specs.Next.{next}
+use Rattle.session.specs.Talk.{Talk, leave, wait, finish, stop, go, Outside, Said, SaidAll, Counts, Outcome}
+use Rattle.session.specs.Exchange.{IsLast, Touched, Scene, Went, Final, FinalWhole, Exchanged, Spoken, SpokenWhole, Conversed}
 use Rattle.session.specs.declared.end.End.{End}
 use Rattle.session.specs.declared.end.ServeFault.{ServeFault}
 use Rattle.session.specs.declared.end.ServeFault.TheVariants.{Read, Write, Turns, Memory}
-use Rattle.session.proofs.Known.{append_nil, consumes_nothing, appends_nothing, consumes_more, appends_more}
-use Rattle.session.proofs.Fetching.{follows_after}
 use Rattle.session.proofs.Grammar.{next-more}
 use Rattle.session.proofs.Matching.{turn_matched, last_matched, matched_more, matched_last}
 
@@ -33,20 +35,35 @@ last_said cut s t bytes ended ds text end l =
       ]
     ]
 
-pub record SoFar {S : Type 0} (leads : S → Dealing → S → Type 0) (old now : S) (i j o p : Option (List ℕ)) (state : State) (held : Held) : Type 0 where
+-- what the source told, over two stretches
+told_so_far : (t u v a b : Bool) (xs : List ℕ) → Follows a xs b → u ≡ (t || a) → v ≡ (u || (b && not a)) → v ≡ (t || b)
+told_so_far true u v a b xs f p q = q ∙ ap (λ w. w || (b && not a)) p
+told_so_far false u v true b xs f p q = q ∙ (ap (λ w. w || (b && false)) p ∙ sym f.1)
+told_so_far false u v false true xs f p q = q ∙ ap (λ w. w || true) p
+told_so_far false u v false false xs f p q = q ∙ ap (λ w. w || false) p
+
+pub record SoFar {S : Type 0} (leads : S → Dealing → S → Type 0) (old now : Scene S) : Type 0 where
   pub read : List ℕ
   pub dealings : List Dealing
   pub text : List ℕ
-  pub consumed : Consumes i j read
-  pub at_end : held.ended ≡ true → IsAtEnd j
-  pub appended : Appends o p text
+  pub consumed : Consumes old.stream.source.remaining now.stream.source.remaining read
+  pub told : now.stream.source.told_end ≡ (old.stream.source.told_end || now.stream.held.ended)
+  pub at_end : now.stream.held.ended ≡ true → IsAtEnd now.stream.source.remaining
+  pub reads : now.stream.source.reads + now.stream.held.reads_left ≡ old.stream.source.reads + old.stream.held.reads_left
+  pub no_failed_read : now.stream.source.failures ≡ old.stream.source.failures
+  pub no_failed_write : now.touched.sink.failures ≡ old.touched.sink.failures
+  pub appended : Appends old.touched.sink.contents now.touched.sink.contents text
   -- what was taken is what was settled, and then the prices of the jobs that wait
-  pub matched : amounts_taken dealings ≡ amounts_settled dealings ++ map price state.queue
+  pub matched : amounts_taken dealings ≡ amounts_settled dealings ++ map price now.touched.state.queue
   -- what the budget does next comes after what it did
-  pub dealt : (es : List Dealing) (last : S) → Deals leads now es last → Deals leads old (dealings ++ es) last
+  pub dealt : (es : List Dealing) (last : S) → Deals leads now.touched.budget es last → Deals leads old.touched.budget (dealings ++ es) last
   -- what is said to what is left is said after what was said
-  pub goes_on : (cut : Bool) (more : List ℕ) (e : Bool) (es : List Dealing) (text_of_more : List ℕ) (end : Option End) (last : State) → Follows held.ended more e
-      → Talk cut state (held.bytes ++ more) e es text_of_more end last → Talk cut empty (read ++ more) e (dealings ++ es) (text ++ text_of_more) end last
+  pub goes_on : (cut : Bool) (more : List ℕ) (e : Bool) (es : List Dealing) (text_of_more : List ℕ) (end : Option End) (last : State) → Follows now.stream.held.ended more e
+      → Talk cut now.touched.state (now.stream.held.bytes ++ more) e es text_of_more end last → Talk cut empty (read ++ more) e (dealings ++ es) (text ++ text_of_more) end last
+
+or_false : (t : Bool) → t ≡ (t || false)
+or_false true = refl
+or_false false = refl
 
 module _ {S : Type 0} (leads : S → Dealing → S → Type 0) where
   deals_more : (old mid : S) (ds es : List Dealing) (new : S) → Deals leads old ds mid → Deals leads mid es new → Deals leads old (ds ++ es) new
@@ -54,47 +71,62 @@ module _ {S : Type 0} (leads : S → Dealing → S → Type 0) where
   deals_more old mid (d ∷ ds) es new a b = (a.0, a.1, deals_more a.0 mid ds es new a.2 b)
 
   -- nothing was said
-  pub so_far_nothing : (old : S) (i o : Option (List ℕ)) (state : State) (held : Held) → held ≡ record { bytes = []; ended = false } → state ≡ empty → SoFar leads old old i i o o state held
-  so_far_nothing old i o state held fresh start =
-      rw (fresh, start)
-      (record {
-        read = [];
-        dealings = [];
-        text = [];
-        consumed = consumes_nothing i;
-        at_end = λ e. absurd (cc);
-        appended = appends_nothing o;
-        matched = refl;
-        dealt = λ es last d. d;
-        goes_on = λ cut more e es t end last f k. k;
-      })
+  pub so_far_nothing : (old : Scene S) → old.stream.held.bytes ≡ [] → old.stream.held.ended ≡ false → old.touched.state ≡ empty → SoFar leads old old
+  so_far_nothing old none fresh start = record {
+    read = [];
+    dealings = [];
+    text = [];
+    consumed = consumes_nothing old.stream.source.remaining;
+    told = or_false old.stream.source.told_end ∙ ap (λ e. old.stream.source.told_end || e) (sym fresh);
+    at_end = λ e. absurd (let bad : true ≡ false = sym e ∙ fresh in cc);
+    reads = refl;
+    no_failed_read = refl;
+    no_failed_write = refl;
+    appended = appends_nothing old.touched.sink.contents;
+    matched = rw start refl;
+    dealt = λ es last d. d;
+    goes_on = λ cut more e es t end last f k. subst (λ s. Talk cut s more e es t end last) start (subst (λ bs. Talk cut old.touched.state (bs ++ more) e es t end last) none k);
+  }
 
-  module _ (old now new : S) (i j k o p q : Option (List ℕ)) (h0 h1 : Held) (s t : State) (so : SoFar leads old now i j o p s h0) where
+  module _ (old now new : Scene S) (so : SoFar leads old now) where
     -- an exchange was made
-    pub so_far_went : Went next leads now new j k p q h0 h1 s t → SoFar leads old new i k o q t h1
-    so_far_went w = record {
-      read = so.read ++ w.fetched.got;
-      dealings = so.dealings ++ w.dealings;
-      text = so.text ++ w.reply;
-      consumed = consumes_more i j k so.read w.fetched.got so.consumed w.fetched.consumed;
-      at_end = w.fetched.at_end so.at_end;
-      appended = appends_more o p q so.text w.reply so.appended w.appended;
-      matched = matched_more s t so.dealings w.dealings so.matched (turn_matched s t w.dealings w.command w.reply w.turn);
-      dealt = λ es last d. subst (λ fs. Deals leads old fs last) (sym (append_assoc so.dealings w.dealings es)) (so.dealt (w.dealings ++ es) last (deals_more now new w.dealings es last w.dealt d));
-      goes_on = λ cut more e es text end last f talk.
-          let got = w.fetched.got in
-          let whole_next = next-more h1.ended e (h0.bytes ++ got) more h1.bytes w.command w.fetched.holds f in
-          let one = go cut s t last ((h0.bytes ++ got) ++ more) (h1.bytes ++ more) e w.command w.dealings es w.reply text end whole_next w.turn talk in
-          let all = so.goes_on cut (got ++ more) e (w.dealings ++ es) (w.reply ++ text) end last (follows_after h0.ended h1.ended e got more w.fetched.follows f)
-          (subst (λ bs. Talk cut s bs e (w.dealings ++ es) (w.reply ++ text) end last) (append_assoc h0.bytes got more) one) in
-          subst (λ bs. Talk cut empty bs e ((so.dealings ++ w.dealings) ++ es) ((so.text ++ w.reply) ++ text) end last) (sym (append_assoc so.read got more))
-          (subst (λ fs. Talk cut empty (so.read ++ (got ++ more)) e fs ((so.text ++ w.reply) ++ text) end last) (sym (append_assoc so.dealings w.dealings es))
-          (subst (λ xs. Talk cut empty (so.read ++ (got ++ more)) e (so.dealings ++ (w.dealings ++ es)) xs end last) (sym (append_assoc so.text w.reply text)) all));
-    }
+    pub so_far_went : Went next leads now new → SoFar leads old new
+    so_far_went w =
+        let s = now.touched.state in
+        let t = new.touched.state in
+        let h0 = now.stream.held in
+        let h1 = new.stream.held in
+        record {
+          read = so.read ++ w.fetched.got;
+          dealings = so.dealings ++ w.dealings;
+          text = so.text ++ w.reply;
+          consumed = consumes_more old.stream.source.remaining now.stream.source.remaining new.stream.source.remaining so.read w.fetched.got so.consumed w.fetched.consumed;
+          told = told_so_far old.stream.source.told_end now.stream.source.told_end new.stream.source.told_end h0.ended h1.ended w.fetched.got w.fetched.follows so.told w.fetched.told;
+          at_end = w.fetched.at_end so.at_end;
+          reads = w.fetched.reads ∙ so.reads;
+          no_failed_read = let a = so.no_failed_read in let b = w.fetched.failures in omega arith;
+          no_failed_write = w.no_failure ∙ so.no_failed_write;
+          appended = appends_more old.touched.sink.contents now.touched.sink.contents new.touched.sink.contents so.text w.reply so.appended w.appended;
+          matched = matched_more s t so.dealings w.dealings so.matched (turn_matched s t w.dealings w.command w.reply w.turn);
+          dealt = λ es last d. subst (λ fs. Deals leads old.touched.budget fs last) (sym (append_assoc so.dealings w.dealings es)) (so.dealt (w.dealings ++ es) last (deals_more now.touched.budget new.touched.budget w.dealings es last w.dealt d));
+          goes_on = λ cut more e es text end last f talk.
+              let got = w.fetched.got in
+              let whole_next = next-more h1.ended e (h0.bytes ++ got) more h1.bytes w.command w.fetched.holds f in
+              let one = go cut s t last ((h0.bytes ++ got) ++ more) (h1.bytes ++ more) e w.command w.dealings es w.reply text end whole_next w.turn talk in
+              let all = so.goes_on cut (got ++ more) e (w.dealings ++ es) (w.reply ++ text) end last (follows_more h0.ended h1.ended e got more w.fetched.follows f)
+              (subst (λ bs. Talk cut s bs e (w.dealings ++ es) (w.reply ++ text) end last) (append_assoc h0.bytes got more) one) in
+              subst (λ bs. Talk cut empty bs e ((so.dealings ++ w.dealings) ++ es) ((so.text ++ w.reply) ++ text) end last) (sym (append_assoc so.read got more))
+              (subst (λ fs. Talk cut empty (so.read ++ (got ++ more)) e fs ((so.text ++ w.reply) ++ text) end last) (sym (append_assoc so.dealings w.dealings es))
+              (subst (λ xs. Talk cut empty (so.read ++ (got ++ more)) e (so.dealings ++ (w.dealings ++ es)) xs end last) (sym (append_assoc so.text w.reply text)) all));
+        }
 
     -- the last exchange was made
-    spoken_last : (cut : Bool) (end : Option End) → Final next cut leads now new j k p q h0 h1 s t end → Spoken cut leads old new i k o q t end
-    spoken_last cut end w =
+    spoken_last : (cut : Bool) (m n : ℕ) (end : Option End) → Final next cut leads m n now new end → Spoken cut leads m n old new end
+    spoken_last cut m n end w =
+        let s = now.touched.state in
+        let t = new.touched.state in
+        let h0 = now.stream.held in
+        let h1 = new.stream.held in
         let got = w.fetched.got in
         let said = last_said cut s t (h0.bytes ++ got) h1.ended w.dealings w.text end w.fetched.holds in
         record {
@@ -103,57 +135,76 @@ module _ {S : Type 0} (leads : S → Dealing → S → Type 0) where
           dealings = so.dealings ++ w.dealings;
           text = so.text ++ w.text;
           written = so.text ++ w.written;
-          consumed = consumes_more i j k so.read got so.consumed w.fetched.consumed;
+          consumed = consumes_more old.stream.source.remaining now.stream.source.remaining new.stream.source.remaining so.read got so.consumed w.fetched.consumed;
+          told = told_so_far old.stream.source.told_end now.stream.source.told_end new.stream.source.told_end h0.ended h1.ended got w.fetched.follows so.told w.fetched.told;
           at_end = w.fetched.at_end so.at_end;
-          appended = appends_more o p q so.text w.written so.appended w.appended;
+          reads = w.fetched.reads ∙ so.reads;
+          failed_reads_are = let a = so.no_failed_read in let b = w.fetched.failures in omega arith;
+          failed_writes_are = let a = so.no_failed_write in let b = w.failures in omega arith;
+          appended = appends_more old.touched.sink.contents now.touched.sink.contents new.touched.sink.contents so.text w.written so.appended w.appended;
           in_front = (w.in_front.0, ap (λ xs. so.text ++ xs) w.in_front.1 ∙ sym (append_assoc so.text w.written w.in_front.0));
-          dealt = so.dealt w.dealings new w.dealt;
+          dealt = so.dealt w.dealings new.touched.budget w.dealt;
           matched = matched_more s t so.dealings w.dealings so.matched (last_matched s t w.dealings cut (next h1.ended (h0.bytes ++ got)) w.text end w.fetched.holds);
           talk = so.goes_on cut got h1.ended w.dealings w.text end t w.fetched.follows said;
         }
 
     -- all of it was written
-    spoken_whole : (end : Option End) → FinalWhole next leads now new j k p q h0 h1 s t end → SpokenWhole leads old new i k o q t end
+    spoken_whole : (m : ℕ) (end : Option End) → FinalWhole next leads m now new end → SpokenWhole leads m old new end
     unfolding spoken_last
-    spoken_whole end w = (spoken_last false end w.0, ap (λ xs. so.text ++ xs) w.1)
+    spoken_whole m end w = (spoken_last false m 0 end w.0, ap (λ xs. so.text ++ xs) w.1)
 
     -- the session ended
-    pub conversed_end : (end : End) → Exchanged next leads now new j k p q h0 h1 s t (Ok (Some end)) → Conversed leads old new i k o q t (Ok end)
-    conversed_end end w = spoken_whole (Some end) w
+    pub conversed_end : (end : End) → Exchanged next leads now new (Ok (Some end)) → Conversed leads old new (Ok end)
+    conversed_end end w = spoken_whole 0 (Some end) w
 
     -- the session broke off
-    pub conversed_fault : (fault : ServeFault) → Exchanged next leads now new j k p q h0 h1 s t (Err fault) → Conversed leads old new i k o q t (Err fault)
-    conversed_fault Read w = spoken_whole None w
-    conversed_fault Turns w = spoken_whole None w
-    conversed_fault Write w = (w.0, spoken_last true w.0 w.1)
+    pub conversed_fault : (fault : ServeFault) → Exchanged next leads now new (Err fault) → Conversed leads old new (Err fault)
+    conversed_fault Read w = spoken_whole 1 None w
+    conversed_fault Turns w = (spoken_whole 0 None w.0, w.1)
+    conversed_fault Write w = (w.0, spoken_last true 0 1 w.0 w.1)
     conversed_fault Memory w = absurd w
 
-module _ {S : Type 0} (leads : S → Dealing → S → Type 0) (old mid new : S) (i j o p : Option (List ℕ)) (held : State) (end_of : Deals leads mid (released held.queue) new) where
+module _ {S : Type 0} (leads : S → Dealing → S → Type 0) (limit : ℕ) (old mid : Scene S) (last : S) (start : old.stream.held.reads_left ≡ limit)
+    (end_of : Deals leads mid.touched.budget (released mid.touched.state.queue) last) where
+  abbrev given : Outside S
+  given = record { budget = old.touched.budget; source = old.stream.source; sink = old.touched.sink }
+
+  abbrev left : Outside S
+  left = record { budget = last; source = mid.stream.source; sink = mid.touched.sink }
+
   -- what is still held was settled
-  said_last : (cut : Bool) (end : Option End) → Spoken cut leads old mid i j o p held end → Said cut leads old new i j o p end
-  said_last cut end s = record {
+  said_last : (cut : Bool) (m n : ℕ) (end : Option End) → Spoken cut leads m n old mid end → Said cut leads given left end
+  said_last cut m n end s = record {
     read = s.read;
     ended = s.ended;
     dealings = s.dealings;
     text = s.text;
     written = s.written;
-    held = held;
+    held = mid.touched.state;
     consumed = s.consumed;
+    told = s.told;
     at_end = s.at_end;
     appended = s.appended;
     in_front = s.in_front;
-    dealt = deals_more leads old mid s.dealings (released held.queue) new s.dealt end_of;
-    matched = matched_last held s.dealings s.matched;
+    dealt = deals_more leads old.touched.budget mid.touched.budget s.dealings (released mid.touched.state.queue) last s.dealt end_of;
+    matched = matched_last mid.touched.state s.dealings s.matched;
     talk = s.talk;
   }
 
-  said_whole : (end : Option End) → SpokenWhole leads old mid i j o p held end → SaidAll leads old new i j o p end
-  unfolding said_last
-  said_whole end s = (said_last false end s.0, s.1)
+  counts_of : (cut : Bool) (m n : ℕ) (end : Option End) → Spoken cut leads m n old mid end → Counts limit m n given left
+  counts_of cut m n end s = record {
+    reads = let a = s.reads in omega arith;
+    failed_reads = s.failed_reads_are;
+    failed_writes = s.failed_writes_are;
+  }
 
-  pub outcome_of : (result : Result End ServeFault) → Conversed leads old mid i j o p held result → Outcome leads old new i j o p result
-  outcome_of (Ok end) s = said_whole (Some end) s
-  outcome_of (Err Read) s = said_whole None s
-  outcome_of (Err Turns) s = said_whole None s
-  outcome_of (Err Write) s = (s.0, said_last true s.0 s.1)
+  said_whole : (m : ℕ) (end : Option End) → SpokenWhole leads m old mid end → SaidAll leads given left end × Counts limit m 0 given left
+  unfolding said_last
+  said_whole m end s = ((said_last false m 0 end s.0, s.1), counts_of false m 0 end s.0)
+
+  pub outcome_of : (result : Result End ServeFault) → Conversed leads old mid result → Outcome leads limit given left result
+  outcome_of (Ok end) s = said_whole 0 (Some end) s
+  outcome_of (Err Read) s = said_whole 1 None s
+  outcome_of (Err Turns) s = let w = said_whole 0 None s.0 in (w.0, (w.1, let a = s.0.0.reads in let b = s.1 in omega arith))
+  outcome_of (Err Write) s = ((s.0, said_last true 0 1 s.0 s.1), counts_of true 0 1 s.0 s.1)
   outcome_of (Err Memory) s = absurd s

@@ -1,6 +1,6 @@
 //! How a session ends.
 
-use crate::rule::SessionRule;
+use command_text::FatalRule;
 
 /// How a session ended that met no fault.
 #[derive(Clone, Copy, Debug, PartialEq, Eq)]
@@ -10,7 +10,7 @@ pub enum End {
     /// By the end of the input.
     InputEnd,
     /// By a refusal after which a session can't go on.
-    Refused(SessionRule),
+    Refused(FatalRule),
 }
 
 /// Why a session broke off.

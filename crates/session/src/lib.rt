@@ -2,48 +2,23 @@
 //! within a budget of steps.
 //!
 //! The one contract: the bytes that `serve` writes are the reply text of the bytes that it reads. `specs/Talk.antt` says
-//! which text that is, over whole streams and with no word of buffers; `specs/Turn.antt` says what one command does;
-//! `specs/Request.antt` and `specs/Words.antt` say which bytes are which command.
+//! which text that is, over whole streams and with no word of buffers; `specs/Next.antt` says which command stands next in a
+//! stream. What a line asks for and what a reply reads like is the crate `command_text`'s, what one command does `workspace`'s,
+//! what a line and a body are `wire`'s, and what the budget's calls are `step_budget`'s.
 //!
-//! Read those first. Then `conversation`, from the loop down to one exchange; then the commands, each a function whose
-//! contract is its turn: `bind` (`matrix`, `op`), `jobs` (`apply`, `show`, `budget`) and `run` over `batch`. Below them
-//! are what a session holds (`workspace`, `names`, `job`, `operator`), what it says (`answers`, `reply`, `refusal`), how
-//! it reads (`request`, `words`, `code`, `lines`, `flow`, `input`), and what it is given: a reader and a writer
-//! (`device`, `wrap`) and a budget (`steps`).
+//! Read these definitions first. Then `conversation`, from `serve` down to one exchange; then `hearing` (what is read for a
+//! command), `answering` (its turn, and its reply written) and `end` (how a session ends).
 #![tactic(auto)]
 
-mod answers;
-mod batch;
-mod bind;
-mod code;
+mod answering;
 mod conversation;
-mod device;
 mod end;
-mod flow;
-mod input;
-mod job;
-mod jobs;
-#[cfg(test)]
-mod leaf_tests;
-mod lines;
-mod name;
-mod names;
-mod operator;
-mod refusal;
-mod reply;
-mod request;
-mod rule;
-mod run;
+mod hearing;
 #[cfg(test)]
 mod session_tests;
-mod steps;
-mod words;
-mod workspace;
-mod wrap;
 
-pub use conversation::serve;
-pub use device::{Sink, Source};
+pub use command_text::FatalRule;
+pub use conversation::{serve, serve_turns};
 pub use end::{End, ServeFault};
-pub use rule::SessionRule;
-pub use steps::{Reserved, Steps, Tally, Totals};
-pub use wrap::{FromRead, ToWrite};
+pub use step_budget::{Steps, Tally};
+pub use wire::{FromRead, Sink, Source, ToWrite};

@@ -1,11 +1,9 @@
 //! Whole sessions over memory: what is written, how each ends, and what the budget holds then, on values from outside.
 ghost use Rattle.std.specs.Prelude.{◌≡◌, ◌<◌};
 
-use crate::conversation::serve;
+use crate::conversation::{serve, serve_turns};
 use crate::end::{End, ServeFault};
-use crate::rule::SessionRule;
-use crate::steps::{Steps, Tally, Totals};
-use crate::wrap::{FromRead, ToWrite};
+use command_text::FatalRule;
 use std::alloc::Global;
 use std::io;
 use std::io::{ErrorKind, Read, Write};
@@ -14,6 +12,8 @@ use std::process::Abort;
 use std::sync::Wait;
 use std::sync::ledger::{Blank, Ledger};
 use std::test::Fail;
+use step_budget::{Steps, Tally, Totals};
+use wire::{FromRead, ToWrite};
 
 /// Commands that bind `A` to a matrix of the one entry 41, and `inc` to an operator of three instructions that adds 1.
 const SETUP: &str = "matrix A 62
@@ -60,12 +60,15 @@ ok quit
 struct Pace {
     piece: usize,
     calls: u64,
+    /// How many reads a session may make, where that is bounded here.
+    most: Option<u64>,
 }
 
 /// All that is asked for, and no failure.
 const AMPLE: Pace = Pace {
     piece: 8192,
     calls: u64::MAX,
+    most: None,
 };
 
 /// A reader over bytes.
@@ -112,28 +115,35 @@ impl Write for Trickle<'_> {
 }
 
 /// Serves a session over a reader and a writer, whose calls and failures are counted by these blanks.
-fn serve_over<C: Ledger, F: Ledger, D: Ledger, H: Wait>(
+fn serve_over<C: Ledger, F: Ledger, W: Ledger, D: Ledger, H: Wait>(
     rt: &H,
     alloc: Global,
     reader: Pieces<'_>,
     writer: Trickle<'_>,
     steps: &mut Tally,
-    blanks: (Blank, Blank, Blank),
+    reads: Option<u64>,
+    blanks: (Blank, Blank, Blank, Blank),
 ) -> Result<End, ServeFault>
-    requires calls_name { blanks.0.name ≡ C.name }
-    requires calls_parts { blanks.0.parts ≡ C.parts }
-    requires calls_some { 0 < blanks.0.parts }
+    requires reads_name { blanks.0.name ≡ C.name }
+    requires reads_parts { blanks.0.parts ≡ C.parts }
+    requires reads_some { 0 < blanks.0.parts }
     requires failures_name { blanks.1.name ≡ F.name }
     requires failures_parts { blanks.1.parts ≡ F.parts }
     requires failures_some { 0 < blanks.1.parts }
-    requires stuck_name { blanks.2.name ≡ D.name }
-    requires stuck_parts { blanks.2.parts ≡ D.parts }
-    requires stuck_some { 0 < blanks.2.parts }
+    requires writes_name { blanks.2.name ≡ W.name }
+    requires writes_parts { blanks.2.parts ≡ W.parts }
+    requires writes_some { 0 < blanks.2.parts }
+    requires stuck_name { blanks.3.name ≡ D.name }
+    requires stuck_parts { blanks.3.parts ≡ D.parts }
+    requires stuck_some { 0 < blanks.3.parts }
 {
-    let (calls, failures, stuck) = blanks;
+    let (calls, failures, writes, stuck) = blanks;
     let mut source = FromRead::<Pieces, C, F>::new(reader, calls, failures);
-    let mut sink = ToWrite::<Trickle, D>::new(writer, stuck);
-    serve(rt, alloc, &mut source, &mut sink, steps, 1)
+    let mut sink = ToWrite::<Trickle, W, D>::new(writer, writes, stuck);
+    match reads {
+        None => serve(rt, alloc, &mut source, &mut sink, steps, 1),
+        Some(reads) => serve_turns(rt, alloc, &mut source, &mut sink, steps, 1, reads),
+    }
 }
 
 /// Serves a session over an input, and adds what it writes to a text.
@@ -146,8 +156,10 @@ fn talk<H: Wait>(
 ) -> Result<End, ServeFault> {
     let reader = Pieces { bytes, pace: reads };
     let writer = Trickle { text, pace: writes };
-    let blanks = (Blank::new(1), Blank::new(1), Blank::new(1));
-    serve_over::<Brand, Brand, Brand, H>(rt, alloc, reader, writer, steps, blanks)
+    let blanks = (Blank::new(1), Blank::new(1), Blank::new(1), Blank::new(1));
+    serve_over::<Brand, Brand, Brand, Brand, H>(
+        rt, alloc, reader, writer, steps, reads.most, blanks,
+    )
 }
 
 /// What is to come of a session: how it ends, what it writes, and how many steps it spends.
@@ -229,7 +241,11 @@ fn a_failing_read_ends_the_session(rt: HostRuntime) -> Result<(), Fail> {
         (5, 142, 3),
     ];
     for (calls, length, spent) in failing {
-        let reads = Pace { piece: 39, calls };
+        let reads = Pace {
+            piece: 39,
+            calls,
+            most: None,
+        };
         let outcome = if calls < 5 {
             Err(ServeFault::Read)
         } else {
@@ -275,7 +291,11 @@ fn a_failing_write_ends_the_session(rt: HostRuntime) -> Result<(), Fail> {
             text: FIRST_RUN_TEXT.get(..length).ok_or("a front part")?,
             spent,
         };
-        let writes = Pace { piece, calls };
+        let writes = Pace {
+            piece,
+            calls,
+            most: None,
+        };
         assert_talk(
             &rt,
             rt.alloc(),
@@ -286,6 +306,28 @@ fn a_failing_write_ends_the_session(rt: HostRuntime) -> Result<(), Fail> {
         )?;
     }
     Ok(())
+}
+
+#[test]
+fn one_read_too_many_ends_the_session(rt: HostRuntime) -> Result<(), Fail> {
+    let reads = Pace {
+        piece: 1,
+        calls: u64::MAX,
+        most: Some(10),
+    };
+    let want = Want {
+        outcome: Err(ServeFault::Turns),
+        text: "ok budget 100 0 0\n",
+        spent: 0,
+    };
+    assert_talk(
+        &rt,
+        rt.alloc(),
+        (b"budget\nbudget\n", reads),
+        AMPLE,
+        100,
+        want,
+    )
 }
 
 #[test]
@@ -303,20 +345,20 @@ fn sessions_end_as_told(rt: HostRuntime) -> Result<(), Fail> {
         ),
         (
             b"matrix A 62\n1 1 1\n",
-            refused(SessionRule::InputEndsInBody),
+            refused(FatalRule::InputEndsInBody),
             "no S5\n",
         ),
         (
             b"matrix A 268435457\nquit\n",
-            refused(SessionRule::BodyTooLong),
+            refused(FatalRule::BodyTooLong),
             "no S7\n",
         ),
         (
             b"op a unary 262145\nquit\n",
-            refused(SessionRule::BodyTooLong),
+            refused(FatalRule::BodyTooLong),
             "no S7\n",
         ),
-        (&long, refused(SessionRule::LineTooLong), "no S6\n"),
+        (&long, refused(FatalRule::LineTooLong), "no S6\n"),
         (&long[1..], Ok(End::InputEnd), "no S1\n"),
     ];
     for (input, outcome, text) in sessions {
@@ -340,7 +382,7 @@ fn after(alloc: Global, setup: &str, rest: &str) -> Result<String, Fail> {
 /// What follows the set-up: the steps allowed, the input, its text, and the steps spent.
 type Rest = (u64, &'static str, &'static str, u64);
 
-const RUNS: [Rest; 8] = [
+const RUNS: [Rest; 9] = [
     // Of two outputs of one name the later one is bound.
     (
         100,
@@ -397,50 +439,85 @@ ok show 61
 ",
         3,
     ),
-    // A stuck call: no name is bound, and the steps come back.
+    // A program that reads R0 unset is refused, and the name keeps what it had.
     (
         100,
-        "op s unary 16
+        "op inc unary 16
 9500000000000000
-apply A s A
+apply B inc A
 run
-budget
-show A
+types inc
 ",
-        "ok op 1 1
-ok queued 1 1
-no stuck 0 V11
-ok budget 100 0 0
-ok show 62
-%%MatrixMarket matrix coordinate integer general
-1 1 1
-1 1 41
+        "no V11 0
+ok queued 1 3
+ok run 1 3
+B 1 1 1 3
+ok types 3
+0 u n u u u u u u u u p0
+1 n n u u u u u u u u p0
+2 n n u u u u u u u u p0
+",
+        3,
+    ),
+    // What is known where paths meet, where none leads, and behind a move of a place in the stack.
+    (
+        0,
+        "op w unary 144
+bfa300000000000007030000f8ffffffbfa2000000000000150101000000000007020000f8ffffffb7000000000000000500010000000000b7000000000000009500000000000000
+types w
+types A
+types v
+types
+",
+        "ok op 9 9
+ok types 9
+0 u n u u u u u u u u p0
+1 u n u p0 u u u u u u p0
+2 u n u p-8 u u u u u u p0
+3 u n p0 p-8 u u u u u u p0
+4 u n p0 p-8 u u u u u u p0
+5 u n m p-8 u u u u u u p0
+6 n n m p-8 u u u u u u p0
+7 -
+8 n n m p-8 u u u u u u p0
+no S4
+no S4
+no S2
 ",
         0,
     ),
-    // A stuck call after two jobs: these are charged, and no name is bound.
+    // Assembly text is taken and given back, and its faults are told by their lines, before those of the program.
     (
-        100,
-        "op t unary 32
-07000000010000009500000000000000
-apply B inc A
-apply C inc A
-apply D t A
-apply E inc A
-run
-budget
-show B
+        0,
+        "asm inc unary 30
+mov64 r0, r1
+add64 r0, 1
+exit
+dis inc
+asm w unary 13
+mov64 r11, 0
+asm w unary 5
+exit
+asm w thing 5
+exit
+asm - unary 5
+exit
+dis w
+dis
 ",
-        "ok op 2 2
-ok queued 1 3
-ok queued 2 3
-ok queued 3 2
-ok queued 4 3
-no stuck 0 V11
-ok budget 94 0 6
+        "ok op 3 3
+ok dis 3
+mov64 r0, r1
+add64 r0, 1
+exit
+no A4 1
+no V11 0
+no S2
+no S3
 no S4
+no S2
 ",
-        6,
+        0,
     ),
     // A job over no entries costs nothing.
     (
@@ -561,8 +638,8 @@ fn sixty_four_jobs_wait_at_most(rt: HostRuntime) -> Result<(), Fail> {
     Ok(())
 }
 
-/// Whether two texts are the same line by line, up to a line of the first that says that memory is wanting.
-fn agrees_until_memory_is_wanting(text: &str, ample: &str) -> bool {
+/// Whether two texts are the same line by line, up to a line of the first that says that there is no memory.
+fn agrees_until_memory_is_refused(text: &str, ample: &str) -> bool {
     for (line, wanted) in text.lines().zip(ample.lines()) {
         if line != wanted {
             return line.starts_with("no memory");
@@ -574,7 +651,7 @@ fn agrees_until_memory_is_wanting(text: &str, ample: &str) -> bool {
 /// This holds whichever allocation is refused: nothing is written, or the text is that of ample memory up to a refusal that
 /// says so, and the session goes on to its end.
 #[test]
-fn first_run_under_want_of_memory(rt: HostRuntime) -> Result<(), Fail> {
+fn first_run_short_of_memory(rt: HostRuntime) -> Result<(), Fail> {
     let Ok(mut text) = Vec::with_capacity(rt.alloc(), 1024) else {
         return Ok(());
     };
@@ -587,7 +664,7 @@ fn first_run_under_want_of_memory(rt: HostRuntime) -> Result<(), Fail> {
     } else {
         assert_eq!(rt; outcome, Ok(End::Quit));
         assert!(rt;
-            agrees_until_memory_is_wanting(text, FIRST_RUN_TEXT),
+            agrees_until_memory_is_refused(text, FIRST_RUN_TEXT),
             "{text}"
         );
         assert!(rt; text.ends_with("ok quit\n"), "{text}");

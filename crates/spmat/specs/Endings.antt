@@ -1,26 +1,45 @@
--- How the program tells the end of a session: its exit status, and a line on standard error (this project's own).
-use Rattle.std.specs.Prelude.{ℕ, List, Option, Some, None, Result, Ok, Err, codes}
+-- How the program tells the end of a session: its exit status, and its text on standard error (this project's own).
+use Rattle.std.specs.Prelude.{ℕ, List, [], Result, Ok, Err, codes}
+use Rattle.std.specs.String.{string_bytes}
 use Rattle.session.specs.declared.end.End.{End}
 use Rattle.session.specs.declared.end.End.TheVariants.{Quit, InputEnd, Refused}
-use Rattle.session.specs.declared.end.ServeFault.{ServeFault}
-use Rattle.session.specs.declared.end.ServeFault.TheVariants.{Read, Write, Turns, Memory}
+use Rattle.session.specs.declared.end.ServeFault.TheVariants as faults
+use Rattle.spmat.specs.declared.ending.Failure.{Failure}
+use Rattle.spmat.specs.declared.ending.Failure.TheVariants.{Settings, Session}
+use Rattle.spmat.specs.declared.ending.Message.{Message}
+use Rattle.spmat.specs.declared.ending.Message.TheVariants as messages
 use Rattle.spmat.specs.declared.ending.Status.{Status}
-use Rattle.spmat.specs.declared.ending.Status.TheVariants.{Ended, Failed, SessionRefused}
+use Rattle.spmat.specs.declared.ending.Status.TheVariants.{Ended, Failed, WordsRefused, SessionRefused}
+use Rattle.spmat.specs.declared.settings.SettingsFault.TheVariants.{Words, Memory}
 
--- 0 after `quit` and the end of the input, 3 after a refusal that ends the session, and 1 after a fault
-abbrev pub status_of : Result End ServeFault → Status
+-- the number of each status
+abbrev pub code_of : Status → ℕ
+code_of Ended = 0
+code_of Failed = 1
+code_of WordsRefused = 2
+code_of SessionRefused = 3
+
+-- the session ended by `quit`, with its input, or by a refusal; the words were refused; or a stream or the memory failed
+abbrev pub status_of : Result End Failure → Status
 status_of (Ok Quit) = Ended
 status_of (Ok InputEnd) = Ended
 status_of (Ok (Refused rule)) = SessionRefused
-status_of (Err fault) = Failed
+status_of (Err (Settings (Words text))) = WordsRefused
+status_of (Err (Settings Memory)) = Failed
+status_of (Err (Session fault)) = Failed
 
--- a fault is named on standard error
-abbrev pub fault_message : ServeFault → List ℕ
-fault_message Read = codes "spmat: read failed"
-fault_message Write = codes "spmat: write failed"
-fault_message Turns = codes "spmat: too many reads"
-fault_message Memory = codes "spmat: no memory"
+-- a failure is named on standard error; a session that ended says nothing there
+abbrev pub text_of : Result End Failure → List ℕ
+text_of (Ok end) = []
+text_of (Err (Settings (Words text))) = string_bytes text
+text_of (Err (Settings Memory)) = codes "spmat: no memory\n"
+text_of (Err (Session faults.Read)) = codes "spmat: read failed\n"
+text_of (Err (Session faults.Write)) = codes "spmat: write failed\n"
+text_of (Err (Session faults.Turns)) = codes "spmat: too many reads\n"
+text_of (Err (Session faults.Memory)) = codes "spmat: no memory\n"
 
-abbrev pub message_of : Result End ServeFault → Option (List ℕ)
-message_of (Ok end) = None
-message_of (Err fault) = Some (fault_message fault)
+-- the bytes that a message is
+abbrev pub said_by : Message → List ℕ
+said_by messages.Nothing = []
+said_by (messages.Fault line) = line.now
+said_by (messages.Words text) = string_bytes text

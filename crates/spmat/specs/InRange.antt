@@ -1,7 +1,7 @@
 -- The numbers that the command line of the program takes (this project's own).
 use Rattle.std.specs.Prelude.{◌≤◌, ◌^◌}
-use Rattle.spmat.specs.declared.config.Settings.{Settings}
-use Rattle.spmat.specs.declared.config.Settings.TheVariants.{Run}
+use Rattle.spmat.specs.declared.settings.Settings.{Settings}
+use Rattle.spmat.specs.declared.settings.Settings.TheVariants.{Run}
 
 -- a budget of at most 2^62 steps, and 1 to 64 workers
 abbrev pub IsInRange : Settings → Type 0

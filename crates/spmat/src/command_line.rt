@@ -1,11 +1,11 @@
 //! The settings that the words of the command line give.
-ghost use Rattle.std.specs.Prelude.{◌≡◌, ◌≤◌, false, IfOk, IfSome, map};
-ghost use Rattle.clap.specs.Words.{app_of, found_of, kind_of, one_of, rows_of, rule_of};
+ghost use Rattle.std.specs.Prelude.{◌≡◌, ◌≤◌, ℕ, Some, false, true, IfOk, IfSome, MatchResult, map};
+ghost use Rattle.clap.specs.Words.{app_of, found_of, kind_of, one_of, rows_of, rule_of, takes};
 ghost use Rattle.spmat.specs.CommandLine as line;
 ghost use Rattle.spmat.specs.CommandLine.{IsAsked, IsAskedIn, IsNumberOf};
 ghost use Rattle.spmat.specs.InRange.{IsInRange};
 
-use crate::config::{Settings, SettingsFault};
+use crate::settings::{Settings, SettingsFault};
 use clap::builder::ValueParser;
 use clap::error::ErrorKind;
 use clap::{Arg, ArgMatches, Command, value_parser};
@@ -60,7 +60,7 @@ fn program<'a>(alloc: Global) -> Result<Command<'a>, AllocError>
         .subcommand(run)
 }
 
-/// The fault that an error of `clap` is: want of memory, or words that are refused with its text.
+/// The fault that an error of `clap` is: memory ran out, or the words are refused with its text.
 fn fault_of(alloc: Global, error: &clap::Error) -> SettingsFault
     ensures { kind_of error.now ≡ ErrorKind.OutOfMemory → result ≡ SettingsFault.Memory }
 {
@@ -75,8 +75,10 @@ fn fault_of(alloc: Global, error: &clap::Error) -> SettingsFault
 
 /// The number that an option has, where it lies in a range.
 fn number(matches: &ArgMatches<'_>, name: &str, least: u64, most: u64) -> Option<u64>
-    ensures { IfSome result (λ n. (least ≤ n) × (n ≤ most) ×
+    ensures given { IfSome result (λ n. (least ≤ n) × (n ≤ most) ×
         IsNumberOf (one_of name.now (rows_of (found_of matches.now))) n) }
+    ensures taken { (n : ℕ) → IsNumberOf (one_of name.now (rows_of (found_of matches.now))) n →
+        least ≤ n → n ≤ most → result ≡ Some n }
 {
     let number = matches.get_one::<u64>(name)?;
     if least <= number && number <= most {
@@ -90,6 +92,8 @@ fn number(matches: &ArgMatches<'_>, name: &str, least: u64, most: u64) -> Option
 fn run_settings(matches: &ArgMatches<'_>) -> Option<Settings>
     ensures asked { IfSome result (λ s. IsAskedIn (rows_of (found_of matches.now)) s) }
     ensures range { IfSome result (λ s. IsInRange s) }
+    ensures taken { (s : Settings) → IsAskedIn (rows_of (found_of matches.now)) s → IsInRange s →
+        result ≡ Some s }
 {
     Some(Settings::Run {
         steps: number(matches, "steps", 0, MOST_STEPS as u64)?,
@@ -101,10 +105,14 @@ fn run_settings(matches: &ArgMatches<'_>) -> Option<Settings>
 ///
 /// # Errors
 ///
-/// `Words` with the text of `clap`, where it refuses them or they ask for help, and `Memory`.
-pub fn settings<'a, S: AsStr>(alloc: Global, words: &'a [S]) -> Result<Settings, SettingsFault>
+/// `Words` with the text of `clap`, where it refuses them or they ask for help, and `Memory`. Words that `clap` takes, with numbers
+/// in their ranges, are refused only where memory runs out.
+pub fn settings_of<'a, S: AsStr>(alloc: Global, words: &'a [S]) -> Result<Settings, SettingsFault>
     ensures asked { IfOk result (λ s. IsAsked (map S.text words.now) s) }
     ensures range { IfOk result (λ s. IsInRange s) }
+    ensures taken { (s : Settings) → takes line.program (map S.text words.now) ≡ true →
+        IsAsked (map S.text words.now) s → IsInRange s →
+        MatchResult result (λ t. t ≡ s) (λ fault. fault ≡ SettingsFault.Memory) }
 {
     let matches = match program::<'a>(alloc)?.try_get_matches_from(words) {
         Ok(matches) => matches,

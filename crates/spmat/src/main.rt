@@ -1,23 +1,27 @@
 //! `spmat`, a server for jobs over sparse matrices whose operators are BPF code.
 //!
-//! The program is thin: `settings` reads the words of the command line, `run` has a session served
-//! on standard input and output, and `ending` says with which status and which text on standard
-//! error the process ends. What a session reads, does and writes is the contract of
-//! `session::serve`. Read `settings`, then `ending`, then `main`.
+//! The program is thin. Its modules in reading order:
+//!
+//! - `settings`: what it can be asked to do, and why that can't be told;
+//! - `command_line`: the settings that the words of the command line give;
+//! - `ending`: with which status the process ends, and what it says on standard error;
+//! - this file: a session over standard input and output.
+//!
+//! What a session reads, does and writes is the contract of `session::serve`.
 #![tactic(auto)]
 
 ghost use Rattle.std.specs.Prelude.{◌≡◌, ◌≤◌, ◌<◌, IfOk};
 ghost use Rattle.spmat.specs.InRange.{IsInRange};
 
 mod command_line;
-mod config;
 mod ending;
+mod settings;
 #[cfg(test)]
 mod tests;
 
-use crate::command_line::settings;
-use crate::config::{Settings, SettingsFault};
-use crate::ending::{Ending, Status, ending_of};
+use crate::command_line::settings_of;
+use crate::ending::{Failure, ending_of, finish};
+use crate::settings::{Settings, SettingsFault};
 use session::{End, FromRead, ServeFault, Tally, ToWrite, serve};
 use std::io::ErrorKind;
 use std::marker::Brand;
@@ -29,7 +33,7 @@ use std::{env, io};
 
 const NOT_TEXT: &str = "error: the command line is not text\n";
 
-/// Reads the command line. Words that are not text are refused.
+/// Reads the words of the command line. Words that are not text are refused.
 fn read_settings<H: Env + AllocGlobal>(rt: &H) -> Result<Settings, SettingsFault>
     ensures { IfOk result (λ s. IsInRange s) }
 {
@@ -38,17 +42,18 @@ fn read_settings<H: Env + AllocGlobal>(rt: &H) -> Result<Settings, SettingsFault
         Err(error) if error.kind() == ErrorKind::OutOfMemory => return Err(SettingsFault::Memory),
         Err(_) => return Err(SettingsFault::Words(String::from_str(rt.alloc(), NOT_TEXT)?)),
     };
-    settings(rt.alloc(), words.as_slice())
+    settings_of(rt.alloc(), words.as_slice())
 }
 
-/// Serves one session on standard input and output, with a budget of so many steps. The ledgers
+/// Serves one session on standard input and output, with a budget of so many steps. The blanks
 /// count the calls of the two streams, for contracts alone.
-fn run<H, C: Ledger, F: Ledger, G: Ledger>(
+fn serve_streams<H, C: Ledger, F: Ledger, W: Ledger, G: Ledger>(
     rt: &H,
     steps: u64,
     workers: u64,
     reads: Blank,
     failed_reads: Blank,
+    writes: Blank,
     failed_writes: Blank,
 ) -> Result<End, ServeFault>
 where
@@ -61,12 +66,15 @@ where
     requires failed_reads_name { failed_reads.name ≡ F.name }
     requires failed_reads_parts { failed_reads.parts ≡ F.parts }
     requires failed_reads_some { 0 < failed_reads.parts }
+    requires writes_name { writes.name ≡ W.name }
+    requires writes_parts { writes.parts ≡ W.parts }
+    requires writes_some { 0 < writes.parts }
     requires failed_writes_name { failed_writes.name ≡ G.name }
     requires failed_writes_parts { failed_writes.parts ≡ G.parts }
     requires failed_writes_some { 0 < failed_writes.parts }
 {
     let mut reader = FromRead::<H::Reader, C, F>::new(rt.reader(), reads, failed_reads);
-    let mut writer = ToWrite::<_, G>::new(io::writer(rt), failed_writes);
+    let mut writer = ToWrite::<_, W, G>::new(io::writer(rt), writes, failed_writes);
     let mut budget = Tally::open(steps);
     serve(
         rt,
@@ -78,35 +86,26 @@ where
     )
 }
 
+/// Does what the words of the command line ask for.
+fn run<H>(rt: &H) -> Result<End, Failure>
+where
+    H: Env + Input + Print + Wait + AllocGlobal,
+{
+    let Settings::Run { steps, workers } = read_settings(rt)?;
+    let (reads, failed_reads) = (Blank::new(1), Blank::new(1));
+    let (writes, failed_writes) = (Blank::new(1), Blank::new(1));
+    Ok(serve_streams::<_, Brand, Brand, Brand, Brand>(
+        rt,
+        steps,
+        workers,
+        reads,
+        failed_reads,
+        writes,
+        failed_writes,
+    )?)
+}
+
 fn main(rt: HostRuntime) -> ExitCode {
-    let ending = match read_settings(&rt) {
-        Ok(Settings::Run { steps, workers }) => {
-            let (reads, failed_reads, failed_writes) = (
-                Blank::new(1),
-                Blank::new(1),
-                Blank::new(1),
-            );
-            ending_of(run::<_, Brand, Brand, Brand>(
-                &rt,
-                steps,
-                workers,
-                reads,
-                failed_reads,
-                failed_writes,
-            ))
-        }
-        Err(SettingsFault::Memory) => ending_of(Err(ServeFault::Memory)),
-        Err(SettingsFault::Words(text)) => {
-            // Where standard error takes nothing, the status alone tells.
-            let _ = rt.eprint(text);
-            Ending {
-                status: Status::WordsRefused,
-                message: None,
-            }
-        }
-    };
-    if let Some(message) = ending.message {
-        let _ = eprintln!(rt; "{message}");
-    }
-    ExitCode::from(ending.status as u8)
+    let ending = ending_of(run(&rt));
+    finish(&rt, ending)
 }

@@ -1,8 +1,10 @@
 //! The words of the command line, and the statuses.
-use crate::command_line::settings;
-use crate::config::{Settings, SettingsFault};
-use crate::ending::{Ending, Status, ending_of};
+use crate::command_line::settings_of;
+use crate::ending::{Ending, Failure, Message, Status, ending_of, finish};
+use crate::settings::{Settings, SettingsFault};
 use session::{End, ServeFault};
+use std::process::ExitCode;
+use std::test::Fail;
 
 #[test]
 fn words_that_are_taken(rt: HostRuntime) {
@@ -22,7 +24,7 @@ fn words_that_are_taken(rt: HostRuntime) {
         (&["", "run", "--steps", "1", "--workers", "1"], 1, 1),
     ];
     for (words, steps, workers) in cases {
-        let asked = settings(rt.alloc(), words);
+        let asked = settings_of(rt.alloc(), words);
         assert!(rt;
             matches!(&asked, Ok(Settings::Run { steps: s, workers: w }) if *s == steps && *w == workers)
         );
@@ -88,7 +90,7 @@ fn words_that_are_refused(rt: HostRuntime) {
         ),
     ];
     for (words, said) in cases {
-        let asked = settings(rt.alloc(), words);
+        let asked = settings_of(rt.alloc(), words);
         assert!(rt;
             matches!(&asked, Err(SettingsFault::Words(text)) if text.contains(said)),
             "{said}"
@@ -98,36 +100,70 @@ fn words_that_are_refused(rt: HostRuntime) {
 
 #[test]
 fn sessions_end(rt: HostRuntime) {
-    let cases = [
-        (Ok(End::Quit), Status::Ended, None),
-        (Ok(End::InputEnd), Status::Ended, None),
-        (
-            Err(ServeFault::Read),
-            Status::Failed,
-            Some("spmat: read failed"),
-        ),
-        (
-            Err(ServeFault::Write),
-            Status::Failed,
-            Some("spmat: write failed"),
-        ),
-        (
-            Err(ServeFault::Turns),
-            Status::Failed,
-            Some("spmat: too many reads"),
-        ),
-        (
-            Err(ServeFault::Memory),
-            Status::Failed,
-            Some("spmat: no memory"),
-        ),
+    let faults = [
+        (ServeFault::Read, "spmat: read failed\n"),
+        (ServeFault::Write, "spmat: write failed\n"),
+        (ServeFault::Turns, "spmat: too many reads\n"),
+        (ServeFault::Memory, "spmat: no memory\n"),
     ];
-    for (outcome, status, message) in cases {
-        assert_eq!(rt; ending_of(outcome), Ending { status, message });
+    for (fault, line) in faults {
+        let failed = Ending {
+            status: Status::Failed,
+            message: Message::Fault(line),
+        };
+        assert_eq!(rt; ending_of(Err(Failure::Session(fault))), failed);
     }
-    assert_eq!(rt; [Status::Ended as u8, Status::Failed as u8], [0, 1]);
+    for end in [End::Quit, End::InputEnd] {
+        let ended = Ending {
+            status: Status::Ended,
+            message: Message::Nothing,
+        };
+        assert_eq!(rt; ending_of(Ok(end)), ended);
+    }
+}
+
+#[test]
+fn words_that_give_no_settings_end_the_program(rt: HostRuntime) -> Result<(), Fail> {
+    let out_of_memory = Ending {
+        status: Status::Failed,
+        message: Message::Fault("spmat: no memory\n"),
+    };
     assert_eq!(rt;
-        [Status::WordsRefused as u8, Status::SessionRefused as u8],
-        [2, 3]
+        ending_of(Err(Failure::Settings(SettingsFault::Memory))),
+        out_of_memory
     );
+    let text = String::from_str(rt.alloc(), "no words\n")?;
+    let refused = ending_of(Err(Failure::Settings(SettingsFault::Words(text))));
+    assert_eq!(rt; refused.status, Status::WordsRefused);
+    assert!(rt; matches!(&refused.message, Message::Words(text) if text.as_str() == "no words\n"));
+    Ok(())
+}
+
+#[test]
+fn statuses_have_numbers(rt: HostRuntime) {
+    let statuses = [
+        (Status::Ended, 0),
+        (Status::Failed, 1),
+        (Status::WordsRefused, 2),
+        (Status::SessionRefused, 3),
+    ];
+    for (status, number) in statuses {
+        let ending = Ending {
+            status,
+            message: Message::Nothing,
+        };
+        assert!(rt; finish(&rt, ending) == ExitCode::from(number));
+    }
+}
+
+#[test]
+fn faults_have_texts(rt: HostRuntime) -> Result<(), Fail> {
+    let text = String::from_str(rt.alloc(), "no words")?;
+    for (fault, said) in [
+        (SettingsFault::Words(text), "no words"),
+        (SettingsFault::Memory, "no memory"),
+    ] {
+        assert_eq!(rt; format!(in rt.alloc(); "{fault}")?.as_str(), said);
+    }
+    Ok(())
 }

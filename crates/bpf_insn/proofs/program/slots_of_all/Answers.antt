@@ -6,14 +6,14 @@ pub returns-then-slots-gt-MOST_SLOTS-clause-none : goal.returns-then-slots-gt-MO
 returns-then-slots-gt-MOST_SLOTS-clause-none c =
     let insns = c.args.insns.now in
     let n = c.loop-insn.insn-index in
-    omega (arith, slot_count-take insns n c.loop-insn-test.true, slot_count-take_le insns (n + 1), c.slots_of-slots.ensures.count)
+    omega (arith, slot_count-take insns n c.loop-insn-test.true, slot_count-take_le insns (n + 1), c.slots-slots.ensures.count)
 
 pub loop-insn-preserved : goal.loop-insn-preserved
 loop-insn-preserved c =
     let insns = c.args.insns.now in
     let n = c.loop-insn.insn-index in
     record {
-      count = omega (arith, slot_count-take insns n c.loop-insn-test.true, c.slots_of-slots.ensures.count);
+      count = omega (arith, slot_count-take insns n c.loop-insn-test.true, c.slots-slots.ensures.count);
       few = omega arith;
-      fits = fits-take insns n c.loop-insn-test.true c.loop-insn.invariant.fits c.slots_of-slots.ensures.fits;
+      fits = fits-take insns n c.loop-insn-test.true c.loop-insn.invariant.fits c.slots-slots.ensures.fits;
     }

@@ -1,55 +1,61 @@
-use Rattle.std.proofs.Common.{◌≡◌, refl, sym, ap, ◌∙◌, subst, arith, rules, [], length}
-use Rattle.std.proofs.lemmas.Bool.{eqb-true, eqb-false}
-use Rattle.std.proofs.lemmas.List.{nil_from_length}
-use Rattle.std.proofs.lemmas.Result.{err_from_is_err_and}
-use Rattle.std.specs.FinMap.{entries}
-use Rattle.csr_store.specs.Grid.{Grid}
-use Rattle.matrix_market.specs.Reading.{HasLines, AreNoLines, NeverGoesOnWith, last_position}
-use Rattle.matrix_market.proofs.Entries.{HasRead, entries-empty, read_none, read_more, read_all, no_entry, no_next, no_end, RefusedFor-weaker}
-use Rattle.matrix_market.proofs.Order.{last_position-push}
+use Rattle.std.proofs.Common.{List, subst, ◌≡◌, ◌≤◌, ◌<◌, ◌+◌, ℕ, arith, sym, ap, ◌∙◌, length, refl}
+use Rattle.std.specs.Str.Lines.{lines}
+use Rattle.matrix_market.specs.Filling.{Filled}
+use Rattle.matrix_market.specs.Usual.{Reached}
+use Rattle.matrix_market.specs.Market.{words}
+use Rattle.matrix_market.specs.Answers.{spots}
+use Rattle.matrix_market.proofs.Reading.{entry_fault, twice_fault, entry_read, long_entry, too_few, too_many, whole}
 use Rattle.matrix_market.proofs.reader.read_entries.Goals as goal
 
-pub loop-init : goal.loop-init
-loop-init c =
-    let read = subst (λ (g : Grid). HasRead c.args.sizes c.args.lines.now g c.args.lines.now 0) (sym c.new-builder.ensures) (read_none c.args.sizes c.args.lines.now) in
-    record { read = read; last = ap last_position (sym (ap (λ (g : Grid). entries g.cells) c.new-builder.ensures ∙ entries-empty)) }
+pub returns-in-End-clause-err : goal.returns-in-End-clause-err
+returns-in-End-clause-err c =
+    let e = c.in-End.ensures in too_few c.args.text.now c.loop-given.rest.now c.args.banner c.args.size c.loop-given.builder c.loop-given.at c.in-End.n (c.in-End.n + 1) c.loop-given._given c.loop-given.invariant.filled c.loop-given-test.true e.0 refl
 
-pub returns-in_default-clause-refusal : goal.returns-in_default-clause-refusal
-returns-in_default-clause-refusal c =
-    let h = c.loop.invariant.read in
-    (refl, refl, no_entry c.args.sizes c.args.lines.now c.loop.builder c.loop.rest.now c.loop.counter h c.loop-test.true c.in_default.ensures)
+pub returns-in-TooLong-clause-err : goal.returns-in-TooLong-clause-err
+returns-in-TooLong-clause-err c =
+    let e = c.in-TooLong.ensures in long_entry c.args.text.now c.loop-given.rest.now c.args.banner c.args.size c.loop-given.builder c.loop-given.at e.0 c.in-TooLong.n c.loop-given._given e.1 e.2 c.loop-given.invariant.filled e.3 e.4 e.5
 
-pub returns-in_err-put_next-clause-refusal : goal.returns-in_err-put_next-clause-refusal
-returns-in_err-put_next-clause-refusal c =
-    let h = c.loop.invariant.read in
-    let entry = c.in-Some.ensures in
-    let p = err_from_is_err_and c.from_residual.result c.from_residual.ensures.1 in
-    rw (p.1, p.2)
-    (RefusedFor-weaker (NeverGoesOnWith c.loop.builder (c.in-Some.entry.position, c.in-Some.entry.word)) (AreNoLines c.args.sizes c.args.lines.now)
-    (no_next c.args.sizes c.args.lines.now c.loop.builder c.loop.rest.now c.loop.counter h (c.in-Some.entry.position, c.in-Some.entry.word) c.in-Some.more.now entry.0 entry.1)
-    c.in_err-put_next.field-0.0 c.in_err-put_next.ensures.refusal)
+pub returns-in-Err-read_entry-clause-err : goal.returns-in-Err-read_entry-clause-err
+returns-in-Err-read_entry-clause-err c =
+    let e = c.in-Line.ensures in entry_fault c.args.text.now c.loop-given.rest.now c.args.banner c.args.size c.loop-given.builder c.loop-given.at e.0 c.in-Line.n c.loop-given._given c.in-Line.line.now (lines c.in-Line.more.now) c.in-Err-read_entry.rule c.loop-given.invariant.filled c.loop-given-test.true e.1 e.2 e.3 e.4 c.in-Err-read_entry.ensures
 
-pub loop-preserved : goal.loop-preserved
-loop-preserved c =
-    let h = c.loop.invariant.read in
-    let entry = c.in-Some.ensures in
-    let next = c.in_ok-put_next.ensures.next in
+pub returns-in-Err-PositionGivenTwice-clause-err : goal.returns-in-Err-PositionGivenTwice-clause-err
+returns-in-Err-PositionGivenTwice-clause-err c =
+    let e = c.in-Line.ensures in twice_fault c.args.text.now c.loop-given.rest.now c.args.banner c.args.size c.loop-given.builder c.loop-given.at e.0 c.in-Line.n c.loop-given._given c.in-Line.line.now (lines c.in-Line.more.now) c.in-Ok-read_entry.f c.loop-given.invariant.filled c.loop-given-test.true e.1 e.2 e.3 e.4 c.in-Ok-read_entry.ensures (c.in-Err-PositionGivenTwice.ensures c.in-Err-PositionGivenTwice.field-0-is)
+
+pub loop-given-preserved : goal.loop-given-preserved
+loop-given-preserved c =
+    let e = c.in-Line.ensures in
+    let p = c.in-Ok-put_entry.ensures in
+    let r = c.loop-given.invariant.room in
+    let s = e.5 in
     record {
-      read = read_more c.args.sizes c.args.lines.now c.loop.builder c.put_next.new.builder c.loop.rest.now c.in-Some.more.now c.loop.counter (c.in-Some.entry.position, c.in-Some.entry.word) h entry.0 entry.1 next;
-      last = sym (ap last_position next.entries ∙ last_position-push (entries c.loop.builder.cells) (c.in-Some.entry.position, c.in-Some.entry.word));
+      filled = entry_read c.args.text.now c.loop-given.rest.now c.in-Line.more.now c.args.banner c.args.size c.loop-given.builder c.put_entry.new.builder c.loop-given.at e.0 c.in-Line.n c.loop-given._given c.in-Line.line.now c.in-Ok-read_entry.f
+          c.loop-given.invariant.filled c.loop-given-test.true e.1 e.2 e.3 e.4 c.in-Ok-read_entry.ensures p.1 p.0;
+      room = omega arith;
     }
 
-pub returns-then-not-is_empty-clause-refusal : goal.returns-then-not-is_empty-clause-refusal
-returns-then-not-is_empty-clause-refusal c =
-    let h = c.loop.invariant.read in
-    let all : c.loop.counter ≡ c.args.sizes.entries = omega arith in
-    let more : c.loop.rest.now ≡ [] → ⊥ = λ e. eqb-false (length c.loop.rest.now) 0 (sym c.is_empty.ensures ∙ c.if-not-is_empty.true) (ap length e) in
-    (refl, refl, no_end c.args.sizes c.args.lines.now c.loop.builder c.loop.rest.now c.loop.counter h all more)
+pub returns-in-Line-next_content-clause-err : goal.returns-in-Line-next_content-clause-err
+returns-in-Line-next_content-clause-err c =
+    let e = c.in-Line-next_content.ensures in too_many c.args.text.now c.loop-given.rest.now c.args.banner c.args.size c.loop-given.builder c.loop-given.at e.0 c.in-Line-next_content.n c.loop-given._given c.in-Line-next_content.field-0.now (lines c.in-Line-next_content.field-1.now) c.loop-given.invariant.filled c.loop-given-test.false e.1 e.2 e.3 e.4
 
-pub returns-clause-lines : goal.returns-clause-lines
-returns-clause-lines c =
-    let all : c.loop.counter ≡ c.args.sizes.entries = omega arith in
-    let h = rw all at c.loop.invariant.read in
-    let e : c.loop.rest.now ≡ [] = nil_from_length c.loop.rest.now (eqb-true (length c.loop.rest.now) 0 (sym c.is_empty.ensures ∙ c.if-not-is_empty.false)) in
-    let lines : HasLines c.args.sizes c.args.lines.now c.loop.builder = read_all c.args.sizes c.args.lines.now c.loop.builder c.loop.rest.now h e in
-    search rules
+pub returns-in-TooLong-next_content-clause-err : goal.returns-in-TooLong-next_content-clause-err
+returns-in-TooLong-next_content-clause-err c =
+    let e = c.in-TooLong-next_content.ensures in long_entry c.args.text.now c.loop-given.rest.now c.args.banner c.args.size c.loop-given.builder c.loop-given.at e.0 c.in-TooLong-next_content.n c.loop-given._given e.1 e.2 c.loop-given.invariant.filled e.3 e.4 e.5
+
+pub returns-in-Ok-finish-clause-ok : goal.returns-in-Ok-finish-clause-ok
+returns-in-Ok-finish-clause-ok c =
+    let e = c.in-End-next_content.ensures in whole c.args.text.now c.loop-given.rest.now c.args.banner c.args.size c.loop-given.builder c.in-Ok-finish.m c.loop-given.at c.in-End-next_content.field-0 c.loop-given._given c.loop-given.invariant.filled c.loop-given-test.false e.0 c.in-Ok-finish.ensures.ok
+
+-- the lines that were read at once
+reached : (c : goal.After-struct_known-1) → Reached c.args.text.now c.args.banner c.args.size c.read_run.new.builder c.args.rest.now c.args.at c.in-Ok-read_run.run'.given c.in-Ok-read_run.run'.next
+reached c = c.in-Ok-read_run.ensures
+
+pub loop-given-init : goal.loop-given-init
+loop-given-init c =
+    let r = reached c in
+    let f = r.fewer in let q = c.requires.room in
+    record {
+      filled = subst (λ (rest : List ℕ). Filled c.args.text.now c.args.banner c.args.size c.read_run.new.builder rest (c.args.at + c.in-Ok-read_run.run'.given) c.in-Ok-read_run.run'.given) (sym c.text_behind-rest.ensures) r.filled;
+      room = let e = ap length c.text_behind-rest.ensures in omega arith;
+    }

@@ -1,11 +1,6 @@
-use Rattle.std.proofs.Common.{◌≡◌}
-use Rattle.std.specs.FinMap.{entries}
-use Rattle.matrix_market.specs.Reading.{last_position}
-use Rattle.matrix_market.proofs.Entries.{HasRead}
+use Rattle.std.proofs.Common.{◌≡◌, ◌<◌, ◌^◌, ◌+◌, length}
+use Rattle.matrix_market.specs.Filling.{Filled}
 use Rattle.matrix_market.proofs.reader.read_entries.Given as goal
 
-abbrev pub invariant-loop : goal.invariant-loop
-invariant-loop l = record {
-  read : HasRead l.fn.sizes l.lines l.builder l.rest l.counter;
-  last : l.last ≡ last_position (entries l.builder.cells);
-}
+abbrev pub invariant-loop-given : goal.invariant-loop-given
+invariant-loop-given l = record { filled : Filled l.text l.banner l.size l.builder l.rest l.at l._given; room : l.at + length l.rest < 2 ^ 63 }

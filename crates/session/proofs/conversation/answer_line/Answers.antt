@@ -1,27 +1,29 @@
 use Rattle.std.proofs.Common.{sym, ap, ◌∙◌}
-use Rattle.session.specs.Words.{words}
-use Rattle.session.specs.Request.{request, next_request}
-use Rattle.session.specs.Asked.{request_of}
-use Rattle.session.specs.Workspace.{state_of}
+use Rattle.command_text.specs.Words.{words}
+use Rattle.command_text.specs.Requests.{request}
+use Rattle.command_text.specs.Readings.{request_of}
+use Rattle.workspace.specs.Workspace.{state_of}
+use Rattle.session.specs.Next.{next_request}
 use Rattle.session.specs.Exchange.{behind}
-use Rattle.session.proofs.Exchanging.{exchanged_told, exchanged_fault, heard_behind}
+use Rattle.session.proofs.Exchanging.{exchanged_told, exchanged_cut, exchanged_fault, heard_behind}
 use Rattle.session.proofs.conversation.answer_line.Goals as goal
 
-pub returns-in-Ok-clause-exchanged : goal.returns-in-Ok-clause-exchanged
-returns-in-Ok-clause-exchanged g c =
-    let old = c.args.desk.now.input in
-    let new = c.complete.new.input in
+pub returns-in-Ok-respond_and_say-clause-exchanged : goal.returns-in-Ok-respond_and_say-clause-exchanged
+returns-in-Ok-respond_and_say-clause-exchanged g c =
     let line = c.args.desk.now.line.items in
-    exchanged_told g.T.Steps.leads c.args.steps.now c.respond_and_say.new.steps _ _ _ _ old new (state_of c.args.desk.now.workspace) (state_of c.respond_and_say.new.workspace) (behind line)
-    c.in-Ok.heard c.respond_and_say.result
-    (heard_behind _ _ old new (request_of c.ask.result) c.deref.result.now line c.in-Ok.heard c.ask.ensures c.deref.ensures.value c.in-Ok.ensures.fetched) c.respond_and_say.ensures.told
+    exchanged_told g.T.Steps.leads (behind line) _ _ _ _ c.in-Ok.heard
+    (heard_behind _ _ (request_of c.parse.result) c.deref.result.now line c.in-Ok.heard c.parse.ensures c.deref.ensures.value c.in-Ok.ensures.fetched)
+    c.in-Ok-respond_and_say.end c.in-Ok-respond_and_say.ensures.told
+
+pub returns-in-Err-respond_and_say-clause-exchanged : goal.returns-in-Err-respond_and_say-clause-exchanged
+returns-in-Err-respond_and_say-clause-exchanged g c =
+    let line = c.args.desk.now.line.items in
+    exchanged_cut g.T.Steps.leads (behind line) _ _ _ _ c.in-Ok.heard
+    (heard_behind _ _ (request_of c.parse.result) c.deref.result.now line c.in-Ok.heard c.parse.ensures c.deref.ensures.value c.in-Ok.ensures.fetched)
+    c.in-Err-respond_and_say.field-0 c.in-Err-respond_and_say.ensures.told
 
 pub returns-in-Err-clause-exchanged : goal.returns-in-Err-clause-exchanged
 returns-in-Err-clause-exchanged g c =
-    let old = c.args.desk.now.input in
-    let new = c.complete.new.input in
     let line = c.args.desk.now.line.items in
-    let state = state_of c.args.desk.now.workspace in
-    let out = g.W.Sink.contents c.args.writer.now in
-    exchanged_fault g.T.Steps.leads c.args.steps.now c.args.steps.now _ _ out out old new state state (behind line) c.in-Err.fault (request_of c.ask.result)
-    (λ e bytes. ap (λ r. next_request e r bytes) (sym (c.ask.ensures ∙ ap (λ l. request (words l)) c.deref.ensures.value))) c.in-Err.ensures.fetched
+    exchanged_fault g.T.Steps.leads (behind line) _ _ _ c.in-Err.fault c.fault_of.result (request_of c.parse.result) (c.fault_of.ensures.failed, c.fault_of.ensures.out)
+    (λ e bytes. ap (λ r. next_request e r bytes) (sym (c.parse.ensures ∙ ap (λ l. request (words l)) c.deref.ensures.value))) c.in-Err.ensures.fetched

@@ -1,52 +1,44 @@
-use Rattle.std.proofs.Common.{Ok, refl, subst}
-use Rattle.session.specs.Flow.{Fetched, IsLined}
-use Rattle.session.specs.Request.{next}
-use Rattle.session.specs.Workspace.{state_of}
-use Rattle.session.specs.declared.rule.SessionRule.TheVariants.{LineTooLong}
-use Rattle.session.specs.declared.conversation.Heard.TheVariants as h
-use Rattle.session.proofs.Exchanging.{exchanged_then, exchanged_told, exchanged_unlined, exchanged_end, told_stopped, heard_over, heard_end}
+use Rattle.std.proofs.Common.{◌≡◌, Ok, None, refl, subst}
+use Rattle.wire.specs.Fetching.{Fetched, IsLined}
+use Rattle.command_text.specs.declared.rules.FatalRule.TheVariants.{LineTooLong}
+use Rattle.workspace.specs.Workspace.{state_of}
+use Rattle.session.specs.Next.{next}
+use Rattle.session.specs.Exchange.{Tells, Touched}
+use Rattle.session.specs.declared.hearing.Heard.TheVariants as h
+use Rattle.session.proofs.Exchanging.{exchanged_then, exchanged_told, exchanged_cut, exchanged_unlined, exchanged_end, told_stopped, heard_over, heard_end}
 use Rattle.session.proofs.conversation.exchange.Goals as goal
 
 pub returns-in-Ok-Whole-clause-exchanged : goal.returns-in-Ok-Whole-clause-exchanged
 returns-in-Ok-Whole-clause-exchanged g c =
-    let h0 = c.args.desk.now.input in
-    let h1 = c.next_line.new.input in
     let line = c.next_line.new.line.items in
-    let i = g.R.Source.remaining c.args.reader.now in
-    let j = g.R.Source.remaining c.next_line.new.reader in
-    exchanged_then g.T.Steps.leads c.args.steps.now c.answer_line.new.steps i j (g.R.Source.remaining c.answer_line.new.reader) (g.W.Sink.contents c.args.writer.now) (g.W.Sink.contents c.answer_line.new.writer)
-    h0 h1 c.answer_line.new.desk.input (state_of c.args.desk.now.workspace) (state_of c.answer_line.new.desk.workspace) line
-    (subst (λ l. Fetched i j h0 h1 (IsLined (Ok l) line h1)) c.in-Ok-Whole.field-0-is c.in-Ok-Whole.ensures.fetched) c.answer_line.result c.answer_line.ensures.exchanged
+    let t = c.next_line.new.input in
+    exchanged_then g.T.Steps.leads _ _ _ _ _ line
+    (subst (λ l. Fetched 0 (record { source = g.R.Source.state c.args.reader.now; held = c.args.desk.now.input }) (record { source = g.R.Source.state c.next_line.new.reader; held = t }) (IsLined (Ok l) line t))
+    c.in-Ok-Whole.field-0-is c.in-Ok-Whole.ensures.fetched)
+    c.answer_line.result c.answer_line.ensures.exchanged
 
-pub returns-in-Ok-Over-clause-exchanged : goal.returns-in-Ok-Over-clause-exchanged
-returns-in-Ok-Over-clause-exchanged g c =
-    let h0 = c.args.desk.now.input in
-    let h1 = c.next_line.new.input in
-    exchanged_told g.T.Steps.leads c.args.steps.now c.respond_and_say.new.steps _ _ _ _ h0 h1 (state_of c.args.desk.now.workspace) (state_of c.respond_and_say.new.workspace) next
-    (h.Stopped LineTooLong) c.respond_and_say.result
-    (heard_over _ _ h0 h1 c.next_line.new.line.items c.in-Ok-Over.field-0 c.in-Ok-Over.field-0-is c.in-Ok-Over.ensures.fetched) c.respond_and_say.ensures.told
+pub returns-in-Ok-clause-exchanged : goal.returns-in-Ok-clause-exchanged
+returns-in-Ok-clause-exchanged g c =
+    exchanged_told g.T.Steps.leads next _ _ _ _ (h.Stopped LineTooLong) (heard_over _ _ c.next_line.new.line.items c.in-Ok-Over.field-0 c.in-Ok-Over.field-0-is c.in-Ok-Over.ensures.fetched)
+    c.in-Ok.end c.in-Ok.ensures.told
 
-pub returns-in-Ok-Over-clause-less : goal.returns-in-Ok-Over-clause-less
-returns-in-Ok-Over-clause-less g c =
-    let h0 = c.args.desk.now.input in
-    let h1 = c.next_line.new.input in
-    let i = g.R.Source.remaining c.args.reader.now in
-    λ e. absurd (told_stopped g.T.Steps.leads c.args.steps.now c.respond_and_say.new.steps i i (g.W.Sink.contents c.args.writer.now) (g.W.Sink.contents c.respond_and_say.new.writer) h0 h1
-    (state_of c.args.desk.now.workspace) (state_of c.respond_and_say.new.workspace) next LineTooLong c.respond_and_say.result c.respond_and_say.ensures.told e)
+pub returns-in-Ok-clause-less : goal.returns-in-Ok-clause-less
+returns-in-Ok-clause-less g c =
+    let was : Touched _ = record { budget = c.args.steps.now; sink = g.W.Sink.state c.args.writer.now; state = state_of c.args.desk.now.workspace } in
+    let now : Touched _ = record { budget = c.respond_and_say.new.steps; sink = g.W.Sink.state c.respond_and_say.new.writer; state = state_of c.respond_and_say.new.workspace } in
+    λ e.
+    let none : c.in-Ok.end ≡ None = cc in
+    absurd (told_stopped g.T.Steps.leads was now LineTooLong (subst (λ o. Tells g.T.Steps.leads was now (h.Stopped LineTooLong) (Ok o)) none c.in-Ok.ensures.told))
+
+pub returns-in-Err-respond_and_say-clause-exchanged : goal.returns-in-Err-respond_and_say-clause-exchanged
+returns-in-Err-respond_and_say-clause-exchanged g c =
+    exchanged_cut g.T.Steps.leads next _ _ _ _ (h.Stopped LineTooLong) (heard_over _ _ c.next_line.new.line.items c.in-Ok-Over.field-0 c.in-Ok-Over.field-0-is c.in-Ok-Over.ensures.fetched)
+    c.in-Err-respond_and_say.field-0 c.in-Err-respond_and_say.ensures.told
 
 pub returns-in-Ok-Nothing-clause-exchanged : goal.returns-in-Ok-Nothing-clause-exchanged
 returns-in-Ok-Nothing-clause-exchanged g c =
-    let h0 = c.args.desk.now.input in
-    let h1 = c.next_line.new.input in
-    let state = state_of c.args.desk.now.workspace in
-    let out = g.W.Sink.contents c.args.writer.now in
-    exchanged_end g.T.Steps.leads c.args.steps.now c.args.steps.now _ _ out out h0 h1 state state next
-    (heard_end _ _ h0 h1 c.next_line.new.line.items c.in-Ok-Nothing.field-0 c.in-Ok-Nothing.field-0-is c.in-Ok-Nothing.ensures.fetched)
+    exchanged_end g.T.Steps.leads next _ _ _ (heard_end _ _ c.next_line.new.line.items c.in-Ok-Nothing.field-0 c.in-Ok-Nothing.field-0-is c.in-Ok-Nothing.ensures.fetched)
 
 pub returns-in-Err-clause-exchanged : goal.returns-in-Err-clause-exchanged
 returns-in-Err-clause-exchanged g c =
-    let h0 = c.args.desk.now.input in
-    let h1 = c.next_line.new.input in
-    let state = state_of c.args.desk.now.workspace in
-    let out = g.W.Sink.contents c.args.writer.now in
-    exchanged_unlined g.T.Steps.leads c.args.steps.now c.args.steps.now _ _ out out h0 h1 state state next c.in-Err.fault c.next_line.new.line.items (λ e bytes. refl) c.in-Err.ensures.fetched
+    exchanged_unlined g.T.Steps.leads next _ _ _ c.in-Err.fault c.fault_of.result c.next_line.new.line.items (c.fault_of.ensures.failed, c.fault_of.ensures.out) (λ e bytes. refl) c.in-Err.ensures.fetched

@@ -12,7 +12,8 @@ required app = record app { top = line.required_command app.top }
 
 pub returns : goal.returns
 returns c =
-    let steps_in : c.range-steps.result ≡ vp.Unsigned 0 4611686018427387904 = rw c.value_parser.ensures at c.range-steps.ensures in
+    let steps_in : c.range-steps.result ≡ vp.Unsigned 0 4611686018427387904 =
+    rw c.value_parser.ensures at c.range-steps.ensures in
     let workers_in : c.range-workers.result ≡ vp.Unsigned 1 64 = rw c.value_parser-2.ensures at c.range-workers.ensures in
     let steps_is : rule_of c.number_option.result ≡ line.number_option (codes "steps") (vp.Unsigned 0 (2 ^ 62)) =
     c.number_option.ensures.rule ∙ ap (line.number_option (codes "steps")) steps_in in
@@ -24,4 +25,5 @@ returns c =
     let top_is : app_of c.subcommand_required.result ≡ required (new_app (codes "spmat")) =
     ap app_of_fields c.subcommand_required.ensures ∙ ap required (ap app_of_fields c.about-2.ensures ∙ c.new-2.ensures.app) in
     let local : (out-Command c.in_ok-run.run').has_globals ≡ false = search rules in
-    IfOk-weaker c.subcommand.result _ _ (λ command added. added.shape local ∙ ap₂ with_subcommand top_is (ap (λ (a : App). a.top) run_is)) c.subcommand.ensures
+    IfOk-weaker c.subcommand.result _ _
+    (λ command added. added.shape local ∙ ap₂ with_subcommand top_is (ap (λ (a : App). a.top) run_is)) c.subcommand.ensures

@@ -1,5 +1,5 @@
 use Rattle.std.proofs.Common.{◌≡◌, true, ℕ, List, [], ◌∷◌, refl, sym, ap, subst, ◌∙◌, slice_index_or}
-use Rattle.std.specs.Prelude.{pos}
+use Rattle.std.specs.Prelude.{pos, Option}
 use Rattle.bpf_insn.specs.declared.content.Content.{Content}
 use Rattle.bpf_insn.specs.declared.content.Content.TheVariants.{Unset, Place}
 use Rattle.bpf_insn.specs.declared.operands.Operands.{Operands}
@@ -11,7 +11,7 @@ use Rattle.bpf_insn.proofs.tagged.Tagged.enter.Goals as goal
 abbrev set_out : List Content → List Content
 set_out a = Unset ∷ slice_index_or a 0 Unset ∷ slice_index_or a 1 Unset ∷ slice_index_or a 2 Unset ∷ slice_index_or a 3 Unset ∷ Unset ∷ Unset ∷ Unset ∷ Unset ∷ Unset ∷ Place (pos 0) ∷ []
 
-abbrev begun : List Content → List ℕ → State
+abbrev begun : List Content → List (Option ℕ) → State
 begun registers stack = Running (record { slot = 0; registers = registers; stack = stack })
 
 in_place : (operands : Operands) → set_out (arguments operands) ≡ entry_registers operands

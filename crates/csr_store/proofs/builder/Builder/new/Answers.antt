@@ -1,5 +1,12 @@
-use Rattle.csr_store.proofs.Laws.{empty-is_grid}
+use Rattle.std.proofs.Common.{refl, ap, ◌∙◌}
+use Rattle.csr_store.specs.Grid.{Grid}
+use Rattle.csr_store.proofs.Collecting.{collected_none, collected_alone}
 use Rattle.csr_store.proofs.builder.Builder.new.Goals as goal
 
 pub invariant_of-result : goal.invariant_of-result
-invariant_of-result c = rw c.new.ensures.empty (empty-is_grid c.args.rows c.args.columns c.requires.rows c.requires.columns)
+invariant_of-result c =
+    let e = c.begin.ensures in
+    rw e (rw c.new.ensures.empty (collected_none _ _ c.requires.rows c.requires.columns refl refl))
+
+pub returns : goal.returns
+returns c = collected_alone c.begin.result c.new.result.entries c.new.ensures.empty ∙ c.begin.ensures

@@ -1,48 +1,84 @@
-use Rattle.std.proofs.Common.{◌≡◌, None, unwrap_or, refl, ap, sym, ◌∙◌, arith}
-use Rattle.std.proofs.lemmas.Result.{err_from_is_err_and}
+use Rattle.std.proofs.Common.{◌≡◌, ◌<◌, ◌≤◌, ◌+◌, ◌^◌, ℕ, false, List, Option, None, Some, is_some, unwrap_or, length, refl, ap, sym, ◌∙◌, arith}
 use Rattle.std.specs.FinMap as map
+use Rattle.csr_store.specs.declared.error.StoreError.{StoreError}
 use Rattle.csr_store.specs.declared.error.StoreError.TheVariants.{Memory}
-use Rattle.csr_store.specs.Grid.{Grid}
+use Rattle.csr_store.specs.Grid.{Grid, Entry, IsInside, pos_cmp, limit}
 use Rattle.csr_store.specs.Refusal.{put_fault}
-use Rattle.csr_store.specs.Triples.{grid}
-use Rattle.csr_store.proofs.Laws.{fits-put_fault, insert-is_grid}
-use Rattle.csr_store.proofs.Kept.{one_put, twice_fault, many_fault, entry_fits}
+use Rattle.csr_store.proofs.Laws.{Fits, fits-put_fault, is_none}
+use Rattle.csr_store.proofs.Collecting.{value_at, collected, first_twice, second_twice, too_many, fits, first_collected, second_collected, collected_first, collected_second, len-from_entries, with_entry}
 use Rattle.csr_store.proofs.builder.Builder.put.Goals as goal
+
+pub returns-then-has-clause-refused : goal.returns-then-has-clause-refused
+returns-then-has-clause-refused c =
+    let fault = first_twice c.self.inside.ascending c.self.inside.others.entries (c.args.row, c.args.column) c.self.invariant (let r = c.rows.ensures.rows in let s = c.columns.ensures.columns in (omega arith, omega arith)) (cc) in
+    ap (λ o. unwrap_or o Memory) (sym fault ∙ ap (λ (g : Grid). put_fault g (c.args.row, c.args.column)) c.self.view_is)
 
 pub returns-then-contains_key-clause-refused : goal.returns-then-contains_key-clause-refused
 returns-then-contains_key-clause-refused c =
-    let fault = twice_fault c.self.inside.rows c.self.inside.columns c.self.inside.entries.entries (c.args.row, c.args.column) (omega arith, omega arith) (cc) in
+    let fault = second_twice c.self.inside.ascending c.self.inside.others.entries (c.args.row, c.args.column) c.self.invariant (let r = c.rows.ensures.rows in let s = c.columns.ensures.columns in (omega arith, omega arith)) (cc) in
     ap (λ o. unwrap_or o Memory) (sym fault ∙ ap (λ (g : Grid). put_fault g (c.args.row, c.args.column)) c.self.view_is)
 
-pub returns-then-len-ge-LIMIT-clause-refused : goal.returns-then-len-ge-LIMIT-clause-refused
-returns-then-len-ge-LIMIT-clause-refused c =
-    let l = c.len.ensures.len in
-    let fault = many_fault c.self.inside.rows c.self.inside.columns c.self.inside.entries.entries (c.args.row, c.args.column) (omega arith, omega arith) (cc) c.len.ensures.ordered (omega arith) in
+pub returns-then-entries-len-ge-LIMIT-clause-refused : goal.returns-then-entries-len-ge-LIMIT-clause-refused
+returns-then-entries-len-ge-LIMIT-clause-refused c =
+    let n = len-from_entries c.self.inside.others.entries c.len.ensures.ordered in
+    let m = c.len.ensures.len in let k = c.entries.ensures.entries in
+    let fault = too_many c.self.inside.ascending c.self.inside.others.entries (c.args.row, c.args.column) c.self.invariant (let r = c.rows.ensures.rows in let s = c.columns.ensures.columns in (omega arith, omega arith)) (is_none _ (cc)) (is_none _ (cc)) (omega arith) in
     ap (λ o. unwrap_or o Memory) (sym fault ∙ ap (λ (g : Grid). put_fault g (c.args.row, c.args.column)) c.self.view_is)
 
-pub returns-in_err-insert-clause-refused : goal.returns-in_err-insert-clause-refused
-returns-in_err-insert-clause-refused c =
-    let l = c.len.ensures.len in
-    let fits = entry_fits c.self.inside.rows c.self.inside.columns c.self.inside.entries.entries (c.args.row, c.args.column) (omega arith, omega arith) (cc) c.len.ensures.ordered (omega arith) in
-    let none : put_fault c.args.self.now (c.args.row, c.args.column) ≡ None = sym (ap (λ (g : Grid). put_fault g (c.args.row, c.args.column)) c.self.view_is) ∙ fits-put_fault _ _ fits in
-    let p = err_from_is_err_and c.from_residual.result c.from_residual.ensures.1 in
-    rw (p.1, p.2, none) refl
+pub invariant_of-self : goal.invariant_of-self
+invariant_of-self c =
+    let n = len-from_entries c.self.inside.others.entries c.len.ensures.ordered in
+    let m = c.len.ensures.len in let k = c.entries.ensures.entries in
+    let r = c.rows.ensures.rows in let s = c.columns.ensures.columns in
+    first_collected c.self.inside.ascending c.self.inside.others.entries (c.args.row, c.args.column) c.self.invariant (omega arith, omega arith) c.add.new.self c.args.value (is_none _ (cc)) (is_none _ (cc)) (omega arith) (let f = c.ranges.value.fits in omega arith) (c.in-Ok-true.ensures.added c.in-Ok-true.field-0-test)
+
+pub returns-in-Ok-true-clause-fits : goal.returns-in-Ok-true-clause-fits
+returns-in-Ok-true-clause-fits c =
+    let n = len-from_entries c.self.inside.others.entries c.len.ensures.ordered in
+    let m = c.len.ensures.len in let k = c.entries.ensures.entries in
+    let r = c.rows.ensures.rows in let s = c.columns.ensures.columns in
+    let none : put_fault c.args.self.now (c.args.row, c.args.column) ≡ None = sym (ap (λ (g : Grid). put_fault g (c.args.row, c.args.column)) c.self.view_is) ∙ fits-put_fault _ _ (fits c.self.inside.ascending c.self.inside.others.entries (c.args.row, c.args.column) c.self.invariant (omega arith, omega arith) (is_none _ (cc)) (is_none _ (cc)) (omega arith)) in
+    none
+
+pub returns-in-Ok-true-clause-added : goal.returns-in-Ok-true-clause-added
+returns-in-Ok-true-clause-added c =
+    collected_first c.self.inside.ascending c.add.new.self c.self.inside.others.entries (c.args.row, c.args.column) c.args.value (c.in-Ok-true.ensures.added c.in-Ok-true.field-0-test)
+    ∙ ap (λ (g : Grid). with_entry g (c.args.row, c.args.column) c.args.value) c.self.view_is
+
+pub returns-in-Err-clause-refused : goal.returns-in-Err-clause-refused
+returns-in-Err-clause-refused c =
+    let n = len-from_entries c.self.inside.others.entries c.len.ensures.ordered in
+    let m = c.len.ensures.len in let k = c.entries.ensures.entries in
+    let r = c.rows.ensures.rows in let s = c.columns.ensures.columns in
+    let none : put_fault c.args.self.now (c.args.row, c.args.column) ≡ None = sym (ap (λ (g : Grid). put_fault g (c.args.row, c.args.column)) c.self.view_is) ∙ fits-put_fault _ _ (fits c.self.inside.ascending c.self.inside.others.entries (c.args.row, c.args.column) c.self.invariant (omega arith, omega arith) (is_none _ (cc)) (is_none _ (cc)) (omega arith)) in
+    ap (λ o. unwrap_or o Memory) (sym none)
+
+pub returns-in-Err-insert-clause-refused : goal.returns-in-Err-insert-clause-refused
+returns-in-Err-insert-clause-refused c =
+    let n = len-from_entries c.self.inside.others.entries c.len.ensures.ordered in
+    let m = c.len.ensures.len in let k = c.entries.ensures.entries in
+    let r = c.rows.ensures.rows in let s = c.columns.ensures.columns in
+    let none : put_fault c.args.self.now (c.args.row, c.args.column) ≡ None = sym (ap (λ (g : Grid). put_fault g (c.args.row, c.args.column)) c.self.view_is) ∙ fits-put_fault _ _ (fits c.self.inside.ascending c.self.inside.others.entries (c.args.row, c.args.column) c.self.invariant (omega arith, omega arith) (is_none _ (cc)) (is_none _ (cc)) (omega arith)) in
+    ap (λ o. unwrap_or o Memory) (sym none)
 
 pub invariant_of-self-2 : goal.invariant_of-self-2
 invariant_of-self-2 c =
-    let l = c.len.ensures.len in
-    let fits = entry_fits c.self.inside.rows c.self.inside.columns c.self.inside.entries.entries (c.args.row, c.args.column) (omega arith, omega arith) (cc) c.len.ensures.ordered (omega arith) in
-    let made = one_put c.self.inside.entries.entries c.insert.new.self.entries (c.args.row, c.args.column) c.args.value c.in_ok-insert.ensures.updates.0 in
-    rw made (insert-is_grid (grid c.self.inside.rows c.self.inside.columns c.self.inside.entries.entries) (c.args.row, c.args.column) c.args.value c.self.invariant fits c.ranges.value.fits)
+    let n = len-from_entries c.self.inside.others.entries c.len.ensures.ordered in
+    let m = c.len.ensures.len in let k = c.entries.ensures.entries in
+    let r = c.rows.ensures.rows in let s = c.columns.ensures.columns in
+    rw (c.in-Ok-false.ensures.left c.in-Ok-false.field-0-test)
+    (second_collected c.self.inside.ascending c.self.inside.others.entries (c.args.row, c.args.column) c.self.invariant (omega arith, omega arith) c.insert.new.self.entries c.args.value (is_none _ (cc)) (is_none _ (cc)) (omega arith) (let f = c.ranges.value.fits in omega arith) c.in-Ok.ensures.updates.0)
 
 pub returns-clause-fits : goal.returns-clause-fits
 returns-clause-fits c =
-    let l = c.len.ensures.len in
-    let fits = entry_fits c.self.inside.rows c.self.inside.columns c.self.inside.entries.entries (c.args.row, c.args.column) (omega arith, omega arith) (cc) c.len.ensures.ordered (omega arith) in
-    sym (ap (λ (g : Grid). put_fault g (c.args.row, c.args.column)) c.self.view_is) ∙ fits-put_fault _ _ fits
+    let n = len-from_entries c.self.inside.others.entries c.len.ensures.ordered in
+    let m = c.len.ensures.len in let k = c.entries.ensures.entries in
+    let r = c.rows.ensures.rows in let s = c.columns.ensures.columns in
+    let none : put_fault c.args.self.now (c.args.row, c.args.column) ≡ None = sym (ap (λ (g : Grid). put_fault g (c.args.row, c.args.column)) c.self.view_is) ∙ fits-put_fault _ _ (fits c.self.inside.ascending c.self.inside.others.entries (c.args.row, c.args.column) c.self.invariant (omega arith, omega arith) (is_none _ (cc)) (is_none _ (cc)) (omega arith)) in
+    none
 
 pub returns-clause-added : goal.returns-clause-added
 returns-clause-added c =
-    let made = one_put c.self.inside.entries.entries c.insert.new.self.entries (c.args.row, c.args.column) c.args.value c.in_ok-insert.ensures.updates.0 in
-    ap (λ m. let g : Grid = record { rows = c.self.inside.rows; columns = c.self.inside.columns; cells = m } in g) made
-    ∙ ap (λ (g : Grid). let h : Grid = record { rows = g.rows; columns = g.columns; cells = map.insert g.cells (c.args.row, c.args.column) c.args.value } in h) c.self.view_is
+    ap (λ (g : Grid). collected g c.insert.new.self.entries) (c.in-Ok-false.ensures.left c.in-Ok-false.field-0-test)
+    ∙ collected_second c.self.inside.ascending c.self.inside.others.entries c.insert.new.self.entries (c.args.row, c.args.column) c.args.value (is_none _ (cc)) c.in-Ok.ensures.updates.0
+    ∙ ap (λ (g : Grid). with_entry g (c.args.row, c.args.column) c.args.value) c.self.view_is

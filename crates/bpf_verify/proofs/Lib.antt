@@ -1,0 +1,12 @@
+pub mod Bits
+pub mod SlotPass
+pub mod Telling
+pub mod After
+pub mod Adding
+pub mod Showing
+pub mod Stepping
+pub mod Table
+pub mod Stack
+pub mod Agreeing
+pub mod Sound
+pub mod Accepting

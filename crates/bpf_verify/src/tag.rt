@@ -1,0 +1,88 @@
+//! What is known of a register.
+ghost use Rattle.std.specs.Prelude.{◌≡◌, false};
+ghost use Rattle.bpf_verify.specs.Tags.{is_unset_tag, is_number_tag, is_place_tag, is_mixed_tag, reaches_outside, first_byte, moved_tag};
+ghost use Rattle.bpf_verify.specs.Pass.{joined};
+
+use bpf_insn::is_outside_stack;
+
+/// What is known of a register at a slot, of all the paths that lead there.
+#[derive(Clone, Copy, Debug, PartialEq, Eq)]
+pub enum Tag {
+    /// Some path leaves it unset.
+    Unset,
+    /// All paths leave a number in it.
+    Number,
+    /// All paths leave this place in it: how many bytes from the stack's top, -512 to 0.
+    Place(i16),
+    /// All paths set it, and not all to a number, nor all to the same place.
+    Mixed,
+}
+
+impl Tag {
+    pub(crate) fn is_unset(self) -> bool
+        ensures { result ≡ is_unset_tag self }
+    {
+        matches!(self, Tag::Unset)
+    }
+
+    pub(crate) fn is_number(self) -> bool
+        ensures { result ≡ is_number_tag self }
+    {
+        matches!(self, Tag::Number)
+    }
+
+    pub(crate) fn is_place(self) -> bool
+        ensures { result ≡ is_place_tag self }
+    {
+        matches!(self, Tag::Place(_))
+    }
+
+    pub(crate) fn is_mixed(self) -> bool
+        ensures { result ≡ is_mixed_tag self }
+    {
+        matches!(self, Tag::Mixed)
+    }
+
+    /// Whether `count` bytes at an offset from the place lie outside the stack.
+    pub(crate) fn reaches_outside(self, offset: i32, count: u8) -> bool
+        ensures { result ≡ reaches_outside self offset count }
+    {
+        match self {
+            Tag::Place(place) => is_outside_stack(i64::from(place) + i64::from(offset), count),
+            _ => false,
+        }
+    }
+
+    /// The byte of the stack, from its lowest, at an offset from the place.
+    pub(crate) fn first_byte(self, offset: i16) -> u64
+        ensures { result ≡ first_byte self offset }
+    {
+        match self {
+            Tag::Place(place) => (i64::from(place) + i64::from(offset) + 512).unsigned_abs(),
+            _ => 0,
+        }
+    }
+
+    /// The place, moved.
+    pub(crate) fn moved(self, by: i32) -> Tag
+        requires { reaches_outside self by 0 ≡ false }
+        ensures { result ≡ moved_tag self by }
+    {
+        match self {
+            Tag::Place(place) => Tag::Place((i64::from(place) + i64::from(by)) as i16),
+            _ => self,
+        }
+    }
+
+    /// What is known where two ways meet.
+    pub(crate) fn join(self, other: Tag) -> Tag
+        ensures { result ≡ joined self other }
+    {
+        match (self, other) {
+            (Tag::Unset, _) | (_, Tag::Unset) => Tag::Unset,
+            (Tag::Number, Tag::Number) => Tag::Number,
+            (Tag::Place(o), Tag::Place(p)) if o == p => Tag::Place(o),
+            _ => Tag::Mixed,
+        }
+    }
+}

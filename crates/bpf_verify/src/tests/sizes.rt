@@ -1,0 +1,58 @@
+//! Programs of 4,096 slots.
+use super::*;
+use bpf_insn::{Operands, Ran, run_tagged};
+
+/// `jeq64 r1, imm, 1`
+fn skip_where(imm: u64) -> u64 {
+    0x1501_0100_0000_0000 | imm.swap_bytes() >> 32
+}
+
+/// 2,047 branches, each over a store into one of four places: 2^2047 ways.
+#[test]
+fn many_branches_are_one_pass(rt: HostRuntime) -> Result<(), Fail> {
+    let stores = [
+        0x7a0a_f8ff_0000_0000,
+        0x7a0a_f0ff_0000_0000,
+        0x7a0a_e8ff_0000_0000,
+        0x7a0a_00fe_0000_0000,
+    ];
+    let mut slots = Vec::new(rt.alloc());
+    for i in 0..2047 {
+        slots.push(skip_where(i))?;
+        slots.push(stores[(i % 4) as usize])?;
+    }
+    slots.push(ZERO)?;
+    slots.push(EXIT)?;
+    let Ok(operator) = verdict(&rt, rt.alloc(), &slots, Kind::Unary)? else {
+        panic!(rt; "refused");
+    };
+    assert_eq!(rt; operator.len(), 4096);
+    assert_eq!(rt; operator.stored(2, -8), Some(false));
+    assert_eq!(rt; operator.stored(4095, -8), Some(false));
+    let ran = run_tagged(operator.program(), Kind::Unary, &Operands::Unary { x: 7 });
+    assert_eq!(rt;
+        ran,
+        Ran::Done {
+            value: 0,
+            steps: 4095
+        }
+    );
+    Ok(())
+}
+
+/// A load at the end of which one byte was stored on all ways but one.
+#[test]
+fn one_way_of_many_is_found(rt: HostRuntime) -> Result<(), Fail> {
+    let mut slots = Vec::new(rt.alloc());
+    for i in 0..2046 {
+        slots.push(skip_where(i))?;
+        slots.push(0x720a_ffff_0000_0000)?;
+    }
+    slots.push(ZERO)?;
+    slots.push(ZERO)?;
+    slots.push(0x71a0_ffff_0000_0000)?;
+    slots.push(EXIT)?;
+    let found = verdict(&rt, rt.alloc(), &slots, Kind::Unary)?.err();
+    assert_eq!(rt; found, Some((4094, CodeRule::UnstoredRead)));
+    Ok(())
+}

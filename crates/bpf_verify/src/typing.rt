@@ -1,0 +1,109 @@
+//! The pass that finds what is known at each slot: one visit a slot, in ascending order.
+ghost use Rattle.std.specs.Prelude.{◌≡◌, ◌<◌, ◌≤◌, ◌+◌, ℕ, List, vec_len, pos, IfOk, IfErr, Some, None};
+ghost use Rattle.std.specs.List.{AllByRecursion};
+ghost use Rattle.bpf_insn.specs.Program.{slot_count};
+ghost use Rattle.bpf_insn.specs.Rule.{IsLowest};
+ghost use Rattle.bpf_verify.specs.declared.tag.Tag.{Tag};
+ghost use Rattle.bpf_verify.specs.Paths.{targets, IsShown};
+ghost use Rattle.bpf_verify.specs.Table.{known, known_in};
+ghost use Rattle.bpf_verify.specs.Pass.{IsMerged, IsEntry, IsClean, IsGoodTarget, IsExact, IsExactBelow, ExplainsTyping, Adds, AddsAll};
+
+use crate::error::VerifyError;
+use crate::facts::Facts;
+use crate::tag::Tag;
+use bpf_insn::{CodeRule, Fault, Insn, Program};
+use std::alloc::Global;
+
+/// What is known at each slot of a program that has no slot fault, or the first fault that paths
+/// show, or want of memory.
+pub(crate) fn typed(
+    alloc: Global,
+    program: &Program,
+    entry: [Tag; 11],
+) -> Result<Vec<Option<Facts>>, VerifyError>
+    requires clean { IsClean program.now }
+    requires entry { IsEntry entry }
+    ensures exact { IfOk result (λ table. IsExact program.now entry table.items) }
+    ensures len { IfOk result (λ table. vec_len table ≡ slot_count program.now) }
+    ensures refused { IfErr result (ExplainsTyping program.now entry) }
+{
+    let Ok(mut table) = vec![in alloc; None; program.slots() as usize] else {
+        return Err(VerifyError::Memory);
+    };
+    table[0] = Some(Facts::at_entry(entry));
+    for slot in 0..program.slots() {
+        if let Err(rule) = visit(program, &mut table, slot) {
+            return Err(VerifyError::Fault(Fault { slot, rule }));
+        }
+    }
+    Ok(table)
+}
+
+/// Looks at one slot. Where some path leads there, what is known after its instruction goes to the
+/// slots that may follow, or the instruction breaks a rule, of which the lowest is answered.
+fn visit(program: &Program, table: &mut Vec<Option<Facts>>, slot: u64) -> Result<(), CodeRule>
+    requires len { vec_len table.old ≡ slot_count program.now }
+    requires within { slot < slot_count program.now }
+    requires few { slot_count program.now ≤ 4096 }
+    requires clean { IsClean program.now }
+    ensures len { vec_len table.new ≡ vec_len table.old }
+    ensures exact { IfOk result (λ _. (entry : List Tag) → IsEntry entry →
+        IsExactBelow slot program.now entry table.old.items → IsExactBelow (slot + 1) program.now entry table.new.items) }
+    ensures refused { IfErr result (λ rule. (entry : List Tag) →
+        IsExactBelow slot program.now entry table.old.items → IsLowest (IsShown program.now entry slot) rule) }
+{
+    let Some(insn) = program.insn_at(slot) else {
+        return Ok(());
+    };
+    let Some(facts) = table[slot as usize] else {
+        return Ok(());
+    };
+    if let Some(rule) = facts.refusal(*insn) {
+        return Err(rule);
+    }
+    lead_on(program, table, slot, *insn, &facts.after(*insn));
+    Ok(())
+}
+
+/// Joins what is known after an instruction to what is known at each slot that may follow.
+fn lead_on(program: &Program, table: &mut Vec<Option<Facts>>, slot: u64, insn: Insn, facts: &Facts)
+    requires len { vec_len table.old ≡ slot_count program.now }
+    requires few { slot < 4096 }
+    requires good { AllByRecursion (IsGoodTarget program.now slot) (targets slot insn) }
+    ensures len { vec_len table.new ≡ vec_len table.old }
+    ensures adds { AddsAll (targets slot insn) (known facts.now) table.old.items table.new.items }
+{
+    let next = slot as i64 + 1;
+    match insn {
+        Insn::Exit => {}
+        Insn::Ja { offset } => lead(program, table, slot, next + i64::from(offset), facts),
+        Insn::Ja32 { offset } => lead(program, table, slot, next + i64::from(offset), facts),
+        Insn::Jump { offset, .. } => {
+            lead(program, table, slot, next, facts);
+            lead(program, table, slot, next + i64::from(offset), facts);
+        }
+        Insn::Wide { .. } => lead(program, table, slot, next + 1, facts),
+        _ => lead(program, table, slot, next, facts),
+    }
+}
+
+/// Joins what is known to what is known at one slot.
+fn lead(program: &Program, table: &mut Vec<Option<Facts>>, slot: u64, to: i64, facts: &Facts)
+    requires len { vec_len table.old ≡ slot_count program.now }
+    requires good { IsGoodTarget program.now slot to }
+    ensures len { vec_len table.new ≡ vec_len table.old }
+    ensures adds { Adds to (known facts.now) table.old.items table.new.items }
+{
+    let to = to.unsigned_abs() as usize;
+    table[to] = Some(merged(table[to], facts));
+}
+
+/// What is known where a way comes to a slot, which is the first or joins what is known there.
+fn merged(there: Option<Facts>, facts: &Facts) -> Facts
+    ensures { IsMerged (known_in (Some there)) (known facts.now) (known result) }
+{
+    match there {
+        Some(there) => there.join(facts),
+        None => *facts,
+    }
+}

@@ -1,0 +1,3 @@
+pub mod WordCuts
+pub mod Digits
+pub mod Naming

@@ -1,0 +1,276 @@
+//! What a command line asks for.
+ghost use Rattle.std.specs.Prelude.{◌≡◌, ℕ, List, [], ◌∷◌};
+ghost use Rattle.command_text.specs.Words as text;
+ghost use Rattle.command_text.specs.Requests as spec;
+ghost use Rattle.command_text.specs.Readings.{command_of, header_of, request_of};
+
+use crate::rules::{FatalRule, SessionRule};
+use crate::words::{first_word, only_word, parse_length, three_words};
+
+/// The first word of a command.
+#[derive(Clone, Copy, Debug, PartialEq, Eq)]
+pub enum Verb {
+    Matrix,
+    Op,
+    Asm,
+    Dis,
+    Apply,
+    Run,
+    Show,
+    Types,
+    Budget,
+    Quit,
+}
+
+/// A command without a body, with its words.
+#[derive(Clone, Copy)]
+pub enum Command<'a> {
+    /// A line without words.
+    Blank,
+    /// `apply OUT OP A`
+    Apply {
+        output: &'a [u8],
+        operator: &'a [u8],
+        operand: &'a [u8],
+    },
+    /// `run`
+    Run,
+    /// `show NAME`
+    Show {
+        name: &'a [u8],
+    },
+    /// `types NAME`
+    Types {
+        name: &'a [u8],
+    },
+    /// `dis NAME`
+    Dis {
+        name: &'a [u8],
+    },
+    /// `budget`
+    Budget,
+    /// `quit`
+    Quit,
+    /// A line that is refused whatever the session holds.
+    Refuse(SessionRule),
+}
+
+/// A command whose body follows its line.
+#[derive(Clone, Copy)]
+pub enum Header<'a> {
+    /// `matrix NAME LEN`
+    Matrix { name: &'a [u8] },
+    /// `op NAME KIND LEN`
+    Op { name: &'a [u8], kind: &'a [u8] },
+    /// `asm NAME KIND LEN`
+    Asm { name: &'a [u8], kind: &'a [u8] },
+}
+
+/// What a line asks for.
+#[derive(Clone, Copy)]
+pub enum Request<'a> {
+    /// A command without a body.
+    Plain(Command<'a>),
+    /// A command whose body of so many bytes follows.
+    Body { header: Header<'a>, length: u64 },
+    /// Nothing that a session could go on after.
+    Fatal(FatalRule),
+}
+
+/// The command that a word names.
+fn parse_verb(word: &[u8]) -> Option<Verb>
+    ensures { result ≡ spec.verb_of word.now }
+{
+    if word == b"matrix".as_slice() {
+        Some(Verb::Matrix)
+    } else if word == b"op".as_slice() {
+        Some(Verb::Op)
+    } else if word == b"asm".as_slice() {
+        Some(Verb::Asm)
+    } else if word == b"dis".as_slice() {
+        Some(Verb::Dis)
+    } else if word == b"apply".as_slice() {
+        Some(Verb::Apply)
+    } else if word == b"run".as_slice() {
+        Some(Verb::Run)
+    } else if word == b"show".as_slice() {
+        Some(Verb::Show)
+    } else if word == b"types".as_slice() {
+        Some(Verb::Types)
+    } else if word == b"budget".as_slice() {
+        Some(Verb::Budget)
+    } else if word == b"quit".as_slice() {
+        Some(Verb::Quit)
+    } else {
+        None
+    }
+}
+
+/// A line that is refused.
+fn refuse<'a>(rule: SessionRule) -> Request<'a>
+    ensures { request_of result ≡ spec.Plain (spec.Refuse rule) }
+{
+    Request::Plain(Command::Refuse(rule))
+}
+
+/// The command, if no word follows it.
+fn alone<'a>(command: Command<'a>, rest: &[u8]) -> Request<'a>
+    ensures none { text.words rest.now ≡ [] → request_of result ≡ spec.Plain (command_of command.entry) }
+    ensures some { (word : List ℕ) (words : List (List ℕ)) → text.words rest.now ≡ word ∷ words →
+        request_of result ≡ spec.Plain (spec.Refuse SessionRule.MalformedWords) }
+{
+    match first_word(rest) {
+        None => Request::Plain(command),
+        Some(_) => refuse(SessionRule::MalformedWords),
+    }
+}
+
+/// The most bytes of a body.
+fn body_limit(header: Header<'_>) -> u64
+    ensures { result ≡ spec.body_limit (header_of header.entry) }
+{
+    match header {
+        Header::Matrix { .. } => 268_435_456,
+        Header::Op { .. } => 262_144,
+        Header::Asm { .. } => 262_144,
+    }
+}
+
+/// The command, if its body is of an allowed length.
+fn with_length<'a>(header: Header<'a>, length: &[u8]) -> Request<'a>
+    ensures { request_of result ≡ spec.with_length (header_of header.entry) (text.length_of length.now) }
+{
+    match parse_length(length) {
+        None => Request::Fatal(FatalRule::MalformedWords),
+        Some(length) => {
+            if length > body_limit(header) {
+                Request::Fatal(FatalRule::BodyTooLong)
+            } else {
+                Request::Body { header, length }
+            }
+        }
+    }
+}
+
+/// What follows the word `matrix`.
+fn matrix_request(rest: &[u8]) -> Request<'_>
+    ensures { request_of result ≡ spec.asked Verb.Matrix (text.words rest.now) }
+{
+    let Some((name, rest)) = first_word(rest) else {
+        return Request::Fatal(FatalRule::MalformedWords);
+    };
+    let Some((length, rest)) = first_word(rest) else {
+        return Request::Fatal(FatalRule::MalformedWords);
+    };
+    match first_word(rest) {
+        None => with_length(Header::Matrix { name }, length),
+        Some(_) => Request::Fatal(FatalRule::MalformedWords),
+    }
+}
+
+/// What follows the word `op`.
+fn operator_request(rest: &[u8]) -> Request<'_>
+    ensures { request_of result ≡ spec.asked Verb.Op (text.words rest.now) }
+{
+    match three_words(rest) {
+        Some((name, kind, length)) => with_length(Header::Op { name, kind }, length),
+        None => Request::Fatal(FatalRule::MalformedWords),
+    }
+}
+
+/// What follows the word `asm`.
+fn assembly_request(rest: &[u8]) -> Request<'_>
+    ensures { request_of result ≡ spec.asked Verb.Asm (text.words rest.now) }
+{
+    match three_words(rest) {
+        Some((name, kind, length)) => with_length(Header::Asm { name, kind }, length),
+        None => Request::Fatal(FatalRule::MalformedWords),
+    }
+}
+
+/// What follows the word `apply`.
+fn apply_request(rest: &[u8]) -> Request<'_>
+    ensures { request_of result ≡ spec.asked Verb.Apply (text.words rest.now) }
+{
+    let Some((output, rest)) = first_word(rest) else {
+        return refuse(SessionRule::MalformedWords);
+    };
+    let Some((operator, rest)) = first_word(rest) else {
+        return refuse(SessionRule::MalformedWords);
+    };
+    let Some((operand, rest)) = first_word(rest) else {
+        return refuse(SessionRule::MalformedWords);
+    };
+    let Some((_, rest)) = first_word(rest) else {
+        return Request::Plain(Command::Apply {
+            output,
+            operator,
+            operand,
+        });
+    };
+    match first_word(rest) {
+        None => refuse(SessionRule::UnknownCommand),
+        Some(_) => refuse(SessionRule::MalformedWords),
+    }
+}
+
+/// What follows the word `show`.
+fn show_request(rest: &[u8]) -> Request<'_>
+    ensures { request_of result ≡ spec.asked Verb.Show (text.words rest.now) }
+{
+    match only_word(rest) {
+        Some(name) => Request::Plain(Command::Show { name }),
+        None => refuse(SessionRule::MalformedWords),
+    }
+}
+
+/// What follows the word `types`.
+fn types_request(rest: &[u8]) -> Request<'_>
+    ensures { request_of result ≡ spec.asked Verb.Types (text.words rest.now) }
+{
+    match only_word(rest) {
+        Some(name) => Request::Plain(Command::Types { name }),
+        None => refuse(SessionRule::MalformedWords),
+    }
+}
+
+/// What follows the word `dis`.
+fn disassembly_request(rest: &[u8]) -> Request<'_>
+    ensures { request_of result ≡ spec.asked Verb.Dis (text.words rest.now) }
+{
+    match only_word(rest) {
+        Some(name) => Request::Plain(Command::Dis { name }),
+        None => refuse(SessionRule::MalformedWords),
+    }
+}
+
+/// What a command asks for with the words that follow its first.
+fn parse_rest(verb: Verb, rest: &[u8]) -> Request<'_>
+    ensures { request_of result ≡ spec.asked verb (text.words rest.now) }
+{
+    match verb {
+        Verb::Matrix => matrix_request(rest),
+        Verb::Op => operator_request(rest),
+        Verb::Asm => assembly_request(rest),
+        Verb::Dis => disassembly_request(rest),
+        Verb::Apply => apply_request(rest),
+        Verb::Run => alone(Command::Run, rest),
+        Verb::Show => show_request(rest),
+        Verb::Types => types_request(rest),
+        Verb::Budget => alone(Command::Budget, rest),
+        Verb::Quit => alone(Command::Quit, rest),
+    }
+}
+
+/// What a line asks for. Its first word alone tells the command; then the other words are looked at.
+pub fn parse(line: &[u8]) -> Request<'_>
+    ensures { request_of result ≡ spec.request (text.words line.now) }
+{
+    let Some((word, rest)) = first_word(line) else {
+        return Request::Plain(Command::Blank);
+    };
+    match parse_verb(word) {
+        Some(verb) => parse_rest(verb, rest),
+        None => refuse(SessionRule::UnknownCommand),
+    }
+}

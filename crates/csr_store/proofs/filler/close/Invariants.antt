@@ -1,0 +1,6 @@
+use Rattle.std.proofs.Common.{◌≡◌, ◌≤◌, length}
+use Rattle.csr_store.specs.ByRows.{Closes}
+use Rattle.csr_store.proofs.filler.close.Given as goal
+
+abbrev pub invariant-loop : goal.invariant-loop
+invariant-loop l = record { closes : Closes l.fn.ends.items l.end l.ends.items; reached : length l.ends.items ≡ l.counter; upto : l.counter ≤ l.row }

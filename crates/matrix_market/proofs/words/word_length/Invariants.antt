@@ -1,0 +1,7 @@
+use Rattle.std.proofs.Common.{◌≡◌, ◌++◌, take, drop, length, ◌<◌, ℕ, get_or, false}
+use Rattle.std.specs.List.{slice_split}
+use Rattle.matrix_market.specs.Market.{words, is_blank}
+use Rattle.matrix_market.proofs.words.word_length.Given as goal
+
+abbrev pub invariant-loop-i : goal.invariant-loop-i
+invariant-loop-i l = (k : ℕ) → k < l.i → is_blank (get_or l.text k 0) ≡ false

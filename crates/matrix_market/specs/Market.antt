@@ -1,0 +1,271 @@
+-- Which text is that of which matrix, in the coordinate format of the Matrix Market exchange formats of NIST
+-- (https://math.nist.gov/MatrixMarket/formats.html, "Coordinate Format for Sparse Matrices"), with the qualifiers
+-- `integer`, `pattern`, `general` and `symmetric`; and which line of a text breaks which rule. The rules, the limits and
+-- the order in which a line is looked at are this project's own.
+use Rattle.std.specs.Prelude.{◌≡◌, ◌≢◌, ℕ, ◌+◌, ◌-◌, ◌*◌, ◌^◌, ◌<◌, ◌≤◌, ◌↔◌, ◌⊎◌, ◌==◌, ◌||◌, ◌&&◌, not, nat_lt, nat_le, nat_eq, Bool, true, false, if◌then◌else◌, List, [], ◌∷◌, ◌++◌, length, Option, Some, None, IsSome, filter, map, flat_map, take, drop, slice_get, codes, Any, IsTrue}
+use Rattle.std.specs.List.{slice_split, list_any}
+use Rattle.std.specs.Option.{option_map}
+use Rattle.std.specs.Char.{is_ascii_digit}
+use Rattle.std.specs.Str.{str_to_ascii_lowercase}
+use Rattle.std.specs.Str.Lines.{lines}
+use Rattle.std.specs.Cmp.Lexicographic.{pointwise}
+use Rattle.std.specs.FinMap as fin
+use Rattle.csr_store.specs.Grid.{Grid, Position, pos_cmp}
+use Rattle.matrix_market.specs.declared.rule.MarketRule.{MarketRule}
+use Rattle.matrix_market.specs.declared.rule.MarketRule.TheVariants.{MalformedBanner, OutsideProfile, MalformedSize, SizeAboveLimit, MalformedEntry, IndexOutsideMatrix, ValueOutOfRange, PositionGivenTwice, TooFewEntries, LineAfterLastEntry, LineTooLong, SymmetricNotSquare}
+use Rattle.matrix_market.specs.declared.kinds.Banner.{Banner}
+use Rattle.matrix_market.specs.declared.kinds.Size.{Size}
+
+-- ---- words
+abbrev pub is_blank : ℕ → Bool
+is_blank b = (b == 32) || (b == 9)
+
+abbrev pub is_some_text : List ℕ → Bool
+is_some_text [] = false
+is_some_text (b ∷ bs) = true
+
+abbrev pub words : List ℕ → List (List ℕ)
+words line = filter is_some_text (slice_split is_blank line)
+
+-- a text that is empty or begins with a word
+abbrev pub IsAtWord : List ℕ → Type 0
+IsAtWord [] = Unit {0}
+IsAtWord (b ∷ bs) = is_blank b ≡ false
+
+abbrev pub same_text : List ℕ → List ℕ → Bool
+same_text = pointwise nat_eq
+
+-- a blank line, or one whose first word begins with %
+abbrev pub is_comment : List (List ℕ) → Bool
+is_comment [] = true
+is_comment ([] ∷ ws) = false
+is_comment ((b ∷ bs) ∷ ws) = b == 37
+
+abbrev pub is_skipped : List ℕ → Bool
+is_skipped line = is_comment (words line)
+
+-- ---- numbers
+abbrev pub digits_after : ℕ → List ℕ → Option ℕ
+digits_after n [] = Some n
+digits_after n (b ∷ bs) = if is_ascii_digit b then digits_after (n * 10 + (b - 48)) bs else None
+
+abbrev pub digits : List ℕ → Option ℕ
+digits [] = None
+digits (b ∷ bs) = digits_after 0 (b ∷ bs)
+
+-- digits behind an optional +
+abbrev pub number : List ℕ → Option ℕ
+number [] = None
+number (b ∷ bs) = if b == 43 then digits bs else digits (b ∷ bs)
+
+-- a whole number: whether it has a -, and how large it is
+abbrev pub Value : Type 0
+Value = Bool × ℕ
+
+abbrev pub signed : Bool → Option ℕ → Option Value
+signed negative None = None
+signed negative (Some n) = Some (negative, n)
+
+abbrev pub value : List ℕ → Option Value
+value [] = None
+value (b ∷ bs) = if b == 45 then signed true (digits bs) else signed false (number (b ∷ bs))
+
+abbrev pub is_word : Value → Bool
+is_word v = if v.0 then nat_le v.1 (2 ^ 63) else nat_lt v.1 (2 ^ 63)
+
+-- the word of 64 bits that stands for it
+abbrev pub word_of : Value → ℕ
+word_of v = if v.0 && nat_lt 0 v.1 then 2 ^ 64 - v.1 else v.1
+
+-- ---- line 1
+abbrev pub flag : List ℕ → List ℕ → List ℕ → Option Bool
+flag plain other w =
+    if same_text (str_to_ascii_lowercase w) plain then Some false
+    else if same_text (str_to_ascii_lowercase w) other then Some true
+    else None
+
+abbrev pub both : Option Bool → Option Bool → Option Banner
+both (Some p) (Some s) = Some (record { pattern = p; symmetric = s })
+both None s = None
+both (Some p) None = None
+
+abbrev pub banner_words : List (List ℕ) → Option Banner
+banner_words (o ∷ f ∷ p ∷ s ∷ []) =
+    if same_text (str_to_ascii_lowercase o) (codes "matrix") && same_text (str_to_ascii_lowercase f) (codes "coordinate")
+    then both (flag (codes "integer") (codes "pattern") p) (flag (codes "general") (codes "symmetric") s) else None
+banner_words _ = None
+
+abbrev pub is_banner : List (List ℕ) → Bool
+is_banner [] = false
+is_banner (w ∷ ws) = same_text w (codes "%%MatrixMarket") && (length ws == 4)
+
+abbrev pub tail : List (List ℕ) → List (List ℕ)
+tail [] = []
+tail (w ∷ ws) = ws
+
+abbrev pub banner_of : List ℕ → Option Banner
+banner_of line = if is_banner (words line) then banner_words (tail (words line)) else None
+
+-- ---- the size line
+abbrev pub size_from : Option ℕ → Option ℕ → Option ℕ → Option Size
+size_from (Some r) (Some c) (Some n) = Some (record { rows = r; columns = c; entries = n })
+size_from (Some r) (Some c) None = None
+size_from (Some r) None n = None
+size_from None c n = None
+
+abbrev pub size_words : List (List ℕ) → Option Size
+size_words (r ∷ c ∷ n ∷ []) = size_from (number r) (number c) (number n)
+size_words _ = None
+
+-- ---- an entry line
+pub record WrittenEntry : Type 0 where
+  pub row : ℕ
+  pub column : ℕ
+  pub value : Value
+
+abbrev pub entry_from : Option ℕ → Option ℕ → Option Value → Option WrittenEntry
+entry_from (Some i) (Some j) (Some v) = Some (record { row = i; column = j; value = v })
+entry_from (Some i) (Some j) None = None
+entry_from (Some i) None v = None
+entry_from None j v = None
+
+abbrev pub entry_words : Bool → List (List ℕ) → Option WrittenEntry
+entry_words true (i ∷ j ∷ []) = entry_from (number i) (number j) (Some (false, 1))
+entry_words false (i ∷ j ∷ v ∷ []) = entry_from (number i) (number j) (value v)
+entry_words _ _ = None
+
+-- a position and, in a symmetric matrix, its mirror
+abbrev pub mirrored : Bool → Position → List Position
+mirrored symmetric p = if symmetric && not (p.0 == p.1) then p ∷ (p.1, p.0) ∷ [] else p ∷ []
+
+-- the positions that an entry stands for
+abbrev pub places : Bool → WrittenEntry → List Position
+places symmetric e = mirrored symmetric (e.row - 1, e.column - 1)
+
+-- ---- lines in their roles
+-- those of the lines behind the first that are not skipped
+abbrev pub content : List (List ℕ) → List (List ℕ)
+content ls = filter (λ l. not (is_skipped l)) ls
+
+abbrev pub size_of : List (List ℕ) → Option Size
+size_of [] = None
+size_of (l ∷ ls) = size_words (words l)
+
+abbrev pub option_list : Option WrittenEntry → List WrittenEntry
+option_list None = []
+option_list (Some e) = e ∷ []
+
+abbrev pub entries_of : Bool → List (List ℕ) → List WrittenEntry
+entries_of pattern [] = []
+entries_of pattern (size ∷ ls) = flat_map (λ l. option_list (entry_words pattern (words l))) ls
+
+-- ---- which rule a line breaks
+abbrev pub when : Bool → MarketRule → List MarketRule
+when true r = r ∷ []
+when false r = []
+
+-- a word is above 16,777,216
+abbrev pub is_large : ℕ → Bool
+is_large n = nat_lt 16777216 n
+
+abbrev pub size_rules : Bool → Option Size → List MarketRule
+size_rules symmetric None = MalformedSize ∷ []
+size_rules symmetric (Some s) =
+    when (is_large s.rows || is_large s.columns || is_large s.entries || (symmetric && nat_lt 8388608 s.entries)) SizeAboveLimit
+    ++ when (symmetric && not (s.rows == s.columns)) SymmetricNotSquare
+
+abbrev pub outside : ℕ → ℕ → Bool
+outside i n = (i == 0) || nat_lt n i
+
+abbrev pub is_place : Position → Position → Bool
+is_place p q = (p.0 == q.0) && (p.1 == q.1)
+
+-- some place of the entry is a place of an earlier one
+abbrev pub is_repeated : Bool → WrittenEntry → List WrittenEntry → Bool
+is_repeated symmetric e es = list_any (λ p. list_any (λ f. list_any (is_place p) (places symmetric f)) es) (places symmetric e)
+
+abbrev pub entry_rules : Banner → Size → List WrittenEntry → Option WrittenEntry → List MarketRule
+entry_rules b s es None = MalformedEntry ∷ []
+entry_rules b s es (Some e) =
+    when (outside e.row s.rows || outside e.column s.columns) IndexOutsideMatrix
+    ++ when (not (is_word e.value)) ValueOutOfRange
+    ++ when (is_repeated b.symmetric e es) PositionGivenTwice
+
+-- the line behind these lines of content
+abbrev pub content_rules : Banner → List (List ℕ) → List ℕ → List MarketRule
+content_rules b [] line = size_rules b.symmetric (size_words (words line))
+content_rules b (l ∷ ls) line = after_size (size_words (words l))
+  where
+    after_size : Option Size → List MarketRule
+    after_size None = []
+    after_size (Some s) =
+        if nat_lt (length ls) s.entries then entry_rules b s (entries_of b.pattern (l ∷ ls)) (entry_words b.pattern (words line))
+        else LineAfterLastEntry ∷ []
+
+abbrev pub banner_rules : List ℕ → List MarketRule
+banner_rules line =
+    if is_banner (words line) then (if is_known (banner_words (tail (words line))) then [] else OutsideProfile ∷ [])
+    else MalformedBanner ∷ []
+  where
+    is_known : Option Banner → Bool
+    is_known None = false
+    is_known (Some b) = true
+
+abbrev pub later_rules : Option Banner → List (List ℕ) → List ℕ → List MarketRule
+later_rules None ls line = []
+later_rules (Some b) ls line = if is_skipped line then [] else content_rules b ls line
+
+-- what the text lacks at its end
+abbrev pub end_rules : Option Banner → List (List ℕ) → List MarketRule
+end_rules None ls = []
+end_rules (Some b) [] = MalformedSize ∷ []
+end_rules (Some b) (l ∷ ls) = short (size_words (words l))
+  where
+    short : Option Size → List MarketRule
+    short None = []
+    short (Some s) = when (nat_lt (length ls) s.entries) TooFewEntries
+
+-- the rules that the line behind these lines breaks, and where there is none, those that the end breaks
+abbrev pub rules_behind : List (List ℕ) → Option (List ℕ) → List MarketRule
+rules_behind [] None = MalformedBanner ∷ []
+rules_behind (first ∷ ls) None = end_rules (banner_of first) (content ls)
+rules_behind [] (Some line) = when (nat_lt 1024 (length line)) LineTooLong ++ banner_rules line
+rules_behind (first ∷ ls) (Some line) =
+    when (nat_lt 1024 (length line)) LineTooLong ++ later_rules (banner_of first) (content ls) line
+
+-- The rules that line n breaks, the one that is told first: lines count from 1, and the one behind the last stands for the end.
+abbrev pub rules_at : List (List ℕ) → ℕ → List MarketRule
+rules_at ls n = rules_behind (take (n - 1) ls) (slice_get ls (n - 1))
+
+abbrev pub first_rule : List MarketRule → Option MarketRule
+first_rule [] = None
+first_rule (r ∷ rs) = Some r
+
+-- line n is the first that breaks a rule, and this is the one that is told
+pub record IsFault (text : List ℕ) (n : ℕ) (rule : MarketRule) : Type 0 where
+  pub line : (1 ≤ n) × (n ≤ length (lines text) + 1)
+  pub fault : first_rule (rules_at (lines text) n) ≡ Some rule
+  pub none_before : (k : ℕ) → 1 ≤ k → k < n → rules_at (lines text) k ≡ []
+
+-- the words that a text's entries put at a position
+abbrev pub words_at : Bool → List WrittenEntry → Position → List ℕ
+words_at symmetric es p = flat_map (λ e. if list_any (is_place p) (places symmetric e) then word_of e.value ∷ [] else []) es
+
+abbrev pub at_most : Option ℕ → List ℕ
+at_most None = []
+at_most (Some v) = v ∷ []
+
+-- The text is without fault and stands for the matrix.
+pub record IsTextOf (text : List ℕ) (g : Grid) : Type 0 where
+  pub faultless : (k : ℕ) → 1 ≤ k → k ≤ length (lines text) + 1 → rules_at (lines text) k ≡ []
+  pub first : List ℕ
+  pub others : List (List ℕ)
+  pub lines_are : lines text ≡ first ∷ others
+  pub banner : Banner
+  pub banner_is : banner_of first ≡ Some banner
+  pub size : Size
+  pub size_is : size_of (content others) ≡ Some size
+  pub rows : g.rows ≡ size.rows
+  pub columns : g.columns ≡ size.columns
+  pub cells : (p : Position)
+      → words_at banner.symmetric (entries_of banner.pattern (content others)) p ≡ at_most (fin.get g.cells p)

@@ -1,0 +1,270 @@
+//! What a line of each kind says, or the rule that it breaks.
+ghost use Rattle.std.specs.Prelude.{◌≡◌, ◌≢◌, ◌<◌, ◌≤◌, ◌+◌, ◌∷◌, [], ℕ, ◌^◌, length, MatchOption, codes};
+ghost use Rattle.std.specs.Str.{str_to_ascii_lowercase};
+ghost use Rattle.matrix_market.specs.Market as market;
+ghost use Rattle.matrix_market.specs.Market.{words, is_skipped, size_words, entry_words, same_text};
+ghost use Rattle.matrix_market.specs.Answers.{held_number, held_value, banner_answer, size_answer, size_checked, entry_checked, entry_answer};
+
+use crate::rule::MarketRule;
+use crate::words::{Fields, fields_of, first_word};
+
+/// What the first line says.
+#[derive(Clone, Copy)]
+pub struct Banner {
+    pub pattern: bool,
+    pub symmetric: bool,
+}
+
+/// What the size line says.
+#[derive(Clone, Copy)]
+pub struct Size {
+    pub rows: u64,
+    pub columns: u64,
+    pub entries: u64,
+}
+
+/// What an entry line says, its position counted from 0.
+#[derive(Clone, Copy)]
+pub struct Found {
+    pub row: u64,
+    pub column: u64,
+    pub word: u64,
+}
+
+/// Whether a line is blank or a comment.
+pub fn skipped(line: &[u8]) -> bool
+    ensures { result ≡ is_skipped line.now }
+{
+    match first_word(line) {
+        None => true,
+        Some((word, _)) => match word {
+            [b'%', ..] => true,
+            _ => false,
+        },
+    }
+}
+
+/// The number that a word writes in decimal digits, held below 2 ^ 64.
+fn digits(word: &[u8]) -> Option<u64>
+    ensures { result ≡ held_number (market.digits word.now) }
+{
+    if word.is_empty() {
+        return None;
+    }
+    let mut value: u64 = 0;
+    for b in word {
+        if !b.is_ascii_digit() {
+            return None;
+        }
+        value = value
+            .saturating_mul(10)
+            .saturating_add(u64::from(*b - b'0'));
+    }
+    Some(value)
+}
+
+/// The same behind an optional `+`.
+fn number(word: &[u8]) -> Option<u64>
+    ensures { result ≡ held_number (market.number word.now) }
+{
+    match word {
+        [b'+', rest @ ..] => digits(rest),
+        _ => digits(word),
+    }
+}
+
+/// Whether a value has a `-`, and its number.
+fn value(word: &[u8]) -> Option<(bool, u64)>
+    ensures { result ≡ held_value (market.value word.now) }
+{
+    match word {
+        [b'-', rest @ ..] => match digits(rest) {
+            Some(n) => Some((true, n)),
+            None => None,
+        },
+        _ => match number(word) {
+            Some(n) => Some((false, n)),
+            None => None,
+        },
+    }
+}
+
+fn check_size(symmetric: bool, rows: u64, columns: u64, entries: u64) -> Result<Size, MarketRule>
+    ensures { result ≡ size_checked symmetric rows columns entries }
+{
+    if rows > 16_777_216
+        || columns > 16_777_216
+        || entries > 16_777_216
+        || symmetric && entries > 8_388_608
+    {
+        return Err(MarketRule::SizeAboveLimit);
+    }
+    if symmetric && rows != columns {
+        return Err(MarketRule::SymmetricNotSquare);
+    }
+    Ok(Size {
+        rows,
+        columns,
+        entries,
+    })
+}
+
+fn check_entry(
+    size: Size,
+    i: u64,
+    j: u64,
+    negative: bool,
+    magnitude: u64,
+) -> Result<Found, MarketRule>
+    ensures { result ≡ entry_checked size i j (negative, magnitude) }
+{
+    if i == 0 || i > size.rows || j == 0 || j > size.columns {
+        return Err(MarketRule::IndexOutsideMatrix);
+    }
+    if negative {
+        if magnitude > 9_223_372_036_854_775_808 {
+            return Err(MarketRule::ValueOutOfRange);
+        }
+        let word = if magnitude > 0 {
+            u64::MAX - magnitude + 1
+        } else {
+            0
+        };
+        return Ok(Found {
+            row: i - 1,
+            column: j - 1,
+            word,
+        });
+    }
+    if magnitude >= 9_223_372_036_854_775_808 {
+        return Err(MarketRule::ValueOutOfRange);
+    }
+    Ok(Found {
+        row: i - 1,
+        column: j - 1,
+        word: magnitude,
+    })
+}
+
+/// The words of a text, where they are four.
+fn four_words(text: &[u8]) -> Option<(&[u8], &[u8], &[u8], &[u8])>
+    ensures { MatchOption result (length (words text.now) ≢ 4) (λ p. words text.now ≡ p.0.now ∷ p.1.now ∷ p.2.now ∷ p.3.now ∷ []) }
+{
+    let (a, rest) = first_word(text)?;
+    let (b, rest) = first_word(rest)?;
+    let (c, rest) = first_word(rest)?;
+    let (d, rest) = first_word(rest)?;
+    match first_word(rest) {
+        None => Some((a, b, c, d)),
+        Some(_) => None,
+    }
+}
+
+/// Whether a word is the one that it is compared to, whatever the case of its letters.
+fn same(word: &[u8], wanted: &[u8]) -> bool
+    requires { str_to_ascii_lowercase wanted.now ≡ wanted.now }
+    ensures { result ≡ same_text (str_to_ascii_lowercase word.now) wanted.now }
+{
+    word.eq_ignore_ascii_case(wanted)
+}
+
+/// Which of two words a word is.
+fn flag(plain: &[u8], other: &[u8], word: &[u8]) -> Option<bool>
+    requires plain { str_to_ascii_lowercase plain.now ≡ plain.now }
+    requires other { str_to_ascii_lowercase other.now ≡ other.now }
+    ensures { result ≡ market.flag plain.now other.now word.now }
+{
+    if same(word, plain) {
+        return Some(false);
+    }
+    if same(word, other) {
+        return Some(true);
+    }
+    None
+}
+
+/// What the first line says.
+pub fn read_banner(line: &[u8]) -> Result<Banner, MarketRule>
+    ensures { result ≡ banner_answer (words line.now) }
+{
+    let (head, rest) = match first_word(line) {
+        None => return Err(MarketRule::MalformedBanner),
+        Some(p) => p,
+    };
+    if head != b"%%MatrixMarket".as_slice() {
+        return Err(MarketRule::MalformedBanner);
+    }
+    let (o, f, p, s) = match four_words(rest) {
+        None => return Err(MarketRule::MalformedBanner),
+        Some(q) => q,
+    };
+    if !same(o, b"matrix") || !same(f, b"coordinate") {
+        return Err(MarketRule::OutsideProfile);
+    }
+    let pattern = match flag(b"integer", b"pattern", p) {
+        None => return Err(MarketRule::OutsideProfile),
+        Some(b) => b,
+    };
+    let symmetric = match flag(b"general", b"symmetric", s) {
+        None => return Err(MarketRule::OutsideProfile),
+        Some(b) => b,
+    };
+    Ok(Banner { pattern, symmetric })
+}
+
+/// What the size line says.
+pub fn read_size(symmetric: bool, line: &[u8]) -> Result<Size, MarketRule>
+    ensures { result ≡ size_answer symmetric (size_words (words line.now)) }
+{
+    match fields_of(line) {
+        Fields::Three(a, b, c) => match number(a) {
+            None => Err(MarketRule::MalformedSize),
+            Some(rows) => match number(b) {
+                None => Err(MarketRule::MalformedSize),
+                Some(columns) => match number(c) {
+                    None => Err(MarketRule::MalformedSize),
+                    Some(entries) => check_size(symmetric, rows, columns, entries),
+                },
+            },
+        },
+        _ => Err(MarketRule::MalformedSize),
+    }
+}
+
+/// What an entry line says.
+pub fn read_entry(pattern: bool, size: Size, line: &[u8]) -> Result<Found, MarketRule>
+    requires rows { size.rows ≤ 16777216 }
+    requires columns { size.columns ≤ 16777216 }
+    ensures { result ≡ entry_answer size (entry_words pattern (words line.now)) }
+{
+    match fields_of(line) {
+        Fields::Two(a, b) => {
+            if !pattern {
+                return Err(MarketRule::MalformedEntry);
+            }
+            match number(a) {
+                None => Err(MarketRule::MalformedEntry),
+                Some(i) => match number(b) {
+                    None => Err(MarketRule::MalformedEntry),
+                    Some(j) => check_entry(size, i, j, false, 1),
+                },
+            }
+        }
+        Fields::Three(a, b, c) => {
+            if pattern {
+                return Err(MarketRule::MalformedEntry);
+            }
+            match number(a) {
+                None => Err(MarketRule::MalformedEntry),
+                Some(i) => match number(b) {
+                    None => Err(MarketRule::MalformedEntry),
+                    Some(j) => match value(c) {
+                        None => Err(MarketRule::MalformedEntry),
+                        Some((negative, magnitude)) => check_entry(size, i, j, negative, magnitude),
+                    },
+                },
+            }
+        }
+        Fields::Other => Err(MarketRule::MalformedEntry),
+    }
+}

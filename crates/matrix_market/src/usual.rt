@@ -1,0 +1,128 @@
+//! Entry lines in their usual form, read fast: what has another form is left to the reader that knows all rules.
+ghost use Rattle.std.specs.Prelude.{◌≡◌, ◌<◌, ◌≤◌, ◌+◌, length, slice_index, slice_range, drop, IfSome};
+ghost use Rattle.matrix_market.specs.Usual.{Scanned, IsIndex, IsValue, IsLineEnd, IsEntryLine};
+
+/// What an entry line says, its indices as written, and where the next line starts.
+#[derive(Clone, Copy)]
+pub struct UsualLine {
+    pub row: u64,
+    pub column: u64,
+    pub word: u64,
+    pub next: usize,
+}
+
+/// The digits from a place on: their number in 64 bits, and where they end.
+#[inline(always)]
+fn digits(text: &[u8], from: usize, last: usize) -> (u64, usize)
+    requires within { last < length text.now }
+    requires stop { slice_index text.now last ≡ 10 }
+    requires before { from ≤ last }
+    ensures stays { from ≤ result.1 }
+    ensures stops { result.1 ≤ last }
+    ensures scanned { Scanned (slice_range text.now from result.1) result.0 }
+{
+    let mut value = 0u64;
+    let mut at = from;
+    loop {
+        let digit = text[at].wrapping_sub(48);
+        if digit > 9 {
+            return (value, at);
+        }
+        value = value.wrapping_mul(10).wrapping_add(u64::from(digit));
+        at += 1;
+    }
+}
+
+/// An index of at most eight digits that a space follows, and where it ends.
+#[inline(always)]
+fn index(text: &[u8], from: usize, last: usize) -> Option<(u64, usize)>
+    requires within { last < length text.now }
+    requires stop { slice_index text.now last ≡ 10 }
+    requires before { from ≤ last }
+    ensures { IfSome result (λ p. (p.1 < last) × IsIndex text.now from p.1 p.0) }
+{
+    let (value, to) = digits(text, from, last);
+    if to == from || to - from > 8 || text[to] != b' ' {
+        return None;
+    }
+    Some((value, to))
+}
+
+/// A value of at most nineteen digits, as its word, and where it ends.
+#[inline(always)]
+fn value(text: &[u8], from: usize, last: usize) -> Option<(u64, usize)>
+    requires within { last < length text.now }
+    requires stop { slice_index text.now last ≡ 10 }
+    requires before { from ≤ last }
+    ensures { IfSome result (λ p. (p.1 ≤ last) × IsValue text.now from p.1 p.0) }
+{
+    let negative = text[from] == b'-';
+    let start = if negative { from + 1 } else { from };
+    let (magnitude, to) = digits(text, start, last);
+    if to == start || to - start > 19 {
+        return None;
+    }
+    if negative {
+        if magnitude > 1 << 63 {
+            return None;
+        }
+        Some((magnitude.wrapping_neg(), to))
+    } else {
+        if magnitude >= 1 << 63 {
+            return None;
+        }
+        Some((magnitude, to))
+    }
+}
+
+/// Where the next line starts, where the line ends here.
+#[inline(always)]
+fn line_end(text: &[u8], at: usize, last: usize) -> Option<usize>
+    requires within { last < length text.now }
+    requires stop { slice_index text.now last ≡ 10 }
+    requires before { at ≤ last }
+    ensures { IfSome result (λ next. (next ≤ last + 1) × IsLineEnd text.now at next) }
+{
+    if text[at] == b'\n' {
+        return Some(at + 1);
+    }
+    if text[at] == b'\r' && text[at + 1] == b'\n' {
+        return Some(at + 2);
+    }
+    None
+}
+
+/// The entry line at a place, where it has the usual form: at most 38 bytes, single spaces, no `+`.
+///
+/// `last` is the place of an LF that is not before the line.
+#[inline(always)]
+pub fn entry_line(text: &[u8], at: usize, last: usize) -> Option<UsualLine>
+    requires within { last < length text.now }
+    requires stop { slice_index text.now last ≡ 10 }
+    requires before { at ≤ last }
+    ensures { IfSome result (λ l. (at < l.next) × (l.next ≤ last + 1) × IsEntryLine (drop at text.now) l (drop l.next text.now)) }
+{
+    let (row, row_end) = index(text, at, last)?;
+    let (column, column_end) = index(text, row_end + 1, last)?;
+    let (word, end) = value(text, column_end + 1, last)?;
+    let next = line_end(text, end, last)?;
+    Some(UsualLine {
+        row,
+        column,
+        word,
+        next,
+    })
+}
+
+/// The place of the last LF of a text.
+pub fn last_feed(text: &[u8]) -> Option<usize>
+    ensures within { IfSome result (λ n. n < length text.now) }
+    ensures stop { IfSome result (λ n. slice_index text.now n ≡ 10) }
+{
+    for at in (0..text.len()).rev() {
+        if text[at] == b'\n' {
+            return Some(at);
+        }
+    }
+    None
+}

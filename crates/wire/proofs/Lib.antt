@@ -1,0 +1,5 @@
+pub mod Known
+pub mod Fetching
+pub mod Gathering
+pub mod Carriage
+pub mod Stays

@@ -1,0 +1,7 @@
+use Rattle.wire.proofs.tests.a_large_body_is_kept_whole.Given as goal
+
+abbrev pub ghosts-read_from-C-Ledger : goal.ghosts-read_from-C-Ledger
+ghosts-read_from-C-Ledger g a = record { name = a.counts.0.name; parts = a.counts.0.parts }
+
+abbrev pub ghosts-read_from-F-Ledger : goal.ghosts-read_from-F-Ledger
+ghosts-read_from-F-Ledger g a = record { name = a.counts.1.name; parts = a.counts.1.parts }

@@ -1,0 +1,37 @@
+-- What contracts see of the devices that bytes come from and go to (this project's own). The bytes are those that `std::io` tells
+-- of a reader or a writer; where it tells none (standard streams, sockets), they are unknown. The counts have no last value, and no
+-- code sees them.
+use Rattle.std.specs.Prelude.{ℕ, ◌==◌, ◌&&◌, not, Bool, false, if◌then◌else◌, List, Option, Result, Ok, Err}
+
+-- A source: the bytes that it has left, how many reads into some room were made, how many reads failed, and whether one has told
+-- the end.
+pub record SourceState : Type 0 where
+  pub remaining : Option (List ℕ)
+  pub reads : ℕ
+  pub failures : ℕ
+  pub told_end : Bool
+
+-- A sink: the bytes that it took, how many writes were made, and how many of them failed.
+pub record SinkState : Type 0 where
+  pub contents : Option (List ℕ)
+  pub writes : ℕ
+  pub failures : ℕ
+
+-- A read into no room at all is not counted.
+abbrev pub reads_in : ℕ → ℕ
+reads_in room = if room == 0 then 0 else 1
+
+-- 1 for a call that failed
+abbrev pub failures_in : {A E : Type 0} → Result A E → ℕ
+failures_in (Ok a) = 0
+failures_in (Err e) = 1
+
+-- a read into some room that got nothing tells the end
+abbrev pub is_end : {E : Type 0} → ℕ → Result ℕ E → Bool
+is_end room (Ok got) = not (room == 0) && (got == 0)
+is_end room (Err e) = false
+
+-- 1 for a write that failed, or that took nothing of some bytes
+abbrev pub write_failures_in : {E : Type 0} → ℕ → Result ℕ E → ℕ
+write_failures_in given (Ok took) = if given == 0 then 0 else (if took == 0 then 1 else 0)
+write_failures_in given (Err e) = 1

@@ -1,0 +1,14 @@
+//! Why a stream could not be read on.
+
+use thiserror::Error;
+
+/// Why the next line or body of a stream is not there.
+#[derive(Clone, Copy, Debug, PartialEq, Eq, Error)]
+pub enum ReadFault {
+    /// A read failed.
+    #[error("a read failed")]
+    Failed,
+    /// More reads are needed than may be made.
+    #[error("too many reads")]
+    OutOfReads,
+}

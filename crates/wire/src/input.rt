@@ -1,0 +1,173 @@
+//! The bytes that were read of a stream and not used yet, in room made at the start.
+ghost use Rattle.std.specs.Prelude.{◌≡◌, ◌<◌, ◌≤◌, ◌+◌, ◌++◌, ◌↔◌, ◌||◌, ◌==◌, ℕ, List, [], false, IsTrue, length, take, drop, vec_capacity, IfOk, OnOk, OnErr};
+ghost use Rattle.std.specs.Prelude as prelude;
+ghost use Rattle.std.specs.Io.KnownBytes.{Consumes, Keeps, IsAtEnd};
+ghost use Rattle.wire.specs.Devices.{failures_in};
+ghost use Rattle.wire.specs.Fetching.{Fetched, IsFilled, failed_reads};
+ghost use Rattle.wire.specs.Held.{ended_after};
+
+use crate::device::Source;
+use crate::fault::ReadFault;
+use std::alloc::{AllocError, Global};
+use std::io;
+use std::marker::Model;
+
+/// How many bytes are held at most.
+pub const ROOM: usize = 8192;
+
+/// Bytes that were read and not used yet, whether the stream has ended behind them, and how many reads may still be made.
+#[derive(Drop)]
+pub struct Input {
+    room: Vec<u8>,
+    from: usize,
+    to: usize,
+    ended: bool,
+    reads_left: u64,
+}
+
+impl Model for Input {
+    ghost use Rattle.std.specs.Prelude.{◌≡◌, ◌≤◌, ◌-◌, take, drop, vec_len};
+    ghost use Rattle.wire.specs.Held.{Held};
+
+    ghost Value = { Held };
+
+    ghost view = { λ i. record { bytes = take (i.to - i.from) (drop i.from i.room.items); ended = i.ended; reads_left = i.reads_left } };
+
+    ghost invariant = { λ i. (i.from ≤ i.to) × (i.to ≤ vec_len i.room) × (vec_len i.room ≡ 8192) };
+}
+
+/// Reads into the part of the room from a place on.
+fn read_behind<S: Source>(source: &mut S, room: &mut [u8], at: usize) -> io::Result<usize>
+    requires { at < length room.old }
+    ensures len { length room.new ≡ length room.old }
+    ensures bound { IfOk result (λ n. at + n ≤ length room.old) }
+    ensures front { take at room.new ≡ take at room.old }
+    ensures got { IfOk result
+        (λ n. Consumes (S.state source.old).remaining (S.state source.new).remaining (take n (drop at room.new))) }
+    ensures end { IfOk result (λ n. n ≡ 0 → IsAtEnd (S.state source.new).remaining) }
+    ensures kept { OnErr result (Keeps (S.state source.old).remaining (S.state source.new).remaining) }
+    ensures reads { (S.state source.new).reads ≡ (S.state source.old).reads + 1 }
+    ensures failures { (S.state source.new).failures ≡ (S.state source.old).failures + failures_in result }
+    ensures told { IfOk result (λ n. (S.state source.new).told_end ≡ ((S.state source.old).told_end || (n == 0))) }
+    ensures untold { OnErr result ((S.state source.new).told_end ≡ (S.state source.old).told_end) }
+{
+    source.read(&mut room[at..])
+}
+
+impl Input {
+    /// No bytes, of a stream that has not ended and of which so many reads may be made, and room for `ROOM` bytes.
+    ///
+    /// # Errors
+    ///
+    /// There is no memory for the room.
+    pub fn new(alloc: Global, reads: u64) -> Result<Self, AllocError>
+        ensures { IfOk result (λ i. i ≡ record { bytes = []; ended = false; reads_left = reads }) }
+    {
+        Ok(Input {
+            room: vec![in alloc; 0; ROOM]?,
+            from: 0,
+            to: 0,
+            ended: false,
+            reads_left: reads,
+        })
+    }
+
+    /// The bytes that are not used yet.
+    pub fn bytes(&self) -> &[u8]
+        ensures { result.now ≡ self.now.bytes }
+    {
+        &self.room[self.from..self.to]
+    }
+
+    /// Whether the stream has ended behind these bytes.
+    pub fn has_ended(&self) -> bool
+        ensures { result ≡ self.now.ended }
+    {
+        self.ended
+    }
+
+    /// Whether there is no room for another byte.
+    pub fn is_full(&self) -> bool
+        ensures { IsTrue result ↔ (8192 ≤ length self.now.bytes) }
+    {
+        self.to - self.from >= ROOM
+    }
+
+    /// Uses up so many bytes.
+    pub fn take(&mut self, count: usize)
+        requires { count ≤ length self.old.bytes }
+        ensures { self.new ≡ record self.old { bytes = drop count self.old.bytes } }
+    {
+        self.from += count;
+    }
+
+    /// Reads some more bytes, by one read of the source.
+    fn read_some<S: Source>(&mut self, source: &mut S) -> io::Result<()>
+        requires room { length self.old.bytes < 8192 }
+        requires open { self.old.ended ≡ false }
+        ensures ok { OnOk result ((got : List ℕ) ×
+            Consumes (S.state source.old).remaining (S.state source.new).remaining got
+            × (self.new.bytes ≡ self.old.bytes ++ got) × (self.new.ended ≡ ended_after self.old.ended got)
+            × (got ≡ [] → IsAtEnd (S.state source.new).remaining)) }
+        ensures left { self.new.reads_left ≡ self.old.reads_left }
+        ensures room { length self.new.bytes ≤ 8192 }
+        ensures told { OnOk result ((S.state source.new).told_end ≡ ((S.state source.old).told_end || self.new.ended)) }
+        ensures err { OnErr result ((self.new ≡ self.old) ×
+            (Keeps (S.state source.old).remaining (S.state source.new).remaining
+            × ((S.state source.new).told_end ≡ (S.state source.old).told_end))) }
+        ensures reads { (S.state source.new).reads ≡ (S.state source.old).reads + 1 }
+        ensures failures { (S.state source.new).failures ≡ (S.state source.old).failures + failures_in result }
+    {
+        self.room.rotate_left(self.from);
+        self.to -= self.from;
+        self.from = 0;
+        let n = read_behind(source, &mut self.room, self.to)?;
+        self.to += n;
+        if n == 0 {
+            self.ended = true;
+        }
+        Ok(())
+    }
+
+    /// Reads some more bytes, by one read of the source. A read that gives none tells that the
+    /// stream has ended.
+    ///
+    /// # Errors
+    ///
+    /// No more reads may be made, or the source failed. The bytes are then as before.
+    pub fn fill<S: Source>(&mut self, source: &mut S) -> Result<(), ReadFault>
+        requires room { length self.old.bytes < 8192 }
+        requires open { self.old.ended ≡ false }
+        ensures fetched { Fetched (failed_reads result)
+            (record { source = S.state source.old; held = self.old })
+            (record { source = S.state source.new; held = self.new }) (IsFilled result self.old self.new) }
+        ensures room { length self.new.bytes ≤ 8192 }
+        ensures less { OnOk result (self.new.reads_left < self.old.reads_left) }
+        ensures bounded { self.new.reads_left ≤ self.old.reads_left }
+    {
+        if self.reads_left == 0 {
+            return Err(ReadFault::OutOfReads);
+        }
+        self.reads_left -= 1;
+        match self.read_some(source) {
+            Ok(()) => Ok(()),
+            Err(_) => Err(ReadFault::Failed),
+        }
+    }
+
+    /// Copies the first line of the bytes, of so many bytes, and uses up the bytes that it takes
+    /// with its line end. The copy takes no memory.
+    pub fn take_line(&mut self, length: usize, taken: usize, line: &mut Vec<u8>)
+        requires fits { length ≤ taken }
+        requires there { taken ≤ prelude.length self.old.bytes }
+        requires short { length ≤ 1024 }
+        requires room { 1026 ≤ vec_capacity line.old }
+        ensures copied { line.new.items ≡ take length self.old.bytes }
+        ensures room { 1026 ≤ vec_capacity line.new }
+        ensures left { self.new ≡ record self.old { bytes = drop taken self.old.bytes } }
+    {
+        line.clear();
+        line.extend_from_slice(&self.bytes()[..length]).unwrap();
+        self.take(taken);
+    }
+}

@@ -1,0 +1,80 @@
+//! Lines in the bytes of a stream.
+ghost use Rattle.std.specs.Prelude.{◌≡◌, ◌<◌, ◌+◌, length, take, drop, MatchOption, Some, None};
+ghost use Rattle.wire.specs.Lines.{Uncut, At, cut_line, without_cr, first};
+ghost use Rattle.wire.specs.Found.{Matches};
+
+/// The most bytes that a line has, its line end not counted.
+pub const LINE: usize = 1024;
+
+/// What stands first in the bytes of a stream.
+#[derive(Clone, Copy, Debug, PartialEq, Eq)]
+pub enum Found {
+    /// Less than a line, and more may come.
+    Partial,
+    /// A line that is too long.
+    Over,
+    /// A line of so many bytes, and how many it takes with its line end.
+    Line { length: usize, taken: usize },
+    /// Nothing, and nothing more comes.
+    Nothing,
+}
+
+/// Where the first LF stands.
+pub fn line_end(bytes: &[u8]) -> Option<usize>
+    ensures { MatchOption result (cut_line bytes.now ≡ Uncut)
+        (λ n. (n < length bytes.now) × (cut_line bytes.now ≡ At (take n bytes.now) (drop (n + 1) bytes.now))) }
+{
+    for (i, b) in bytes.iter().enumerate() {
+        if *b == b'\n' {
+            return Some(i);
+        }
+    }
+    None
+}
+
+/// A line without the CR at its end.
+pub fn strip_cr(line: &[u8]) -> &[u8]
+    ensures { result.now ≡ without_cr line.now }
+{
+    let Some((last, front)) = line.split_last() else {
+        return line;
+    };
+    if *last == b'\r' { front } else { line }
+}
+
+/// Finds the first line of a stream, which has `ended` behind these bytes or may go on.
+pub fn find_first(bytes: &[u8], ended: bool) -> Found
+    ensures { Matches bytes.now result (first ended bytes.now) }
+{
+    match line_end(bytes) {
+        Some(n) => {
+            let length = strip_cr(&bytes[..n]).len();
+            if length > LINE {
+                Found::Over
+            } else {
+                Found::Line {
+                    length,
+                    taken: n + 1,
+                }
+            }
+        }
+        None => {
+            if ended {
+                if bytes.is_empty() {
+                    Found::Nothing
+                } else if bytes.len() > LINE {
+                    Found::Over
+                } else {
+                    Found::Line {
+                        length: bytes.len(),
+                        taken: bytes.len(),
+                    }
+                }
+            } else if bytes.len() < LINE + 2 {
+                Found::Partial
+            } else {
+                Found::Over
+            }
+        }
+    }
+}

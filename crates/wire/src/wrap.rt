@@ -1,0 +1,139 @@
+//! Devices over any reader and any writer, which count their calls.
+ghost use Rattle.std.specs.Prelude.{◌≡◌, ◌<◌, ◌+◌, false};
+
+use crate::device::{Sink, Source};
+use std::io;
+use std::io::{Read, Write};
+use std::marker::Model;
+use std::sync::ledger::{Blank, Book, Ledger, Share};
+
+/// A count that only grows. It takes no memory and no time, and contracts alone see it.
+#[derive(Drop)]
+struct Count<L: Ledger> {
+    book: Book<L>,
+    share: Share<L>,
+}
+
+impl<L: Ledger> Model for Count<L> {
+    ghost use Rattle.std.specs.Prelude.{ℕ, ◌<◌};
+
+    ghost Value = { ℕ };
+
+    ghost view = { λ c. c.book.total };
+
+    ghost invariant = { λ c. 0 < c.share.parts };
+}
+
+impl<L: Ledger> Count<L> {
+    /// A count of 0, by a ledger that nothing else is counted by.
+    fn new(blank: Blank) -> Self
+        requires name { blank.name ≡ L.name }
+        requires parts { blank.parts ≡ L.parts }
+        requires some { 0 < blank.parts }
+        ensures { result ≡ 0 }
+    {
+        let (book, share) = blank.open();
+        Count { book, share }
+    }
+
+    fn tick(&mut self)
+        ensures { self.new ≡ self.old + 1 }
+    {
+        self.book.add(&mut self.share, 1);
+    }
+}
+
+/// A source over any reader.
+#[derive(Drop)]
+pub struct FromRead<R: Read + Drop, C: Ledger, F: Ledger> {
+    inner: R,
+    reads: Count<C>,
+    failures: Count<F>,
+    told_end: bool,
+}
+
+impl<R: Read + Drop, C: Ledger, F: Ledger> FromRead<R, C, F> {
+    /// A source that gives what the reader has left. `reads` and `failures` are new ledgers of at
+    /// least one part (`Blank::new(1)`), and the types `C` and `F` stand for them.
+    pub fn new(inner: R, reads: Blank, failures: Blank) -> Self
+        requires reads_name { reads.name ≡ C.name }
+        requires reads_parts { reads.parts ≡ C.parts }
+        requires reads_some { 0 < reads.parts }
+        requires failures_name { failures.name ≡ F.name }
+        requires failures_parts { failures.parts ≡ F.parts }
+        requires failures_some { 0 < failures.parts }
+        ensures { ⟦<FromRead<R, C, F> as Source>⟧.state result ≡
+            record { remaining = R.remaining inner; reads = 0; failures = 0; told_end = false } }
+    {
+        FromRead {
+            inner,
+            reads: Count::new(reads),
+            failures: Count::new(failures),
+            told_end: false,
+        }
+    }
+}
+
+impl<R: Read + Drop, C: Ledger, F: Ledger> Source for FromRead<R, C, F> {
+    ghost state = { λ s. record { remaining = R.remaining s.inner; reads = s.reads; failures = s.failures; told_end = s.told_end } };
+
+    fn read(&mut self, buf: &mut [u8]) -> io::Result<usize> {
+        if !buf.is_empty() {
+            self.reads.tick();
+        }
+        let result = self.inner.read(buf);
+        match &result {
+            Ok(0) if !buf.is_empty() => self.told_end = true,
+            Ok(_) => {}
+            Err(_) => self.failures.tick(),
+        }
+        result
+    }
+}
+
+/// A sink over any writer. A writer that holds bytes back until it is flushed holds them back
+/// here too: give it one that passes each piece on, as `std::io::writer` of a runtime does.
+#[derive(Drop)]
+pub struct ToWrite<W: Write + Drop, C: Ledger, F: Ledger> {
+    inner: W,
+    writes: Count<C>,
+    failures: Count<F>,
+}
+
+impl<W: Write + Drop, C: Ledger, F: Ledger> ToWrite<W, C, F> {
+    /// A sink that adds to what the writer holds. `writes` and `failures` are new ledgers of at
+    /// least one part (`Blank::new(1)`), and the types `C` and `F` stand for them.
+    pub fn new(inner: W, writes: Blank, failures: Blank) -> Self
+        requires writes_name { writes.name ≡ C.name }
+        requires writes_parts { writes.parts ≡ C.parts }
+        requires writes_some { 0 < writes.parts }
+        requires failures_name { failures.name ≡ F.name }
+        requires failures_parts { failures.parts ≡ F.parts }
+        requires failures_some { 0 < failures.parts }
+        ensures { ⟦<ToWrite<W, C, F> as Sink>⟧.state result ≡
+            record { contents = W.contents inner; writes = 0; failures = 0 } }
+    {
+        ToWrite {
+            inner,
+            writes: Count::new(writes),
+            failures: Count::new(failures),
+        }
+    }
+}
+
+impl<W: Write + Drop, C: Ledger, F: Ledger> Sink for ToWrite<W, C, F> {
+    ghost state = { λ s. record { contents = W.contents s.inner; writes = s.writes; failures = s.failures } };
+
+    fn write(&mut self, buf: &[u8]) -> io::Result<usize> {
+        self.writes.tick();
+        let result = self.inner.write(buf);
+        let failed = match &result {
+            Ok(n) => *n == 0 && !buf.is_empty(),
+            Err(_) => true,
+        };
+        if failed {
+            self.failures.tick();
+        }
+        result
+    }
+}

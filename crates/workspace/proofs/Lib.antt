@@ -1,0 +1,6 @@
+pub mod Lists
+pub mod Naming
+pub mod Applying
+pub mod Batching
+pub mod Turning
+pub mod Running

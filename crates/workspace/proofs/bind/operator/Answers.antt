@@ -1,0 +1,12 @@
+use Rattle.std.proofs.Common.{subst}
+use Rattle.command_text.specs.ReplyText.{whole}
+use Rattle.workspace.specs.Workspace.{state_of}
+use Rattle.workspace.specs.Binds.{BindsCode}
+use Rattle.workspace.proofs.Turning.{operator_taken}
+use Rattle.workspace.proofs.bind.operator.Goals as goal
+
+pub returns-in-Ok-clause-turn : goal.returns-in-Ok-clause-turn
+returns-in-Ok-clause-turn c =
+    operator_taken (state_of c.args.workspace.now) (state_of c.take_code.new.workspace) c.args.name.now c.args.kind.now c.in-Some-as_name.name.now c.args.body.items c.in-Ok.code.items _ c.in-Some.kind
+    c.in-Some.ensures c.in-Some-as_name.ensures.0 c.in-Some-as_name.ensures.1 c.in-Ok.ensures.ok
+    (subst (λ x. BindsCode (state_of c.args.workspace.now) c.in-Some-as_name.name.now c.in-Some.kind x (whole c.take_code.new.reply) (state_of c.take_code.new.workspace)) c.deref.ensures.value c.take_code.ensures.turn)

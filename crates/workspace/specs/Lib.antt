@@ -1,0 +1,11 @@
+pub mod State
+pub mod Calls
+pub mod Turn
+pub mod Batch
+pub mod Names
+pub mod Outputs
+pub mod Workspace
+pub mod Submitting
+pub mod Binds
+pub mod Mapping
+pub mod Types

@@ -1,0 +1,271 @@
+-- What one command does: from what the session holds, by which calls of the budget and with which reply, to what it then holds
+-- (this project's own).
+-- A relation, since the budget is asked on the way, and since a command may run out of memory where it takes some.
+use Rattle.std.specs.Prelude.{ℕ, ◌≡◌, ◌+◌, ◌-◌, ◌⊎◌, ◌&&◌, min, nat_lt, nat_le, Bool, true, false, List, [], ◌∷◌, ◌++◌, length, map, codes, Option, None, Some, Result, Ok, Err, MatchBool}
+use Rattle.hex.specs.Hex.{decode_of}
+use Rattle.hex.specs.declared.error.FromHexError.{FromHexError}
+use Rattle.csr_store.specs.Grid.{Grid, IsGrid}
+use Rattle.matrix_market.specs.CanonicalText.{canonical_text}
+use Rattle.matrix_market.specs.Market.{IsTextOf, IsFault}
+use Rattle.matrix_market.specs.declared.rule.MarketRule.{MarketRule}
+use Rattle.bpf_insn.specs.declared.insn.Insn.{Insn}
+use Rattle.bpf_insn.specs.declared.fault.Fault.{Fault}
+use Rattle.bpf_insn.specs.declared.operands.Kind.{Kind}
+use Rattle.bpf_insn.specs.declared.operands.Kind.TheVariants.{Unary, Binary, Index}
+use Rattle.bpf_insn.specs.Code.{Spells, IsCodeFault}
+use Rattle.bpf_insn.specs.Program.{slot_count}
+use Rattle.bpf_text.specs.Text.{IsTextFault, IsTextOf as IsAssemblyOf}
+use Rattle.bpf_text.specs.Canonical.{canonical_text as assembly_text}
+use Rattle.bpf_text.specs.declared.fault.AsmFault.{AsmFault}
+use Rattle.std.specs.FinMap as fin
+use Rattle.bpf_verify.specs.Accepted.{Accepted, IsAccepted, IsFault as IsOperatorFault}
+use Rattle.command_text.specs.declared.rules.SessionRule.TheVariants.{MalformedWords, MalformedName, UnknownName, NotHexadecimal}
+use Rattle.command_text.specs.declared.rules.JobRule.TheVariants.{WrongKind, QueueFull, PriceTooHigh}
+use Rattle.command_text.specs.declared.refusal.Refusal.{Refusal}
+use Rattle.command_text.specs.declared.refusal.Refusal.TheVariants as no
+use Rattle.step_purse.specs.declared.dealings.Totals.{Totals}
+use Rattle.step_purse.specs.declared.dealings.Reply.TheVariants.{Took, NotEnough}
+use Rattle.command_text.specs.Words.{is_name, kind_of_word}
+use Rattle.command_text.specs.Hexadecimal.{without_gaps}
+use Rattle.step_purse.specs.declared.dealings.Dealing.{Dealing}
+use Rattle.step_purse.specs.declared.dealings.Dealing.TheVariants.{Reserved, Settled, Told}
+use Rattle.workspace.specs.State.{State, Job, bound, price}
+use Rattle.workspace.specs.Types.{types_text}
+use Rattle.workspace.specs.Calls.{JobResult, AreMatricesOf, calls, Charges}
+use Rattle.command_text.specs.Replies.{JobLine, refusal_text, matrix_text, operator_text, queued_text, run_text, show_text, list_text, budget_text, quit_text}
+use Rattle.command_text.specs.Requests.{Command, Blank, Matrix, Op, Asm, Dis, Apply, Run, Show, Types, Budget, Quit, Refuse, Break}
+
+-- A reply and nothing else: no call of the budget, and all is as before.
+abbrev pub Replies : List ℕ → State → List Dealing → List ℕ → State → Type 0
+Replies said old dealings reply new = (dealings ≡ []) × (reply ≡ said) × (new ≡ old)
+
+abbrev pub Refuses : Refusal → State → List Dealing → List ℕ → State → Type 0
+Refuses refusal = Replies (refusal_text refusal)
+
+-- ---- `matrix NAME LEN`
+
+-- the body is a text of a matrix, which the name then stands for; or it is refused by the first rule that it breaks
+abbrev pub TakesMatrix : State → List ℕ → List ℕ → List Dealing → List ℕ → State → Type 0
+TakesMatrix old name body dealings reply new =
+    ((g : Grid) × IsGrid g × IsTextOf body g
+    × (dealings ≡ []) × (reply ≡ matrix_text g.rows g.columns (fin.len g.cells))
+    × (new ≡ record old { matrices = bound old.matrices name g }))
+    ⊎ ((rule : MarketRule) × (line : ℕ) × IsFault body line rule × Refuses (no.Market rule line) old dealings reply new)
+
+abbrev pub MatrixTurn : State → List ℕ → List ℕ → List Dealing → List ℕ → State → Type 0
+MatrixTurn old name body dealings reply new =
+    Refuses no.Memory old dealings reply new
+    ⊎ MatchBool (is_name name)
+    (TakesMatrix old name body dealings reply new)
+    (Refuses (no.Session MalformedName) old dealings reply new)
+
+-- ---- `op NAME KIND LEN`
+
+-- the program is accepted as an operator of its kind, which the name then stands for; or it is refused
+abbrev pub TakesProgram : State → List ℕ → Kind → List Insn → List Dealing → List ℕ → State → Type 0
+TakesProgram old name kind program dealings reply new =
+    ((operator : Accepted) × IsAccepted operator × (operator.kind ≡ kind) × (operator.insns ≡ program)
+    × (dealings ≡ []) × (reply ≡ operator_text (slot_count program) (length program))
+    × (new ≡ record old { operators = bound old.operators name operator }))
+    ⊎ ((fault : Fault) × IsOperatorFault kind program fault × Refuses (no.Code fault) old dealings reply new)
+
+-- the code is that of a program, which is taken; or it is refused
+abbrev pub TakesOperator : State → List ℕ → Kind → List ℕ → List Dealing → List ℕ → State → Type 0
+TakesOperator old name kind code dealings reply new =
+    ((program : List Insn) × Spells code program × TakesProgram old name kind program dealings reply new)
+    ⊎ ((fault : Fault) × IsCodeFault code fault × Refuses (no.Code fault) old dealings reply new)
+
+-- the body, its gaps dropped, is hexadecimal digits in pairs; or it is refused
+abbrev pub TakesDigits : State → List ℕ → Kind → Result (List ℕ) FromHexError → List Dealing → List ℕ → State → Type 0
+TakesDigits old name kind (Err e) dealings reply new = Refuses (no.Session NotHexadecimal) old dealings reply new
+TakesDigits old name kind (Ok code) dealings reply new = TakesOperator old name kind code dealings reply new
+
+abbrev pub TakesKind : State → List ℕ → Option Kind → List ℕ → List Dealing → List ℕ → State → Type 0
+TakesKind old name None body dealings reply new = Refuses (no.Session MalformedWords) old dealings reply new
+TakesKind old name (Some kind) body dealings reply new =
+    MatchBool (is_name name)
+    (TakesDigits old name kind (decode_of (without_gaps body)) dealings reply new)
+    (Refuses (no.Session MalformedName) old dealings reply new)
+
+abbrev pub OperatorTurn : State → List ℕ → List ℕ → List ℕ → List Dealing → List ℕ → State → Type 0
+OperatorTurn old name kind body dealings reply new =
+    Refuses no.Memory old dealings reply new ⊎ TakesKind old name (kind_of_word kind) body dealings reply new
+
+-- ---- `asm NAME KIND LEN`
+
+-- the body is the assembly text of a program, which is taken; or it is refused by its first faulty line
+abbrev pub TakesAssembly : State → List ℕ → Kind → List ℕ → List Dealing → List ℕ → State → Type 0
+TakesAssembly old name kind body dealings reply new =
+    ((program : List Insn) × IsAssemblyOf body program × TakesProgram old name kind program dealings reply new)
+    ⊎ ((fault : AsmFault) × IsTextFault body fault × Refuses (no.Assembly fault) old dealings reply new)
+
+abbrev pub TakesKindOfAssembly : State → List ℕ → Option Kind → List ℕ → List Dealing → List ℕ → State → Type 0
+TakesKindOfAssembly old name None body dealings reply new = Refuses (no.Session MalformedWords) old dealings reply new
+TakesKindOfAssembly old name (Some kind) body dealings reply new =
+    MatchBool (is_name name)
+    (TakesAssembly old name kind body dealings reply new)
+    (Refuses (no.Session MalformedName) old dealings reply new)
+
+abbrev pub AssemblyTurn : State → List ℕ → List ℕ → List ℕ → List Dealing → List ℕ → State → Type 0
+AssemblyTurn old name kind body dealings reply new =
+    Refuses no.Memory old dealings reply new ⊎ TakesKindOfAssembly old name (kind_of_word kind) body dealings reply new
+
+-- ---- `apply OUT OP A`
+
+-- the job is put last in the queue, where its price can be reserved
+abbrev pub Submits : State → Job → List Dealing → List ℕ → State → Type 0
+Submits old job dealings reply new =
+    ((dealings ≡ Reserved (price job) (Took (price job)) ∷ []) × (reply ≡ queued_text (length old.queue + 1) (price job))
+    × (new ≡ record old { queue = old.queue ++ job ∷ [] }))
+    ⊎ ((left : ℕ) × (dealings ≡ Reserved (price job) (NotEnough left) ∷ [])
+    × (reply ≡ refusal_text (no.Budget (price job) left)) × (new ≡ old))
+
+abbrev pub is_unary : Kind → Bool
+is_unary Unary = true
+is_unary Binary = false
+is_unary Index = false
+
+-- the operator is unary, and the price is at most 4,294,967,296
+abbrev pub Prices : State → Job → List Dealing → List ℕ → State → Type 0
+Prices old job dealings reply new =
+    MatchBool (is_unary job.operator.kind)
+    (MatchBool (nat_le (price job) 4294967296)
+    (Submits old job dealings reply new)
+    (Refuses (no.Job PriceTooHigh) old dealings reply new))
+    (Refuses (no.Job WrongKind) old dealings reply new)
+
+-- both names stand for something, and fewer than 64 jobs wait
+abbrev pub FindsOperands : State → List ℕ → Option Accepted → Option Grid → List Dealing → List ℕ → State → Type 0
+FindsOperands old output (Some operator) (Some operand) dealings reply new =
+    MatchBool (nat_lt (length old.queue) 64)
+    (Refuses no.Memory old dealings reply new
+    ⊎ Prices old (record { output = output; operator = operator; operand = operand }) dealings reply new)
+    (Refuses (no.Job QueueFull) old dealings reply new)
+FindsOperands old output (Some operator) None dealings reply new = Refuses (no.Session UnknownName) old dealings reply new
+FindsOperands old output None operand dealings reply new = Refuses (no.Session UnknownName) old dealings reply new
+
+abbrev pub ApplyTurn : State → List ℕ → List ℕ → List ℕ → List Dealing → List ℕ → State → Type 0
+ApplyTurn old output operator operand dealings reply new =
+    MatchBool (is_name output && (is_name operator && is_name operand))
+    (FindsOperands old output (old.operators operator) (old.matrices operand) dealings reply new)
+    (Refuses (no.Session MalformedName) old dealings reply new)
+
+-- ---- `run`
+
+-- each job's price is settled with the steps that it took
+abbrev pub settled : List Job → List JobResult → List Dealing
+settled [] results = []
+settled (job ∷ jobs) [] = []
+settled (job ∷ jobs) (e ∷ es) = Settled (price job) e.steps ∷ settled jobs es
+
+-- steps are charged to the jobs in order, to each up to its price
+abbrev pub charged : List Job → ℕ → List Dealing
+charged [] spent = []
+charged (job ∷ jobs) spent = Settled (price job) (min spent (price job)) ∷ charged jobs (spent - price job)
+
+-- the outputs are bound in order of submission, so that of two of one name the later wins
+abbrev pub all_bound : (List ℕ → Option Grid) → List Job → List JobResult → List ℕ → Option Grid
+all_bound names [] results = names
+all_bound names (job ∷ jobs) [] = names
+all_bound names (job ∷ jobs) (e ∷ es) = all_bound (bound names job.output e.matrix) jobs es
+
+-- the batch is refused: its steps are charged, the queue is empty, and the names are as before
+abbrev pub BatchRefused : Refusal → ℕ → State → List Dealing → List ℕ → State → Type 0
+BatchRefused refusal spent old dealings reply new =
+    (dealings ≡ charged old.queue spent) × (reply ≡ refusal_text refusal) × (new ≡ record old { queue = [] })
+
+-- the line of each job
+abbrev pub job_lines : List Job → List JobResult → List JobLine
+job_lines [] results = []
+job_lines (job ∷ jobs) [] = []
+job_lines (job ∷ jobs) (r ∷ rs) =
+    record {
+      output = job.output;
+      rows = r.matrix.rows;
+      columns = r.matrix.columns;
+      entries = fin.len r.matrix.cells;
+      steps = r.steps;
+    } ∷ job_lines jobs rs
+
+abbrev pub total_steps : List JobResult → ℕ
+total_steps [] = 0
+total_steps (r ∷ rs) = r.steps + total_steps rs
+
+-- all jobs come to an end; or the batch runs out of memory after some calls
+abbrev pub RunTurn : State → List Dealing → List ℕ → State → Type 0
+RunTurn old dealings reply new =
+    ((results : List JobResult) × AreMatricesOf old.queue results
+    × (dealings ≡ settled old.queue results) × (reply ≡ run_text (total_steps results) (job_lines old.queue results))
+    × (new ≡ record old { matrices = all_bound old.matrices old.queue results; queue = [] }))
+    ⊎ ((spent : ℕ) × Charges (calls old.queue) spent × BatchRefused (no.BatchMemory spent) spent old dealings reply new)
+
+-- ---- `show NAME`
+
+abbrev pub Shows : State → Option Grid → List Dealing → List ℕ → State → Type 0
+Shows old None dealings reply new = Refuses (no.Session UnknownName) old dealings reply new
+Shows old (Some g) dealings reply new =
+    Refuses no.Memory old dealings reply new ⊎ Replies (show_text (canonical_text g)) old dealings reply new
+
+abbrev pub ShowTurn : State → List ℕ → List Dealing → List ℕ → State → Type 0
+ShowTurn old name dealings reply new =
+    MatchBool (is_name name)
+    (Shows old (old.matrices name) dealings reply new)
+    (Refuses (no.Session MalformedName) old dealings reply new)
+
+-- ---- `types NAME`
+
+abbrev pub TellsTypes : State → Option Accepted → List Dealing → List ℕ → State → Type 0
+TellsTypes old None dealings reply new = Refuses (no.Session UnknownName) old dealings reply new
+TellsTypes old (Some operator) dealings reply new =
+    Refuses no.Memory old dealings reply new
+    ⊎ Replies (list_text (codes "types") (length operator.insns) (types_text operator)) old dealings reply new
+
+abbrev pub TypesTurn : State → List ℕ → List Dealing → List ℕ → State → Type 0
+TypesTurn old name dealings reply new =
+    MatchBool (is_name name)
+    (TellsTypes old (old.operators name) dealings reply new)
+    (Refuses (no.Session MalformedName) old dealings reply new)
+
+-- ---- `dis NAME`
+
+-- the operator's program as assembly text, a line for each instruction
+abbrev pub TellsAssembly : State → Option Accepted → List Dealing → List ℕ → State → Type 0
+TellsAssembly old None dealings reply new = Refuses (no.Session UnknownName) old dealings reply new
+TellsAssembly old (Some operator) dealings reply new =
+    Refuses no.Memory old dealings reply new
+    ⊎ Replies (list_text (codes "dis") (length operator.insns) (assembly_text operator.insns)) old dealings reply new
+
+abbrev pub DisassemblyTurn : State → List ℕ → List Dealing → List ℕ → State → Type 0
+DisassemblyTurn old name dealings reply new =
+    MatchBool (is_name name)
+    (TellsAssembly old (old.operators name) dealings reply new)
+    (Refuses (no.Session MalformedName) old dealings reply new)
+
+-- ---- `budget`
+
+abbrev pub BudgetTurn : State → List Dealing → List ℕ → State → Type 0
+BudgetTurn old dealings reply new =
+    (totals : Totals) × (dealings ≡ Told totals ∷ [])
+    × (reply ≡ budget_text totals.left totals.reserved totals.spent) × (new ≡ old)
+
+-- from old, a command may have these dealings and this reply, and lead to new
+abbrev pub Turn : State → Command → List Dealing → List ℕ → State → Type 0
+Turn old Blank = Replies [] old
+Turn old (Matrix name body) = MatrixTurn old name body
+Turn old (Op name kind body) = OperatorTurn old name kind body
+Turn old (Asm name kind body) = AssemblyTurn old name kind body
+Turn old (Dis name) = DisassemblyTurn old name
+Turn old (Apply output operator operand) = ApplyTurn old output operator operand
+Turn old Run = RunTurn old
+Turn old (Show name) = ShowTurn old name
+Turn old (Types name) = TypesTurn old name
+Turn old Budget = BudgetTurn old
+Turn old Quit = Replies quit_text old
+Turn old (Refuse rule) = Refuses (no.Session rule) old
+Turn old (Break rule) = Refuses (no.Fatal rule) old
+
+-- ---- at the end of a session
+
+-- each reservation still held is settled with 0, in order of submission
+abbrev pub released : List Job → List Dealing
+released jobs = map (λ job. Settled (price job) 0) jobs

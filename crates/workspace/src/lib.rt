@@ -1,0 +1,25 @@
+//! What a session holds between two commands, and what each command does to it.
+//!
+//! The one contract: `answer` and `answer_with_body` make one command's turn. `specs/State.antt` says what a session holds,
+//! `specs/Turn.antt` what each command does: from which state, by which calls of the budget and with which reply, to which
+//! state. `specs/Calls.antt` says what jobs compute.
+//!
+//! Read `turn` first, which hands each command to its function; then `workspace` (matrices, operators and jobs) over `names`
+//! and `job`; then the commands, each a function whose contract is its turn: `bind` (`matrix`, `op`, `asm`), `tell` (`show`, `dis`,
+//! and `types` over the module of that name), `jobs` (`apply`, `budget`) and `run` over `batch`.
+#![tactic(auto)]
+
+mod batch;
+mod bind;
+mod job;
+mod jobs;
+mod names;
+mod run;
+mod tell;
+mod turn;
+mod types;
+mod workspace;
+
+pub use run::release;
+pub use turn::{answer, answer_with_body};
+pub use workspace::Workspace;

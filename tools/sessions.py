@@ -1,0 +1,72 @@
+"""What goes into a session: commands, matrix texts and operator code. For the programs of this folder."""
+import os
+import struct
+
+TOP = os.path.dirname(os.path.dirname(os.path.abspath(__file__)))
+CASES = os.path.join(TOP, 'cases')
+PROGRAM = os.path.join(TOP, 'crates', 'spmat', 'out', 'spmat')
+MOST_STEPS = 1 << 62
+
+
+def run_words(steps=MOST_STEPS, workers=1):
+    """The words of the command line that serve a session."""
+    return ['run', '--steps', str(steps), '--workers', str(workers)]
+
+
+def case_file(name, part):
+    """The bytes of a file of a case, none where it has no such file."""
+    path = os.path.join(CASES, name, part)
+    if not os.path.exists(path):
+        return None
+    with open(path, 'rb') as file:
+        return file.read()
+
+
+def instruction(opcode, destination=0, source=0, offset=0, immediate=0):
+    """The 16 hexadecimal digits of one slot (RFC 9669, section 3)."""
+    return struct.pack('<BBhi', opcode, source << 4 | destination, offset, immediate).hex().encode()
+
+
+RESULT_IS_OPERAND = instruction(0xbf, 0, 1)
+EXIT = instruction(0x95)
+
+
+def add(number):
+    """r0 += number"""
+    return instruction(0x07, 0, immediate=number)
+
+
+def wide_load(register, word):
+    """The two slots that load a word of 64 bits."""
+    return instruction(0x18, register, immediate=signed(word, 32)) + instruction(0, immediate=signed(word >> 32, 32))
+
+
+def signed(word, bits):
+    """The signed reading of the low bits of a word."""
+    word &= (1 << bits) - 1
+    return word - (1 << bits) if word >> (bits - 1) else word
+
+
+INCREMENT = RESULT_IS_OPERAND + add(1) + EXIT
+
+
+def matrix_text(rows, columns, entries):
+    """The canonical text of a matrix; entries are (row, column, value) from 1, by ascending row and column."""
+    head = '%%%%MatrixMarket matrix coordinate integer general\n%d %d %d\n' % (rows, columns, len(entries))
+    return (head + ''.join('%d %d %d\n' % entry for entry in entries)).encode()
+
+
+def matrix_command(name, text):
+    return b'matrix %s %d\n' % (name.encode(), len(text)) + text
+
+
+def operator_command(name, body, kind='unary'):
+    return b'op %s %s %d\n' % (name.encode(), kind.encode(), len(body)) + body + b'\n'
+
+
+def assembly_command(name, text, kind='unary'):
+    return b'asm %s %s %d\n' % (name.encode(), kind.encode(), len(text)) + text + b'\n'
+
+
+def show_reply(text):
+    return b'ok show %d\n' % len(text) + text
