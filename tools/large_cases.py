@@ -237,10 +237,10 @@ def bytes_held(program):
         ('an entry that is read', matrix, count, 38),
         ('an entry that is read and shown', matrix + b'show A\n', count, 48),
         ('an entry that is read, mapped and shown', matrix + apply + b'run\nshow B\n', count, 67),
-        ('an entry that is mapped four times', matrix + apply + four, count, 96),
-        ('an entry of a text that goes backwards', backwards, count, 144),
-        ('a slot', b''.join(operator_command('n%d' % number, longest) for number in range(100)), 100 * MOST_SLOTS, 160),
-        ('a slot of assembly', b''.join(assembly_command('n%d' % number, lines) for number in range(100)), 100 * MOST_SLOTS, 160),
+        ('an entry that is mapped four times', matrix + apply + four, count, 114),
+        ('an entry of a text that goes backwards', backwards, count, 38),
+        ('a slot', b''.join(operator_command('n%d' % number, longest) for number in range(100)), 100 * MOST_SLOTS, 178),
+        ('a slot of assembly', b''.join(assembly_command('n%d' % number, lines) for number in range(100)), 100 * MOST_SLOTS, 178),
         ('a name', b''.join(matrix_command('n%d' % number, matrix_text(1, 1, [])) for number in range(5000)), 5000, 226),
     ]
     with Witness() as witness:

@@ -36,13 +36,18 @@ abbrev pub all_widths : List Width
 all_widths = widths.W32 ∷ widths.W64 ∷ []
 
 abbrev pub all_operations : List AluOp
-all_operations = ops.Add ∷ ops.Sub ∷ ops.Mul ∷ ops.Div ∷ ops.Sdiv ∷ ops.Or ∷ ops.And ∷ ops.Lsh ∷ ops.Rsh ∷ ops.Mod ∷ ops.Smod ∷ ops.Xor ∷ ops.Mov ∷ ops.Arsh ∷ []
+all_operations =
+    ops.Add ∷ ops.Sub ∷ ops.Mul ∷ ops.Div ∷ ops.Sdiv ∷ ops.Or ∷ ops.And
+    ∷ ops.Lsh ∷ ops.Rsh ∷ ops.Mod ∷ ops.Smod ∷ ops.Xor ∷ ops.Mov ∷ ops.Arsh ∷ []
 
 abbrev pub all_conditions : List Cond
-all_conditions = conds.Eq ∷ conds.Gt ∷ conds.Ge ∷ conds.Set ∷ conds.Ne ∷ conds.Sgt ∷ conds.Sge ∷ conds.Lt ∷ conds.Le ∷ conds.Slt ∷ conds.Sle ∷ []
+all_conditions =
+    conds.Eq ∷ conds.Gt ∷ conds.Ge ∷ conds.Set ∷ conds.Ne ∷ conds.Sgt ∷ conds.Sge
+    ∷ conds.Lt ∷ conds.Le ∷ conds.Slt ∷ conds.Sle ∷ []
 
 abbrev pub all_extensions : List Extension
-all_extensions = extensions.From8To32 ∷ extensions.From16To32 ∷ extensions.From8To64 ∷ extensions.From16To64 ∷ extensions.From32To64 ∷ []
+all_extensions =
+    extensions.From8To32 ∷ extensions.From16To32 ∷ extensions.From8To64 ∷ extensions.From16To64 ∷ extensions.From32To64 ∷ []
 
 abbrev pub all_orders : List ByteOrder
 all_orders = orders.Little ∷ orders.Big ∷ orders.Swap ∷ []

@@ -1,5 +1,5 @@
--- Which program an assembly text stands for, and where a text is at fault. The text is this project's own; the instructions are those
--- of RFC 9669.
+-- Which program an assembly text stands for, and where a text is at fault. The text is this project's own; the instructions are
+-- those of RFC 9669.
 --
 -- Lines end at LF, a CR before it is dropped, and the last LF may be missing: std's `lines`.
 use Rattle.std.specs.Prelude.{ℕ, ◌≡◌, ◌≢◌, ◌+◌, ◌<◌, ◌≤◌, ◌⊎◌, Bool, true, false, List, [], ◌∷◌, ◌++◌, length, map, filter, Option, Some}

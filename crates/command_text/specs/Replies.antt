@@ -4,12 +4,11 @@ use Rattle.std.specs.List.{flat_map}
 use Rattle.bpf_insn.specs.Rule as code
 use Rattle.bpf_text.specs.Rule as assembly
 use Rattle.matrix_market.specs.Rule as market
+use Rattle.job_plan.specs.Refusal as job
 use Rattle.command_text.specs.declared.rules.SessionRule.{SessionRule}
 use Rattle.command_text.specs.declared.rules.SessionRule.TheVariants.{UnknownCommand, MalformedWords, MalformedName, UnknownName, NotHexadecimal}
 use Rattle.command_text.specs.declared.rules.FatalRule.{FatalRule}
 use Rattle.command_text.specs.declared.rules.FatalRule.TheVariants as fatal
-use Rattle.command_text.specs.declared.rules.JobRule.{JobRule}
-use Rattle.command_text.specs.declared.rules.JobRule.TheVariants.{WrongKind, QueueFull, PriceTooHigh}
 use Rattle.command_text.specs.declared.refusal.Refusal.{Refusal}
 use Rattle.command_text.specs.declared.refusal.Refusal.TheVariants as no
 
@@ -27,16 +26,12 @@ fatal_rule_name fatal.InputEndsInBody = codes "S5"
 fatal_rule_name fatal.LineTooLong = codes "S6"
 fatal_rule_name fatal.BodyTooLong = codes "S7"
 
-abbrev pub job_rule_name : JobRule → List ℕ
-job_rule_name WrongKind = codes "J4"
-job_rule_name QueueFull = codes "J6"
-job_rule_name PriceTooHigh = codes "J8"
-
 -- `no`, then why, with the numbers that belong to it
 abbrev pub refusal_words : Refusal → List ℕ
 refusal_words (no.Session rule) = session_rule_name rule
 refusal_words (no.Fatal rule) = fatal_rule_name rule
-refusal_words (no.Job rule) = job_rule_name rule
+refusal_words no.QueueFull = codes "J6"
+refusal_words (no.Job fault) = job.rule_name fault
 refusal_words (no.Code fault) = code.rule_name fault.rule ++ (codes " " ++ decimal fault.slot)
 refusal_words (no.Assembly fault) = assembly.rule_name fault.rule ++ (codes " " ++ decimal fault.line)
 refusal_words (no.Market rule line) = market.rule_name rule ++ (codes " " ++ decimal line)

@@ -1,6 +1,7 @@
 -- What a command line asks for (this project's own).
 use Rattle.std.specs.Prelude.{ℕ, nat_lt, if◌then◌else◌, List, [], ◌∷◌, Option, None, Some, codes}
 use Rattle.std.specs.Str.{bytes_eq}
+use Rattle.matrix_market.specs.Values.{value_word}
 use Rattle.command_text.specs.Words.{length_of}
 use Rattle.command_text.specs.declared.request.Verb.{Verb}
 use Rattle.command_text.specs.declared.request.Verb.TheVariants as verbs
@@ -9,6 +10,21 @@ use Rattle.command_text.specs.declared.rules.SessionRule.TheVariants.{UnknownCom
 use Rattle.command_text.specs.declared.rules.FatalRule.{FatalRule}
 use Rattle.command_text.specs.declared.rules.FatalRule.TheVariants as fatal
 
+-- A job by the names that it gives, its operators first; a thunk is a word:
+pub data Form : Type 0 where
+  Apply : (operator operand : List ℕ) → (thunk : Option ℕ) → Form
+  Select : (operator operand : List ℕ) → (thunk : ℕ) → Form
+  Union : (operator left right : List ℕ) → Form
+  Both : (operator left right : List ℕ) → Form
+  Product : (add mul left right : List ℕ) → Form
+  Reduce : (operator operand : List ℕ) → Form
+
+-- a job that is to be queued: the name that it will bind, and the mask's name, if it has one
+pub record Submission : Type 0 where
+  pub output : List ℕ
+  pub form : Form
+  pub mask : Option (List ℕ)
+
 -- A command, with its words and its body:
 pub data Command : Type 0 where
   Blank : Command  -- a line without words
@@ -16,7 +32,7 @@ pub data Command : Type 0 where
   Op : (name kind body : List ℕ) → Command
   Asm : (name kind body : List ℕ) → Command
   Dis : (name : List ℕ) → Command
-  Apply : (output operator operand : List ℕ) → Command
+  Submit : Submission → Command
   Run : Command
   Show : (name : List ℕ) → Command
   Types : (name : List ℕ) → Command
@@ -53,7 +69,47 @@ abbrev pub with_length : Header → Option ℕ → Request
 with_length header None = Fatal fatal.MalformedWords
 with_length header (Some len) = if nat_lt (body_limit header) len then Fatal fatal.BodyTooLong else Body header len
 
--- What a command asks for with the words behind its first. `apply` with a thunk is a command that is not built yet.
+-- ---- jobs
+
+-- the words behind a job's own: none, or `mask` and a name; what else stands there is malformed
+abbrev pub mask_asked : List (List ℕ) → Option (Option (List ℕ))
+mask_asked [] = Some None
+mask_asked (word ∷ name ∷ []) = if bytes_eq word (codes "mask") then Some (Some name) else None
+mask_asked _ = None
+
+abbrev pub with_mask : List ℕ → Form → Option (Option (List ℕ)) → Request
+with_mask output form None = Plain (Refuse MalformedWords)
+with_mask output form (Some mask) = Plain (Submit (record { output = output; form = form; mask = mask }))
+
+-- `OUT OP A` and `OUT OP A THUNK`, for apply
+abbrev pub apply_asked : List ℕ → List ℕ → List ℕ → Option ℕ → List (List ℕ) → Request
+apply_asked output operator operand None rest = Plain (Refuse MalformedWords)
+apply_asked output operator operand (Some thunk) rest = with_mask output (Apply operator operand (Some thunk)) (mask_asked rest)
+
+abbrev pub select_asked : List ℕ → List ℕ → List ℕ → Option ℕ → List (List ℕ) → Request
+select_asked output operator operand None rest = Plain (Refuse MalformedWords)
+select_asked output operator operand (Some thunk) rest = with_mask output (Select operator operand thunk) (mask_asked rest)
+
+-- What a job's command asks for with the words behind it. Two words behind the operand of `apply` are a mask; else the first of
+-- them is a thunk.
+abbrev pub job_asked : Verb → List (List ℕ) → Request
+job_asked verbs.Apply (output ∷ operator ∷ operand ∷ []) = with_mask output (Apply operator operand None) (Some None)
+job_asked verbs.Apply (output ∷ operator ∷ operand ∷ word ∷ name ∷ []) =
+    with_mask output (Apply operator operand None) (mask_asked (word ∷ name ∷ []))
+job_asked verbs.Apply (output ∷ operator ∷ operand ∷ thunk ∷ rest) =
+    apply_asked output operator operand (value_word thunk) rest
+job_asked verbs.Select (output ∷ operator ∷ operand ∷ thunk ∷ rest) =
+    select_asked output operator operand (value_word thunk) rest
+job_asked verbs.Union (output ∷ operator ∷ left ∷ right ∷ rest) = with_mask output (Union operator left right) (mask_asked rest)
+job_asked verbs.Both (output ∷ operator ∷ left ∷ right ∷ rest) = with_mask output (Both operator left right) (mask_asked rest)
+job_asked verbs.Product (output ∷ add ∷ mul ∷ left ∷ right ∷ rest) =
+    with_mask output (Product add mul left right) (mask_asked rest)
+job_asked verbs.Reduce (output ∷ operator ∷ operand ∷ rest) = with_mask output (Reduce operator operand) (mask_asked rest)
+job_asked _ _ = Plain (Refuse MalformedWords)
+
+-- ---- commands
+
+-- What a command asks for with the words behind its first.
 abbrev pub asked : Verb → List (List ℕ) → Request
 asked verbs.Matrix (name ∷ len ∷ []) = with_length (MatrixHeader name) (length_of len)
 asked verbs.Matrix _ = Fatal fatal.MalformedWords
@@ -63,9 +119,6 @@ asked verbs.Asm (name ∷ kind ∷ len ∷ []) = with_length (AsmHeader name kin
 asked verbs.Asm _ = Fatal fatal.MalformedWords
 asked verbs.Dis (name ∷ []) = Plain (Dis name)
 asked verbs.Dis _ = Plain (Refuse MalformedWords)
-asked verbs.Apply (output ∷ operator ∷ operand ∷ []) = Plain (Apply output operator operand)
-asked verbs.Apply (output ∷ operator ∷ operand ∷ thunk ∷ []) = Plain (Refuse UnknownCommand)
-asked verbs.Apply _ = Plain (Refuse MalformedWords)
 asked verbs.Run [] = Plain Run
 asked verbs.Run _ = Plain (Refuse MalformedWords)
 asked verbs.Show (name ∷ []) = Plain (Show name)
@@ -76,6 +129,17 @@ asked verbs.Budget [] = Plain Budget
 asked verbs.Budget _ = Plain (Refuse MalformedWords)
 asked verbs.Quit [] = Plain Quit
 asked verbs.Quit _ = Plain (Refuse MalformedWords)
+asked verb words = job_asked verb words
+
+-- the job's command that a word names, if it names one
+abbrev pub job_verb_of : List ℕ → Option Verb
+job_verb_of word =
+    if bytes_eq word (codes "apply") then Some verbs.Apply else
+    (if bytes_eq word (codes "select") then Some verbs.Select else
+    (if bytes_eq word (codes "union") then Some verbs.Union else
+    (if bytes_eq word (codes "both") then Some verbs.Both else
+    (if bytes_eq word (codes "product") then Some verbs.Product else
+    (if bytes_eq word (codes "reduce") then Some verbs.Reduce else None)))))
 
 -- the command that a word names, if it names one
 abbrev pub verb_of : List ℕ → Option Verb
@@ -84,12 +148,11 @@ verb_of word =
     (if bytes_eq word (codes "op") then Some verbs.Op else
     (if bytes_eq word (codes "asm") then Some verbs.Asm else
     (if bytes_eq word (codes "dis") then Some verbs.Dis else
-    (if bytes_eq word (codes "apply") then Some verbs.Apply else
     (if bytes_eq word (codes "run") then Some verbs.Run else
     (if bytes_eq word (codes "show") then Some verbs.Show else
     (if bytes_eq word (codes "types") then Some verbs.Types else
     (if bytes_eq word (codes "budget") then Some verbs.Budget else
-    (if bytes_eq word (codes "quit") then Some verbs.Quit else None)))))))))
+    (if bytes_eq word (codes "quit") then Some verbs.Quit else job_verb_of word))))))))
 
 abbrev pub asked_by : Option Verb → List (List ℕ) → Request
 asked_by None words = Plain (Refuse UnknownCommand)

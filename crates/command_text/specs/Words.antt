@@ -34,6 +34,15 @@ abbrev pub IsNotThree : List (List ℕ) → Type 0
 IsNotThree (first ∷ second ∷ third ∷ []) = ⊥
 IsNotThree _ = Unit {0}
 
+-- they are fewer than three
+abbrev pub HasFewer : List (List ℕ) → Type 0
+HasFewer (first ∷ second ∷ third ∷ words) = ⊥
+HasFewer _ = Unit {0}
+
+abbrev pub is_one : List (List ℕ) → Bool
+is_one (word ∷ []) = true
+is_one _ = false
+
 -- a decimal digit
 abbrev pub is_digit : ℕ → Bool
 is_digit b = nat_le 48 b && nat_le b 57

@@ -3,18 +3,21 @@
 //! The one contract: a line asks for exactly one request, and a reply is its text, made from names and numbers.
 //! `specs/Requests.antt` and `specs/Words.antt` say which words ask for what, `specs/Replies.antt` which bytes each reply has.
 //!
-//! Read `request` (the commands) over `words` (words, lengths and kinds), `name` (names) and `hexadecimal` (the body of
+//! Read `request` (the commands) and `submission` (the commands of jobs) over `words` (words, lengths and kinds), `name` (names) and `hexadecimal` (the body of
 //! `op`); then `replies` over `reply` (a buffer whose lines take no further memory), `refusal` (why a command is refused) and
 //! `rules` (the names of the rules).
 #![tactic(auto)]
 
 mod hexadecimal;
+#[cfg(test)]
+mod job_tests;
 mod name;
 mod refusal;
 mod replies;
 mod reply;
 mod request;
 mod rules;
+mod submission;
 #[cfg(test)]
 mod tests;
 mod words;
@@ -28,5 +31,6 @@ pub use replies::{
 };
 pub use reply::Reply;
 pub use request::{Command, Header, Request, Verb, parse};
-pub use rules::{FatalRule, JobRule, SessionRule};
-pub use words::parse_kind;
+pub use rules::{FatalRule, SessionRule};
+pub use submission::{Form, Submission};
+pub use words::{is_name, parse_kind};

@@ -1,8 +1,9 @@
 //! Why a command is refused.
 
-use crate::rules::{FatalRule, JobRule, SessionRule};
+use crate::rules::{FatalRule, SessionRule};
 use bpf_insn::Fault;
 use bpf_text::AsmFault;
+use job_plan::JobError;
 use matrix_market::MarketRule;
 
 /// Why a command is refused, with the numbers that the reply gives. Each is one line, which begins with `no`.
@@ -12,8 +13,10 @@ pub enum Refusal {
     Session(SessionRule),
     /// A rule after whose refusal no session can go on.
     Fatal(FatalRule),
-    /// A rule of jobs.
-    Job(JobRule),
+    /// `J6`: 64 jobs wait already.
+    QueueFull,
+    /// A rule of a job that is submitted.
+    Job(JobError),
     /// A rule of code, and the slot that breaks it.
     Code(Fault),
     /// A rule of assembly text, and the line that breaks it.

@@ -66,7 +66,8 @@ fn add_reason(reply: &mut Reply, refusal: Refusal)
     match refusal {
         Refusal::Session(rule) => reply.add(rule.name().as_bytes()),
         Refusal::Fatal(rule) => reply.add(rule.name().as_bytes()),
-        Refusal::Job(rule) => reply.add(rule.name().as_bytes()),
+        Refusal::QueueFull => reply.add(b"J6"),
+        Refusal::Job(fault) => reply.add(fault.name().as_bytes()),
         Refusal::Code(fault) => add_place(reply, fault.rule.name(), fault.slot),
         Refusal::Assembly(fault) => add_place(reply, fault.rule.name(), fault.line),
         Refusal::Market { rule, line } => add_place(reply, rule.name(), line),

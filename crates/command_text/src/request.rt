@@ -5,6 +5,10 @@ ghost use Rattle.command_text.specs.Requests as spec;
 ghost use Rattle.command_text.specs.Readings.{command_of, header_of, request_of};
 
 use crate::rules::{FatalRule, SessionRule};
+use crate::submission::{
+    Submission, apply_request, both_request, product_request, reduce_request, select_request,
+    union_request,
+};
 use crate::words::{first_word, only_word, parse_length, three_words};
 
 /// The first word of a command.
@@ -14,12 +18,17 @@ pub enum Verb {
     Op,
     Asm,
     Dis,
-    Apply,
     Run,
     Show,
     Types,
     Budget,
     Quit,
+    Apply,
+    Select,
+    Union,
+    Both,
+    Product,
+    Reduce,
 }
 
 /// A command without a body, with its words.
@@ -27,26 +36,16 @@ pub enum Verb {
 pub enum Command<'a> {
     /// A line without words.
     Blank,
-    /// `apply OUT OP A`
-    Apply {
-        output: &'a [u8],
-        operator: &'a [u8],
-        operand: &'a [u8],
-    },
+    /// A job that is to be queued.
+    Submit(Submission<'a>),
     /// `run`
     Run,
     /// `show NAME`
-    Show {
-        name: &'a [u8],
-    },
+    Show { name: &'a [u8] },
     /// `types NAME`
-    Types {
-        name: &'a [u8],
-    },
+    Types { name: &'a [u8] },
     /// `dis NAME`
-    Dis {
-        name: &'a [u8],
-    },
+    Dis { name: &'a [u8] },
     /// `budget`
     Budget,
     /// `quit`
@@ -89,8 +88,6 @@ fn parse_verb(word: &[u8]) -> Option<Verb>
         Some(Verb::Asm)
     } else if word == b"dis".as_slice() {
         Some(Verb::Dis)
-    } else if word == b"apply".as_slice() {
-        Some(Verb::Apply)
     } else if word == b"run".as_slice() {
         Some(Verb::Run)
     } else if word == b"show".as_slice() {
@@ -102,12 +99,33 @@ fn parse_verb(word: &[u8]) -> Option<Verb>
     } else if word == b"quit".as_slice() {
         Some(Verb::Quit)
     } else {
+        parse_job_verb(word)
+    }
+}
+
+/// The command of a job that a word names.
+fn parse_job_verb(word: &[u8]) -> Option<Verb>
+    ensures { result ≡ spec.job_verb_of word.now }
+{
+    if word == b"apply".as_slice() {
+        Some(Verb::Apply)
+    } else if word == b"select".as_slice() {
+        Some(Verb::Select)
+    } else if word == b"union".as_slice() {
+        Some(Verb::Union)
+    } else if word == b"both".as_slice() {
+        Some(Verb::Both)
+    } else if word == b"product".as_slice() {
+        Some(Verb::Product)
+    } else if word == b"reduce".as_slice() {
+        Some(Verb::Reduce)
+    } else {
         None
     }
 }
 
 /// A line that is refused.
-fn refuse<'a>(rule: SessionRule) -> Request<'a>
+pub fn refuse<'a>(rule: SessionRule) -> Request<'a>
     ensures { request_of result ≡ spec.Plain (spec.Refuse rule) }
 {
     Request::Plain(Command::Refuse(rule))
@@ -188,32 +206,6 @@ fn assembly_request(rest: &[u8]) -> Request<'_>
     }
 }
 
-/// What follows the word `apply`.
-fn apply_request(rest: &[u8]) -> Request<'_>
-    ensures { request_of result ≡ spec.asked Verb.Apply (text.words rest.now) }
-{
-    let Some((output, rest)) = first_word(rest) else {
-        return refuse(SessionRule::MalformedWords);
-    };
-    let Some((operator, rest)) = first_word(rest) else {
-        return refuse(SessionRule::MalformedWords);
-    };
-    let Some((operand, rest)) = first_word(rest) else {
-        return refuse(SessionRule::MalformedWords);
-    };
-    let Some((_, rest)) = first_word(rest) else {
-        return Request::Plain(Command::Apply {
-            output,
-            operator,
-            operand,
-        });
-    };
-    match first_word(rest) {
-        None => refuse(SessionRule::UnknownCommand),
-        Some(_) => refuse(SessionRule::MalformedWords),
-    }
-}
-
 /// What follows the word `show`.
 fn show_request(rest: &[u8]) -> Request<'_>
     ensures { request_of result ≡ spec.asked Verb.Show (text.words rest.now) }
@@ -253,12 +245,17 @@ fn parse_rest(verb: Verb, rest: &[u8]) -> Request<'_>
         Verb::Op => operator_request(rest),
         Verb::Asm => assembly_request(rest),
         Verb::Dis => disassembly_request(rest),
-        Verb::Apply => apply_request(rest),
         Verb::Run => alone(Command::Run, rest),
         Verb::Show => show_request(rest),
         Verb::Types => types_request(rest),
         Verb::Budget => alone(Command::Budget, rest),
         Verb::Quit => alone(Command::Quit, rest),
+        Verb::Apply => apply_request(rest),
+        Verb::Select => select_request(rest),
+        Verb::Union => union_request(rest),
+        Verb::Both => both_request(rest),
+        Verb::Product => product_request(rest),
+        Verb::Reduce => reduce_request(rest),
     }
 }
 

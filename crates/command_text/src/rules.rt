@@ -61,29 +61,3 @@ impl FatalRule {
         }
     }
 }
-
-/// A rule of jobs.
-#[derive(Clone, Copy, Debug, PartialEq, Eq)]
-pub enum JobRule {
-    /// `J4`: the operator is of another kind than the job asks for.
-    WrongKind,
-    /// `J6`: 64 jobs wait already.
-    QueueFull,
-    /// `J8`: the price is above 4,294,967,296 steps.
-    PriceTooHigh,
-}
-
-impl JobRule {
-    ghost use Rattle.command_text.specs.Replies.{job_rule_name};
-
-    /// The name of the rule, `J4`, `J6` or `J8`.
-    pub fn name(self) -> &'static str
-        ensures { result.now ≡ job_rule_name self }
-    {
-        match self {
-            JobRule::WrongKind => "J4",
-            JobRule::QueueFull => "J6",
-            JobRule::PriceTooHigh => "J8",
-        }
-    }
-}

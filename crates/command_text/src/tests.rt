@@ -7,10 +7,11 @@ use crate::replies::{
 };
 use crate::reply::Reply;
 use crate::request::{Command, Header, Request, parse};
-use crate::rules::{FatalRule, JobRule, SessionRule};
+use crate::rules::{FatalRule, SessionRule};
 use crate::words::{first_word, is_name, parse_kind, parse_length};
 use bpf_insn::{CodeRule, Fault, Kind};
 use bpf_text::{AsmFault, AsmRule};
+use job_plan::JobError;
 use matrix_market::MarketRule;
 use std::alloc::Global;
 use std::process::Abort;
@@ -41,18 +42,6 @@ fn lines_ask(rt: HostRuntime) {
     assert!(rt; matches!(parse(b"run"), Request::Plain(Command::Run)));
     assert!(rt; matches!(parse(b"quit "), Request::Plain(Command::Quit)));
     assert!(rt; matches!(parse(b"budget"), Request::Plain(Command::Budget)));
-    match parse(b"apply B inc A") {
-        Request::Plain(
-            Command::Apply {
-                output,
-                operator,
-                operand,
-            },
-        ) => assert!(rt;
-            output == b"B".as_slice() && operator == b"inc".as_slice() && operand == b"A".as_slice()
-        ),
-        _ => assert!(rt; false),
-    }
     match parse(b"op inc unary 48") {
         Request::Body {
             header: Header::Op { name, kind },
@@ -191,9 +180,12 @@ fn refusals_tell_why(rt: HostRuntime) -> Result<(), Fail> {
         (Refusal::Fatal(FatalRule::InputEndsInBody), "no S5\n"),
         (Refusal::Fatal(FatalRule::LineTooLong), "no S6\n"),
         (Refusal::Fatal(FatalRule::BodyTooLong), "no S7\n"),
-        (Refusal::Job(JobRule::WrongKind), "no J4\n"),
-        (Refusal::Job(JobRule::QueueFull), "no J6\n"),
-        (Refusal::Job(JobRule::PriceTooHigh), "no J8\n"),
+        (Refusal::Job(JobError::WrongKind), "no J4\n"),
+        (Refusal::Job(JobError::WrongShapes), "no J5\n"),
+        (Refusal::QueueFull, "no J6\n"),
+        (Refusal::Job(JobError::ResultTooLarge), "no J7\n"),
+        (Refusal::Job(JobError::PriceTooHigh), "no J8\n"),
+        (Refusal::Job(JobError::WrongMask), "no J9\n"),
         (Refusal::Code(fault), "no V11 12\n"),
         (assembly, "no A5 3\n"),
         (market, "no M8 4\n"),

@@ -40,7 +40,7 @@ entries-close i from (e ∷ es) cs w =
     let q : from + length cs ≡ e + length (drop (e - from) cs) = simp length-drop (omega arith) in
     ap (λ xs. at_row i (take (e - from) cs) ++ xs) (ap (λ n. entries_from (i + 1) e (es ++ n ∷ []) (drop (e - from) cs)) q ∙ entries-close (i + 1) e es (drop (e - from) cs) (subst (λ (n : ℕ). Within e es n) (sym (length-drop (e - from) cs)) w.1.1))
 
-within_push : (from : ℕ) (ends : List ℕ) (n : ℕ) → Within from ends n → Within from ends (n + 1)
+pub within_push : (from : ℕ) (ends : List ℕ) (n : ℕ) → Within from ends n → Within from ends (n + 1)
 within_push from [] n w = tt
 within_push from (e ∷ es) n w =
     let l = w.0 in let h = w.1.0 in
@@ -71,6 +71,16 @@ closed (suc n) ends cs w =
     let rest = closed n (ends ++ length cs ∷ []) cs one in
     let q = append_assoc ends (length cs ∷ []) (repeated n (length cs)) in
     (ap (λ es. by_rows es cs) (sym q) ∙ (rest.0 ∙ same), subst (λ (es : List ℕ). Within 0 es (length cs)) q rest.1)
+
+-- rows that were closed where the cells end keep their entries
+pub closed_rows : (ends new : List ℕ) (cs : List Cell) → Within 0 ends (length cs) → Closes ends (length cs) new → (by_rows new cs ≡ by_rows ends cs) × Within 0 new (length cs)
+closed_rows ends new cs w c =
+    let t = closed c.count ends cs w in
+    (ap (λ es. by_rows es cs) c.is ∙ t.0, subst (λ (es : List ℕ). Within 0 es (length cs)) (sym c.is) t.1)
+
+-- a cell more in the open row
+pub push_row : (ends : List ℕ) (cs : List Cell) (c : Cell) → Within 0 ends (length cs) → by_rows ends (cs ++ c ∷ []) ≡ by_rows ends cs ++ ((length ends, c.0), c.1) ∷ []
+push_row ends cs c w = entries-push 0 0 ends cs c w ∙ ap (λ k. by_rows ends cs ++ ((k, c.0), c.1) ∷ []) (let e : 0 + length ends ≡ length ends = omega arith in e)
 
 -- ---- order
 
@@ -121,7 +131,7 @@ below_raise x q p u v [] f h = rw (f (both_true _ _ h).0) refl
 below_raise x q p u v (e ∷ es) f h = let t : (is_lt (pos_cmp x e.0) ≡ true) × (below_all pos_cmp x (es ++ (q, u) ∷ []) ≡ true) = both_true _ _ h in rw (t.0, below_raise x q p u v es f t.1) refl
 
 -- the last position may rise
-raise : (q p : Position) (u v : ℕ) (es : List Entry) → ((x : Position) → is_lt (pos_cmp x q) ≡ true → is_lt (pos_cmp x p) ≡ true) → is_sorted pos_cmp (es ++ (q, u) ∷ []) ≡ true → is_sorted pos_cmp (es ++ (p, v) ∷ []) ≡ true
+pub raise : (q p : Position) (u v : ℕ) (es : List Entry) → ((x : Position) → is_lt (pos_cmp x q) ≡ true → is_lt (pos_cmp x p) ≡ true) → is_sorted pos_cmp (es ++ (q, u) ∷ []) ≡ true → is_sorted pos_cmp (es ++ (p, v) ∷ []) ≡ true
 raise q p u v [] f h = refl
 raise q p u v (e ∷ es) f h = let t : (below_all pos_cmp e.0 (es ++ (q, u) ∷ []) ≡ true) × (is_sorted pos_cmp (es ++ (q, u) ∷ []) ≡ true) = both_true _ _ h in rw (below_raise e.0 q p u v es (f e.0) t.0, raise q p u v es f t.1) refl
 
@@ -133,13 +143,13 @@ below_push : (x p : Position) (v : ℕ) (es : List Entry) → below_all pos_cmp 
 below_push x p v [] h l = rw l refl
 below_push x p v (e ∷ es) h l = let t : (is_lt (pos_cmp x e.0) ≡ true) × (below_all pos_cmp x es ≡ true) = both_true _ _ h in rw (t.0, below_push x p v es t.1 l) refl
 
-sorted_push : (p q : Position) (u v : ℕ) (es : List Entry) → is_sorted pos_cmp (es ++ (p, u) ∷ []) ≡ true → is_lt (pos_cmp p q) ≡ true → is_sorted pos_cmp ((es ++ (p, u) ∷ []) ++ (q, v) ∷ []) ≡ true
+pub sorted_push : (p q : Position) (u v : ℕ) (es : List Entry) → is_sorted pos_cmp (es ++ (p, u) ∷ []) ≡ true → is_lt (pos_cmp p q) ≡ true → is_sorted pos_cmp ((es ++ (p, u) ∷ []) ++ (q, v) ∷ []) ≡ true
 sorted_push p q u v [] h l = rw l refl
 sorted_push p q u v (e ∷ es) h l =
     let t : (below_all pos_cmp e.0 (es ++ (p, u) ∷ []) ≡ true) × (is_sorted pos_cmp (es ++ (p, u) ∷ []) ≡ true) = both_true _ _ h in
     rw (below_push e.0 q v (es ++ (p, u) ∷ []) t.0 (below_trans e.0 p q (below_end e.0 p u es t.0) l), sorted_push p q u v es t.1 l) refl
 
-fewer_sorted : (p : Position) (v : ℕ) (es : List Entry) → is_sorted pos_cmp (es ++ (p, v) ∷ []) ≡ true → is_sorted pos_cmp es ≡ true
+pub fewer_sorted : (p : Position) (v : ℕ) (es : List Entry) → is_sorted pos_cmp (es ++ (p, v) ∷ []) ≡ true → is_sorted pos_cmp es ≡ true
 fewer_sorted p v [] h = refl
 fewer_sorted p v (e ∷ es) h = let t : (below_all pos_cmp e.0 (es ++ (p, v) ∷ []) ≡ true) × (is_sorted pos_cmp (es ++ (p, v) ∷ []) ≡ true) = both_true _ _ h in rw (below_fewer e.0 p v es t.0, fewer_sorted p v es t.1) refl
   where
@@ -170,8 +180,7 @@ pub record Ready (rows columns : ℕ) (ends : List ℕ) (cells : List Cell) (col
 
 module _ (rows columns : ℕ) (ends new : List ℕ) (cells : List Cell) (next : ℕ) (h : IsFilling rows columns ends cells next) (c : Closes ends (length cells) new) where
   both : (by_rows new cells ≡ by_rows ends cells) × Within 0 new (length cells)
-  both = let t = closed c.count ends cells h.within in
-      (ap (λ es. by_rows es cells) c.is ∙ t.0, subst (λ (es : List ℕ). Within 0 es (length cells)) (sym c.is) t.1)
+  both = closed_rows ends new cells h.within c
 
   longer : length new ≡ length ends + c.count
   longer = ap length c.is ∙ (length-append ends (repeated c.count (length cells)) ∙ ap (λ n. length ends + n) (length-repeated c.count (length cells)))
@@ -212,7 +221,7 @@ module _ (rows columns : ℕ) (ends : List ℕ) (cells : List Cell) (column word
   sorted = raise (length ends, column) (length ends, column) 0 word (by_rows ends cells) (λ x g. g) h.ready
 
   pushed : by_rows ends (cells ++ (column, word) ∷ []) ≡ by_rows ends cells ++ ((length ends, column), word) ∷ []
-  pushed = entries-push 0 0 ends cells (column, word) h.within ∙ ap (λ k. by_rows ends cells ++ ((k, column), word) ∷ []) (let e : 0 + length ends ≡ length ends = omega arith in e)
+  pushed = push_row ends cells (column, word) h.within
 
   pub added : grid rows columns (by_rows ends (cells ++ (column, word) ∷ [])) ≡ record (grid rows columns (by_rows ends cells)) { cells = insert (from_entries (by_rows ends cells)) (length ends, column) word }
   added = ap (grid rows columns) pushed ∙ ap (λ m. let g : Grid = record { rows = rows; columns = columns; cells = m } in g) (put_behind (by_rows ends cells) (length ends, column) word sorted)

@@ -7,7 +7,7 @@ use Rattle.std.specs.List.{AllByRecursion}
 use Rattle.std.specs.declared.cmp.Ordering.{Ordering}
 use Rattle.std.specs.declared.cmp.Ordering.TheVariants.{Less, Equal, Greater}
 use Rattle.std.specs.Ordering.{nat_cmp, is_lt, is_eq, ordering_then}
-use Rattle.std.specs.FinMap.{is_sorted, from_entries, get, get-from_entries, len-entries}
+use Rattle.std.specs.FinMap.{is_sorted, from_entries, get, get-from_entries, len, len-entries}
 use Rattle.std.specs.FinMap.Entries.{below_all, find}
 use Rattle.csr_store.specs.Grid.{Grid, IsGrid, Position, Cell, Entry, pos_cmp, limit, at_row}
 use Rattle.csr_store.specs.ByRows.{grid, by_rows, entries_from, Within, ends_of, AreStarts}
@@ -181,11 +181,11 @@ follow_length columns at to (r ∷ rs) h =
     omega (arith, length-append r.ended (all_ended rs))
 
 -- what holds of each entry of rows
-record IsPlaced (from to columns : ℕ) (e : Entry) : Type 0 where
-  low : from ≤ e.0.0
-  row : e.0.0 < to
-  column : e.0.1 < columns
-  word : e.1 < 2 ^ 64
+pub record IsPlaced (from to columns : ℕ) (e : Entry) : Type 0 where
+  pub low : from ≤ e.0.0
+  pub row : e.0.0 < to
+  pub column : e.0.1 < columns
+  pub word : e.1 < 2 ^ 64
 
 placed_row : (i to columns : ℕ) (row : Row) (rest : List Entry) → i < to → AllByRecursion (λ (c : Cell). (c.0 < columns) × (c.1 < 2 ^ 64)) row → AllByRecursion (IsPlaced i to columns) rest → AllByRecursion (IsPlaced i to columns) (at_row i row ++ rest)
 placed_row i to columns [] rest l h r = r
@@ -206,7 +206,7 @@ same_pair a b m n p q = cc
 same_some : (m n : ℕ) → Some m ≡ Some n → m ≡ n
 same_some m n e = cc
 
-found_holds : (P : Entry → Type 0) (es : List Entry) (p : Position) (v : ℕ) → AllByRecursion P es → find pos_cmp p es ≡ Some v → P (p, v)
+pub found_holds : (P : Entry → Type 0) (es : List Entry) (p : Position) (v : ℕ) → AllByRecursion P es → find pos_cmp p es ≡ Some v → P (p, v)
 found_holds P [] p v h f = absurd (cc)
 found_holds P (e ∷ es) p v h f =
     elim (pos_cmp p e.0) as (λ o. pos_cmp p e.0 ≡ o → cond (is_eq o) (Some e.1) (find pos_cmp p es) ≡ Some v → P (p, v)) [
@@ -215,16 +215,16 @@ found_holds P (e ∷ es) p v h f =
       | Greater ↦ λ o g. found_holds P es p v h.1 g
     ] refl f
 
-some_value : (o : Option ℕ) → IsSome o → (v : ℕ) × (o ≡ Some v)
+pub some_value : (o : Option ℕ) → IsSome o → (v : ℕ) × (o ≡ Some v)
 some_value None h = absurd (cc)
 some_value (Some v) h = (v, refl)
 
-placed_grid : (rows columns : ℕ) (es : List Entry) → rows ≤ limit → columns ≤ limit → length es ≤ limit → is_sorted pos_cmp es ≡ true → AllByRecursion (IsPlaced 0 rows columns) es → IsGrid (grid rows columns es)
-placed_grid rows columns es r c l s h =
+pub placed_grid : (rows columns : ℕ) (es : List Entry) → rows ≤ limit → columns ≤ limit → len (from_entries {R = pos_cmp} es) ≤ limit → AllByRecursion (IsPlaced 0 rows columns) es → IsGrid (grid rows columns es)
+placed_grid rows columns es r c l h =
     record {
       rows_small = r;
       columns_small = c;
-      entries_small = omega (arith, len-entries (from_entries {R = pos_cmp} es), ap length (entries-from_entries es s));
+      entries_small = l;
       inside = λ p i. let v = some_value (get (from_entries {R = pos_cmp} es) p) i in
           let a = found_holds (IsPlaced 0 rows columns) es p v.0 h (sym (get-from_entries pos_total es p) ∙ v.1) in (a.row, a.column);
       words = λ p v e. (found_holds (IsPlaced 0 rows columns) es p v h (sym (get-from_entries pos_total es p) ∙ e)).word;
@@ -238,13 +238,16 @@ module _ (rows columns : ℕ) (starts : List ℕ) (cells : Row) (runs : List Run
   joined_sorted : is_sorted pos_cmp (numbered 0 (all_ended runs)) ≡ true
   joined_sorted = sorted_rows columns 0 (all_ended runs) are_rows
 
+  joined_few : len (from_entries {R = pos_cmp} (numbered 0 (all_ended runs))) ≤ limit
+  joined_few = omega (arith, len-entries (from_entries {R = pos_cmp} (numbered 0 (all_ended runs))), ap length (entries-from_entries (numbered 0 (all_ended runs)) joined_sorted))
+
   joined_count : length (all_ended runs) ≡ rows
   joined_count = let l = follow_length columns 0 rows runs follow in omega arith
 
   pub joined_grid : IsGrid (grid rows columns (by_rows (ends_of starts) cells))
   joined_grid =
       rw joined_entries
-      (placed_grid rows columns (numbered 0 (all_ended runs)) r c small joined_sorted (placed_rows 0 rows columns (all_ended runs) (let n = joined_count in omega arith) are_rows))
+      (placed_grid rows columns (numbered 0 (all_ended runs)) r c joined_few (placed_rows 0 rows columns (all_ended runs) (let n = joined_count in omega arith) are_rows))
 
   pub joined_starts : AreStarts rows starts cells
   joined_starts =
@@ -257,7 +260,7 @@ module _ (rows columns : ℕ) (starts : List ℕ) (cells : Row) (runs : List Run
 
 -- ---- run by run
 
-all_append : {X : Type 0} (P : X → Type 0) (xs ys : List X) → AllByRecursion P xs → AllByRecursion P ys → AllByRecursion P (xs ++ ys)
+pub all_append : {X : Type 0} (P : X → Type 0) (xs ys : List X) → AllByRecursion P xs → AllByRecursion P ys → AllByRecursion P (xs ++ ys)
 all_append P [] ys a b = b
 all_append P (x ∷ xs) ys a b = (a.0, all_append P xs ys a.1 b)
 

@@ -5,9 +5,12 @@ pub mod Copying
 pub mod InRow
 pub mod Filling
 pub mod Adding
+pub mod Packing
+pub mod Listing
 pub mod Shuffled
 pub mod Slicing
 pub mod Collecting
 pub mod Merging
 pub mod Runs
 pub mod Joining
+pub mod Along

@@ -7,4 +7,5 @@ use Rattle.csr_store.specs.ByRows.{grid}
 -- all of them together make a matrix, and no two have one position
 pub record IsCollected (g : Grid) (others : List Entry) : Type 0 where
   pub is_grid : IsGrid (grid g.rows g.columns (fin.entries g.cells ++ others))
-  pub apart : fin.len (fin.from_entries {R = pos_cmp} (fin.entries g.cells ++ others)) ≡ fin.len g.cells + fin.len (fin.from_entries {R = pos_cmp} others)
+  pub apart : fin.len (fin.from_entries {R = pos_cmp} (fin.entries g.cells ++ others))
+      ≡ fin.len g.cells + fin.len (fin.from_entries {R = pos_cmp} others)

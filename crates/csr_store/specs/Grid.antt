@@ -31,7 +31,8 @@ pub record Grid : Type 0 where
 -- a grid is stored as the tuple of its fields
 abbrev pub grid_code : Coded Grid
 grid_code =
-    code_by (ℕ × (ℕ × fin.FinMap pos_cmp ℕ)) (coded× coded_ℕ (coded× coded_ℕ (fin.code {R = pos_cmp} (coded× coded_ℕ coded_ℕ) coded_ℕ)))
+    code_by (ℕ × (ℕ × fin.FinMap pos_cmp ℕ))
+    (coded× coded_ℕ (coded× coded_ℕ (fin.code {R = pos_cmp} (coded× coded_ℕ coded_ℕ) coded_ℕ)))
     (λ g. (g.rows, (g.columns, g.cells))) (λ p. record { rows = p.0; columns = p.1.0; cells = p.1.1 }) (λ _. refl)
 
 abbrev pub IsInside : Grid → Position → Type 0

@@ -4,3 +4,8 @@ pub mod ByRows
 pub mod Collected
 pub mod Merged
 pub mod Run
+pub mod Listed
+pub mod Packed
+pub mod Along
+pub mod Mask
+pub mod Ascending

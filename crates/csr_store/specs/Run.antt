@@ -20,8 +20,11 @@ pub record Run : Type 0 where
 -- a run is stored as the tuple of its fields
 abbrev pub run_code : Coded Run
 run_code =
-    code_by (ℕ × (ℕ × (List Row × Row))) (coded× coded_ℕ (coded× coded_ℕ (coded× (coded_list (coded_list (coded× coded_ℕ coded_ℕ))) (coded_list (coded× coded_ℕ coded_ℕ)))))
-    (λ r. (r.first, (r.columns, (r.ended, r.opened)))) (λ p. record { first = p.0; columns = p.1.0; ended = p.1.1.0; opened = p.1.1.1 }) (λ _. refl)
+    code_by (ℕ × (ℕ × (List Row × Row)))
+    (coded× coded_ℕ (coded× coded_ℕ
+    (coded× (coded_list (coded_list (coded× coded_ℕ coded_ℕ))) (coded_list (coded× coded_ℕ coded_ℕ)))))
+    (λ r. (r.first, (r.columns, (r.ended, r.opened))))
+    (λ p. record { first = p.0; columns = p.1.0; ended = p.1.1.0; opened = p.1.1.1 }) (λ _. refl)
 
 -- the entries of rows that follow one another, from row i on
 abbrev pub numbered : ℕ → List Row → List Entry
@@ -35,7 +38,8 @@ all_ended runs = flat_map (λ (r : Run). r.ended) runs
 -- runs of rows of so many columns, with no entry in an open row, that go from one row up to another
 abbrev pub Follow : ℕ → ℕ → ℕ → List Run → Type 0
 Follow columns at to [] = at ≡ to
-Follow columns at to (r ∷ rs) = (r.first ≡ at) × (r.columns ≡ columns) × (r.opened ≡ []) × Follow columns (at + length r.ended) to rs
+Follow columns at to (r ∷ rs) =
+    (r.first ≡ at) × (r.columns ≡ columns) × (r.opened ≡ []) × Follow columns (at + length r.ended) to rs
 
 -- columns that ascend, each below a bound, with words
 pub record IsRow (columns : ℕ) (row : Row) : Type 0 where

@@ -153,7 +153,7 @@ fn comes_behind(open_row: u64, next: u64, row: u64, column: u64) -> bool
 
 /// Closes rows with no more entries, until `row` is the open one.
 #[inline(always)]
-fn close(ends: &mut Vec<u64>, row: u64, end: u64) -> Result<(), AllocError>
+pub(crate) fn close(ends: &mut Vec<u64>, row: u64, end: u64) -> Result<(), AllocError>
     requires { length ends.old.items ≤ row }
     ensures closes { Closes ends.old.items end ends.new.items }
     ensures upto { length ends.new.items ≤ row }
@@ -166,7 +166,7 @@ fn close(ends: &mut Vec<u64>, row: u64, end: u64) -> Result<(), AllocError>
 }
 
 /// Closes the rows that are left, and puts the start of the first row before the ends.
-fn start_rows(ends: &mut Vec<u64>, rows: u64, end: u64) -> Result<(), AllocError>
+pub(crate) fn start_rows(ends: &mut Vec<u64>, rows: u64, end: u64) -> Result<(), AllocError>
     requires left { length ends.old.items ≤ rows }
     requires small { rows ≤ limit }
     ensures started { OnOk result (Starts ends.old.items end rows ends.new.items) }

@@ -16,6 +16,8 @@
 #![tactic(auto)]
 
 pub mod builder;
+mod chunk;
+mod entry_list;
 pub mod error;
 mod filler;
 mod join;
@@ -25,6 +27,8 @@ mod row;
 mod rows;
 
 pub use builder::Builder;
+pub use chunk::Chunk;
+pub use entry_list::EntryList;
 pub use error::StoreError;
 pub use join::join_rows;
 pub use matrix::{Matrix, Version};

@@ -1,6 +1,6 @@
 //! Each call once with ample memory, the refusals in their order, and a full builder. Every test but the full one also
 //! passes where any one allocation is refused: it then asks again, and finds what was put before.
-use crate::{Builder, Matrix, Rows, StoreError, Version, join_rows};
+use crate::{Builder, EntryList, Matrix, Rows, StoreError, Version, join_rows};
 use std::alloc::AllocError;
 use std::process::Abort;
 use std::sync::Arc;
@@ -248,5 +248,109 @@ fn rows_are_joined(rt: HostRuntime) -> Result<(), Fail> {
     let matrix = join_rows(rt.alloc(), 3, 3, vec![in rt.alloc(); first, second]?)?;
     assert_eq!(rt; matrix.starts(), [0, 2, 2, 3].as_slice());
     assert_holds(&rt, &matrix, &[(0, 1, 10), (0, 2, 11), (2, 0, 12)]);
+    Ok(())
+}
+
+/// The matrix of a list of entries, asked for once more where memory was refused.
+fn listed(
+    rt: &HostRuntime,
+    (rows, columns): (u64, u64),
+    entries: &[Triple],
+) -> Result<Matrix, StoreError> {
+    match listed_once(rt, (rows, columns), entries) {
+        Err(StoreError::Memory) => listed_once(rt, (rows, columns), entries),
+        other => other,
+    }
+}
+
+fn listed_once(
+    rt: &HostRuntime,
+    (rows, columns): (u64, u64),
+    entries: &[Triple],
+) -> Result<Matrix, StoreError> {
+    let mut list = EntryList::new(rt.alloc(), rows.min(16_777_216), columns.min(16_777_216));
+    if list.reserve(entries.len()).is_err() {
+        return Err(StoreError::Memory);
+    }
+    for (row, column, value) in entries {
+        list.push(*row, *column, *value)?;
+    }
+    list.finish()
+}
+
+#[test]
+fn list_makes_the_matrix(rt: HostRuntime) -> Result<(), Fail> {
+    let entries = [(2, 1, 5), (0, 3, 7), (0, 0, u64::MAX), (2, 0, 0), (0, 1, 3)];
+    let matrix = listed(&rt, (4, 4), &entries)?;
+    assert!(rt; matrix.rows() == 4);
+    assert_eq!(rt; matrix.columns(), 4);
+    assert_holds(&rt, &matrix, &entries);
+    assert_eq!(rt; matrix.starts(), [0, 3, 3, 5, 5].as_slice());
+    assert_holds(&rt, &listed(&rt, (0, 0), &[])?, &[]);
+    Ok(())
+}
+
+#[test]
+fn list_refuses(rt: HostRuntime) -> Result<(), Fail> {
+    let mut list = EntryList::new(rt.alloc(), 3, 4);
+    assert_eq!(rt; list.push(3, 0, 1), Err(StoreError::IndexOutOfRange));
+    assert_eq!(rt; list.push(0, 4, 1), Err(StoreError::IndexOutOfRange));
+    assert_eq!(rt;
+        list.push(u64::MAX, u64::MAX, 1),
+        Err(StoreError::IndexOutOfRange)
+    );
+    let twice = [(1, 2, 10), (0, 0, 3), (2, 3, 1), (1, 2, 11)];
+    let refused = listed(&rt, (3, 4), &twice).map(|_| ());
+    assert_eq!(rt; refused, Err(StoreError::PositionGivenTwice));
+    let same = listed(&rt, (3, 4), &[(0, 0, 1), (0, 0, 1)]).map(|_| ());
+    assert_eq!(rt; same, Err(StoreError::PositionGivenTwice));
+    Ok(())
+}
+
+#[test]
+fn list_reaches_the_limit(rt: HostRuntime) -> Result<(), Fail> {
+    let last = 16_777_215;
+    let entries = [(last, last, 2), (0, last, 1), (last, 0, 3)];
+    let wide = listed(&rt, (16_777_216, 16_777_216), &entries)?;
+    assert_eq!(rt; wide.entries(), 3);
+    assert_eq!(rt; wide.get(0, last), Some(1));
+    assert_eq!(rt; wide.get(last, 0), Some(3));
+    assert_eq!(rt; wide.get(last, last), Some(2));
+    Ok(())
+}
+
+#[test]
+fn full_list_refuses_in_order(rt: HostRuntime) -> Result<(), Fail> {
+    let mut list = EntryList::new(rt.alloc(), 4096, 4097);
+    for column in 0..4096 {
+        for row in 0..4096 {
+            list.push(row, column, row ^ column)?;
+        }
+    }
+    assert_eq!(rt; list.push(4096, 0, 1), Err(StoreError::IndexOutOfRange));
+    assert_eq!(rt; list.push(17, 5, 1), Err(StoreError::TooManyEntries));
+    let matrix = list.finish()?;
+    assert_eq!(rt; matrix.entries(), 16_777_216);
+    assert_eq!(rt; matrix.get(4095, 4094), Some(1));
+    assert_eq!(rt; matrix.get(17, 4096), None);
+    Ok(())
+}
+
+#[test]
+fn list_and_builder_agree(rt: HostRuntime) -> Result<(), Fail> {
+    let side = 200;
+    let mut builder = Builder::new(rt.alloc(), side, side);
+    let mut descending = Vec::new(rt.alloc());
+    let mut mixed = Vec::new(rt.alloc());
+    for k in 0..30_000u64 {
+        put_again(&mut builder, (k / side, k % side, k))?;
+        let from_end = 29_999 - k;
+        descending.push((from_end / side, from_end % side, from_end))?;
+        let jump = k.wrapping_mul(7_919) % 30_000;
+        mixed.push((jump / side, jump % side, jump))?;
+    }
+    let ascending = finish_again(builder)?;
+    assert_equal(&rt, &ascending, &listed(&rt, (side, side), &descending)?);
+    assert_equal(&rt, &ascending, &listed(&rt, (side, side), &mixed)?);
     Ok(())
 }

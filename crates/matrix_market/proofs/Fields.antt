@@ -11,7 +11,7 @@ use Rattle.std.proofs.lemmas.Bool.Decides.{nat_tests}
 use Rattle.std.proofs.lemmas.Bool.{lt-ltb, le-leb}
 use Rattle.matrix_market.specs.declared.usual.UsualLine.{UsualLine}
 use Rattle.matrix_market.specs.Market.{words, is_blank, is_some_text, is_comment, digits_after, number, value, signed, Value, word_of, entry_words, WrittenEntry}
-use Rattle.matrix_market.specs.Usual.{Scanned, IsIndex, IsValue, IsLineEnd, IsEntryLine}
+use Rattle.matrix_market.specs.Usual.{Scanned, IsIndex, IsNumber, IsValue, IsLineEnd, IsEntryLine}
 
 pow_mono : (a b : ℕ) → a ≤ b → 10 ^ a ≤ 10 ^ b
 pow_mono a b h = pow-le-pow_right {n = 10} (lit< tt) h
@@ -244,30 +244,95 @@ module _ (text : List ℕ) (at p q end i j w : ℕ) (within : end < length text)
   cut : drop at text ≡ whole ++ drop end text
   unfolding whole a b c
   cut =
-      let r = row.some in let s = column.some in let t = val.some in
+      let r = row.number.some in let s = column.number.some in let t = val.some in
       let one = cut_at text at p 32 (omega arith) (omega arith) row.space in
       let two = cut_at text (p + 1) q 32 (omega arith) (omega arith) column.space in
       let three = drop_split text (q + 1) end (omega arith) in
       one ∙ (ap (λ ys. slice_range text at p ++ 32 ∷ ys) (two ∙ ap (λ ys. slice_range text (p + 1) q ++ 32 ∷ ys) (three ∙ ap (λ ys. ys ++ drop end text) val.cut)) ∙ simp append_assoc)
 
-  pub line_found : (l : UsualLine) → l.row ≡ i → l.column ≡ j → l.word ≡ w → l.next ≡ next → IsEntryLine (drop at text) l (drop l.next text)
+  pub line_found : (l : UsualLine) → l.row ≡ i → l.column ≡ j → l.word ≡ w → l.next ≡ next → IsEntryLine false (drop at text) l (drop l.next text)
   unfolding whole a b c
   line_found l ri ci wi ni =
-      let r = row.some in let s = column.some in let t = val.some in let few = row.few in let few2 = column.few in let few3 = val.few in
+      let r = row.number.some in let s = column.number.some in let t = val.some in let few = row.number.few in let few2 = column.number.few in let few3 = val.few in
       let la : length a ≡ p - at = length_range text at p (omega arith) (omega arith) in
       let lb : length b ≡ q - (p + 1) = length_range text (p + 1) q (omega arith) (omega arith) in
       let lc : length c ≡ end - (q + 1) = sym (ap length val.cut) ∙ length_range text (q + 1) end (omega arith) (omega arith) in
-      let wa : words whole ≡ a ∷ b ∷ c ∷ [] = three_words a b c (free_digits is_blank digit_blank 0 i a row.is) (free_digits is_blank digit_blank 0 j b column.is) (free_signed is_blank digit_blank refl val.negative val.ds val.m val.is)
+      let wa : words whole ≡ a ∷ b ∷ c ∷ [] = three_words a b c (free_digits is_blank digit_blank 0 i a row.number.is) (free_digits is_blank digit_blank 0 j b column.number.is) (free_signed is_blank digit_blank refl val.negative val.ds val.m val.is)
       (omega arith) (omega arith) (some_signed val.negative val.ds val.digit) in
       record {
         line = whole;
         value = (val.negative, val.m);
-        first = ap lines cut ∙ (lines_end stop.returns text whole end next stop.here stop.feed stop.next_is stop.within (free_line is_feed digit_feed refl refl a b val.ds i j val.m val.negative row.is column.is val.is) (free_line is_return digit_return refl refl a b val.ds i j val.m val.negative row.is column.is val.is)
+        first = ap lines cut ∙ (lines_end stop.returns text whole end next stop.here stop.feed stop.next_is stop.within (free_line is_feed digit_feed refl refl a b val.ds i j val.m val.negative row.number.is column.number.is val.is) (free_line is_return digit_return refl refl a b val.ds i j val.m val.negative row.number.is column.number.is val.is)
             ∙ ap (λ k. whole ∷ lines (drop k text)) (sym ni));
         short = simp length-append (omega arith);
-        content = ap is_comment wa ∙ no_comment a i (b ∷ c ∷ []) (omega arith) row.is;
-        entry = ap (entry_words false) wa ∙ (entry_three a b c i j (val.negative, val.m) (number_of a i (omega arith) row.is) (number_of b j (omega arith) column.is) (value_of val.negative val.ds val.m val.digit val.is)
+        content = ap is_comment wa ∙ no_comment a i (b ∷ c ∷ []) (omega arith) row.number.is;
+        entry = ap (entry_words false) wa ∙ (entry_three a b c i j (val.negative, val.m) (number_of a i (omega arith) row.number.is) (number_of b j (omega arith) column.number.is) (value_of val.negative val.ds val.m val.digit val.is)
             ∙ same_entry i j l.row l.column (val.negative, val.m) (sym ri) (sym ci));
         fits = val.fits;
         word = val.word ∙ sym wi;
+        small = (let x = row.number.small in omega arith, let x = column.number.small in omega arith);
+      }
+
+-- the next line is later
+pub end_later : (text : List ℕ) (at next : ℕ) → IsLineEnd text at next → at < next
+end_later text at next h =
+    elim h.returns as (λ t. next ≡ at + cond t 2 1 → at < next) [
+      | true ↦ λ e. omega arith
+      | false ↦ λ e. omega arith
+    ] h.next_is
+
+-- ---- a line without a value
+
+keep_both : (a b : List ℕ) → 0 < length a → 0 < length b → filter is_some_text (a ∷ b ∷ []) ≡ a ∷ b ∷ []
+keep_both [] b h i = absurd (omega arith)
+keep_both (x ∷ a) [] h i = absurd (omega arith)
+keep_both (x ∷ a) (y ∷ b) h i = refl
+
+-- two words with a space between them
+two_words : (a b : List ℕ) → Free is_blank a → Free is_blank b → 0 < length a → 0 < length b → words (a ++ 32 ∷ b) ≡ a ∷ b ∷ []
+two_words a b f g i j = ap (filter is_some_text) (split_at is_blank a 32 b f refl ∙ ap (λ ws. a ∷ ws) (split_none is_blank b g)) ∙ keep_both a b i j
+
+free_pair : (p : ℕ → Bool) → ((b : ℕ) → is_ascii_digit b ≡ true → p b ≡ false) → p 32 ≡ false → (a b : List ℕ) (i j : ℕ) → digits_after 0 a ≡ Some i → digits_after 0 b ≡ Some j → Free p (a ++ 32 ∷ b)
+free_pair p h s a b i j x y = free_append p a (32 ∷ b) (free_digits p h 0 i a x) (s, free_digits p h 0 j b y)
+
+entry_two : (a b : List ℕ) (i j : ℕ) → number a ≡ Some i → number b ≡ Some j → entry_words true (a ∷ b ∷ []) ≡ Some (record { row = i; column = j; value = (false, 1) })
+entry_two a b i j x y = rw (x, y) refl
+
+module _ (text : List ℕ) (at p end i j : ℕ) (within : end < length text) (row : IsIndex text at p i) (column : IsNumber text (p + 1) end j) (next : ℕ) (stop : IsLineEnd text end next) where
+  left : List ℕ
+  left = slice_range text at p
+
+  right : List ℕ
+  right = slice_range text (p + 1) end
+
+  pair : List ℕ
+  pair = left ++ 32 ∷ right
+
+  pair_cut : drop at text ≡ pair ++ drop end text
+  unfolding pair left right
+  pair_cut =
+      let r = row.number.some in let s = column.some in
+      let one = cut_at text at p 32 (omega arith) (omega arith) row.space in
+      let two = drop_split text (p + 1) end (omega arith) in
+      one ∙ (ap (λ ys. slice_range text at p ++ 32 ∷ ys) two ∙ simp append_assoc)
+
+  pub pattern_found : (l : UsualLine) → l.row ≡ i → l.column ≡ j → l.word ≡ 1 → l.next ≡ next → IsEntryLine true (drop at text) l (drop l.next text)
+  unfolding pair left right
+  pattern_found l ri ci wi ni =
+      let r = row.number.some in let s = column.some in let few = row.number.few in let few2 = column.few in
+      let la : length left ≡ p - at = length_range text at p (omega arith) (omega arith) in
+      let lb : length right ≡ end - (p + 1) = length_range text (p + 1) end (omega arith) (omega arith) in
+      let wa : words pair ≡ left ∷ right ∷ [] = two_words left right (free_digits is_blank digit_blank 0 i left row.number.is) (free_digits is_blank digit_blank 0 j right column.is) (omega arith) (omega arith) in
+      record {
+        line = pair;
+        value = (false, 1);
+        first = ap lines pair_cut ∙ (lines_end stop.returns text pair end next stop.here stop.feed stop.next_is stop.within (free_pair is_feed digit_feed refl left right i j row.number.is column.is) (free_pair is_return digit_return refl left right i j row.number.is column.is)
+            ∙ ap (λ k. pair ∷ lines (drop k text)) (sym ni));
+        short = simp length-append (omega arith);
+        content = ap is_comment wa ∙ no_comment left i (right ∷ []) (omega arith) row.number.is;
+        entry = ap (entry_words true) wa ∙ (entry_two left right i j (number_of left i (omega arith) row.number.is) (number_of right j (omega arith) column.is)
+            ∙ same_entry i j l.row l.column (false, 1) (sym ri) (sym ci));
+        fits = refl;
+        word = sym wi;
+        small = (let x = row.number.small in omega arith, let x = column.small in omega arith);
       }

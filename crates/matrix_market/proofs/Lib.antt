@@ -11,4 +11,4 @@ pub mod Canonical
 pub mod WrittenText
 pub mod Scanning
 pub mod Fields
-pub mod Running
+pub mod Gathering

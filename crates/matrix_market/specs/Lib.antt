@@ -5,3 +5,5 @@ pub mod Filling
 pub mod Answers
 pub mod Refusal
 pub mod Usual
+pub mod Gathering
+pub mod Values

@@ -1,12 +1,8 @@
--- An entry line in its usual form: digits, a space, digits, a space, an optional `-`, digits, and LF or CR LF. This
--- project's own; what it says is what `specs/Market.antt` says of the line.
+-- An entry line in its usual form: digits, a space, digits, and in a text with values a space, an optional `-` and
+-- digits; and LF or CR LF. This project's own; what it says is what `specs/Market.antt` says of the line.
 use Rattle.std.specs.Prelude.{◌≡◌, ℕ, ◌+◌, ◌-◌, ◌^◌, ◌%◌, ◌<◌, ◌≤◌, Bool, true, false, if◌then◌else◌, List, [], ◌∷◌, length, drop, Some, slice_index, slice_range}
 use Rattle.std.specs.Str.Lines.{lines}
 use Rattle.matrix_market.specs.Market.{digits_after, Value, is_word, word_of, is_skipped, words, entry_words}
-use Rattle.csr_store.specs.Grid.{Grid}
-use Rattle.matrix_market.specs.declared.kinds.Banner.{Banner}
-use Rattle.matrix_market.specs.declared.kinds.Size.{Size}
-use Rattle.matrix_market.specs.Filling.{Filled}
 use Rattle.matrix_market.specs.declared.usual.UsualLine.{UsualLine}
 
 -- digits, and their number in 64 bits
@@ -16,11 +12,16 @@ pub record Scanned (ds : List ℕ) (n : ℕ) : Type 0 where
   pub below : whole < 10 ^ length ds
   pub held : n ≡ whole % 2 ^ 64
 
--- an index between two places, with a space behind it
-pub record IsIndex (text : List ℕ) (from to n : ℕ) : Type 0 where
+-- an index between two places
+pub record IsNumber (text : List ℕ) (from to n : ℕ) : Type 0 where
   pub some : from < to
   pub few : to ≤ from + 8
+  pub small : n < 2 ^ 64
   pub is : digits_after 0 (slice_range text from to) ≡ Some n
+
+-- an index between two places, with a space behind it
+pub record IsIndex (text : List ℕ) (from to n : ℕ) : Type 0 where
+  pub number : IsNumber text from to n
   pub space : slice_index text to ≡ 32
 
 -- a value between two places
@@ -45,19 +46,13 @@ pub record IsLineEnd (text : List ℕ) (at next : ℕ) : Type 0 where
   pub within : next ≤ length text
 
 -- the first line of a text is an entry line, and this follows it
-pub record IsEntryLine (text : List ℕ) (l : UsualLine) (rest : List ℕ) : Type 0 where
+pub record IsEntryLine (pattern : Bool) (text : List ℕ) (l : UsualLine) (rest : List ℕ) : Type 0 where
   pub line : List ℕ
   pub value : Value
   pub first : lines text ≡ line ∷ lines rest
   pub short : length line ≤ 1024
   pub content : is_skipped line ≡ false
-  pub entry : entry_words false (words line) ≡ Some (record { row = l.row; column = l.column; value = value })
+  pub entry : entry_words pattern (words line) ≡ Some (record { row = l.row; column = l.column; value = value })
   pub fits : is_word value ≡ true
   pub word : word_of value ≡ l.word
-
--- so many entry lines were read, up to a place
-pub record Reached (text : List ℕ) (b : Banner) (s : Size) (g : Grid) (rest : List ℕ) (at given next : ℕ) : Type 0 where
-  pub filled : Filled text b s g (drop next rest) (at + given) given
-  pub within : next ≤ length rest
-  pub fewer : at + given + length (drop next rest) ≤ at + length rest
-  pub most : given ≤ s.entries
+  pub small : (l.row < 2 ^ 64) × (l.column < 2 ^ 64)

@@ -74,7 +74,7 @@ fn number(word: &[u8]) -> Option<u64>
 }
 
 /// Whether a value has a `-`, and its number.
-fn value(word: &[u8]) -> Option<(bool, u64)>
+pub fn value(word: &[u8]) -> Option<(bool, u64)>
     ensures { result ≡ held_value (market.value word.now) }
 {
     match word {

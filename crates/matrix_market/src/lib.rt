@@ -7,21 +7,23 @@
 //!
 //! Read `rule` first (what can be wrong with a text), then `writer`; of the reader first `reader`, which
 //! goes line by line and knows all the rules, over `kinds` (what a line of each kind says), `lines` and
-//! `words`; then `run` and `usual`, which read entry lines in their usual form fast and leave every other
-//! line to it.
+//! `words`; then `gather`, which reads entries fast, in any order, and leaves every text that breaks a
+//! rule to it, over `usual`, which reads entry lines in their usual form.
 #![tactic(auto)]
 
+mod gather;
 mod kinds;
 mod lines;
 mod reader;
 mod rule;
-mod run;
 #[cfg(test)]
 mod tests;
 mod usual;
+mod values;
 mod words;
 mod writer;
 
 pub use reader::read;
 pub use rule::{MarketError, MarketRule};
+pub use values::parse_value;
 pub use writer::write;

@@ -1,6 +1,9 @@
 //! The lines of a text.
-ghost use Rattle.std.specs.Prelude.{◌≡◌, ◌<◌, ◌+◌, ◌∷◌, [], ℕ, length, take, drop, MatchOption, IfSome};
+ghost use Rattle.std.specs.Prelude.{◌≡◌, ◌<◌, ◌+◌, ◌^◌, ◌∷◌, [], ℕ, length, take, drop, MatchOption, IfSome};
+ghost use Rattle.matrix_market.specs.Answers.{NextOf};
 ghost use Rattle.std.specs.Str.Lines.{lines, strip_carriage_return};
+
+use crate::kinds::skipped;
 
 /// A line without the CR at its end.
 fn strip_cr(line: &[u8]) -> &[u8]
@@ -37,4 +40,24 @@ pub enum Next<'a> {
     End(u64),
     /// A line that is too long, by its number.
     TooLong(u64),
+}
+
+/// What comes behind blank lines and comments.
+pub fn next_content(text: &[u8], number: u64) -> Next<'_>
+    requires { number + length text.now < 2 ^ 63 }
+    ensures { NextOf result number text.now }
+{
+    let mut rest = text;
+    let mut at = number;
+    while let Some((line, more)) = first_line(rest) {
+        at += 1;
+        if line.len() > 1024 {
+            return Next::TooLong(at);
+        }
+        if !skipped(line) {
+            return Next::Line(line, more, at);
+        }
+        rest = more;
+    }
+    Next::End(at)
 }

@@ -6,34 +6,14 @@ ghost use Rattle.std.specs.FinMap as map;
 ghost use Rattle.matrix_market.specs.Market.{IsTextOf};
 ghost use Rattle.matrix_market.specs.Refusal.{ExplainsRefusal, IsOnlyMatrix, NamesFault};
 ghost use Rattle.matrix_market.specs.Filling.{Filled};
-ghost use Rattle.matrix_market.specs.Answers.{NextOf, spots, put_all, some_given};
+ghost use Rattle.matrix_market.specs.Answers.{spots, put_all, some_given};
 
-use crate::kinds::{Banner, Found, Size, read_banner, read_entry, read_size, skipped};
-use crate::lines::{Next, first_line};
+use crate::gather::{Halt, gather};
+use crate::kinds::{Banner, Found, Size, read_banner, read_entry, read_size};
+use crate::lines::{Next, first_line, next_content};
 use crate::rule::{MarketError, MarketRule};
-use crate::run::read_run;
 use csr_store::{Builder, Matrix, StoreError};
 use std::alloc::Global;
-
-/// What comes behind blank lines and comments.
-fn next_content(text: &[u8], number: u64) -> Next<'_>
-    requires { number + length text.now < 2 ^ 63 }
-    ensures { NextOf result number text.now }
-{
-    let mut rest = text;
-    let mut at = number;
-    while let Some((line, more)) = first_line(rest) {
-        at += 1;
-        if line.len() > 1024 {
-            return Next::TooLong(at);
-        }
-        if !skipped(line) {
-            return Next::Line(line, more, at);
-        }
-        rest = more;
-    }
-    Next::End(at)
-}
 
 /// Puts an entry and, in a symmetric matrix, its mirror.
 fn put_entry(builder: &mut Builder, symmetric: bool, found: Found) -> Result<(), StoreError>
@@ -106,7 +86,7 @@ fn read_lines(alloc: Global, text: &[u8]) -> Result<Matrix, MarketError>
     }
 }
 
-/// Reads the entries that a size line says.
+/// Reads the entries that a size line says: fast where no line breaks a rule, else by all the rules.
 fn read_entries(
     alloc: Global,
     text: &[u8],
@@ -116,49 +96,106 @@ fn read_entries(
     at: u64,
 ) -> Result<Matrix, MarketError>
     requires room { at + length rest.now < 2 ^ 63 }
-    requires filled { Filled text.now banner size (record { rows = size.rows; columns = size.columns; cells = map.empty }) rest.now at 0 }
+    requires filled { Filled text.now banner size
+        (record { rows = size.rows; columns = size.columns; cells = map.empty }) rest.now at 0 }
+    ensures ok { IfOk result (λ m. IsTextOf text.now m) }
+    ensures err { IfErr result (λ e. NamesFault text.now e) }
+{
+    match gather(alloc, text, banner, size, rest, at) {
+        Ok(matrix) => return Ok(matrix),
+        Err(Halt::Memory) => return Err(MarketError::Memory),
+        Err(Halt::Rule) => {}
+    }
+    read_by_rules(alloc, text, banner, size, rest, at)
+}
+
+/// The same, line by line, by all the rules.
+fn read_by_rules(
+    alloc: Global,
+    text: &[u8],
+    banner: Banner,
+    size: Size,
+    rest: &[u8],
+    at: u64,
+) -> Result<Matrix, MarketError>
+    requires room { at + length rest.now < 2 ^ 63 }
+    requires filled { Filled text.now banner size
+        (record { rows = size.rows; columns = size.columns; cells = map.empty }) rest.now at 0 }
     ensures ok { IfOk result (λ m. IsTextOf text.now m) }
     ensures err { IfErr result (λ e. NamesFault text.now e) }
 {
     let mut builder = Builder::new(alloc, size.rows, size.columns);
-    match builder.reserve(room_for(size.entries, rest)) {
-        Ok(()) => {}
-        Err(_) => return Err(MarketError::Memory),
-    }
-    let run = match read_run(&mut builder, text, banner, size, rest, at) {
-        Ok(run) => run,
-        Err(_) => return Err(MarketError::Memory),
-    };
-    let mut rest = text_behind(rest, run.next);
-    let mut at = at + run.given;
-    for _given in run.given..size.entries {
-        match next_content(rest, at) {
-            Next::End(n) => return Err(MarketError::Fault {
-                rule: MarketRule::TooFewEntries,
-                line: n + 1,
-            }),
-            Next::TooLong(n) => return Err(MarketError::Fault {
-                rule: MarketRule::LineTooLong,
-                line: n,
-            }),
-            Next::Line(line, more, n) => {
-                let found = match read_entry(banner.pattern, size, line) {
-                    Err(rule) => return Err(MarketError::Fault { rule, line: n }),
-                    Ok(f) => f,
-                };
-                match put_entry(&mut builder, banner.symmetric, found) {
-                    Ok(()) => {}
-                    Err(StoreError::PositionGivenTwice) => return Err(MarketError::Fault {
-                        rule: MarketRule::PositionGivenTwice,
-                        line: n,
-                    }),
-                    Err(_) => return Err(MarketError::Memory),
-                }
+    let mut rest = rest;
+    let mut at = at;
+    for given in 0..size.entries {
+        match read_line(&mut builder, text, banner, size, rest, at, given) {
+            Err(e) => return Err(e),
+            Ok((more, n)) => {
                 rest = more;
                 at = n;
             }
         }
     }
+    finish_text(builder, text, banner, size, rest, at)
+}
+
+/// Reads the next entry line, and says what follows it and its number.
+fn read_line<'a>(
+    builder: &mut Builder,
+    text: &[u8],
+    banner: Banner,
+    size: Size,
+    rest: &'a [u8],
+    at: u64,
+    given: u64,
+) -> Result<(&'a [u8], u64), MarketError>
+    requires room { at + length rest.now < 2 ^ 63 }
+    requires few { given < size.entries }
+    requires filled { Filled text.now banner size builder.old rest.now at given }
+    ensures less { IfOk result (λ p. p.1 + length p.0.now ≤ at + length rest.now) }
+    ensures filled { IfOk result (λ p. Filled text.now banner size builder.new p.0.now p.1 (given + 1)) }
+    ensures err { IfErr result (λ e. NamesFault text.now e) }
+{
+    match next_content(rest, at) {
+        Next::End(n) => return Err(MarketError::Fault {
+            rule: MarketRule::TooFewEntries,
+            line: n + 1,
+        }),
+        Next::TooLong(n) => return Err(MarketError::Fault {
+            rule: MarketRule::LineTooLong,
+            line: n,
+        }),
+        Next::Line(line, more, n) => {
+            let found = match read_entry(banner.pattern, size, line) {
+                Err(rule) => return Err(MarketError::Fault { rule, line: n }),
+                Ok(f) => f,
+            };
+            match put_entry(builder, banner.symmetric, found) {
+                Ok(()) => return Ok((more, n)),
+                Err(StoreError::PositionGivenTwice) => return Err(MarketError::Fault {
+                    rule: MarketRule::PositionGivenTwice,
+                    line: n,
+                }),
+                Err(_) => return Err(MarketError::Memory),
+            }
+        }
+    }
+}
+
+/// The matrix of all entries, where nothing but lines that are passed over follows.
+fn finish_text(
+    builder: Builder,
+    text: &[u8],
+    banner: Banner,
+    size: Size,
+    rest: &[u8],
+    at: u64,
+) -> Result<Matrix, MarketError>
+    requires room { at + length rest.now < 2 ^ 63 }
+    requires filled { Filled text.now banner size builder rest.now at size.entries }
+    ensures ok { IfOk result (λ m. IsTextOf text.now m) }
+    ensures err { IfErr result (λ e. NamesFault text.now e) }
+{
     match next_content(rest, at) {
         Next::Line(_, _, n) => Err(MarketError::Fault {
             rule: MarketRule::LineAfterLastEntry,
@@ -173,17 +210,4 @@ fn read_entries(
             Err(_) => Err(MarketError::Memory),
         },
     }
-}
-
-/// For how many entries there is to be room: a line of one has at least four bytes.
-fn room_for(entries: u64, lines: &[u8]) -> usize {
-    (entries as usize).min(lines.len() / 4 + 1)
-}
-
-/// A text from a place on.
-fn text_behind(text: &[u8], from: usize) -> &[u8]
-    requires { from ≤ length text.now }
-    ensures { result.now ≡ drop from text.now }
-{
-    &text[from..]
 }

@@ -1,6 +1,10 @@
-//! Worked texts.
+//! Worked texts, texts that are changed byte by byte, and large ones.
+mod orders;
+mod reference;
+
 use super::*;
 use csr_store::{Builder, Matrix};
+use reference::read_plainly;
 use std::alloc::Global;
 use std::process::Abort;
 use std::test::Fail;
@@ -288,29 +292,20 @@ fn errors_are_shown_with_their_line(rt: HostRuntime) -> Result<(), Fail> {
     Ok(())
 }
 
-/// A text with two blanks for each: no line of it has the usual form, so all of it is read by all the rules.
-fn with_wide_blanks(alloc: Global, text: &[u8]) -> Result<Vec<u8>, Fail> {
-    let mut wide = Vec::new(alloc);
-    for byte in text {
-        if *byte == b' ' {
-            wide.push(b' ')?;
-        }
-        wide.push(*byte)?;
-    }
-    Ok(wide)
-}
-
-/// A text is answered as the same text with wide blanks is, and what is read is written and read back.
+/// A text is answered as the plain reader answers it, and what is read is written and read back.
 fn assert_answers(rt: &impl Abort, alloc: Global, text: &[u8]) -> Result<(), Fail> {
-    let wide = with_wide_blanks(alloc, text)?;
-    match (read(alloc, text), read(alloc, &wide)) {
-        (Ok(matrix), Ok(same)) => {
-            let written = write(alloc, &matrix)?;
+    match (read(alloc, text), read_plainly(alloc, text)?) {
+        (Ok(matrix), Ok(plain)) => {
             assert_eq!(rt;
-                written.as_slice(),
-                write(alloc, &same)?.as_slice(),
+                (matrix.rows(), matrix.columns()),
+                (plain.rows, plain.columns),
                 "{text:?}"
             );
+            assert_eq!(rt; matrix.entries(), plain.entries.len() as u64, "{text:?}");
+            for (row, column, word) in &plain.entries {
+                assert_eq!(rt; matrix.get(*row, *column), Some(*word), "{text:?}");
+            }
+            let written = write(alloc, &matrix)?;
             let again = read(alloc, &written)?;
             assert_eq!(rt;
                 written.as_slice(),
@@ -330,6 +325,7 @@ fn bytes_replaced_and_prefixes(rt: HostRuntime) -> Result<(), Fail> {
         "%%MatrixMarket matrix coordinate integer general\n2 3 3\n1 1 5\n1 3 -7\n2 1 9\n",
         "%%MatrixMarket matrix coordinate integer symmetric\n2 2 2\n2 1 5\n1 1 7\n",
         "%%MatrixMarket matrix coordinate pattern general\r\n%\r\n2 2 1\r\n2 2",
+        "%%MatrixMarket matrix coordinate pattern symmetric\n3 3 3\n3 1\n2  2\n1 2\n",
     ];
     for text in texts {
         let mut bytes = Vec::from_slice(rt.alloc(), text.as_bytes())?;
@@ -345,29 +341,6 @@ fn bytes_replaced_and_prefixes(rt: HostRuntime) -> Result<(), Fail> {
             bytes[place] = byte;
         }
     }
-    Ok(())
-}
-
-#[test]
-fn a_large_matrix_is_read_in_any_order(rt: HostRuntime) -> Result<(), Fail> {
-    let side = 200;
-    let mut ascending = String::new(rt.alloc());
-    let mut mixed = String::new(rt.alloc());
-    write!(ascending, "{GENERAL}{side} {side} 30000\n")?;
-    write!(mixed, "{GENERAL}{side} {side} 30000\n")?;
-    for k in 0..30_000u64 {
-        write!(ascending, "{} {} -{k}\n", k / side + 1, k % side + 1)?;
-        let jump = k.wrapping_mul(7_919) % 30_000;
-        write!(mixed, "{} {} -{jump}\n", jump / side + 1, jump % side + 1)?;
-    }
-    let first = read(rt.alloc(), ascending.as_bytes())?;
-    let second = read(rt.alloc(), mixed.as_bytes())?;
-    assert_eq!(rt; (first.entries(), second.entries()), (30_000, 30_000));
-    assert_eq!(rt; second.get(149, 199), Some((-29_999i64).cast_unsigned()));
-    assert_eq!(rt;
-        write(rt.alloc(), &first)?.as_slice(),
-        write(rt.alloc(), &second)?.as_slice()
-    );
     Ok(())
 }
 

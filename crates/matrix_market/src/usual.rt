@@ -1,6 +1,6 @@
 //! Entry lines in their usual form, read fast: what has another form is left to the reader that knows all rules.
-ghost use Rattle.std.specs.Prelude.{◌≡◌, ◌<◌, ◌≤◌, ◌+◌, length, slice_index, slice_range, drop, IfSome};
-ghost use Rattle.matrix_market.specs.Usual.{Scanned, IsIndex, IsValue, IsLineEnd, IsEntryLine};
+ghost use Rattle.std.specs.Prelude.{true, false, ◌≡◌, ◌<◌, ◌≤◌, ◌+◌, length, slice_index, slice_range, drop, IfSome};
+ghost use Rattle.matrix_market.specs.Usual.{Scanned, IsIndex, IsNumber, IsValue, IsLineEnd, IsEntryLine};
 
 /// What an entry line says, its indices as written, and where the next line starts.
 #[derive(Clone, Copy)]
@@ -33,16 +33,31 @@ fn digits(text: &[u8], from: usize, last: usize) -> (u64, usize)
     }
 }
 
-/// An index of at most eight digits that a space follows, and where it ends.
+/// An index of at most eight digits, and where it ends.
 #[inline(always)]
 fn index(text: &[u8], from: usize, last: usize) -> Option<(u64, usize)>
     requires within { last < length text.now }
     requires stop { slice_index text.now last ≡ 10 }
     requires before { from ≤ last }
-    ensures { IfSome result (λ p. (p.1 < last) × IsIndex text.now from p.1 p.0) }
+    ensures { IfSome result (λ p. (p.1 ≤ last) × IsNumber text.now from p.1 p.0) }
 {
     let (value, to) = digits(text, from, last);
-    if to == from || to - from > 8 || text[to] != b' ' {
+    if !matches!(to - from, 1..=8) {
+        return None;
+    }
+    Some((value, to))
+}
+
+/// An index that a space follows, and where it ends.
+#[inline(always)]
+fn spaced_index(text: &[u8], from: usize, last: usize) -> Option<(u64, usize)>
+    requires within { last < length text.now }
+    requires stop { slice_index text.now last ≡ 10 }
+    requires before { from ≤ last }
+    ensures { IfSome result (λ p. (p.1 < last) × IsIndex text.now from p.1 p.0) }
+{
+    let (value, to) = index(text, from, last)?;
+    if text[to] != b' ' {
         return None;
     }
     Some((value, to))
@@ -59,7 +74,7 @@ fn value(text: &[u8], from: usize, last: usize) -> Option<(u64, usize)>
     let negative = text[from] == b'-';
     let start = if negative { from + 1 } else { from };
     let (magnitude, to) = digits(text, start, last);
-    if to == start || to - start > 19 {
+    if !matches!(to - start, 1..=19) {
         return None;
     }
     if negative {
@@ -96,20 +111,57 @@ fn line_end(text: &[u8], at: usize, last: usize) -> Option<usize>
 ///
 /// `last` is the place of an LF that is not before the line.
 #[inline(always)]
-pub fn entry_line(text: &[u8], at: usize, last: usize) -> Option<UsualLine>
+pub fn entry_line(text: &[u8], at: usize, last: usize, pattern: bool) -> Option<UsualLine>
     requires within { last < length text.now }
     requires stop { slice_index text.now last ≡ 10 }
     requires before { at ≤ last }
-    ensures { IfSome result (λ l. (at < l.next) × (l.next ≤ last + 1) × IsEntryLine (drop at text.now) l (drop l.next text.now)) }
+    ensures { IfSome result (λ l. (at < l.next) × (l.next ≤ last + 1)
+        × IsEntryLine pattern (drop at text.now) l (drop l.next text.now)) }
 {
-    let (row, row_end) = index(text, at, last)?;
-    let (column, column_end) = index(text, row_end + 1, last)?;
+    if pattern {
+        pattern_line(text, at, last)
+    } else {
+        integer_line(text, at, last)
+    }
+}
+
+/// The same of a text with values.
+#[inline(always)]
+fn integer_line(text: &[u8], at: usize, last: usize) -> Option<UsualLine>
+    requires within { last < length text.now }
+    requires stop { slice_index text.now last ≡ 10 }
+    requires before { at ≤ last }
+    ensures { IfSome result (λ l. (at < l.next) × (l.next ≤ last + 1)
+        × IsEntryLine false (drop at text.now) l (drop l.next text.now)) }
+{
+    let (row, row_end) = spaced_index(text, at, last)?;
+    let (column, column_end) = spaced_index(text, row_end + 1, last)?;
     let (word, end) = value(text, column_end + 1, last)?;
     let next = line_end(text, end, last)?;
     Some(UsualLine {
         row,
         column,
         word,
+        next,
+    })
+}
+
+/// The same of a text without values, where each is 1.
+#[inline(always)]
+fn pattern_line(text: &[u8], at: usize, last: usize) -> Option<UsualLine>
+    requires within { last < length text.now }
+    requires stop { slice_index text.now last ≡ 10 }
+    requires before { at ≤ last }
+    ensures { IfSome result (λ l. (at < l.next) × (l.next ≤ last + 1)
+        × IsEntryLine true (drop at text.now) l (drop l.next text.now)) }
+{
+    let (row, row_end) = spaced_index(text, at, last)?;
+    let (column, end) = index(text, row_end + 1, last)?;
+    let next = line_end(text, end, last)?;
+    Some(UsualLine {
+        row,
+        column,
+        word: 1,
         next,
     })
 }

@@ -6,7 +6,7 @@ use Rattle.wire.specs.Lines.{first, Partial, Over, Line, Nothing}
 use Rattle.wire.specs.Fetching.{Follows}
 use Rattle.wire.proofs.Stays.{first-more, ended_same}
 use Rattle.command_text.specs.Words.{words}
-use Rattle.command_text.specs.Requests.{Command, Blank, Matrix, Op, Asm, Dis, Apply, Run, Show, Types, Budget, Quit, Refuse, Break, Request, Plain, Body, Fatal, request, with_body}
+use Rattle.command_text.specs.Requests.{Command, Blank, Matrix, Op, Asm, Dis, Submit, Run, Show, Types, Budget, Quit, Refuse, Break, Request, Plain, Body, Fatal, request, with_body}
 use Rattle.session.specs.Next.{Waits, Goes, next, next_of, next_plain, next_request}
 
 next_plain-more : (d c : Command) (rest left more : List ℕ) → next_plain d rest ≡ Goes c left → next_plain d (rest ++ more) ≡ Goes c (left ++ more)
@@ -15,7 +15,7 @@ next_plain-more (Matrix name body) c rest left more e = cc
 next_plain-more (Op name kind body) c rest left more e = cc
 next_plain-more (Asm name kind body) c rest left more e = cc
 next_plain-more (Dis name) c rest left more e = cc
-next_plain-more (Apply output operator operand) c rest left more e = cc
+next_plain-more (Submit submission) c rest left more e = cc
 next_plain-more Run c rest left more e = cc
 next_plain-more (Show name) c rest left more e = cc
 next_plain-more (Types name) c rest left more e = cc

@@ -1,7 +1,7 @@
 -- Each amount that was taken is settled once, in order, or is still held.
 use Rattle.std.proofs.Common.{◌≡◌, ℕ, Bool, true, false, List, [], ◌∷◌, ◌++◌, map, Option, None, Some, Result, Ok, Err, MatchBool, ◌⊎◌, inl, inr, refl, sym, ap, ◌∙◌, append_assoc}
 use Rattle.std.proofs.lemmas.List.{map-append}
-use Rattle.std.specs.Prelude.{nat_lt, nat_le, length, ◌&&◌}
+use Rattle.std.specs.Prelude.{nat_lt, length}
 use Rattle.hex.specs.Hex.{decode_of}
 use Rattle.step_purse.specs.declared.dealings.Reply.TheVariants.{Took, NotEnough}
 use Rattle.step_purse.specs.declared.dealings.Dealing.{Dealing}
@@ -10,16 +10,19 @@ use Rattle.step_budget.specs.Budget.{amounts_taken, amounts_settled}
 use Rattle.command_text.specs.Words.{is_name, kind_of_word}
 use Rattle.command_text.specs.Hexadecimal.{without_gaps}
 use Rattle.command_text.specs.Replies.{refusal_text}
-use Rattle.command_text.specs.Requests.{Command, Blank, Matrix, Op, Asm, Dis, Apply, Run, Show, Types, Budget, Quit, Refuse, Break}
+use Rattle.command_text.specs.Requests.{Command, Blank, Matrix, Op, Asm, Dis, Submit, Run, Show, Types, Budget, Quit, Refuse, Break}
 use Rattle.command_text.specs.declared.refusal.Refusal.TheVariants as no
 use Rattle.command_text.specs.declared.rules.SessionRule.TheVariants.{MalformedName}
-use Rattle.command_text.specs.declared.rules.JobRule.TheVariants.{WrongKind, QueueFull, PriceTooHigh}
-use Rattle.workspace.specs.State.{State, Job, price}
-use Rattle.workspace.specs.Calls.{JobResult, AreMatricesOf}
-use Rattle.workspace.specs.Turn.{Turn, TakesMatrix, TakesOperator, TakesDigits, TakesKind, Submits, Prices, FindsOperands, Shows, TellsTypes, TakesProgram, TakesAssembly, TakesKindOfAssembly, TellsAssembly, RunTurn, Refuses, Replies, is_unary, settled, charged, released}
-use Rattle.bpf_verify.specs.Accepted.{Accepted}
+use Rattle.job_plan.specs.Job.{Job}
+use Rattle.job_plan.specs.Price.{price_of}
+use Rattle.job_plan.specs.Refusal.{job_fault}
+use Rattle.job_plan.specs.declared.error.JobError.{JobError}
+use Rattle.job_runner.specs.Batch as batch
+use Rattle.job_runner.specs.Batch.{AreResultsOf}
+use Rattle.workspace.specs.State.{State}
+use Rattle.workspace.specs.Found.{is_named, job_found}
+use Rattle.workspace.specs.Turn.{Turn, TakesMatrix, TakesOperator, TakesDigits, TakesKind, Submits, Prices, Finds, Shows, TellsTypes, TakesProgram, TakesAssembly, TakesKindOfAssembly, TellsAssembly, RunTurn, Refuses, Replies, settled, charged, released}
 use Rattle.bpf_insn.specs.declared.insn.Insn.{Insn}
-use Rattle.csr_store.specs.Grid.{Grid}
 use Rattle.session.specs.Next.{Next}
 use Rattle.session.specs.Exchange.{IsLast}
 use Rattle.session.specs.declared.end.End.{End}
@@ -38,29 +41,27 @@ settled-append (Reserved amount reply ∷ ds) es = settled-append ds es
 settled-append (Settled amount spent ∷ ds) es = ap (λ xs. amount ∷ xs) (settled-append ds es)
 settled-append (Told totals ∷ ds) es = settled-append ds es
 
-pub settled-released : (jobs : List Job) → amounts_settled (released jobs) ≡ map price jobs
+pub settled-released : (jobs : List Job) → amounts_settled (released jobs) ≡ map price_of jobs
 settled-released [] = refl
-settled-released (j ∷ js) = ap (λ xs. price j ∷ xs) (settled-released js)
+settled-released (j ∷ js) = ap (λ xs. price_of j ∷ xs) (settled-released js)
 
 pub taken-released : (jobs : List Job) → amounts_taken (released jobs) ≡ []
 taken-released [] = refl
 taken-released (j ∷ js) = taken-released js
 
-settled-settled : (jobs : List Job) (results : List JobResult) → AreMatricesOf jobs results → amounts_settled (settled jobs results) ≡ map price jobs
+settled-settled : (jobs : List Job) (results : List batch.Result) → AreResultsOf jobs results → amounts_settled (settled jobs results) ≡ map price_of jobs
 settled-settled [] results a = refl
-settled-settled (j ∷ js) [] a = absurd (let bad = a.4 in cc)
-settled-settled (j ∷ js) (e ∷ es) a =
-    let same : es ≡ a.1 = let q = a.4 in cc in
-    ap (λ xs. price j ∷ xs) (settled-settled js es (rw same a.3))
+settled-settled (j ∷ js) [] a = absurd a
+settled-settled (j ∷ js) (e ∷ es) a = ap (λ xs. price_of j ∷ xs) (settled-settled js es a.1)
 
-taken-settled : (jobs : List Job) (results : List JobResult) → amounts_taken (settled jobs results) ≡ []
+taken-settled : (jobs : List Job) (results : List batch.Result) → amounts_taken (settled jobs results) ≡ []
 taken-settled [] results = refl
 taken-settled (j ∷ js) [] = refl
 taken-settled (j ∷ js) (e ∷ es) = taken-settled js es
 
-settled-charged : (jobs : List Job) (spent : ℕ) → amounts_settled (charged jobs spent) ≡ map price jobs
+settled-charged : (jobs : List Job) (spent : ℕ) → amounts_settled (charged jobs spent) ≡ map price_of jobs
 settled-charged [] spent = refl
-settled-charged (j ∷ js) spent = ap (λ xs. price j ∷ xs) (settled-charged js _)
+settled-charged (j ∷ js) spent = ap (λ xs. price_of j ∷ xs) (settled-charged js _)
 
 taken-charged : (jobs : List Job) (spent : ℕ) → amounts_taken (charged jobs spent) ≡ []
 taken-charged [] spent = refl
@@ -68,18 +69,18 @@ taken-charged (j ∷ js) spent = taken-charged js _
 
 -- The prices that are held before, and what is taken, are what is settled, and the prices that are held after.
 abbrev pub IsMatched : State → List Dealing → State → Type 0
-IsMatched s ds t = map price s.queue ++ amounts_taken ds ≡ amounts_settled ds ++ map price t.queue
+IsMatched s ds t = map price_of s.queue ++ amounts_taken ds ≡ amounts_settled ds ++ map price_of t.queue
 
 module _ (s t : State) (ds : List Dealing) where
   -- no call was made, and the jobs stay
   quiet : ds ≡ [] → t.queue ≡ s.queue → IsMatched s ds t
-  quiet e q = rw (e, q) (append_nil (map price s.queue))
+  quiet e q = rw (e, q) (append_nil (map price_of s.queue))
 
   said : (text reply : List ℕ) → Replies text s ds reply t → IsMatched s ds t
   said text reply h = quiet h.0 (ap (λ (x : State). x.queue) h.2)
 
   -- all prices are settled, and no job waits
-  emptied : amounts_settled ds ≡ map price s.queue → amounts_taken ds ≡ [] → t.queue ≡ [] → IsMatched s ds t
+  emptied : amounts_settled ds ≡ map price_of s.queue → amounts_taken ds ≡ [] → t.queue ≡ [] → IsMatched s ds t
   emptied a b q = rw (a, b, q) refl
 
   program_matched : (name : List ℕ) (program : List Insn) (reply : List ℕ) (kind : _) → TakesProgram s name kind program ds reply t → IsMatched s ds t
@@ -122,34 +123,24 @@ module _ (s t : State) (ds : List Dealing) where
 
   submits_matched : (job : Job) (reply : List ℕ) → Submits s job ds reply t → IsMatched s ds t
   submits_matched job reply h = elim h [
-    | inl w ↦ let q : t.queue ≡ s.queue ++ job ∷ [] = ap (λ (x : State). x.queue) w.2 in rw (w.0, q) (sym (map-append price s.queue (job ∷ [])))
-    | inr w ↦ let q : t.queue ≡ s.queue = ap (λ (x : State). x.queue) w.3 in rw (w.1, q) (append_nil (map price s.queue))
+    | inl w ↦ let q : t.queue ≡ s.queue ++ job ∷ [] = ap (λ (x : State). x.queue) w.2 in rw (w.0, q) (sym (map-append price_of s.queue (job ∷ [])))
+    | inr w ↦ let q : t.queue ≡ s.queue = ap (λ (x : State). x.queue) w.3 in rw (w.1, q) (append_nil (map price_of s.queue))
   ]
 
-  prices_matched : (job : Job) (reply : List ℕ) → Prices s job ds reply t → IsMatched s ds t
-  prices_matched job reply h =
-      let wrong = Refuses (no.Job WrongKind) s ds reply t in
-      let dear = Refuses (no.Job PriceTooHigh) s ds reply t in
-      elim (is_unary job.operator.kind) as (λ v. MatchBool v (MatchBool (nat_le (price job) 4294967296) (Submits s job ds reply t) dear) wrong → IsMatched s ds t) [
-        | true ↦ λ w. elim (nat_le (price job) 4294967296) as (λ v. MatchBool v (Submits s job ds reply t) dear → IsMatched s ds t) [
-          | true ↦ λ x. submits_matched job reply x
-          | false ↦ λ x. said (refusal_text (no.Job PriceTooHigh)) reply x
-        ] w
-        | false ↦ λ w. said (refusal_text (no.Job WrongKind)) reply w
-      ] h
+  prices_matched : (job : Job) (fault : Option JobError) (reply : List ℕ) → Prices s job fault ds reply t → IsMatched s ds t
+  prices_matched job None reply h = submits_matched job reply h
+  prices_matched job (Some fault) reply h = said _ reply h
 
-  operands_matched : (output reply : List ℕ) (operator : Option Accepted) (operand : Option Grid) → FindsOperands s output operator operand ds reply t → IsMatched s ds t
-  operands_matched output reply None operand h = said _ reply h
-  operands_matched output reply (Some operator) None h = said _ reply h
-  operands_matched output reply (Some operator) (Some operand) h =
-      let job : Job = record { output = output; operator = operator; operand = operand } in
-      let full = Refuses (no.Job QueueFull) s ds reply t in
-      elim (nat_lt (length s.queue) 64) as (λ v. MatchBool v (Refuses no.Memory s ds reply t ⊎ Prices s job ds reply t) full → IsMatched s ds t) [
+  found_matched : (reply : List ℕ) (job : Option Job) → Finds s job ds reply t → IsMatched s ds t
+  found_matched reply None h = said _ reply h
+  found_matched reply (Some job) h =
+      let full = Refuses no.QueueFull s ds reply t in
+      elim (nat_lt (length s.queue) 64) as (λ v. MatchBool v (Refuses no.Memory s ds reply t ⊎ Prices s job (job_fault job) ds reply t) full → IsMatched s ds t) [
         | true ↦ λ w. elim w [
           | inl x ↦ said _ reply x
-          | inr x ↦ prices_matched job reply x
+          | inr x ↦ prices_matched job (job_fault job) reply x
         ]
-        | false ↦ λ w. said (refusal_text (no.Job QueueFull)) reply w
+        | false ↦ λ w. said (refusal_text no.QueueFull) reply w
       ] h
 
   shows_matched : (reply : List ℕ) (g : _) → Shows s g ds reply t → IsMatched s ds t
@@ -199,9 +190,9 @@ module _ (s t : State) (ds : List Dealing) where
         | true ↦ λ x. assembly_told_matched reply (s.operators name) x
         | false ↦ λ x. said _ reply x
       ] h
-  turn_matched (Apply output operator operand) reply h =
-      elim (is_name output && (is_name operator && is_name operand)) as (λ v. MatchBool v (FindsOperands s output (s.operators operator) (s.matrices operand) ds reply t) (Refuses (no.Session MalformedName) s ds reply t) → IsMatched s ds t) [
-        | true ↦ λ x. operands_matched output reply (s.operators operator) (s.matrices operand) x
+  turn_matched (Submit submission) reply h =
+      elim (is_named submission) as (λ v. MatchBool v (Finds s (job_found s submission) ds reply t) (Refuses (no.Session MalformedName) s ds reply t) → IsMatched s ds t) [
+        | true ↦ λ x. found_matched reply (job_found s submission) x
         | false ↦ λ x. said _ reply x
       ] h
   turn_matched Run reply h = run_matched reply h
@@ -215,7 +206,7 @@ module _ (s t : State) (ds : List Dealing) where
         | true ↦ λ x. types_matched reply (s.operators name) x
         | false ↦ λ x. said _ reply x
       ] h
-  turn_matched Budget reply h = let q : t.queue ≡ s.queue = ap (λ (x : State). x.queue) h.3 in rw (h.1, q) (append_nil (map price s.queue))
+  turn_matched Budget reply h = let q : t.queue ≡ s.queue = ap (λ (x : State). x.queue) h.3 in rw (h.1, q) (append_nil (map price_of s.queue))
   turn_matched Quit reply h = said _ reply h
   turn_matched (Refuse rule) reply h = said _ reply h
   turn_matched (Break rule) reply h = said _ reply h
@@ -234,17 +225,17 @@ module _ (s t : State) (ds : List Dealing) where
   ]
 
 -- what was taken and settled so far, and then by one thing more
-pub matched_more : (s t : State) (ds es : List Dealing) → amounts_taken ds ≡ amounts_settled ds ++ map price s.queue → IsMatched s es t → amounts_taken (ds ++ es) ≡ amounts_settled (ds ++ es) ++ map price t.queue
+pub matched_more : (s t : State) (ds es : List Dealing) → amounts_taken ds ≡ amounts_settled ds ++ map price_of s.queue → IsMatched s es t → amounts_taken (ds ++ es) ≡ amounts_settled (ds ++ es) ++ map price_of t.queue
 matched_more s t ds es m n =
     taken-append ds es
     ∙ (ap (λ xs. xs ++ amounts_taken es) m
-    ∙ (append_assoc (amounts_settled ds) (map price s.queue) (amounts_taken es)
+    ∙ (append_assoc (amounts_settled ds) (map price_of s.queue) (amounts_taken es)
     ∙ (ap (λ xs. amounts_settled ds ++ xs) n
-    ∙ (sym (append_assoc (amounts_settled ds) (amounts_settled es) (map price t.queue))
-    ∙ ap (λ xs. xs ++ map price t.queue) (sym (settled-append ds es))))))
+    ∙ (sym (append_assoc (amounts_settled ds) (amounts_settled es) (map price_of t.queue))
+    ∙ ap (λ xs. xs ++ map price_of t.queue) (sym (settled-append ds es))))))
 
 -- at the end nothing is held
-pub matched_last : (t : State) (ds : List Dealing) → amounts_taken ds ≡ amounts_settled ds ++ map price t.queue → amounts_settled (ds ++ released t.queue) ≡ amounts_taken (ds ++ released t.queue)
+pub matched_last : (t : State) (ds : List Dealing) → amounts_taken ds ≡ amounts_settled ds ++ map price_of t.queue → amounts_settled (ds ++ released t.queue) ≡ amounts_taken (ds ++ released t.queue)
 matched_last t ds m =
     settled-append ds (released t.queue)
     ∙ (ap (λ xs. amounts_settled ds ++ xs) (settled-released t.queue)

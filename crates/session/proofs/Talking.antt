@@ -7,7 +7,8 @@ use Rattle.wire.proofs.Known.{append_nil, consumes_nothing, appends_nothing, con
 use Rattle.wire.proofs.Fetching.{follows_more}
 use Rattle.step_purse.specs.declared.dealings.Dealing.{Dealing}
 use Rattle.step_budget.specs.Budget.{Deals, amounts_taken, amounts_settled}
-use Rattle.workspace.specs.State.{State, empty, price}
+use Rattle.job_plan.specs.Price.{price_of}
+use Rattle.workspace.specs.State.{State, empty}
 use Rattle.workspace.specs.Turn.{released}
 use Rattle.session.specs.Next.{next}
 use Rattle.session.specs.Talk.{Talk, leave, wait, finish, stop, go, Outside, Said, SaidAll, Counts, Outcome}
@@ -54,7 +55,7 @@ pub record SoFar {S : Type 0} (leads : S → Dealing → S → Type 0) (old now 
   pub no_failed_write : now.touched.sink.failures ≡ old.touched.sink.failures
   pub appended : Appends old.touched.sink.contents now.touched.sink.contents text
   -- what was taken is what was settled, and then the prices of the jobs that wait
-  pub matched : amounts_taken dealings ≡ amounts_settled dealings ++ map price now.touched.state.queue
+  pub matched : amounts_taken dealings ≡ amounts_settled dealings ++ map price_of now.touched.state.queue
   -- what the budget does next comes after what it did
   pub dealt : (es : List Dealing) (last : S) → Deals leads now.touched.budget es last → Deals leads old.touched.budget (dealings ++ es) last
   -- what is said to what is left is said after what was said

@@ -13,7 +13,8 @@ use Rattle.step_budget.specs.Budget.{Deals, amounts_taken, amounts_settled}
 use Rattle.command_text.specs.Words.{words}
 use Rattle.command_text.specs.Requests.{Command, Request, request, with_body}
 use Rattle.command_text.specs.Readings.{command_of, header_of}
-use Rattle.workspace.specs.State.{State, empty, price}
+use Rattle.job_plan.specs.Price.{price_of}
+use Rattle.workspace.specs.State.{State, empty}
 use Rattle.workspace.specs.Turn.{Turn}
 use Rattle.session.specs.Next.{Next, Waits, Ends, Goes, Stops, refused, next_plain, next_request}
 use Rattle.session.specs.Talk.{Talk}
@@ -138,7 +139,7 @@ pub record Spoken {S : Type 0} (cut : Bool) (leads : S → Dealing → S → Typ
   pub in_front : IsPrefixOf written text
   pub dealt : Deals leads old.touched.budget dealings new.touched.budget
   -- what was taken is what was settled, and then the prices of the jobs that wait
-  pub matched : amounts_taken dealings ≡ amounts_settled dealings ++ map price new.touched.state.queue
+  pub matched : amounts_taken dealings ≡ amounts_settled dealings ++ map price_of new.touched.state.queue
   pub talk : Talk cut empty read ended dealings text end new.touched.state
 
 abbrev pub SpokenWhole : {S : Type 0} → (S → Dealing → S → Type 0) → ℕ → Scene S → Scene S → Option End → Type 0

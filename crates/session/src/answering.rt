@@ -6,7 +6,7 @@ ghost use Rattle.step_budget.specs.Budget.{Deals};
 ghost use Rattle.step_purse.specs.declared.dealings.Dealing.{Dealing};
 ghost use Rattle.wire.specs.Devices.{failures_in};
 ghost use Rattle.wire.specs.Prefixes.{IsPrefixOf};
-ghost use Rattle.workspace.specs.State.{total_price};
+ghost use Rattle.job_plan.specs.Price.{total_price};
 ghost use Rattle.workspace.specs.Workspace.{state_of};
 ghost use Rattle.session.specs.Exchange.{Responds, Tells};
 

@@ -1,7 +1,8 @@
 //! A session, from the bytes that it reads to the bytes that it writes.
 ghost use Rattle.std.specs.Prelude.{◌≡◌, ◌≤◌, ◌<◌, ◌+◌, [], false, vec_capacity, IfOk, Ok, None};
 ghost use Rattle.wire.specs.Fetching.{reach};
-ghost use Rattle.workspace.specs.State.{empty, total_price};
+ghost use Rattle.job_plan.specs.Price.{total_price};
+ghost use Rattle.workspace.specs.State.{empty};
 ghost use Rattle.workspace.specs.Workspace.{state_of};
 ghost use Rattle.session.specs.Exchange.{Exchanged, Conversed, behind};
 ghost use Rattle.session.specs.Next.{next};

@@ -33,7 +33,7 @@ fn words_that_are_taken(rt: HostRuntime) {
 
 #[test]
 fn words_that_are_refused(rt: HostRuntime) {
-    let cases: [(&[&str], &str); 14] = [
+    let cases: [(&[&str], &str); 16] = [
         (&["spmat"], "'spmat' requires a subcommand"),
         (&["spmat", "serve"], "unrecognized subcommand 'serve'"),
         (&["spmat", "run"], "required arguments were not provided"),
@@ -87,6 +87,14 @@ fn words_that_are_refused(rt: HostRuntime) {
         (
             &["spmat", "run", "--help"],
             "Usage: spmat run --steps <N> --workers <N>",
+        ),
+        (
+            &["spmat", "run", "--help"],
+            "--steps <N>    Steps that the jobs of the session may spend\n",
+        ),
+        (
+            &["spmat", "run", "--help"],
+            "--workers <N>  Workers that run the jobs\n",
         ),
     ];
     for (words, said) in cases {

@@ -1,31 +1,29 @@
 -- How commands make their turns.
-use Rattle.std.proofs.Common.{◌≡◌, ◌≤◌, ◌+◌, ℕ, true, List, [], ◌∷◌, ◌++◌, length, inl, inr, refl, sym, ap, ◌∙◌, subst, arith}
+use Rattle.std.proofs.Common.{◌≡◌, ◌≤◌, ◌<◌, ◌+◌, ℕ, true, List, [], ◌∷◌, ◌++◌, length, inl, inr, refl, sym, ap, ◌∙◌, subst, arith}
 use Rattle.csr_store.specs.Grid.{Grid, IsGrid}
 use Rattle.std.specs.FinMap.{len}
 use Rattle.matrix_market.specs.Market.{IsTextOf}
 use Rattle.command_text.specs.Words.{is_name, kind_of_word}
-use Rattle.workspace.specs.State as is
-use Rattle.workspace.specs.State.{State, bound, price, total_price}
+use Rattle.workspace.specs.State.{State, bound}
+use Rattle.workspace.specs.Found.{is_named, form_named, mask_named, form_found, mask_found, joined, job_found}
+use Rattle.job_plan.specs.Job.{Job}
+use Rattle.job_plan.specs.Price.{price_of, total_price}
+use Rattle.job_plan.specs.Refusal.{job_fault, answered}
+use Rattle.job_plan.specs.declared.error.JobError.{JobError}
+use Rattle.command_text.specs.Requests.{Submission}
 use Rattle.command_text.specs.Replies.{matrix_text, refusal_text, queued_text}
-use Rattle.workspace.specs.Turn.{MatrixTurn, OperatorTurn, TakesOperator, ApplyTurn, Prices, Submits, TakesAssembly, AssemblyTurn}
+use Rattle.workspace.specs.Turn.{MatrixTurn, OperatorTurn, TakesOperator, SubmitTurn, Prices, Submits, TakesAssembly, AssemblyTurn}
 use Rattle.workspace.specs.Binds.{BindsCode, BindsAssembly}
 use Rattle.hex.specs.Hex.{decode_of}
 use Rattle.command_text.specs.Hexadecimal.{without_gaps}
 use Rattle.bpf_insn.specs.declared.operands.Kind.{Kind}
-use Rattle.workspace.specs.Batch.{job_of}
-use Rattle.workspace.specs.declared.job.Job.{Job}
-use Rattle.bpf_verify.specs.Accepted.{Accepted}
-use Rattle.std.proofs.lemmas.Bool.{lt-ltb}
-use Rattle.std.specs.Prelude.{nat_lt}
-use Rattle.workspace.specs.Submitting.{IsPriced}
 use Rattle.step_budget.specs.Budget.{Deals}
 use Rattle.step_purse.specs.declared.dealings.Dealing.{Dealing}
 use Rattle.step_purse.specs.declared.dealings.Dealing.TheVariants.{Reserved}
 use Rattle.step_purse.specs.declared.dealings.Reply.TheVariants.{Took, NotEnough}
-use Rattle.command_text.specs.declared.rules.JobRule.{JobRule}
-use Rattle.command_text.specs.declared.rules.JobRule.TheVariants.{WrongKind, QueueFull, PriceTooHigh}
 use Rattle.command_text.specs.declared.refusal.Refusal.TheVariants as no
-use Rattle.std.proofs.Common.{Ok, Err, Some}
+use Rattle.std.proofs.Common.{Ok, Err, Some, None, Option, Result, Bool, false, IsTrue, ◌&&◌, nat_lt}
+use Rattle.std.proofs.lemmas.Bool.Decides.{nat_tests}
 
 -- a matrix was taken and bound
 pub matrix_taken : (old new : State) (word name body reply : List ℕ) (g : Grid) → is_name word ≡ true → name ≡ word → IsGrid g → IsTextOf body g
@@ -33,64 +31,27 @@ pub matrix_taken : (old new : State) (word name body reply : List ℕ) (g : Grid
 matrix_taken old new word name body reply g named same is text r n =
     inr (rw named (inl (g, is, text, refl, r, n ∙ ap (λ t. record old { matrices = bound old.matrices t g }) same)))
 
-total_more : (js : List is.Job) (j : is.Job) → total_price (js ++ j ∷ []) ≡ total_price js + price j
+total_more : (js : List Job) (j : Job) → total_price (js ++ j ∷ []) ≡ total_price js + price_of j
 total_more [] j = omega arith
 total_more (k ∷ js) j = omega (arith, total_more js j)
 
 -- a job was put last
-pub queue_grown : (old new : List is.Job) (j : is.Job) → new ≡ old ++ j ∷ [] → total_price new ≡ total_price old + price j
+pub queue_grown : (old new : List Job) (j : Job) → new ≡ old ++ j ∷ [] → total_price new ≡ total_price old + price_of j
 queue_grown old new j e = ap total_price e ∙ total_more old j
 
--- the job that was asked for breaks a rule
-pub priced_wrong : (old new : State) (job : is.Job) (rule : JobRule) (reply : List ℕ) → IsPriced job (Err rule) → reply ≡ refusal_text (no.Job rule) → new ≡ old → Prices old job [] reply new
-priced_wrong old new job WrongKind reply p r n = rw p (refl, r, n)
-priced_wrong old new job QueueFull reply p r n = absurd p
-priced_wrong old new job PriceTooHigh reply p r n = rw (p.0, p.1) (refl, r, n)
-
--- the job that was asked for was submitted
-pub priced_right : (old new : State) (job : is.Job) (kept : Job) (ds : List Dealing) (reply : List ℕ) → IsPriced job (Ok kept) → Submits old (job_of kept) ds reply new → Prices old job ds reply new
-priced_right old new job kept ds reply p s = rw (p.1, p.2) (subst (λ j. Submits old j ds reply new) p.0 s)
-
--- the words of an apply name what is there, and there is room for the job
-pub record IsFound (old : State) (output operator operand : List ℕ) (job : is.Job) : Type 0 where
-  pub output_named : is_name output ≡ true
-  pub operator_named : is_name operator ≡ true
-  pub operand_named : is_name operand ≡ true
-  pub operator_there : old.operators operator ≡ Some job.operator
-  pub operand_there : old.matrices operand ≡ Some job.operand
-  pub output_is : job.output ≡ output
-  pub room : nat_lt (length old.queue) 64 ≡ true
-
-pub apply_turn : (old new : State) (output operator operand : List ℕ) (job : is.Job) (ds : List Dealing) (reply : List ℕ) → IsFound old output operator operand job → Prices old job ds reply new → ApplyTurn old output operator operand ds reply new
-apply_turn old new output operator operand job ds reply f p =
-    rw (f.output_named, f.operator_named, f.operand_named, f.operator_there, f.operand_there, f.room)
-    (inr (subst (λ o. Prices old (record { output = o; operator = job.operator; operand = job.operand }) ds reply new) f.output_is p))
-
--- what was found, as the code finds it
-pub found : (old : State) (output operator operand output_name operator_name operand_name : List ℕ) (job : is.Job) (o : Accepted) (a : Grid) (count : ℕ)
-    → (is_name output ≡ true) × (output_name ≡ output) → (is_name operator ≡ true) × (operator_name ≡ operator) → (is_name operand ≡ true) × (operand_name ≡ operand)
-    → Some o ≡ old.operators operator_name → Some a ≡ old.matrices operand_name
-    → job.output ≡ output_name → job.operator ≡ o → job.operand ≡ a → count ≡ length old.queue → (64 ≤ count → ⊥) → IsFound old output operator operand job
-found old output operator operand output_name operator_name operand_name job o a count n m k p q e f h c r = record {
-  output_named = n.0;
-  operator_named = m.0;
-  operand_named = k.0;
-  operator_there = ap old.operators (sym m.1) ∙ (sym p ∙ ap Some (sym f));
-  operand_there = ap old.matrices (sym k.1) ∙ (sym q ∙ ap Some (sym h));
-  output_is = e ∙ n.1;
-  room = lt-ltb (length old.queue) 64 (omega arith);
-}
-
-module _ {S : Type 0} (leads : S → Dealing → S → Type 0) (s t : S) (old new : State) (job : is.Job) (amount : ℕ) (reply : List ℕ) (is_price : amount ≡ price job) where
-  pub submits_took : (taken position : ℕ) → leads s (Reserved amount (Took taken)) t → taken ≡ amount → position ≡ length old.queue + 1 → reply ≡ queued_text position amount
-      → new ≡ record old { queue = old.queue ++ job ∷ [] } → (ds : List Dealing) × Submits old job ds reply new × Deals leads s ds t
+module _ {S : Type 0} (leads : S → Dealing → S → Type 0) (s t : S) (old new : State) (job : Job) (amount : ℕ) (reply : List ℕ)
+    (is_price : amount ≡ price_of job) where
+  pub submits_took : (taken position : ℕ) → leads s (Reserved amount (Took taken)) t → taken ≡ amount → position ≡ length old.queue + 1
+      → reply ≡ queued_text position amount → new ≡ record old { queue = old.queue ++ job ∷ [] }
+      → (ds : List Dealing) × Submits old job ds reply new × Deals leads s ds t
   submits_took taken position l e p r n = (
     Reserved amount (Took taken) ∷ [],
     inl (ap (λ k. Reserved amount (Took k) ∷ []) e ∙ ap (λ k. Reserved k (Took k) ∷ []) is_price, r ∙ (ap (λ k. queued_text k amount) p ∙ ap (queued_text (length old.queue + 1)) is_price), n),
     (t, l, refl),
   )
 
-  pub submits_not : (left : ℕ) → leads s (Reserved amount (NotEnough left)) t → reply ≡ refusal_text (no.Budget amount left) → (ds : List Dealing) × Submits old job ds reply old × Deals leads s ds t
+  pub submits_not : (left : ℕ) → leads s (Reserved amount (NotEnough left)) t → reply ≡ refusal_text (no.Budget amount left)
+      → (ds : List Dealing) × Submits old job ds reply old × Deals leads s ds t
   submits_not left l r = (
     Reserved amount (NotEnough left) ∷ [],
     inr (left, ap (λ k. Reserved k (NotEnough left) ∷ []) is_price, r ∙ ap (λ k. refusal_text (no.Budget k left)) is_price, refl),
@@ -98,8 +59,62 @@ module _ {S : Type 0} (leads : S → Dealing → S → Type 0) (s t : S) (old ne
   )
 
 -- what is owed after a job was put last
-pub owed_more : (old new : List is.Job) (job : is.Job) (amount before after : ℕ) → new ≡ old ++ job ∷ [] → amount ≡ price job → after ≡ before + amount → total_price new + before ≡ total_price old + after
+pub owed_more : (old new : List Job) (job : Job) (amount before after : ℕ) → new ≡ old ++ job ∷ [] → amount ≡ price_of job → after ≡ before + amount → total_price new + before ≡ total_price old + after
 owed_more old new job amount before after e p o = omega (arith, queue_grown old new job e)
+
+-- what `answered` says of a job that was priced, and of one that was not
+answered_right : (job kept : Job) (fault : Option JobError) → Ok kept ≡ answered job fault → (fault ≡ None) × (kept ≡ job)
+answered_right job kept None e = (refl, cc)
+answered_right job kept (Some fault) e = absurd (cc)
+
+abbrev error_of : JobError → Result Job (Job × JobError) → JobError
+error_of other (Ok job) = other
+error_of other (Err refused) = refused.1
+
+answered_wrong : (job back : Job) (named : JobError) (fault : Option JobError) → Err (back, named) ≡ answered job fault → fault ≡ Some named
+answered_wrong job back named None e = absurd (cc)
+answered_wrong job back named (Some fault) e = ap Some (sym (ap (error_of named) e))
+
+pub answered_named : (job kept : Job) (fault : Option JobError) → Ok kept ≡ answered job fault → length job.output ≤ 32 → length kept.output ≤ 32
+answered_named job kept fault e n = subst (λ (j : Job). length j.output ≤ 32) (sym (answered_right job kept fault e).1) n
+
+pub priced_right : (old new : State) (job kept : Job) (ds : List Dealing) (reply : List ℕ) (fault : Option JobError) → Ok kept ≡ answered job fault
+    → Submits old kept ds reply new → Prices old job fault ds reply new
+priced_right old new job kept ds reply fault e s =
+    let right = answered_right job kept fault e in
+    rw right.0 (subst (λ j. Submits old j ds reply new) right.1 s)
+
+pub priced_wrong : (old : State) (job back : Job) (named : JobError) (reply : List ℕ) (fault : Option JobError) → Err (back, named) ≡ answered job fault
+    → reply ≡ refusal_text (no.Job named) → Prices old job fault [] reply old
+priced_wrong old job back named reply fault e r = rw (answered_wrong job back named fault e) (refl, r, refl)
+
+-- a submission whose job was found, where there is room
+pub submit_turn : (old new : State) (s : Submission) (job : Job) (ds : List Dealing) (reply : List ℕ)
+    → is_named s ≡ true → job_found old s ≡ Some job → nat_lt (length old.queue) 64 ≡ true
+    → Prices old job (job_fault job) ds reply new → SubmitTurn old s ds reply new
+submit_turn old new s job ds reply named found room p = rw (named, found, room) (inr p)
+
+-- the same where no room is left
+pub submit_full : (old : State) (s : Submission) (job : Job) (b r : Bool) (reply : List ℕ)
+    → is_name s.output ≡ true → b ≡ form_named s.form && mask_named s.mask → b ≡ true
+    → Some job ≡ joined s.output (form_found old s.form) (mask_found old s.mask)
+    → (length old.queue < 64 → IsTrue r) → r ≡ false → reply ≡ refusal_text no.QueueFull → SubmitTurn old s [] reply old
+submit_full old s job b r reply n e t found room is said =
+    let others : form_named s.form && mask_named s.mask ≡ true = sym e ∙ t in
+    let full : nat_lt (length old.queue) 64 ≡ false = not_below (length old.queue) r room is in
+    rw (n, others, sym found, full) (refl, said, refl)
+  where
+    not_below : (n : ℕ) (r : Bool) → (n < 64 → IsTrue r) → r ≡ false → nat_lt n 64 ≡ false
+    not_below n r room is = elim (nat_lt n 64) as (λ x. nat_lt n 64 ≡ x → x ≡ false) [
+      | true ↦ λ e. let bad : false ≡ true = subst IsTrue is (room (grind (arith, nat_tests))) in absurd (cc)
+      | false ↦ λ e. refl
+    ] refl
+
+-- the same for want of memory
+pub submit_memory : (old : State) (s : Submission) (job : Job) (reply : List ℕ)
+    → is_named s ≡ true → job_found old s ≡ Some job → nat_lt (length old.queue) 64 ≡ true
+    → reply ≡ refusal_text no.Memory → SubmitTurn old s [] reply old
+submit_memory old s job reply named found room r = rw (named, found, room) (inl (refl, r, refl))
 
 -- an operator's code was taken, of the kind and under the name that the words say
 pub operator_taken : (old new : State) (word kind_word name body code reply : List ℕ) (kind : Kind) → Some kind ≡ kind_of_word kind_word → is_name word ≡ true → name ≡ word → decode_of (without_gaps body) ≡ Ok code

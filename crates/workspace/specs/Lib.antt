@@ -1,11 +1,10 @@
 pub mod State
-pub mod Calls
+pub mod Found
 pub mod Turn
-pub mod Batch
 pub mod Names
+pub mod Queued
 pub mod Outputs
 pub mod Workspace
-pub mod Submitting
+pub mod Lent
 pub mod Binds
-pub mod Mapping
 pub mod Types

@@ -1,7 +1,7 @@
 -- What one command does: from what the session holds, by which calls of the budget and with which reply, to what it then holds
 -- (this project's own).
 -- A relation, since the budget is asked on the way, and since a command may run out of memory where it takes some.
-use Rattle.std.specs.Prelude.{ℕ, ◌≡◌, ◌+◌, ◌-◌, ◌⊎◌, ◌&&◌, min, nat_lt, nat_le, Bool, true, false, List, [], ◌∷◌, ◌++◌, length, map, codes, Option, None, Some, Result, Ok, Err, MatchBool}
+use Rattle.std.specs.Prelude.{ℕ, ◌≡◌, ◌+◌, ◌-◌, ◌≤◌, ◌⊎◌, min, nat_lt, Bool, true, false, List, [], ◌∷◌, ◌++◌, length, map, codes, Option, None, Some, Result, Ok, Err, MatchBool}
 use Rattle.hex.specs.Hex.{decode_of}
 use Rattle.hex.specs.declared.error.FromHexError.{FromHexError}
 use Rattle.csr_store.specs.Grid.{Grid, IsGrid}
@@ -11,7 +11,6 @@ use Rattle.matrix_market.specs.declared.rule.MarketRule.{MarketRule}
 use Rattle.bpf_insn.specs.declared.insn.Insn.{Insn}
 use Rattle.bpf_insn.specs.declared.fault.Fault.{Fault}
 use Rattle.bpf_insn.specs.declared.operands.Kind.{Kind}
-use Rattle.bpf_insn.specs.declared.operands.Kind.TheVariants.{Unary, Binary, Index}
 use Rattle.bpf_insn.specs.Code.{Spells, IsCodeFault}
 use Rattle.bpf_insn.specs.Program.{slot_count}
 use Rattle.bpf_text.specs.Text.{IsTextFault, IsTextOf as IsAssemblyOf}
@@ -20,7 +19,6 @@ use Rattle.bpf_text.specs.declared.fault.AsmFault.{AsmFault}
 use Rattle.std.specs.FinMap as fin
 use Rattle.bpf_verify.specs.Accepted.{Accepted, IsAccepted, IsFault as IsOperatorFault}
 use Rattle.command_text.specs.declared.rules.SessionRule.TheVariants.{MalformedWords, MalformedName, UnknownName, NotHexadecimal}
-use Rattle.command_text.specs.declared.rules.JobRule.TheVariants.{WrongKind, QueueFull, PriceTooHigh}
 use Rattle.command_text.specs.declared.refusal.Refusal.{Refusal}
 use Rattle.command_text.specs.declared.refusal.Refusal.TheVariants as no
 use Rattle.step_purse.specs.declared.dealings.Totals.{Totals}
@@ -29,11 +27,17 @@ use Rattle.command_text.specs.Words.{is_name, kind_of_word}
 use Rattle.command_text.specs.Hexadecimal.{without_gaps}
 use Rattle.step_purse.specs.declared.dealings.Dealing.{Dealing}
 use Rattle.step_purse.specs.declared.dealings.Dealing.TheVariants.{Reserved, Settled, Told}
-use Rattle.workspace.specs.State.{State, Job, bound, price}
+use Rattle.workspace.specs.State.{State, bound}
 use Rattle.workspace.specs.Types.{types_text}
-use Rattle.workspace.specs.Calls.{JobResult, AreMatricesOf, calls, Charges}
+use Rattle.workspace.specs.Found.{is_named, job_found}
+use Rattle.job_plan.specs.Job.{Job}
+use Rattle.job_plan.specs.Price.{price_of}
+use Rattle.job_plan.specs.Refusal.{job_fault}
+use Rattle.job_plan.specs.declared.error.JobError.{JobError}
+use Rattle.job_runner.specs.Batch as batch
+use Rattle.job_runner.specs.Batch.{AreResultsOf, total_steps}
 use Rattle.command_text.specs.Replies.{JobLine, refusal_text, matrix_text, operator_text, queued_text, run_text, show_text, list_text, budget_text, quit_text}
-use Rattle.command_text.specs.Requests.{Command, Blank, Matrix, Op, Asm, Dis, Apply, Run, Show, Types, Budget, Quit, Refuse, Break}
+use Rattle.command_text.specs.Requests.{Command, Submission, Blank, Matrix, Op, Asm, Dis, Submit, Run, Show, Types, Budget, Quit, Refuse, Break}
 
 -- A reply and nothing else: no call of the budget, and all is as before.
 abbrev pub Replies : List ℕ → State → List Dealing → List ℕ → State → Type 0
@@ -110,61 +114,51 @@ abbrev pub AssemblyTurn : State → List ℕ → List ℕ → List ℕ → List 
 AssemblyTurn old name kind body dealings reply new =
     Refuses no.Memory old dealings reply new ⊎ TakesKindOfAssembly old name (kind_of_word kind) body dealings reply new
 
--- ---- `apply OUT OP A`
+-- ---- `apply`, `select`, `union`, `both`, `product`, `reduce`
 
 -- the job is put last in the queue, where its price can be reserved
 abbrev pub Submits : State → Job → List Dealing → List ℕ → State → Type 0
 Submits old job dealings reply new =
-    ((dealings ≡ Reserved (price job) (Took (price job)) ∷ []) × (reply ≡ queued_text (length old.queue + 1) (price job))
+    ((dealings ≡ Reserved (price_of job) (Took (price_of job)) ∷ [])
+    × (reply ≡ queued_text (length old.queue + 1) (price_of job))
     × (new ≡ record old { queue = old.queue ++ job ∷ [] }))
-    ⊎ ((left : ℕ) × (dealings ≡ Reserved (price job) (NotEnough left) ∷ [])
-    × (reply ≡ refusal_text (no.Budget (price job) left)) × (new ≡ old))
+    ⊎ ((left : ℕ) × (dealings ≡ Reserved (price_of job) (NotEnough left) ∷ [])
+    × (reply ≡ refusal_text (no.Budget (price_of job) left)) × (new ≡ old))
 
-abbrev pub is_unary : Kind → Bool
-is_unary Unary = true
-is_unary Binary = false
-is_unary Index = false
+-- the job has a fault, by which it is refused, or none
+abbrev pub Prices : State → Job → Option JobError → List Dealing → List ℕ → State → Type 0
+Prices old job (Some fault) dealings reply new = Refuses (no.Job fault) old dealings reply new
+Prices old job None dealings reply new = Submits old job dealings reply new
 
--- the operator is unary, and the price is at most 4,294,967,296
-abbrev pub Prices : State → Job → List Dealing → List ℕ → State → Type 0
-Prices old job dealings reply new =
-    MatchBool (is_unary job.operator.kind)
-    (MatchBool (nat_le (price job) 4294967296)
-    (Submits old job dealings reply new)
-    (Refuses (no.Job PriceTooHigh) old dealings reply new))
-    (Refuses (no.Job WrongKind) old dealings reply new)
-
--- both names stand for something, and fewer than 64 jobs wait
-abbrev pub FindsOperands : State → List ℕ → Option Accepted → Option Grid → List Dealing → List ℕ → State → Type 0
-FindsOperands old output (Some operator) (Some operand) dealings reply new =
+-- all names stand for something, and fewer than 64 jobs wait
+abbrev pub Finds : State → Option Job → List Dealing → List ℕ → State → Type 0
+Finds old None dealings reply new = Refuses (no.Session UnknownName) old dealings reply new
+Finds old (Some job) dealings reply new =
     MatchBool (nat_lt (length old.queue) 64)
-    (Refuses no.Memory old dealings reply new
-    ⊎ Prices old (record { output = output; operator = operator; operand = operand }) dealings reply new)
-    (Refuses (no.Job QueueFull) old dealings reply new)
-FindsOperands old output (Some operator) None dealings reply new = Refuses (no.Session UnknownName) old dealings reply new
-FindsOperands old output None operand dealings reply new = Refuses (no.Session UnknownName) old dealings reply new
+    (Refuses no.Memory old dealings reply new ⊎ Prices old job (job_fault job) dealings reply new)
+    (Refuses no.QueueFull old dealings reply new)
 
-abbrev pub ApplyTurn : State → List ℕ → List ℕ → List ℕ → List Dealing → List ℕ → State → Type 0
-ApplyTurn old output operator operand dealings reply new =
-    MatchBool (is_name output && (is_name operator && is_name operand))
-    (FindsOperands old output (old.operators operator) (old.matrices operand) dealings reply new)
+abbrev pub SubmitTurn : State → Submission → List Dealing → List ℕ → State → Type 0
+SubmitTurn old s dealings reply new =
+    MatchBool (is_named s)
+    (Finds old (job_found old s) dealings reply new)
     (Refuses (no.Session MalformedName) old dealings reply new)
 
 -- ---- `run`
 
 -- each job's price is settled with the steps that it took
-abbrev pub settled : List Job → List JobResult → List Dealing
+abbrev pub settled : List Job → List batch.Result → List Dealing
 settled [] results = []
 settled (job ∷ jobs) [] = []
-settled (job ∷ jobs) (e ∷ es) = Settled (price job) e.steps ∷ settled jobs es
+settled (job ∷ jobs) (e ∷ es) = Settled (price_of job) e.steps ∷ settled jobs es
 
 -- steps are charged to the jobs in order, to each up to its price
 abbrev pub charged : List Job → ℕ → List Dealing
 charged [] spent = []
-charged (job ∷ jobs) spent = Settled (price job) (min spent (price job)) ∷ charged jobs (spent - price job)
+charged (job ∷ jobs) spent = Settled (price_of job) (min spent (price_of job)) ∷ charged jobs (spent - price_of job)
 
 -- the outputs are bound in order of submission, so that of two of one name the later wins
-abbrev pub all_bound : (List ℕ → Option Grid) → List Job → List JobResult → List ℕ → Option Grid
+abbrev pub all_bound : (List ℕ → Option Grid) → List Job → List batch.Result → List ℕ → Option Grid
 all_bound names [] results = names
 all_bound names (job ∷ jobs) [] = names
 all_bound names (job ∷ jobs) (e ∷ es) = all_bound (bound names job.output e.matrix) jobs es
@@ -175,29 +169,27 @@ BatchRefused refusal spent old dealings reply new =
     (dealings ≡ charged old.queue spent) × (reply ≡ refusal_text refusal) × (new ≡ record old { queue = [] })
 
 -- the line of each job
-abbrev pub job_lines : List Job → List JobResult → List JobLine
+abbrev pub job_line : Job → batch.Result → JobLine
+job_line job r = record {
+  output = job.output;
+  rows = r.matrix.rows;
+  columns = r.matrix.columns;
+  entries = fin.len r.matrix.cells;
+  steps = r.steps;
+}
+
+abbrev pub job_lines : List Job → List batch.Result → List JobLine
 job_lines [] results = []
 job_lines (job ∷ jobs) [] = []
-job_lines (job ∷ jobs) (r ∷ rs) =
-    record {
-      output = job.output;
-      rows = r.matrix.rows;
-      columns = r.matrix.columns;
-      entries = fin.len r.matrix.cells;
-      steps = r.steps;
-    } ∷ job_lines jobs rs
+job_lines (job ∷ jobs) (r ∷ rs) = job_line job r ∷ job_lines jobs rs
 
-abbrev pub total_steps : List JobResult → ℕ
-total_steps [] = 0
-total_steps (r ∷ rs) = r.steps + total_steps rs
-
--- all jobs come to an end; or the batch runs out of memory after some calls
+-- all jobs come to an end; or the batch runs out of memory when its calls have taken some of the steps of all
 abbrev pub RunTurn : State → List Dealing → List ℕ → State → Type 0
 RunTurn old dealings reply new =
-    ((results : List JobResult) × AreMatricesOf old.queue results
-    × (dealings ≡ settled old.queue results) × (reply ≡ run_text (total_steps results) (job_lines old.queue results))
+    ((results : List batch.Result) × AreResultsOf old.queue results
+    × (dealings ≡ settled old.queue results) × (reply ≡ run_text (total_steps old.queue) (job_lines old.queue results))
     × (new ≡ record old { matrices = all_bound old.matrices old.queue results; queue = [] }))
-    ⊎ ((spent : ℕ) × Charges (calls old.queue) spent × BatchRefused (no.BatchMemory spent) spent old dealings reply new)
+    ⊎ ((spent : ℕ) × (spent ≤ total_steps old.queue) × BatchRefused (no.BatchMemory spent) spent old dealings reply new)
 
 -- ---- `show NAME`
 
@@ -255,7 +247,7 @@ Turn old (Matrix name body) = MatrixTurn old name body
 Turn old (Op name kind body) = OperatorTurn old name kind body
 Turn old (Asm name kind body) = AssemblyTurn old name kind body
 Turn old (Dis name) = DisassemblyTurn old name
-Turn old (Apply output operator operand) = ApplyTurn old output operator operand
+Turn old (Submit submission) = SubmitTurn old submission
 Turn old Run = RunTurn old
 Turn old (Show name) = ShowTurn old name
 Turn old (Types name) = TypesTurn old name
@@ -268,4 +260,4 @@ Turn old (Break rule) = Refuses (no.Fatal rule) old
 
 -- each reservation still held is settled with 0, in order of submission
 abbrev pub released : List Job → List Dealing
-released jobs = map (λ job. Settled (price job) 0) jobs
+released jobs = map (λ job. Settled (price_of job) 0) jobs

@@ -2,19 +2,20 @@
 //!
 //! The one contract: `answer` and `answer_with_body` make one command's turn. `specs/State.antt` says what a session holds,
 //! `specs/Turn.antt` what each command does: from which state, by which calls of the budget and with which reply, to which
-//! state. `specs/Calls.antt` says what jobs compute.
+//! state. What jobs compute is said in `job_plan`.
 //!
-//! Read `turn` first, which hands each command to its function; then `workspace` (matrices, operators and jobs) over `names`
-//! and `job`; then the commands, each a function whose contract is its turn: `bind` (`matrix`, `op`, `asm`), `tell` (`show`, `dis`,
-//! and `types` over the module of that name), `jobs` (`apply`, `budget`) and `run` over `batch`.
+//! Read `turn` first, which hands each command to its function; then `workspace` (matrices, operators and jobs) over `names`;
+//! then the commands, each a function whose contract is its turn: `bind` (`matrix`, `op`, `asm`), `tell` (`show`, `dis`,
+//! and `types` over the module of that name), `jobs` (the jobs' commands, over `found` and `share`, and `budget`)
+//! and `run`.
 #![tactic(auto)]
 
-mod batch;
 mod bind;
-mod job;
+mod found;
 mod jobs;
 mod names;
 mod run;
+mod share;
 mod tell;
 mod turn;
 mod types;

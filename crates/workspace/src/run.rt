@@ -2,25 +2,25 @@
 //!
 //! Before the first job runs, a place is made for each output. So once all jobs have results nothing can fail any more: the prices
 //! are settled, the reply is written and the outputs are bound, with no further memory. A batch that breaks off binds no name.
-ghost use Rattle.std.specs.Prelude.{◌≡◌, ◌≤◌, ◌+◌, List, ℕ, map, length, vec_len, IfOk, IfErr, []};
+ghost use Rattle.std.specs.Prelude.{◌≡◌, ◌≤◌, ◌+◌, ◌++◌, List, ℕ, map, length, vec_len, IfOk, OnOk, OnErr, []};
 ghost use Rattle.workspace.specs.Names.{value_at};
 ghost use Rattle.workspace.specs.Outputs.{AreDeclared, grid_at};
-ghost use Rattle.workspace.specs.Batch.{job_of, result_of, Spend, AreWithin};
+ghost use Rattle.job_plan.specs.Price.{total_price};
+ghost use Rattle.job_runner.specs.Batch.{AreResultsOf, result_of, total_steps};
+ghost use Rattle.workspace.specs.Queued.{AreCheap, AreNamed, AreWithin, steps_sum};
 ghost use Rattle.step_budget.specs.Budget.{Deals};
 ghost use Rattle.step_purse.specs.declared.dealings.Dealing.{Dealing};
-ghost use Rattle.workspace.specs.Calls.{AreMatricesOf, calls};
-ghost use Rattle.command_text.specs.Replies.{run_text};
+ghost use Rattle.command_text.specs.Replies.{job_text, run_text, refusal_text};
 ghost use Rattle.command_text.specs.ReplyText.{whole};
-ghost use Rattle.workspace.specs.State.{total_price};
-ghost use Rattle.workspace.specs.Turn.{RunTurn, BatchRefused, settled, charged, all_bound, job_lines, total_steps, released};
+ghost use Rattle.workspace.specs.Turn.{RunTurn, settled, charged, all_bound, job_line, job_lines, released};
 ghost use Rattle.workspace.specs.Workspace.{state_of};
 
-use crate::batch::{JobResult, OutOfMemory, run_jobs};
-use crate::job::Job;
 use crate::names::Names;
 use crate::workspace::Workspace;
 use command_text::{JobLine, Refusal, Reply, add_job, begin_run, refuse};
 use csr_store::Version;
+use job_plan::{Plan, Priced, price};
+use job_runner::{BatchAnswer, JobResult, run_in_order};
 use std::alloc::{AllocError, Global};
 use std::sync::Wait;
 use step_budget::Steps;
@@ -30,142 +30,159 @@ use step_budget::Steps;
 /// # Errors
 ///
 /// There is no memory for it. Some declared are then made. No value is changed.
-fn declare_outputs(matrices: &mut Names<Version>, jobs: &[Job]) -> Result<(), AllocError>
+fn declare_outputs(matrices: &mut Names<Version>, jobs: &[Priced]) -> Result<(), AllocError>
     ensures made { IfOk result (λ _. AreDeclared matrices.new.declared jobs.now) }
     ensures same { (name : List ℕ) → value_at matrices.new.declared name ≡ value_at matrices.old.declared name }
 {
     for job in jobs {
-        matrices.declare(&job.output)?;
+        matrices.declare(job.job().output())?;
     }
     Ok(())
 }
 
 /// Settles the price of each job with the steps that it took.
-fn settle_all<T: Steps, H: Wait>(rt: &H, steps: &mut T, jobs: &[Job], results: &[JobResult])
+fn settle_all<T: Steps, H: Wait>(rt: &H, steps: &mut T, jobs: &[Priced], results: &[JobResult])
     requires same { length jobs.now ≡ length results.now }
-    requires within { AreWithin (map job_of jobs.now) (map result_of results.now) }
-    requires owed { total_price (map job_of jobs.now) ≤ T.owes steps.old }
+    requires within { AreWithin jobs.now (map result_of results.now) }
+    requires owed { total_price jobs.now ≤ T.owes steps.old }
     ensures dealt { Deals T.leads steps.old
-        (settled (map job_of jobs.now) (map result_of results.now)) steps.new }
-    ensures owed { T.owes steps.new + total_price (map job_of jobs.now) ≡ T.owes steps.old }
+        (settled jobs.now (map result_of results.now)) steps.new }
+    ensures owed { T.owes steps.new + total_price jobs.now ≡ T.owes steps.old }
 {
     for (job, result) in jobs.iter().zip(results) {
-        steps.settle(rt, job.price, result.steps);
+        steps.settle(rt, price(job), result.steps);
     }
 }
 
 /// Charges steps to the jobs in order, to each up to its price, and settles each price with the steps charged.
-fn charge_all<T: Steps, H: Wait>(rt: &H, steps: &mut T, jobs: &[Job], spent: u64)
-    requires owed { total_price (map job_of jobs.now) ≤ T.owes steps.old }
-    ensures dealt { Deals T.leads steps.old (charged (map job_of jobs.now) spent) steps.new }
-    ensures owed { T.owes steps.new + total_price (map job_of jobs.now) ≡ T.owes steps.old }
+fn charge_all<T: Steps, H: Wait>(rt: &H, steps: &mut T, jobs: &[Priced], spent: u64)
+    requires owed { total_price jobs.now ≤ T.owes steps.old }
+    ensures dealt { Deals T.leads steps.old (charged jobs.now spent) steps.new }
+    ensures owed { T.owes steps.new + total_price jobs.now ≡ T.owes steps.old }
 {
     let mut left = spent;
     for job in jobs {
-        let charge = left.min(job.price);
-        steps.settle(rt, job.price, charge);
+        let amount = price(job);
+        let charge = left.min(amount);
+        steps.settle(rt, amount, charge);
         left -= charge;
     }
 }
 
 /// Binds the output of each job, in order, to its matrix. Each is declared, so that this takes no memory.
-fn bind_all(matrices: &mut Names<Version>, jobs: &[Job], results: Vec<JobResult>)
+fn bind_all(matrices: &mut Names<Version>, jobs: &[Priced], results: Vec<JobResult>)
     requires declared { AreDeclared matrices.old.declared jobs.now }
     requires same { length jobs.now ≡ vec_len results }
     ensures { (name : List ℕ) → grid_at matrices.new.declared name ≡
-        all_bound (grid_at matrices.old.declared) (map job_of jobs.now) (map result_of results.items)
+        all_bound (grid_at matrices.old.declared) jobs.now (map result_of results.items)
         name }
 {
     for (job, result) in jobs.iter().zip(results) {
-        matrices.bind(&job.output, result.version);
+        matrices.bind(job.job().output(), result.version);
     }
+}
+
+/// The steps of all jobs.
+fn total(results: &[JobResult]) -> u64
+    requires few { length results.now ≤ 64 }
+    requires cheap { AreCheap (map result_of results.now) }
+    ensures { result ≡ steps_sum (map result_of results.now) }
+{
+    let mut steps = 0;
+    for result in results {
+        steps += result.steps;
+    }
+    steps
 }
 
 /// Says that a batch was run, with a line for each job.
-fn report(reply: &mut Reply, jobs: &[Job], results: &[JobResult], spent: u64)
+fn report(reply: &mut Reply, jobs: &[Priced], results: &[JobResult], spent: u64)
     requires same { length jobs.now ≡ length results.now }
     requires few { length jobs.now ≤ 64 }
-    ensures { whole reply.new ≡ run_text spent (job_lines (map job_of jobs.now) (map result_of results.now)) }
+    requires named { AreNamed jobs.now }
+    ensures { whole reply.new ≡ run_text spent (job_lines jobs.now (map result_of results.now)) }
 {
     begin_run(reply, jobs.len() as u64, spent);
     for (job, result) in jobs.iter().zip(results) {
-        let line = JobLine {
-            output: &job.output,
-            rows: result.version.rows(),
-            columns: result.version.columns(),
-            entries: result.version.entries(),
-            steps: result.steps,
-        };
-        add_job(reply, &line);
+        add_line(reply, job, result);
     }
 }
 
-/// Declares the outputs of the jobs that wait, and runs these jobs. Nothing that is bound changes, and the jobs still wait.
-fn attempt(alloc: Global, workspace: &mut Workspace) -> Result<(Vec<JobResult>, u64), OutOfMemory>
-    ensures state { state_of workspace.new ≡ state_of workspace.old }
-    ensures declared { IfOk result (λ _. AreDeclared workspace.new.matrices.declared workspace.new.queue.items) }
-    ensures matrices { IfOk result
-        (λ p. AreMatricesOf (state_of workspace.old).queue (map result_of p.0.items)) }
-    ensures within { IfOk result (λ p. AreWithin (state_of workspace.old).queue (map result_of p.0.items)) }
-    ensures spent { IfOk result (λ p. p.1 ≡ total_steps (map result_of p.0.items)) }
-    ensures fault { IfErr result (λ f. Spend (calls (state_of workspace.old).queue) f.spent) }
+/// Adds the line of a job.
+fn add_line(reply: &mut Reply, job: &Priced, what: &JobResult)
+    requires name { length job.now.output ≤ 32 }
+    requires room { length reply.old.line + 117 ≤ 8192 }
+    ensures value { reply.new ≡ record reply.old
+        { line = reply.old.line ++ job_text (job_line job.now (result_of what.now)) } }
+    ensures short { length reply.new.line ≤ length reply.old.line + 117 }
 {
-    if declare_outputs(&mut workspace.matrices, &workspace.queue).is_err() {
-        return Err(OutOfMemory { spent: 0 });
-    }
-    run_jobs(alloc, &workspace.queue)
+    let line = JobLine {
+        output: job.job().output(),
+        rows: what.version.rows(),
+        columns: what.version.columns(),
+        entries: what.version.entries(),
+        steps: what.steps,
+    };
+    add_job(reply, &line);
 }
 
-/// Ends a batch of which each job came to its end: settles the prices, says so, binds the outputs, and empties the queue.
+/// Ends a batch of which each job came to its end: settles the prices, says so, and binds the outputs.
 fn finish<T: Steps, H: Wait>(
     rt: &H,
     workspace: &mut Workspace,
+    plan: &Plan,
+    answer: BatchAnswer,
     steps: &mut T,
     reply: &mut Reply,
-    results: Vec<JobResult>,
-    spent: u64,
 )
-    requires declared { AreDeclared workspace.old.matrices.declared workspace.old.queue.items }
-    requires matrices { AreMatricesOf (state_of workspace.old).queue (map result_of results.items) }
-    requires within { AreWithin (state_of workspace.old).queue (map result_of results.items) }
-    requires spent { spent ≡ total_steps (map result_of results.items) }
-    requires owed { total_price (state_of workspace.old).queue ≤ T.owes steps.old }
-    ensures dealt { Deals T.leads steps.old
-        (settled (state_of workspace.old).queue (map result_of results.items)) steps.new }
-    ensures owed { T.owes steps.new + total_price (state_of workspace.old).queue ≡ T.owes steps.old }
-    ensures said { whole reply.new ≡ run_text (total_steps (map result_of results.items))
-        (job_lines (state_of workspace.old).queue (map result_of results.items)) }
-    ensures state { state_of workspace.new ≡
-        record (state_of workspace.old) {
-          matrices = all_bound (state_of workspace.old).matrices (state_of workspace.old).queue
-              (map result_of results.items);
-          queue = [];
-        } }
+    requires declared { AreDeclared workspace.old.matrices.declared plan.now }
+    requires named { AreNamed plan.now }
+    requires results { AreResultsOf plan.now (map result_of answer.results.items) }
+    requires owed { total_price plan.now ≤ T.owes steps.old }
+    ensures dealt { Deals T.leads steps.old (settled plan.now (map result_of answer.results.items)) steps.new }
+    ensures owed { T.owes steps.new + total_price plan.now ≡ T.owes steps.old }
+    ensures said { whole reply.new ≡ run_text (total_steps plan.now)
+        (job_lines plan.now (map result_of answer.results.items)) }
+    ensures state { state_of workspace.new ≡ record (state_of workspace.old)
+        { matrices = all_bound (state_of workspace.old).matrices plan.now (map result_of answer.results.items) } }
 {
-    settle_all(rt, steps, &workspace.queue, &results);
-    report(reply, &workspace.queue, &results, spent);
-    bind_all(&mut workspace.matrices, &workspace.queue, results);
-    workspace.queue.clear();
+    let jobs = plan.jobs();
+    settle_all(rt, steps, jobs, &answer.results);
+    report(reply, jobs, &answer.results, total(&answer.results));
+    bind_all(&mut workspace.matrices, jobs, answer.results);
 }
 
-/// Ends a batch that broke off: charges the steps that were spent to the jobs in order, says why, and empties the queue. No name
-/// is bound.
+/// Ends a batch that broke off: charges the steps that were spent to the jobs in order, and says why. No name is bound.
 fn break_off<T: Steps, H: Wait>(
     rt: &H,
-    workspace: &mut Workspace,
     steps: &mut T,
     reply: &mut Reply,
+    jobs: &[Priced],
     spent: u64,
 )
-    requires owed { total_price (state_of workspace.old).queue ≤ T.owes steps.old }
-    ensures refused { BatchRefused (Refusal.BatchMemory spent) spent (state_of workspace.old)
-        (charged (state_of workspace.old).queue spent) (whole reply.new) (state_of workspace.new) }
-    ensures dealt { Deals T.leads steps.old (charged (state_of workspace.old).queue spent) steps.new }
-    ensures owed { T.owes steps.new + total_price (state_of workspace.old).queue ≡ T.owes steps.old }
+    requires owed { total_price jobs.now ≤ T.owes steps.old }
+    ensures said { whole reply.new ≡ refusal_text (Refusal.BatchMemory spent) }
+    ensures dealt { Deals T.leads steps.old (charged jobs.now spent) steps.new }
+    ensures owed { T.owes steps.new + total_price jobs.now ≡ T.owes steps.old }
 {
-    charge_all(rt, steps, &workspace.queue, spent);
+    charge_all(rt, steps, jobs, spent);
     refuse(reply, Refusal::BatchMemory { spent });
-    workspace.queue.clear();
+}
+
+/// Declares the outputs of the jobs that wait, and takes them out of the queue as a plan.
+///
+/// # Errors
+///
+/// There is no memory for it. Nothing that is bound changes, and the jobs still wait.
+fn begin(workspace: &mut Workspace) -> Result<Plan, AllocError>
+    ensures declared { IfOk result (λ p. AreDeclared workspace.new.matrices.declared p) }
+    ensures plan { IfOk result (λ p. p ≡ (state_of workspace.old).queue) }
+    ensures named { AreNamed (state_of workspace.old).queue }
+    ensures taken { OnOk result (state_of workspace.new ≡ record (state_of workspace.old) { queue = [] }) }
+    ensures kept { OnErr result (state_of workspace.new ≡ state_of workspace.old) }
+{
+    declare_outputs(&mut workspace.matrices, workspace.queue.jobs())?;
+    workspace.queue.take()
 }
 
 /// Runs the jobs that wait, in order of submission: each output is bound, each price is settled, and the reply has a line for
@@ -178,26 +195,31 @@ pub fn run<T: Steps, H: Wait>(
     steps: &mut T,
     reply: &mut Reply,
 )
-    requires owed { total_price (map job_of workspace.old.queue.items) ≤ T.owes steps.old }
+    requires owed { total_price (state_of workspace.old).queue ≤ T.owes steps.old }
     ensures turn { (dealings : List Dealing) ×
         RunTurn (state_of workspace.old) dealings (whole reply.new) (state_of workspace.new) ×
         Deals T.leads steps.old dealings steps.new }
-    ensures owed { T.owes steps.new + total_price (map job_of workspace.old.queue.items) ≡ T.owes steps.old }
+    ensures owed { T.owes steps.new + total_price (state_of workspace.old).queue ≡ T.owes steps.old }
 {
-    match attempt(alloc, workspace) {
-        Ok((results, spent)) => finish(rt, workspace, steps, reply, results, spent),
-        Err(fault) => break_off(rt, workspace, steps, reply, fault.spent),
+    let Ok(plan) = begin(workspace) else {
+        break_off(rt, steps, reply, workspace.queue.jobs(), 0);
+        workspace.queue.clear();
+        return;
+    };
+    match run_in_order(alloc, &plan) {
+        Ok(answer) => finish(rt, workspace, &plan, answer, steps, reply),
+        Err(fault) => break_off(rt, steps, reply, plan.jobs(), fault.spent),
     }
 }
 
 /// Settles the price of each job with 0.
-fn settle_with_nothing<T: Steps, H: Wait>(rt: &H, steps: &mut T, jobs: &[Job])
-    requires owed { total_price (map job_of jobs.now) ≤ T.owes steps.old }
-    ensures dealt { Deals T.leads steps.old (released (map job_of jobs.now)) steps.new }
-    ensures owed { T.owes steps.new + total_price (map job_of jobs.now) ≡ T.owes steps.old }
+fn settle_with_nothing<T: Steps, H: Wait>(rt: &H, steps: &mut T, jobs: &[Priced])
+    requires owed { total_price jobs.now ≤ T.owes steps.old }
+    ensures dealt { Deals T.leads steps.old (released jobs.now) steps.new }
+    ensures owed { T.owes steps.new + total_price jobs.now ≡ T.owes steps.old }
 {
     for job in jobs {
-        steps.settle(rt, job.price, 0);
+        steps.settle(rt, price(job), 0);
     }
 }
 
@@ -207,5 +229,5 @@ pub fn release<T: Steps, H: Wait>(rt: &H, workspace: &Workspace, steps: &mut T)
     ensures dealt { Deals T.leads steps.old (released (state_of workspace.now).queue) steps.new }
     ensures owed { T.owes steps.new + total_price (state_of workspace.now).queue ≡ T.owes steps.old }
 {
-    settle_with_nothing(rt, steps, &workspace.queue);
+    settle_with_nothing(rt, steps, workspace.queue.jobs());
 }

@@ -37,7 +37,7 @@ pub fn types(alloc: Global, workspace: &Workspace, name: &[u8], reply: &mut Repl
     let Some(operator) = workspace.operator(name) else {
         return refuse(reply, Refusal::Session(SessionRule::UnknownName));
     };
-    match types_text(alloc, operator) {
+    match types_text(alloc, operator.operator()) {
         Ok(text) => list(reply, "types", operator.len(), text),
         Err(_) => refuse(reply, Refusal::Memory),
     }
@@ -53,7 +53,7 @@ pub fn disassembly(alloc: Global, workspace: &Workspace, name: &[u8], reply: &mu
     let Some(operator) = workspace.operator(name) else {
         return refuse(reply, Refusal::Session(SessionRule::UnknownName));
     };
-    match disassemble(alloc, operator.program()) {
+    match disassemble(alloc, operator.operator().program()) {
         Ok(text) => list(reply, "dis", operator.len(), text.into_bytes()),
         Err(_) => refuse(reply, Refusal::Memory),
     }

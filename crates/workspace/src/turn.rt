@@ -5,12 +5,12 @@ ghost use Rattle.command_text.specs.Requests.{with_body};
 ghost use Rattle.command_text.specs.Readings.{command_of, header_of};
 ghost use Rattle.step_budget.specs.Budget.{Deals};
 ghost use Rattle.step_purse.specs.declared.dealings.Dealing.{Dealing};
-ghost use Rattle.workspace.specs.State.{total_price};
+ghost use Rattle.job_plan.specs.Price.{total_price};
 ghost use Rattle.workspace.specs.Turn.{Turn};
 ghost use Rattle.workspace.specs.Workspace.{state_of};
 
 use crate::bind::{assembly, matrix, operator};
-use crate::jobs::{apply, budget};
+use crate::jobs::{budget, submit};
 use crate::run::run;
 use crate::tell::{disassembly, show, types};
 use crate::workspace::Workspace;
@@ -56,18 +56,7 @@ pub fn answer<T: Steps, H: Wait>(
 {
     match command {
         Command::Blank => silent(reply),
-        Command::Apply {
-            output,
-            operator,
-            operand,
-        } => apply(
-            rt,
-            alloc,
-            workspace,
-            (output, operator, operand),
-            steps,
-            reply,
-        ),
+        Command::Submit(submission) => submit(rt, alloc, workspace, &submission, steps, reply),
         Command::Run => run(rt, alloc, workspace, steps, reply),
         Command::Show { name } => show(alloc, workspace, name, reply),
         Command::Types { name } => types(alloc, workspace, name, reply),

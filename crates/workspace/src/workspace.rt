@@ -1,28 +1,27 @@
 //! What a session holds between two commands.
-ghost use Rattle.std.specs.Prelude.{◌≡◌, ◌≤◌, ◌<◌, ◌+◌, ◌++◌, ◌∷◌, [], ◌↔◌, IsTrue, length, vec_len, vec_capacity, IfOk, OnOk, OnErr, option_copied};
+ghost use Rattle.std.specs.Prelude.{◌≡◌, ◌≤◌, ◌<◌, ◌+◌, ◌++◌, ◌∷◌, [], true, length, IfOk, OnOk, OnErr, option_copied};
 ghost use Rattle.std.specs.Option.{option_map};
 ghost use Rattle.std.specs.Arc.{arc_value};
+ghost use Rattle.command_text.specs.Words.{is_name};
 ghost use Rattle.workspace.specs.State.{empty, bound};
-ghost use Rattle.workspace.specs.Batch.{job_of};
+ghost use Rattle.workspace.specs.Queued.{AreNamed};
 
-use crate::job::Job;
 use crate::names::Names;
+use bpf_run::Prepared;
 use bpf_verify::Operator;
+use command_text::as_name;
 use csr_store::{Matrix, Version};
+use job_plan::{Priced, Queue};
 use std::alloc::{AllocError, Global};
 use std::sync::Arc;
-
-/// How many jobs may wait.
-pub const QUEUE: usize = 64;
 
 /// Matrices and operators by their names, and the jobs that wait, for which there is room from the start.
 #[derive(Drop)]
 pub struct Workspace {
     pub matrices: Names<Version>,
-    pub operators: Names<Arc<Operator>>,
-    pub queue: Vec<Job>,
-    ghost room: { 64 ≤ vec_capacity queue },
-    ghost few: { vec_len queue ≤ 64 },
+    pub operators: Names<Arc<Prepared>>,
+    pub queue: Queue,
+    ghost named: { AreNamed queue },
 }
 
 impl Workspace {
@@ -39,7 +38,7 @@ impl Workspace {
         Ok(Workspace {
             matrices: Names::new(alloc),
             operators: Names::new(alloc),
-            queue: Vec::with_capacity(alloc, QUEUE)?,
+            queue: Queue::open(alloc)?,
         })
     }
 
@@ -51,10 +50,26 @@ impl Workspace {
     }
 
     /// The operator of a name.
-    pub fn operator(&self, name: &str) -> Option<&Arc<Operator>>
+    pub fn operator(&self, name: &str) -> Option<&Arc<Prepared>>
         ensures { option_map arc_value (option_copied result) ≡ (state_of self.now).operators name.now }
     {
         self.operators.find(name)
+    }
+
+    /// The matrix of a well-formed name.
+    pub fn matrix_of(&self, word: &[u8]) -> Option<&Version>
+        requires { is_name word.now ≡ true }
+        ensures { option_map arc_value (option_copied result) ≡ (state_of self.now).matrices word.now }
+    {
+        self.matrix(as_name(word)?)
+    }
+
+    /// The operator of a well-formed name.
+    pub fn operator_of(&self, word: &[u8]) -> Option<&Arc<Prepared>>
+        requires { is_name word.now ≡ true }
+        ensures { option_map arc_value (option_copied result) ≡ (state_of self.now).operators word.now }
+    {
+        self.operator(as_name(word)?)
     }
 
     /// Binds a name to a matrix, in place of any that stood there.
@@ -95,27 +110,21 @@ impl Workspace {
             { operators = bound (state_of self.old).operators name.now operator }) }
         ensures same { OnErr result (state_of self.new ≡ state_of self.old) }
     {
-        let operator = Arc::new(alloc, operator)?;
+        let prepared = Prepared::new(alloc, operator)?;
+        let operator = Arc::new(alloc, prepared)?;
         self.operators.declare(name)?;
         self.operators.bind(name, operator);
         Ok(())
     }
 
-    /// Whether 64 jobs wait.
-    pub fn is_full(&self) -> bool
-        ensures full { IsTrue result ↔ (64 ≤ vec_len self.now.queue) }
-        ensures queue { vec_len self.now.queue ≡ length (state_of self.now).queue }
-    {
-        self.queue.len() >= QUEUE
-    }
-
-    /// Puts a job last, where fewer than 64 wait.
-    pub fn submit(&mut self, job: Job)
-        requires { vec_len self.old.queue < 64 }
+    /// Puts a job last, where fewer than 64 wait, and tells how many wait then.
+    pub fn submit(&mut self, job: Priced) -> u64
+        requires room { length (state_of self.old).queue < 64 }
+        requires named { length job.output ≤ 32 }
         ensures queue { state_of self.new ≡
-            record (state_of self.old) { queue = (state_of self.old).queue ++ job_of job ∷ [] } }
-        ensures len { vec_len self.new.queue ≡ length (state_of self.old).queue + 1 }
+            record (state_of self.old) { queue = (state_of self.old).queue ++ job ∷ [] } }
+        ensures number { result ≡ length (state_of self.old).queue + 1 }
     {
-        self.queue.push(job).unwrap();
+        self.queue.submit(job)
     }
 }

@@ -1,5 +1,6 @@
 use Rattle.std.proofs.Common.{◌≡◌, ◌≤◌, Ok, None, Some, Option, ap, subst, arith}
-use Rattle.workspace.specs.State.{State, total_price}
+use Rattle.job_plan.specs.Price.{total_price}
+use Rattle.workspace.specs.State.{State}
 use Rattle.workspace.specs.Workspace.{state_of}
 use Rattle.session.specs.Next.{next}
 use Rattle.session.specs.Exchange.{Exchanged, Scene}

@@ -1,6 +1,6 @@
 use Rattle.std.proofs.Common.{◌≡◌, ◌+◌}
 use Rattle.wire.specs.Fetching.{reach}
-use Rattle.workspace.specs.State.{total_price}
+use Rattle.job_plan.specs.Price.{total_price}
 use Rattle.workspace.specs.Workspace.{state_of}
 use Rattle.session.proofs.Talking.{SoFar}
 use Rattle.session.proofs.conversation.converse.Given as goal

@@ -24,3 +24,9 @@ returns-in-Ok-Dropped-clause-fetched g c =
     (λ bytes q.
     let p = subst (λ b. IsBody len (Ok b) new bytes) c.in-Ok-Dropped.field-0-is q in
     (p.0, subst (λ a. next_request new.ended (request_of a) bytes ≡ Goes (with_body (header_of header) p.0) new.bytes) (sym c.in-Body.is) (body_there new.ended (header_of header) len bytes p.0 new.bytes p.1 p.2)))
+
+pub returns-in-Fatal-clause-fetched : goal.returns-in-Fatal-clause-fetched
+returns-in-Fatal-clause-fetched g c =
+    let now = c.args.input.now in
+    fetched_here _ now now (IsHeard (request_of c.args.request) (Ok (h.Stopped c.in-Fatal.rule)) now) refl refl
+    (ap (λ r. next_request now.ended (request_of r) now.bytes) c.in-Fatal.is)

@@ -2,9 +2,10 @@ use Rattle.std.proofs.Common.{◌≡◌, IsTrue, map, length, sym, ap, ◌∙◌
 use Rattle.std.specs.Iterator.Adapters.{zip_first, zip_second}
 use Rattle.std.specs.Slice.Iter.{iter_rest}
 use Rattle.std.specs.Vec.Iter.{into_iter_items, into_iter_len}
-use Rattle.workspace.specs.Batch.{job_of, result_of}
+use Rattle.job_runner.specs.Batch.{result_of}
 use Rattle.workspace.specs.Names.{is_declared}
 use Rattle.workspace.specs.Outputs.{AreDeclared, grid_at}
+use Rattle.job_plan.specs.Job.{Job}
 use Rattle.workspace.specs.Turn.{all_bound}
 use Rattle.workspace.proofs.Running.{declared_first, declared_behind, next_bound, none_bound, zip_next, zip_done}
 use Rattle.workspace.proofs.run.bind_all.Goals as goal
@@ -12,7 +13,7 @@ use Rattle.workspace.proofs.run.bind_all.Goals as goal
 pub bind-requires : goal.bind-requires
 bind-requires c =
     let turn = zip_next c.loop-job.job-iterator c.next.new.self c.next.result c.in-Some.job c.in-Some.result c.in-Some.is c.next.ensures.steps in
-    subst (λ name. IsTrue (is_declared c.loop-job.matrices.declared name)) (sym c.deref.ensures)
+    subst (λ name. IsTrue (is_declared c.loop-job.matrices.declared name)) (sym (c.output.ensures ∙ ap (λ (j : Job). j.output) c.job.ensures.job))
     (declared_first c.loop-job.matrices.declared c.in-Some.job.now (iter_rest (zip_first c.loop-job.job-iterator)) (iter_rest (zip_first c.next.new.self)) turn.0 c.loop-job.invariant.declared)
 
 pub loop-job-init : goal.loop-job-init
@@ -27,8 +28,8 @@ loop-job-init c =
       is_finite = search rules;
       same = ap length first ∙ (c.requires.same ∙ sym (ap (λ z. into_iter_len (zip_second z)) whole ∙ c.zip-job-items.ensures.second.1));
       declared = subst (AreDeclared c.args.matrices.now.declared) (sym first) c.requires.declared;
-      bound = ap (λ jobs. all_bound names (map job_of jobs) (map result_of (into_iter_items (zip_second it)))) first
-          ∙ ap (λ results. all_bound names (map job_of c.args.jobs.now) (map result_of results)) second;
+      bound = ap (λ jobs. all_bound names jobs (map result_of (into_iter_items (zip_second it)))) first
+          ∙ ap (λ results. all_bound names c.args.jobs.now (map result_of results)) second;
     }
 
 pub loop-job-preserved : goal.loop-job-preserved
@@ -45,7 +46,7 @@ loop-job-preserved c =
       declared = declared_behind m n c.bind.ensures.kept c.in-Some.job.now (iter_rest (zip_first s)) (iter_rest (zip_first t)) turn.0 c.loop-job.invariant.declared;
       bound =
           next_bound m n c.in-Some.job.now (iter_rest (zip_first s)) (iter_rest (zip_first t)) c.in-Some.result (into_iter_items (zip_second s)) (into_iter_items (zip_second t)) turn.0 turn.1
-          (λ other. rw c.deref.ensures at (c.bind.ensures.bound other))
+          (λ other. rw (c.output.ensures ∙ ap (λ (j : Job). j.output) c.job.ensures.job) at (c.bind.ensures.bound other))
           ∙ c.loop-job.invariant.bound;
     }
 

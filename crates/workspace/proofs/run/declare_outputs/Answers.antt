@@ -1,15 +1,15 @@
 use Rattle.std.proofs.Common.{IsTrue, get_or, ◌∙◌, rules, arith}
 use Rattle.std.specs.String.{string_bytes}
 use Rattle.workspace.specs.Names.{is_declared}
-use Rattle.workspace.specs.declared.job.Job.{Job}
+use Rattle.job_plan.specs.Job.{Job}
 use Rattle.workspace.proofs.Running.{each_more}
 use Rattle.workspace.proofs.run.declare_outputs.Goals as goal
 
 pub loop-job-preserved : goal.loop-job-preserved
 loop-job-preserved c = record {
-  made = each_more (λ (job : Job). IsTrue (is_declared c.declare.new.self.declared (string_bytes job.output))) c.args.jobs.now c.loop-job.job-index c.job-item.result
+  made = each_more (λ (job : Job). IsTrue (is_declared c.declare.new.self.declared job.output)) c.args.jobs.now c.loop-job.job-index c.job-item.result
       c.loop-job-test.true c.job-item.is
-      (λ k q d. c.in_ok-declare.ensures.kept (string_bytes (get_or c.args.jobs.now k d).output) (c.loop-job.invariant.made k q d))
+      (λ k q d. c.in_ok-declare.ensures.kept (get_or c.args.jobs.now k d).output (c.loop-job.invariant.made k q d))
       (search rules);
   same = λ name. c.in_ok-declare.ensures.same name ∙ c.loop-job.invariant.same name;
 }

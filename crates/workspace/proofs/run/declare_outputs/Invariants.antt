@@ -1,11 +1,11 @@
 use Rattle.std.proofs.Common.{◌≡◌, ◌<◌, ℕ, List, IsTrue, get_or}
 use Rattle.std.specs.String.{string_bytes}
 use Rattle.workspace.specs.Names.{is_declared, value_at}
-use Rattle.workspace.specs.declared.job.Job.{Job}
+use Rattle.job_plan.specs.Job.{Job}
 use Rattle.workspace.proofs.run.declare_outputs.Given as goal
 
 abbrev pub invariant-loop-job : goal.invariant-loop-job
 invariant-loop-job l = record {
-  made : (k : ℕ) → k < l.job-index → (d : Job) → IsTrue (is_declared l.matrices.declared (string_bytes (get_or l.jobs k d).output));
+  made : (k : ℕ) → k < l.job-index → (d : Job) → IsTrue (is_declared l.matrices.declared (get_or l.jobs k d).output);
   same : (name : List ℕ) → value_at l.matrices.declared name ≡ value_at l.fn.matrices.declared name;
 }

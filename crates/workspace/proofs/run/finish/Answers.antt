@@ -1,28 +1,55 @@
-use Rattle.std.proofs.Common.{[], map, length, sym, ap, ◌∙◌}
+use Rattle.std.proofs.Common.{map, length, refl, sym, ap, ◌∙◌, arith}
 use Rattle.std.proofs.Math.Path.{fun_ext}
-use Rattle.workspace.specs.Batch.{job_of, result_of}
+use Rattle.command_text.specs.Replies.{run_text}
+use Rattle.job_runner.specs.Batch.{result_of, total_steps}
 use Rattle.workspace.specs.Outputs.{grid_at}
-use Rattle.workspace.specs.Turn.{all_bound}
+use Rattle.workspace.specs.Queued.{steps_sum}
+use Rattle.workspace.specs.Turn.{all_bound, job_lines}
 use Rattle.workspace.specs.Workspace.{state_of}
-use Rattle.workspace.proofs.Running.{as_many, same_state}
+use Rattle.workspace.proofs.Running.{as_many, same_state, within_prices, cheap_results, total_is}
 use Rattle.workspace.proofs.run.finish.Goals as goal
 
 pub settle_all-requires-clause-same : goal.settle_all-requires-clause-same
 settle_all-requires-clause-same g c =
-    ap length c.deref.ensures.value ∙ (as_many c.args.workspace.now.queue.items c.args.results.items c.requires.matrices ∙ sym (ap length c.deref-2.ensures.value))
+    ap length c.jobs-jobs.ensures.jobs ∙ (as_many c.args.plan.now c.args.answer.results.items c.requires.results ∙ sym (ap length c.deref.ensures.value))
+
+pub settle_all-requires-clause-within : goal.settle_all-requires-clause-within
+settle_all-requires-clause-within g c =
+    rw (c.jobs-jobs.ensures.jobs, c.deref.ensures.value)
+    (within_prices c.args.plan.now (map result_of c.args.answer.results.items) c.requires.results c.jobs-jobs.ensures.within)
+
+pub total-requires-clause-few : goal.total-requires-clause-few
+total-requires-clause-few g c =
+    let items = ap length c.deref-3.ensures.value in
+    let many = as_many c.args.plan.now c.args.answer.results.items c.requires.results in
+    let few = c.jobs-jobs.ensures.few in
+    omega (arith, items, many, few)
+
+pub total-requires-clause-cheap : goal.total-requires-clause-cheap
+total-requires-clause-cheap g c =
+    rw c.deref-3.ensures.value
+    (cheap_results c.args.plan.now (map result_of c.args.answer.results.items) c.requires.results c.jobs-jobs.ensures.within c.jobs-jobs.ensures.priced)
 
 pub report-requires-clause-same : goal.report-requires-clause-same
 report-requires-clause-same g c =
-    ap length c.deref-3.ensures.value ∙ (as_many c.args.workspace.now.queue.items c.args.results.items c.requires.matrices ∙ sym (ap length c.deref-4.ensures.value))
+    ap length c.jobs-jobs.ensures.jobs ∙ (as_many c.args.plan.now c.args.answer.results.items c.requires.results ∙ sym (ap length c.deref-2.ensures.value))
 
 pub bind_all-requires-clause-same : goal.bind_all-requires-clause-same
 bind_all-requires-clause-same g c =
-    ap length c.deref-5.ensures.value ∙ (as_many c.args.workspace.now.queue.items c.args.results.items c.requires.matrices ∙ sym c.args.results.ok.0)
+    ap length c.jobs-jobs.ensures.jobs ∙ (as_many c.args.plan.now c.args.answer.results.items c.requires.results ∙ sym c.args.answer.results.ok.0)
+
+pub returns-clause-said : goal.returns-clause-said
+returns-clause-said g c =
+    let jobs = c.args.plan.now in
+    let results = map result_of c.args.answer.results.items in
+    let spent = c.total.ensures ∙ ap (λ rs. steps_sum (map result_of rs)) c.deref-3.ensures.value ∙ total_is jobs results c.requires.results in
+    c.report.ensures ∙ ap (λ n. run_text n (job_lines c.jobs-jobs.result.now (map result_of c.deref-2.result.now))) spent
+    ∙ ap (λ js. run_text (total_steps jobs) (job_lines js (map result_of c.deref-2.result.now))) c.jobs-jobs.ensures.jobs
+    ∙ ap (λ rs. run_text (total_steps jobs) (job_lines jobs (map result_of rs))) c.deref-2.ensures.value
 
 pub returns-clause-state : goal.returns-clause-state
 returns-clause-state g c =
     let was = c.args.workspace.now in
-    let results = map result_of c.args.results.items in
-    same_state (grid_at c.bind_all.new.matrices.declared) (all_bound (grid_at was.matrices.declared) (map job_of was.queue.items) results) (state_of was).operators (map job_of c.clear.new.self.items) []
-    (fun_ext (rw c.deref-5.ensures.value at c.bind_all.ensures))
-    (ap (map job_of) c.clear.ensures.items)
+    let results = map result_of c.args.answer.results.items in
+    same_state (grid_at c.bind_all.new.matrices.declared) (all_bound (grid_at was.matrices.declared) c.args.plan.now results) (state_of was).operators
+    was.queue was.queue (fun_ext (rw c.jobs-jobs.ensures.jobs at c.bind_all.ensures)) refl

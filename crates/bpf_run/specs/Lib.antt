@@ -1,0 +1,5 @@
+pub mod Meaning
+pub mod Calls
+pub mod Fold
+pub mod Micro
+pub mod Flat

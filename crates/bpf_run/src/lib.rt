@@ -1,0 +1,19 @@
+//! Calls of accepted operators.
+#![tactic(auto)]
+
+mod calls;
+mod execute;
+mod flatten;
+mod memory;
+mod micro;
+mod operations;
+mod prepare;
+mod run;
+mod single;
+mod step;
+#[cfg(test)]
+mod tests;
+mod words;
+
+pub use calls::{Calls, MOST_CALLS};
+pub use single::{Outcome, Prepared, call};

@@ -1,0 +1,11 @@
+pub mod Placing
+pub mod Nexts
+pub mod Masks
+pub mod Merging
+pub mod Filling
+pub mod Bounds
+pub mod Chunks
+pub mod Positions
+pub mod Folding
+pub mod Reducing
+pub mod Pieces

@@ -1,0 +1,109 @@
+-- The rows of a form are those that have at each position what the form has there.
+use Rattle.std.proofs.Common.{◌≡◌, ℕ, Bool, if◌then◌else◌, List, [], ◌∷◌, Option, None, Some, refl, ap, ◌∙◌, is_some}
+use Rattle.std.specs.FinMap.{get}
+use Rattle.bpf_verify.specs.Accepted.{Accepted}
+use Rattle.csr_store.specs.Grid.{Grid, Position, Cell, row_of}
+use Rattle.csr_store.specs.Along.{along, cell_at}
+use Rattle.csr_store.specs.Ascending.{at, shows}
+use Rattle.csr_store.specs.Mask.{passes, cut, cut_list, row_under, rows_under, listed_under, all_listed_under}
+use Rattle.csr_store.proofs.ByRow.{lookup-row_of}
+use Rattle.csr_store.proofs.Along.{along-same}
+use Rattle.bpf_run.specs.Calls.{Call}
+use Rattle.entry_ops.specs.declared.form.Form.{Form}
+use Rattle.entry_ops.specs.declared.form.Form.TheVariants.{Apply, Select, Union, Both}
+use Rattle.entry_ops.specs.Forms.{
+  applied,
+  apply_calls,
+  apply_at,
+  apply_calls_at,
+  selected,
+  select_at,
+  select_calls_at,
+  united,
+  joint,
+  joint_calls,
+  union_at,
+  both_at,
+  joint_calls_at,
+}
+use Rattle.entry_ops.specs.Walking.{form_at, form_calls, form_row, form_row_calls, form_rows, form_all_calls, row_or_none, mask_row}
+
+shows-passes : (mask : Option Grid) (i j : ℕ) → shows (mask_row mask i) j ≡ passes mask (i, j)
+shows-passes None i j = refl
+shows-passes (Some m) i j = ap is_some (lookup-row_of m i j)
+
+module _ (form : Form) (f : Accepted) (a : Grid) (b mask : Option Grid) where
+  module _ (values : Position → Option ℕ)
+      (same : (i j : ℕ) → form_at form f (i, j) (at (row_of a i) j) (at (row_or_none b i) j) ≡ values (i, j)) where
+    row_is : (i : ℕ) → form_row form f a b mask i ≡ row_under mask a.columns values i
+    row_is i = along-same (λ j. cell_at j (if shows (mask_row mask i) j then form_at form f (i, j) (at (row_of a i) j) (at
+        (row_or_none b i) j) else None))
+        (λ j. cell_at j (cut mask values (i, j))) 0 a.columns
+        (λ j l u. ap (λ t. cell_at j (if t then form_at form f (i, j) (at (row_of a i) j) (at (row_or_none b i) j) else None))
+        (shows-passes mask i j)
+        ∙ ap (λ o. cell_at j (if passes mask (i, j) then o else None)) (same i j))
+
+    pub rows_are : (first n : ℕ) → form_rows form f a b mask first n ≡ rows_under mask a.columns values first n
+    rows_are first n = along-same (λ i. form_row form f a b mask i ∷ []) (λ i. row_under mask a.columns values i ∷ []) first n
+        (λ i l u. ap (λ r. r ∷ []) (row_is i))
+
+  module _ (lists : Position → List Call)
+      (same : (i j : ℕ) → form_calls form f (i, j) (at (row_of a i) j) (at (row_or_none b i) j) ≡ lists (i, j)) where
+    row_calls_are : (i : ℕ) → form_row_calls form f a b mask i ≡ listed_under mask a.columns lists i
+    row_calls_are i = along-same (λ j. if shows (mask_row mask i) j then form_calls form f (i, j) (at (row_of a i) j) (at
+        (row_or_none b i) j) else [])
+        (λ j. cut_list mask lists (i, j)) 0 a.columns
+        (λ j l u. ap (λ t. if t then form_calls form f (i, j) (at (row_of a i) j) (at (row_or_none b i) j) else []) (shows-passes
+        mask i j)
+        ∙ ap (λ cs. if passes mask (i, j) then cs else []) (same i j))
+
+    pub calls_are : (first n : ℕ) → form_all_calls form f a b mask first n ≡ all_listed_under mask a.columns lists first n
+    calls_are first n = along-same (form_row_calls form f a b mask) (λ i. listed_under mask a.columns lists i) first n (λ i l u.
+        row_calls_are i)
+
+module _ (f : Accepted) (a : Grid) (mask : Option Grid) (first n : ℕ) where
+  pub apply_rows_are : (thunk : Option ℕ)
+      → form_rows (Apply thunk) f a None mask first n ≡ rows_under mask a.columns (apply_at f thunk a) first n
+  apply_rows_are thunk = rows_are (Apply thunk) f a None mask (apply_at f thunk a) (λ i j. ap (applied f thunk (i, j))
+      (lookup-row_of a i j)) first n
+
+  pub apply_calls_are : (thunk : Option ℕ)
+      → form_all_calls (Apply thunk) f a None mask first n ≡ all_listed_under mask a.columns (apply_calls_at f thunk a) first n
+  apply_calls_are thunk = calls_are (Apply thunk) f a None mask (apply_calls_at f thunk a) (λ i j. ap (apply_calls f thunk (
+    i,
+    j,
+  )) (lookup-row_of a i j)) first n
+
+  pub select_rows_are : (thunk : ℕ)
+      → form_rows (Select thunk) f a None mask first n ≡ rows_under mask a.columns (select_at f thunk a) first n
+  select_rows_are thunk = rows_are (Select thunk) f a None mask (select_at f thunk a) (λ i j. ap (selected f thunk (i, j))
+      (lookup-row_of a i j)) first n
+
+  pub select_calls_are : (thunk : ℕ)
+      → form_all_calls (Select thunk) f a None mask first n ≡ all_listed_under mask a.columns (select_calls_at f thunk a) first n
+  select_calls_are thunk =
+      calls_are (Select thunk) f a None mask (select_calls_at f thunk a) (λ i j. ap (apply_calls f (Some thunk) (i, j))
+      (lookup-row_of a i j)) first n
+
+  module _ (b : Grid) where
+    pub union_rows_are : form_rows Union f a (Some b) mask first n ≡ rows_under mask a.columns (union_at f a b) first n
+    union_rows_are = rows_are Union f a (Some b) mask (union_at f a b)
+        (λ i j. ap (λ x. united f x (at (row_of b i) j)) (lookup-row_of a i j)
+        ∙ ap (united f (get a.cells (i, j))) (lookup-row_of b i j)) first n
+
+    pub both_rows_are : form_rows Both f a (Some b) mask first n ≡ rows_under mask a.columns (both_at f a b) first n
+    both_rows_are = rows_are Both f a (Some b) mask (both_at f a b)
+        (λ i j. ap (λ x. joint f x (at (row_of b i) j)) (lookup-row_of a i j)
+        ∙ ap (joint f (get a.cells (i, j))) (lookup-row_of b i j)) first n
+
+    pub union_calls_are : form_all_calls Union f a (Some b) mask first n
+        ≡ all_listed_under mask a.columns (joint_calls_at f a b) first n
+    union_calls_are = calls_are Union f a (Some b) mask (joint_calls_at f a b)
+        (λ i j. ap (λ x. joint_calls f x (at (row_of b i) j)) (lookup-row_of a i j)
+        ∙ ap (joint_calls f (get a.cells (i, j))) (lookup-row_of b i j)) first n
+
+    pub both_calls_are : form_all_calls Both f a (Some b) mask first n
+        ≡ all_listed_under mask a.columns (joint_calls_at f a b) first n
+    both_calls_are = calls_are Both f a (Some b) mask (joint_calls_at f a b)
+        (λ i j. ap (λ x. joint_calls f x (at (row_of b i) j)) (lookup-row_of a i j)
+        ∙ ap (joint_calls f (get a.cells (i, j))) (lookup-row_of b i j)) first n

@@ -1,0 +1,8 @@
+use Rattle.csr_store.specs.Mask.{mask_of}
+use Rattle.entry_ops.proofs.Filling.{IsFilling}
+use Rattle.entry_ops.proofs.rows.fill.Given as goal
+
+abbrev pub invariant-loop-row : goal.invariant-loop-row
+invariant-loop-row l = IsFilling l.form l.operator l.sources.left.now (mask_of l.sources.right) (mask_of l.sources.mask)
+    l.fn.range.start l.fn.range.end
+    l.fn.emitter l.fn.calls l.row l.emitter l.calls

@@ -1,0 +1,4 @@
+pub mod Forms
+pub mod Placing
+pub mod Walking
+pub mod Pieces

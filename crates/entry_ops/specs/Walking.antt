@@ -1,0 +1,92 @@
+-- Two rows read side by side, and what each form makes of their positions. This project's own.
+use Rattle.std.specs.Prelude.{◌≡◌, ℕ, ◌+◌, ◌<◌, ◌≤◌, List, [], ◌++◌, Option, None, Some, ◌∷◌, if◌then◌else◌, length}
+use Rattle.bpf_insn.specs.declared.operands.Kind.{Kind}
+use Rattle.bpf_insn.specs.declared.operands.Kind.TheVariants as kinds
+use Rattle.bpf_verify.specs.Accepted.{Accepted}
+use denote.Ref.{Bor}
+use Rattle.std.specs.Option.{option_map}
+use Rattle.csr_store.specs.Grid.{Grid, Cell, Position, row_of}
+use Rattle.csr_store.specs.Run.{Row, Run}
+use Rattle.csr_store.specs.Along.{along, row_by, cell_at}
+use Rattle.csr_store.specs.Ascending.{Ascends, at, shows}
+use Rattle.bpf_run.specs.Calls.{Call}
+use Rattle.entry_ops.specs.Forms.{applied, apply_calls, selected, united, joint, joint_calls}
+use Rattle.entry_ops.specs.declared.form.Form.{Form}
+use Rattle.entry_ops.specs.declared.form.Form.TheVariants.{Apply, Select, Union, Both}
+
+-- how the operator of a form is called
+abbrev pub kind_for : Form → Kind
+kind_for (Apply None) = kinds.Unary
+kind_for (Apply (Some thunk)) = kinds.Index
+kind_for (Select thunk) = kinds.Index
+kind_for Union = kinds.Binary
+kind_for Both = kinds.Binary
+
+-- what a form has at a position, and the calls for it, from what its operands have there
+abbrev pub form_at : Form → Accepted → Position → Option ℕ → Option ℕ → Option ℕ
+form_at (Apply thunk) f p x y = applied f thunk p x
+form_at (Select thunk) f p x y = selected f thunk p x
+form_at Union f p x y = united f x y
+form_at Both f p x y = joint f x y
+
+abbrev pub form_calls : Form → Accepted → Position → Option ℕ → Option ℕ → List Call
+form_calls (Apply thunk) f p x y = apply_calls f thunk p x
+form_calls (Select thunk) f p x y = apply_calls f (Some thunk) p x
+form_calls Union f p x y = joint_calls f x y
+form_calls Both f p x y = joint_calls f x y
+
+-- the cells of row i of a form, and its calls, from the rows of its operands and of the mask
+abbrev pub row_cells : Form → Accepted → ℕ → ℕ → List Cell → List Cell → Option (List Cell) → Row
+row_cells form f i n left right mask =
+    along (λ j. cell_at j (if shows mask j then form_at form f (i, j) (at left j) (at right j) else None)) 0 n
+
+abbrev pub row_calls : Form → Accepted → ℕ → ℕ → List Cell → List Cell → Option (List Cell) → List Call
+row_calls form f i n left right mask =
+    along (λ j. if shows mask j then form_calls form f (i, j) (at left j) (at right j) else []) 0 n
+
+-- the cells of a lent row, if any
+abbrev pub cells_of : Option (Bor (List Cell)) → Option (List Cell)
+cells_of lent = option_map (λ (r : Bor (List Cell)). r.now) lent
+
+-- row i of a second operand, if there is one, and of a mask
+abbrev pub row_or_none : Option Grid → ℕ → List Cell
+row_or_none None i = []
+row_or_none (Some g) i = row_of g i
+
+abbrev pub mask_row : Option Grid → ℕ → Option (List Cell)
+mask_row mask i = option_map (λ (g : Grid). row_of g i) mask
+
+-- the rows of a form from `first` on, n of them, and their calls
+abbrev pub form_row : Form → Accepted → Grid → Option Grid → Option Grid → ℕ → Row
+form_row form f a b mask i = row_cells form f i a.columns (row_of a i) (row_or_none b i) (mask_row mask i)
+
+abbrev pub form_row_calls : Form → Accepted → Grid → Option Grid → Option Grid → ℕ → List Call
+form_row_calls form f a b mask i = row_calls form f i a.columns (row_of a i) (row_or_none b i) (mask_row mask i)
+
+abbrev pub form_rows : Form → Accepted → Grid → Option Grid → Option Grid → ℕ → ℕ → List Row
+form_rows form f a b mask first n = along (λ i. form_row form f a b mask i ∷ []) first n
+
+abbrev pub form_all_calls : Form → Accepted → Grid → Option Grid → Option Grid → ℕ → ℕ → List Call
+form_all_calls form f a b mask first n = along (λ i. form_row_calls form f a b mask i) first n
+
+-- a run with these rows more
+abbrev pub with_rows : List Row → Run → Run
+with_rows rows run = record run { ended = run.ended ++ rows }
+
+-- a run with these cells more in its open row
+abbrev pub with_cells : List Cell → Run → Run
+with_cells cells run = record run { opened = run.opened ++ cells }
+
+-- c is the first column at which either row has an entry; p and q stand there, and xs and ys are what is left
+pub record IsNext (n low : ℕ) (left right : List Cell) (c : ℕ) (p q : Option ℕ) (xs ys : List Cell) : Type 0 where
+  pub from : low ≤ c
+  pub inside : c < n
+  pub before_left : (j : ℕ) → j < c → at left j ≡ None
+  pub before_right : (j : ℕ) → j < c → at right j ≡ None
+  pub here_left : at left c ≡ p
+  pub here_right : at right c ≡ q
+  pub after_left : (j : ℕ) → c < j → at left j ≡ at xs j
+  pub after_right : (j : ℕ) → c < j → at right j ≡ at ys j
+  pub left_row : Ascends (c + 1) n xs
+  pub right_row : Ascends (c + 1) n ys
+  pub shorter : length xs + length ys < length left + length right

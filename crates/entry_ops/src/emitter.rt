@@ -1,0 +1,217 @@
+//! Rows whose last cells wait for the values of gathered calls.
+ghost use Rattle.std.specs.Prelude.{◌≡◌, ◌<◌, ◌≤◌, ◌+◌, ◌^◌, ◌++◌, ◌∷◌, [], length, vec_capacity, OnOk, OnErr, IfOk};
+ghost use Rattle.bpf_insn.specs.Machine.{kind_of};
+ghost use Rattle.bpf_insn.specs.declared.operands.Operands.TheVariants as on;
+ghost use Rattle.bpf_run.specs.Meaning.{value_of};
+ghost use Rattle.bpf_run.specs.Calls.{call_of, calls_on, steps_of, Charges};
+ghost use Rattle.entry_ops.specs.Placing.{placed, Fits, CanPush, final, Holds, Does, with_cell, with_kept, with_end};
+
+use bpf_insn::Operands;
+use bpf_run::{Calls, MOST_CALLS, Prepared};
+use csr_store::Rows;
+use std::alloc::{AllocError, Global};
+use std::marker::Model;
+
+/// The most marks that wait.
+const MOST_MARKS: usize = 256;
+
+/// What is still to be added to some rows.
+#[derive(Clone, Copy)]
+pub enum Mark {
+    /// The end of the open row.
+    End,
+    /// A cell whose value is known.
+    Copied { column: u64, value: u64 },
+    /// A cell whose value is that of the next call.
+    Called { column: u64 },
+    /// A cell that stands where the value of the next call is not 0.
+    Kept { column: u64, word: u64 },
+}
+
+/// Rows, what is marked behind them while calls wait, and the steps of the calls that were made.
+#[derive(Drop)]
+pub struct Emitter {
+    rows: Rows,
+    marks: Vec<Mark>,
+    steps: u64,
+}
+
+impl Model for Emitter {
+    ghost use Rattle.std.specs.Prelude.{◌≤◌, length, vec_capacity};
+    ghost use Rattle.entry_ops.specs.Placing.{Emission};
+
+    ghost Value = { Emission };
+
+    ghost view = { λ e. record { rows = e.rows; marks = e.marks.items; steps = e.steps } };
+
+    ghost invariant = { λ e. (256 ≤ vec_capacity e.marks) × (length e.marks.items ≤ 256) };
+}
+
+impl Emitter {
+    /// No row yet, of those from `first` on, and no call.
+    pub fn begin(alloc: Global, first: u64, columns: u64) -> Result<Self, AllocError>
+        ensures { IfOk result (λ e. e ≡ record {
+          rows = record { first = first; columns = columns; ended = []; opened = [] };
+          marks = [];
+          steps = 0;
+        }) }
+    {
+        Ok(Emitter {
+            rows: Rows::begin(alloc, first, columns),
+            marks: Vec::with_capacity(alloc, MOST_MARKS)?,
+            steps: 0,
+        })
+    }
+
+    /// The steps of the calls that were made.
+    pub fn steps(&self) -> u64
+        ensures { result ≡ self.now.steps }
+    {
+        self.steps
+    }
+
+    /// The rows.
+    pub fn into_rows(self) -> Rows
+        ensures { result ≡ self.rows }
+    {
+        self.rows
+    }
+
+    /// Makes the calls that were gathered, and adds what is marked.
+    pub fn flush(&mut self, operator: &Prepared, calls: &mut Calls) -> Result<(), AllocError>
+        requires holds { Holds operator.now self.old calls.old }
+        requires room { self.old.steps + steps_of (calls_on operator.now calls.old.operands) < 2 ^ 64 }
+        ensures made { OnOk result (self.new ≡ record {
+          rows = final operator.now self.old calls.old;
+          marks = [];
+          steps = self.old.steps + steps_of (calls_on operator.now calls.old.operands);
+        }) }
+        ensures none { OnOk result (calls.new.operands ≡ []) }
+        ensures kind { OnOk result (calls.new.kind ≡ operator.now.kind) }
+        ensures spent { OnErr result (self.new.steps ≡ self.old.steps + steps_of (calls_on operator.now calls.old.operands)) }
+    {
+        self.steps += calls.make(operator);
+        place(&self.marks, calls.values(), &mut self.rows)?;
+        self.marks.clear();
+        calls.begin(operator.kind());
+        Ok(())
+    }
+
+    /// Flushes where no further mark or call fits in.
+    fn make_room(&mut self, operator: &Prepared, calls: &mut Calls) -> Result<(), AllocError>
+        requires holds { Holds operator.now self.old calls.old }
+        requires room { self.old.steps + steps_of (calls_on operator.now calls.old.operands) < 2 ^ 64 }
+        ensures does { OnOk result (Does operator.now [] (λ run. run) self.old calls.old self.new calls.new) }
+        ensures marks { OnOk result (length self.new.marks < 256) }
+        ensures calls { OnOk result (length calls.new.operands < 64) }
+        ensures spent { OnErr result (Charges (calls_on operator.now calls.old.operands) self.old.steps self.new.steps) }
+    {
+        if self.marks.len() < MOST_MARKS && calls.len() < MOST_CALLS {
+            return Ok(());
+        }
+        self.flush(operator, calls)?;
+        Ok(())
+    }
+
+    /// Adds a cell whose value is that of a call.
+    pub fn call(
+        &mut self,
+        operator: &Prepared,
+        calls: &mut Calls,
+        column: u64,
+        operands: Operands,
+    ) -> Result<(), AllocError>
+        requires holds { Holds operator.now self.old calls.old }
+        requires kind { kind_of operands ≡ operator.now.kind }
+        requires fits { CanPush column (final operator.now self.old calls.old) }
+        requires room { self.old.steps + steps_of (calls_on operator.now calls.old.operands) < 2 ^ 64 }
+        ensures does { OnOk result (Does operator.now (call_of operator.now operands ∷ [])
+            (with_cell column (value_of operator.now operands)) self.old calls.old self.new calls.new) }
+        ensures spent { OnErr result (Charges (calls_on operator.now calls.old.operands) self.old.steps self.new.steps) }
+    {
+        self.make_room(operator, calls)?;
+        self.marks.push(Mark::Called { column }).unwrap();
+        calls.gather(operands);
+        Ok(())
+    }
+
+    /// Adds a cell with a word where the value of a call is not 0.
+    pub fn keep(
+        &mut self,
+        operator: &Prepared,
+        calls: &mut Calls,
+        column: u64,
+        word: u64,
+        operands: Operands,
+    ) -> Result<(), AllocError>
+        requires holds { Holds operator.now self.old calls.old }
+        requires kind { kind_of operands ≡ operator.now.kind }
+        requires fits { CanPush column (final operator.now self.old calls.old) }
+        requires room { self.old.steps + steps_of (calls_on operator.now calls.old.operands) < 2 ^ 64 }
+        ensures does { OnOk result (Does operator.now (call_of operator.now operands ∷ [])
+            (with_kept column word (value_of operator.now operands)) self.old calls.old self.new calls.new) }
+        ensures spent { OnErr result (Charges (calls_on operator.now calls.old.operands) self.old.steps self.new.steps) }
+    {
+        self.make_room(operator, calls)?;
+        self.marks.push(Mark::Kept { column, word }).unwrap();
+        calls.gather(operands);
+        Ok(())
+    }
+
+    /// Adds a cell whose value is known.
+    pub fn copy(
+        &mut self,
+        operator: &Prepared,
+        calls: &mut Calls,
+        column: u64,
+        value: u64,
+    ) -> Result<(), AllocError>
+        requires holds { Holds operator.now self.old calls.old }
+        requires fits { CanPush column (final operator.now self.old calls.old) }
+        requires room { self.old.steps + steps_of (calls_on operator.now calls.old.operands) < 2 ^ 64 }
+        ensures does { OnOk result (Does operator.now [] (with_cell column value) self.old calls.old self.new calls.new) }
+        ensures spent { OnErr result (Charges (calls_on operator.now calls.old.operands) self.old.steps self.new.steps) }
+    {
+        self.make_room(operator, calls)?;
+        self.marks.push(Mark::Copied { column, value }).unwrap();
+        Ok(())
+    }
+
+    /// Ends the open row.
+    pub fn end_row(&mut self, operator: &Prepared, calls: &mut Calls) -> Result<(), AllocError>
+        requires holds { Holds operator.now self.old calls.old }
+        requires room { self.old.steps + steps_of (calls_on operator.now calls.old.operands) < 2 ^ 64 }
+        ensures does { OnOk result (Does operator.now [] with_end self.old calls.old self.new calls.new) }
+        ensures spent { OnErr result (Charges (calls_on operator.now calls.old.operands) self.old.steps self.new.steps) }
+    {
+        self.make_room(operator, calls)?;
+        self.marks.push(Mark::End).unwrap();
+        Ok(())
+    }
+}
+
+/// Adds what is marked to rows, each call with its value.
+fn place(marks: &[Mark], values: &[u64], rows: &mut Rows) -> Result<(), AllocError>
+    requires fits { Fits marks.now values.now rows.old }
+    requires few { length marks.now ≤ 256 }
+    ensures { OnOk result (rows.new ≡ placed marks.now values.now rows.old) }
+{
+    let mut next: usize = 0;
+    for mark in marks {
+        match *mark {
+            Mark::End => rows.end_row()?,
+            Mark::Copied { column, value } => rows.push(column, value)?,
+            Mark::Called { column } => {
+                rows.push(column, values[next])?;
+                next += 1;
+            }
+            Mark::Kept { column, word } => {
+                if values[next] != 0 {
+                    rows.push(column, word)?;
+                }
+                next += 1;
+            }
+        }
+    }
+    Ok(())
+}

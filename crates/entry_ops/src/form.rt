@@ -1,0 +1,95 @@
+//! What each form makes of a position.
+ghost use Rattle.std.specs.Prelude.{◌≡◌, ◌<◌, ◌+◌, ◌^◌, OnOk, OnErr};
+ghost use Rattle.bpf_run.specs.Calls.{calls_on, steps_of, Charges};
+ghost use Rattle.csr_store.specs.Along.{cell_at};
+ghost use Rattle.entry_ops.specs.Forms.{operands_at};
+ghost use Rattle.entry_ops.specs.Placing.{CanPush, final, Holds, Does};
+ghost use Rattle.entry_ops.specs.Walking.{kind_for, form_at, form_calls, with_cells};
+
+use crate::emitter::Emitter;
+use bpf_insn::Operands;
+use bpf_run::{Calls, Prepared};
+use std::alloc::AllocError;
+
+/// An operation entry by entry.
+#[derive(Clone, Copy)]
+pub enum Form {
+    /// The operator on each word, and with a thunk on its position too.
+    Apply(Option<u64>),
+    /// The words for which the operator's answer is not 0, by this thunk.
+    Select(u64),
+    /// The operator where both have a word, and else a copy.
+    Union,
+    /// The operator where both have a word.
+    Both,
+}
+
+/// What stands at a position in the operands.
+#[derive(Clone, Copy)]
+pub struct Place {
+    pub row: u64,
+    pub column: u64,
+    pub left: Option<u64>,
+    pub right: Option<u64>,
+}
+
+/// Adds what a form makes of a position.
+pub fn emit(
+    form: Form,
+    operator: &Prepared,
+    calls: &mut Calls,
+    emitter: &mut Emitter,
+    place: Place,
+) -> Result<(), AllocError>
+    requires kind { operator.now.kind ≡ kind_for form }
+    requires holds { Holds operator.now emitter.old calls.old }
+    requires fits { CanPush place.column (final operator.now emitter.old calls.old) }
+    requires room { emitter.old.steps + steps_of (calls_on operator.now calls.old.operands) < 2 ^ 64 }
+    ensures does { OnOk result (Does operator.now (form_calls form operator.now (place.row, place.column) place.left place.right)
+        (with_cells (cell_at place.column (form_at form operator.now (place.row, place.column) place.left place.right)))
+        emitter.old calls.old emitter.new calls.new) }
+    ensures spent { OnErr result (Charges (calls_on operator.now calls.old.operands) emitter.old.steps emitter.new.steps) }
+{
+    let column = place.column;
+    match form {
+        Form::Apply(thunk) => {
+            let Some(x) = place.left else {
+                return Ok(());
+            };
+            let operands = operands_of(thunk, place.row, column, x);
+            emitter.call(operator, calls, column, operands)
+        }
+        Form::Select(thunk) => {
+            let Some(x) = place.left else {
+                return Ok(());
+            };
+            let operands = operands_of(Some(thunk), place.row, column, x);
+            emitter.keep(operator, calls, column, x, operands)
+        }
+        Form::Union => match (place.left, place.right) {
+            (Some(x), Some(y)) => emitter.call(operator, calls, column, Operands::Binary { x, y }),
+            (Some(x), None) => emitter.copy(operator, calls, column, x),
+            (None, Some(y)) => emitter.copy(operator, calls, column, y),
+            (None, None) => Ok(()),
+        },
+        Form::Both => match (place.left, place.right) {
+            (Some(x), Some(y)) => emitter.call(operator, calls, column, Operands::Binary { x, y }),
+            _ => Ok(()),
+        },
+    }
+}
+
+/// What an operator is called on: a word, and with a thunk its position too.
+fn operands_of(thunk: Option<u64>, row: u64, column: u64, x: u64) -> Operands
+    ensures { result ≡ operands_at thunk (row, column) x }
+{
+    match thunk {
+        None => Operands::Unary { x },
+        Some(thunk) => Operands::Index {
+            x,
+            row,
+            column,
+            thunk,
+        },
+    }
+}

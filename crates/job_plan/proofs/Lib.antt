@@ -1,0 +1,6 @@
+pub mod Sums
+pub mod Rounds
+pub mod Covering
+pub mod Bounds
+pub mod Steps
+pub mod Faults

@@ -1,0 +1,7 @@
+pub mod Job
+pub mod Forms
+pub mod Meaning
+pub mod Price
+pub mod Refusal
+pub mod Chunks
+pub mod Kept

@@ -1,0 +1,181 @@
+//! What a job is.
+ghost use Rattle.std.specs.Prelude.{◌≡◌, ◌≤◌, ◌-◌, IfOk, IfErr, Some};
+ghost use Rattle.std.specs.Option.{option_map};
+ghost use Rattle.std.specs.Arc.{arc_value};
+ghost use Rattle.std.specs.String.{string_bytes};
+ghost use Rattle.csr_store.specs.Mask.{mask_of};
+ghost use Rattle.job_plan.specs.Kept.{form_of};
+ghost use Rattle.job_plan.specs.Meaning.{row_count};
+ghost use Rattle.job_plan.specs.Price.{price_of, price_in};
+ghost use Rattle.job_plan.specs.Refusal.{job_fault, Passes, IsPriced};
+
+use crate::error::JobError;
+use crate::form::has_shape;
+use bpf_run::Prepared;
+use csr_store::{Matrix, Version};
+use std::marker::Model;
+use std::ops::Range;
+use std::sync::Arc;
+
+/// The most entries that a result may have.
+const MOST_ENTRIES: u64 = 16_777_216;
+
+/// The most steps that a job may cost.
+const MOST_STEPS: u64 = 4_294_967_296;
+
+/// The six forms of jobs, each with just the operators, the thunk and the operands that it takes. Operators may be of the wrong
+/// kind and operands of shapes that don't fit: [`Priced::of`](crate::Priced::of) looks at that.
+#[derive(Drop)]
+pub enum Form {
+    /// What a unary operator makes of each word; with a thunk, what an index operator makes of it.
+    Apply {
+        operator: Arc<Prepared>,
+        thunk: Option<u64>,
+        operand: Version,
+    },
+    /// The words for which an index operator's answer isn't 0.
+    Select {
+        operator: Arc<Prepared>,
+        thunk: u64,
+        operand: Version,
+    },
+    /// What a binary operator makes of two words where both stand; where one does, that one.
+    Union {
+        operator: Arc<Prepared>,
+        left: Version,
+        right: Version,
+    },
+    /// What a binary operator makes of two words where both stand.
+    Both {
+        operator: Arc<Prepared>,
+        left: Version,
+        right: Version,
+    },
+    /// The product of two matrices over two binary operators.
+    Product {
+        add: Arc<Prepared>,
+        mul: Arc<Prepared>,
+        left: Version,
+        right: Version,
+    },
+    /// Each row folded by a binary operator, into one column.
+    Reduce {
+        operator: Arc<Prepared>,
+        operand: Version,
+    },
+}
+
+/// A form with its operators and operands, a structural mask or none, and the name that the result will be bound to. A contract
+/// sees the `Job` of `specs/Job.antt`, in which versions and operators are the matrices and the accepted operators that they stand
+/// for.
+#[derive(Drop)]
+pub struct Job {
+    form: Form,
+    mask: Option<Version>,
+    output: String,
+}
+
+impl Model for Job {
+    ghost use Rattle.std.specs.Option.{option_map};
+    ghost use Rattle.std.specs.Arc.{arc_value};
+    ghost use Rattle.std.specs.String.{string_bytes};
+    ghost use Rattle.job_plan.specs.Job as is;
+
+    ghost Value = { is.Job };
+
+    ghost use Rattle.std.specs.Coded.{codes};
+    ghost use Rattle.csr_store.specs.Grid.{grid_code};
+
+    ghost coded = { Prim.hlevel (codes, grid_code) };
+
+    ghost use Rattle.job_plan.specs.Kept.{form_of};
+
+    ghost view = { λ j. record {
+      form = form_of j.form;
+      mask = option_map arc_value j.mask;
+      output = string_bytes j.output;
+    } };
+}
+
+impl Job {
+    /// A job that cuts its result to a mask, if it is given one, and binds it to a name.
+    pub fn new(form: Form, mask: Option<Version>, output: String) -> Self
+        ensures { result ≡ record {
+          form = form_of form;
+          mask = option_map arc_value mask;
+          output = string_bytes output;
+        } }
+    {
+        Job { form, mask, output }
+    }
+
+    /// What is computed.
+    pub fn form(&self) -> &Form
+        ensures { form_of result.now ≡ self.now.form }
+    {
+        &self.form
+    }
+
+    /// The mask, if there is one.
+    pub fn mask(&self) -> Option<&Matrix>
+        ensures { mask_of result ≡ self.now.mask }
+    {
+        match &self.mask {
+            Some(mask) => Some(mask),
+            None => None,
+        }
+    }
+
+    /// The name that the result will be bound to.
+    pub fn output(&self) -> &str
+        ensures { result.now ≡ self.now.output }
+    {
+        &self.output
+    }
+
+    /// The price, or the first rule that is broken.
+    pub(crate) fn appraise(&self) -> Result<u64, JobError>
+        ensures price { IfOk result (λ price. price ≡ price_of self.now) }
+        ensures priced { IfOk result (λ _. IsPriced self.now) }
+        ensures fault { IfErr result (λ fault. job_fault self.now ≡ Some fault) }
+    {
+        self.check()?;
+        let price = self.price_of_rows(0..self.form.rows());
+        if price > MOST_STEPS {
+            return Err(JobError::PriceTooHigh);
+        }
+        Ok(price)
+    }
+
+    /// Tells the first rule that is broken, of those that come before the price.
+    fn check(&self) -> Result<(), JobError>
+        ensures passes { IfOk result (λ _. Passes self.now) }
+        ensures fault { IfErr result (λ fault. job_fault self.now ≡ Some fault) }
+    {
+        let form = &self.form;
+        let mask = self.mask();
+        form.recall();
+        if !form.kinds() {
+            return Err(JobError::WrongKind);
+        }
+        if !form.shapes() {
+            return Err(JobError::WrongShapes);
+        }
+        if !has_shape(form.rows(), form.columns(), mask) {
+            return Err(JobError::WrongMask);
+        }
+        if form.entries(mask) > MOST_ENTRIES {
+            return Err(JobError::ResultTooLarge);
+        }
+        Ok(())
+    }
+
+    /// The price of some rows.
+    pub(crate) fn price_of_rows(&self, range: Range<u64>) -> u64
+        requires passes { Passes self.now }
+        requires within { range.end ≤ row_count self.now }
+        ensures { result ≡ price_in self.now range.start (range.end - range.start) }
+    {
+        self.form.rounds(self.mask(), range) * self.form.round()
+    }
+}

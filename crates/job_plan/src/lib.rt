@@ -1,0 +1,28 @@
+//! Jobs: what they compute, what they may cost, the queue in which they wait, and the chunks that they are cut into.
+//!
+//! A [`Job`] is an operation of the GraphBLAS with its operators, operands and mask. [`Priced::of`] takes one that breaks no rule,
+//! or hands it back with the first rule that it breaks. A [`Queue`] holds up to 64 of them, and [`Queue::take`] makes a [`Plan`] of
+//! those that wait: the jobs, cut into chunks of 256 rows.
+//!
+//! The one contract: the chunks cover each job's rows once and in order, their prices add up to the job's, and a job's calls cost
+//! no more than its price. `specs/Forms.antt` is the table of the six forms, `specs/Meaning.antt` says what a job computes,
+//! `specs/Price.antt` what it may cost, `specs/Refusal.antt` when it is refused, and `specs/Chunks.antt` how jobs are cut.
+//!
+//! Read `job` first, then `form` (the table in code), `priced`, `queue` and `plan`.
+#![tactic(auto)]
+
+pub mod error;
+mod form;
+pub mod job;
+pub mod plan;
+pub mod priced;
+pub mod queue;
+
+pub use error::JobError;
+pub use job::{Form, Job};
+pub use plan::Plan;
+pub use priced::{Priced, price};
+pub use queue::Queue;
+
+#[cfg(test)]
+mod tests;

@@ -1,0 +1,104 @@
+//! Jobs that wait.
+ghost use Rattle.std.specs.Prelude.{◌≡◌, ◌≤◌, ◌<◌, ◌+◌, ◌++◌, ◌∷◌, [], ◌↔◌, IsTrue, length, IfOk, OnOk, OnErr};
+
+use crate::plan::{Plan, cut};
+use crate::priced::Priced;
+use std::alloc::{AllocError, Global};
+use std::marker::Model;
+use std::mem;
+
+/// How many jobs may wait.
+pub const ROOM: usize = 64;
+
+/// Jobs that wait, in order of submission, up to 64 of them. A contract sees their list.
+#[derive(Drop)]
+pub struct Queue {
+    alloc: Global,
+    jobs: Vec<Priced>,
+}
+
+impl Model for Queue {
+    ghost use Rattle.std.specs.Prelude.{◌≤◌, List, length, vec_capacity};
+    ghost use Rattle.std.specs.List.{AllByRecursion};
+    ghost use Rattle.job_plan.specs.Job as is;
+
+    ghost Value = { List is.Job };
+
+    ghost use Rattle.std.specs.Coded.{codes};
+    ghost use Rattle.csr_store.specs.Grid.{grid_code};
+
+    ghost coded = { Prim.hlevel (codes, grid_code) };
+
+    ghost use Rattle.job_plan.specs.Refusal.{IsPriced};
+
+    ghost view = { λ q. q.jobs.items };
+
+    ghost invariant = { λ q. AllByRecursion IsPriced q.jobs.items × (length q.jobs.items ≤ 64) × (64 ≤ vec_capacity q.jobs) };
+}
+
+impl Queue {
+    /// No job, with room for 64.
+    pub fn open(alloc: Global) -> Result<Queue, AllocError>
+        ensures { IfOk result (λ q. q ≡ []) }
+    {
+        Ok(Queue {
+            alloc,
+            jobs: Vec::with_capacity(alloc, ROOM)?,
+        })
+    }
+
+    /// Whether fewer than 64 jobs wait.
+    pub fn has_room(&self) -> bool
+        ensures { IsTrue result ↔ (length self.now < 64) }
+    {
+        self.jobs.len() < ROOM
+    }
+
+    /// How many jobs wait.
+    pub fn len(&self) -> u64
+        ensures len { result ≡ length self.now }
+        ensures few { result ≤ 64 }
+    {
+        self.jobs.len() as u64
+    }
+
+    /// The jobs, in order of submission.
+    pub fn jobs(&self) -> &[Priced]
+        ensures { result.now ≡ self.now }
+    {
+        &self.jobs
+    }
+
+    /// Puts a job last, and tells how many wait then. Takes no memory.
+    pub fn submit(&mut self, job: Priced) -> u64
+        requires { length self.old < 64 }
+        ensures jobs { self.new ≡ self.old ++ job ∷ [] }
+        ensures number { result ≡ length self.old + 1 }
+    {
+        let _ = job.job();
+        self.jobs.push(job).unwrap();
+        self.len()
+    }
+
+    /// Forgets the jobs. Takes no memory.
+    pub fn clear(&mut self)
+        ensures { self.new ≡ [] }
+    {
+        self.jobs.clear();
+    }
+
+    /// Makes a plan of the jobs, and is then empty, with room for 64.
+    ///
+    /// # Errors
+    ///
+    /// There is no memory for it. The queue is as before.
+    pub fn take(&mut self) -> Result<Plan, AllocError>
+        ensures plan { IfOk result (λ p. p ≡ self.old) }
+        ensures empty { OnOk result (self.new ≡ []) }
+        ensures kept { OnErr result (self.new ≡ self.old) }
+    {
+        let room = Vec::with_capacity(self.alloc, ROOM)?;
+        let chunks = cut(self.alloc, &self.jobs)?;
+        Ok(Plan::new(mem::replace(&mut self.jobs, room), chunks))
+    }
+}

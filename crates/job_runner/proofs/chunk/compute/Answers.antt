@@ -1,0 +1,68 @@
+use Rattle.std.proofs.Common.{◌≡◌, ℕ, List, length, get_or, ap, ◌∙◌, subst, arith, IfOk, OnOk, OnErr}
+use Rattle.std.proofs.lemmas.Option.{slice_get_within, get_or_from_slice_get}
+use Rattle.bpf_run.specs.Calls.{Call, steps_of, Charges}
+use Rattle.csr_store.specs.Run.{Run}
+use Rattle.job_plan.specs.declared.plan.Chunk.{Chunk}
+use Rattle.job_plan.specs.Job.{Job}
+use Rattle.job_runner.proofs.Located.{Place, located, place_within, place_ordered, place_rows, place_run, place_calls}
+use Rattle.job_runner.proofs.chunk.compute.Goals as goal
+
+pub offset_bounds-jobs-job : goal.offset_bounds-jobs-job
+offset_bounds-jobs-job c =
+    let p = located 0 c.args.plan.now c.args.chunk _ c.chunk-job.ensures.chunk in
+    let w = slice_get_within c.args.plan.now c.chunk-job.result.0 p.job (place_within c.args.plan.now c.args.chunk _ p) in
+    let f = c.jobs-jobs.ensures.few in
+    omega (arith, w, f)
+
+pub bounds-jobs-job : goal.bounds-jobs-job
+bounds-jobs-job c =
+    let p = located 0 c.args.plan.now c.args.chunk _ c.chunk-job.ensures.chunk in
+    let w = slice_get_within c.args.plan.now c.chunk-job.result.0 p.job (place_within c.args.plan.now c.args.chunk _ p) in
+    let e = ap length c.jobs-jobs.ensures.jobs in
+    omega (arith, w, e)
+
+pub compute_rows-requires-clause-range : goal.compute_rows-requires-clause-range
+compute_rows-requires-clause-range c =
+    place_ordered c.args.plan.now c.args.chunk _ (located 0 c.args.plan.now c.args.chunk _ c.chunk-job.ensures.chunk)
+
+-- the job that is asked for
+same_job : (jobs borrowed : List Job) (c : ℕ) (x : Chunk) (p : Place 0 jobs c x) (found job : Job) → borrowed ≡ jobs
+    → found ≡ get_or borrowed x.job found → job ≡ found → job ≡ p.job
+same_job jobs borrowed c x p found job b f e =
+    e ∙ f ∙ ap (λ js. get_or js x.job found) b ∙ get_or_from_slice_get jobs x.job p.job found (place_within jobs c x p)
+
+pub compute_rows-requires-clause-within : goal.compute_rows-requires-clause-within
+compute_rows-requires-clause-within c =
+    let p = located 0 c.args.plan.now c.args.chunk _ c.chunk-job.ensures.chunk in
+    place_rows c.args.plan.now c.args.chunk _ c.job.result.now p
+    (same_job c.args.plan.now c.jobs-jobs.result.now c.args.chunk _ p c.index-jobs-job.result c.job.result.now
+    c.jobs-jobs.ensures.jobs
+    c.index-jobs-job.is c.job.ensures.job)
+
+pub returns-clause-rows : goal.returns-clause-rows
+returns-clause-rows c =
+    let p = located 0 c.args.plan.now c.args.chunk _ c.chunk-job.ensures.chunk in
+    let e = same_job c.args.plan.now c.jobs-jobs.result.now c.args.chunk _ p c.index-jobs-job.result c.job.result.now
+    c.jobs-jobs.ensures.jobs
+    c.index-jobs-job.is c.job.ensures.job in
+    subst (λ (run : Run). IfOk c.compute_rows.result.result (λ r. r ≡ run))
+    (place_run c.args.plan.now c.args.chunk _ c.job.result.now p e)
+    c.compute_rows.ensures.rows
+
+pub returns-clause-steps : goal.returns-clause-steps
+returns-clause-steps c =
+    let p = located 0 c.args.plan.now c.args.chunk _ c.chunk-job.ensures.chunk in
+    let e = same_job c.args.plan.now c.jobs-jobs.result.now c.args.chunk _ p c.index-jobs-job.result c.job.result.now
+    c.jobs-jobs.ensures.jobs
+    c.index-jobs-job.is c.job.ensures.job in
+    subst (λ (calls : List Call). OnOk c.compute_rows.result.result (c.compute_rows.result.steps ≡ steps_of calls))
+    (place_calls c.args.plan.now c.args.chunk _ c.job.result.now p e) c.compute_rows.ensures.steps
+
+pub returns-clause-spent : goal.returns-clause-spent
+returns-clause-spent c =
+    let p = located 0 c.args.plan.now c.args.chunk _ c.chunk-job.ensures.chunk in
+    let e = same_job c.args.plan.now c.jobs-jobs.result.now c.args.chunk _ p c.index-jobs-job.result c.job.result.now
+    c.jobs-jobs.ensures.jobs
+    c.index-jobs-job.is c.job.ensures.job in
+    subst (λ (calls : List Call). OnErr c.compute_rows.result.result (Charges calls 0 c.compute_rows.result.steps))
+    (place_calls c.args.plan.now c.args.chunk _ c.job.result.now p e) c.compute_rows.ensures.spent

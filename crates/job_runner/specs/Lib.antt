@@ -1,0 +1,4 @@
+pub mod Chunk
+pub mod Batch
+pub mod Pieces
+pub mod Theorem

@@ -1,0 +1,32 @@
+-- The batch theorem: operators that were accepted, on all operands of their kind, are never stuck and exit with the value of the
+-- instruction table in at most as many steps as they have instructions; a batch of jobs over them gives each job's matrix, position
+-- by position, and spends no more than its calls times their operators' lengths. This project's own.
+use Rattle.std.specs.Prelude.{ℕ, ◌≤◌, List, [], ◌∷◌}
+use Rattle.std.specs.List.{AllByRecursion}
+use Rattle.bpf_verify.specs.Accepted.{Accepted, IsSound}
+use Rattle.job_plan.specs.Job.{Job, Form, Apply, Select, Union, Both, Product, Reduce}
+use Rattle.job_plan.specs.Meaning.{steps_of_job, bound_of_job}
+use Rattle.job_runner.specs.Batch.{Result, AreResultsOf}
+
+-- the operators that a form calls
+abbrev pub operators_of : Form → List Accepted
+operators_of (Apply f thunk a) = f ∷ []
+operators_of (Select f thunk a) = f ∷ []
+operators_of (Union f a b) = f ∷ []
+operators_of (Both f a b) = f ∷ []
+operators_of (Product add mul a b) = add ∷ mul ∷ []
+operators_of (Reduce f a) = f ∷ []
+
+-- on all operands of its kind the operator has a value, at a cost of at most its length, and is never stuck
+abbrev pub IsNeverStuck : Accepted → Type 0
+IsNeverStuck f = IsSound f.kind f.insns
+
+-- the steps of all calls of a job are no more than the lengths of the operators called, added up
+abbrev pub IsBounded : Job → Type 0
+IsBounded job = steps_of_job job ≤ bound_of_job job
+
+pub record BatchTheorem (jobs : List Job) (results : List Result) : Type 0 where
+  pub operators : AllByRecursion (λ (job : Job). AllByRecursion IsNeverStuck (operators_of job.form)) jobs
+  -- each job's matrix and steps, in order of submission
+  pub given : AreResultsOf jobs results
+  pub bounds : AllByRecursion IsBounded jobs

@@ -1,0 +1,107 @@
+//! The pieces of a batch, joined to the matrices of its jobs.
+ghost use Rattle.std.specs.Prelude.{◌≡◌, ◌<◌, ◌^◌, drop, map, IfOk, OnOk};
+ghost use Rattle.std.specs.Vec.Iter.{into_iter_items};
+ghost use Rattle.csr_store.specs.Along.{summed};
+ghost use Rattle.job_plan.specs.Meaning.{row_count, column_count};
+ghost use Rattle.job_plan.specs.Price.{IsWithinPrice};
+ghost use Rattle.job_plan.specs.Refusal.{IsPriced};
+ghost use Rattle.job_runner.specs.Batch.{AreResultsOf, IsResultOf, result_of};
+ghost use Rattle.job_runner.specs.Chunk.{chunks_in, run_in_job, steps_in_job};
+ghost use Rattle.job_runner.specs.Pieces.{AreAll, BeginsWith, listed, runs_of, steps_of_each};
+
+use crate::answer::JobResult;
+use crate::piece::Piece;
+use csr_store::{Rows, join_rows};
+use job_plan::{Form, Job, Plan, Priced, price};
+use std::alloc::{AllocError, Global};
+use std::sync::Arc;
+use std::vec::IntoIter;
+
+/// What each job of a plan gives, from the pieces of all chunks in order of their numbers. Each job's rows are joined once.
+pub(crate) fn join_jobs(
+    alloc: Global,
+    plan: &Plan,
+    pieces: Vec<Piece>,
+) -> Result<Vec<JobResult>, AllocError>
+    requires all { AreAll plan.now pieces.items }
+    ensures { IfOk result (λ rs. AreResultsOf plan.now (map result_of rs.items)) }
+{
+    let _chunks = plan.chunks();
+    let jobs = plan.jobs();
+    let mut results = Vec::with_capacity(alloc, jobs.len())?;
+    let mut pieces = pieces.into_iter();
+    for job in jobs {
+        results.push(join_job(alloc, plan, job, &mut pieces)?)?;
+    }
+    Ok(results)
+}
+
+/// What a job gives, from the next pieces.
+fn join_job(
+    alloc: Global,
+    plan: &Plan,
+    job: &Priced,
+    pieces: &mut IntoIter<Piece>,
+) -> Result<JobResult, AllocError>
+    requires runs { BeginsWith (run_in_job job.now) (chunks_in job.now) (runs_of (into_iter_items pieces.old)) }
+    requires steps { BeginsWith (steps_in_job job.now) (chunks_in job.now) (steps_of_each (into_iter_items pieces.old)) }
+    ensures result { IfOk result (λ r. IsResultOf job.now (result_of r)) }
+    ensures runs { OnOk result
+        (runs_of (into_iter_items pieces.new) ≡ drop (chunks_in job.now) (runs_of (into_iter_items pieces.old))) }
+    ensures steps { OnOk result
+        (steps_of_each (into_iter_items pieces.new) ≡ drop (chunks_in job.now) (steps_of_each (into_iter_items pieces.old))) }
+{
+    let _chunks = plan.chunks();
+    let _price = price(job);
+    let job = job.job();
+    let (rows, columns) = sizes(job);
+    let (runs, steps) = gather(alloc, job, (rows + 255) / 256, pieces)?;
+    let version = Arc::new(alloc, join_rows(alloc, rows, columns, runs)?)?;
+    Ok(JobResult { version, steps })
+}
+
+/// The rows of the next pieces, so many of them, and their steps added up.
+fn gather(
+    alloc: Global,
+    job: &Job,
+    count: u64,
+    pieces: &mut IntoIter<Piece>,
+) -> Result<(Vec<Rows>, u64), AllocError>
+    requires few { summed (steps_in_job job.now) 0 count < 2 ^ 64 }
+    requires runs { BeginsWith (run_in_job job.now) count (runs_of (into_iter_items pieces.old)) }
+    requires steps { BeginsWith (steps_in_job job.now) count (steps_of_each (into_iter_items pieces.old)) }
+    ensures gathered { IfOk result (λ r. r.0.items ≡ listed (run_in_job job.now) count) }
+    ensures sum { IfOk result (λ r. r.1 ≡ summed (steps_in_job job.now) 0 count) }
+    ensures runs { OnOk result
+        (runs_of (into_iter_items pieces.new) ≡ drop count (runs_of (into_iter_items pieces.old))) }
+    ensures steps { OnOk result
+        (steps_of_each (into_iter_items pieces.new) ≡ drop count (steps_of_each (into_iter_items pieces.old))) }
+{
+    let _ = job;
+    let mut runs = Vec::with_capacity(alloc, count as usize)?;
+    let mut steps = 0;
+    for _next in 0..count {
+        let Some(piece) = pieces.next() else {
+            unreachable!()
+        };
+        steps += piece.steps;
+        runs.push(piece.rows)?;
+    }
+    Ok((runs, steps))
+}
+
+/// How many rows and columns a job's matrix has.
+fn sizes(job: &Job) -> (u64, u64)
+    requires { IsPriced job.now }
+    ensures rows { result.0 ≡ row_count job.now }
+    ensures columns { result.1 ≡ column_count job.now }
+{
+    match job.form() {
+        Form::Apply { operand, .. } | Form::Select { operand, .. } => {
+            (operand.rows(), operand.columns())
+        }
+        Form::Union { left, .. } | Form::Both { left, .. } => (left.rows(), left.columns()),
+        Form::Product { left, right, .. } => (left.rows(), right.columns()),
+        Form::Reduce { operand, .. } => (operand.rows(), 1),
+    }
+}

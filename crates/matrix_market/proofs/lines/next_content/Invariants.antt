@@ -1,0 +1,10 @@
+use Rattle.std.proofs.Common.{◌≡◌, ◌≤◌, ◌+◌, length}
+use Rattle.std.specs.Str.Lines.{lines}
+use Rattle.matrix_market.specs.Answers.{Passes}
+use Rattle.matrix_market.proofs.lines.next_content.Given as goal
+
+abbrev pub invariant-loop-line : goal.invariant-loop-line
+invariant-loop-line l = record { passes : Passes l.text l.number (lines l.rest) l.at; room : l.at + length l.rest ≤ l.number + length l.text }
+
+abbrev pub decreases-loop-line : goal.decreases-loop-line
+decreases-loop-line l = length l.rest

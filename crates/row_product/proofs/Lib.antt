@@ -1,0 +1,6 @@
+pub mod Counting
+pub mod Adding
+pub mod Gathering
+pub mod Emitting
+pub mod Marking
+pub mod Filling

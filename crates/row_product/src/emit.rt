@@ -1,0 +1,56 @@
+//! The sums of a row, put into the open row of the result.
+ghost use Rattle.std.specs.Prelude.{◌≡◌, ◌≤◌, ◌<◌, ℕ, List, Option, [], None, Some, length, OnOk};
+ghost use Rattle.std.specs.List.{All, Contains};
+ghost use Rattle.std.specs.List.Sorted.{IsNonDecreasing};
+ghost use Rattle.csr_store.specs.Along.{row_by};
+ghost use Rattle.row_product.specs.Sums.{slot, AreTouched};
+
+use csr_store::Rows;
+use std::alloc::AllocError;
+
+/// Puts the touched columns into ascending order.
+pub(crate) fn put_in_order(touched: &mut Vec<u64>)
+    ensures touched { (columns : ℕ) → (sums : List (Option ℕ)) → AreTouched columns sums touched.old.items
+        → AreTouched columns sums touched.new.items }
+    ensures ascending { IsNonDecreasing touched.new.items }
+{
+    touched.sort_unstable();
+}
+
+/// Moves the sums of the touched columns, which ascend, into the open row.
+pub(crate) fn emit(
+    touched: &[u64],
+    sums: &mut [Option<u64>],
+    rows: &mut Rows,
+) -> Result<(), AllocError>
+    requires order { IsNonDecreasing touched.now }
+    requires touched { AreTouched rows.old.columns sums.old touched.now }
+    requires width { rows.old.columns ≤ length sums.old }
+    requires none_open { rows.old.opened ≡ [] }
+    ensures rows { OnOk result (rows.new ≡ record rows.old { opened = row_by rows.old.columns (λ j. slot sums.old j) }) }
+    ensures kept { (j v : ℕ) → slot sums.new j ≡ Some v → slot sums.old j ≡ Some v }
+{
+    for column in touched {
+        let j = *column as usize;
+        let sum = sums[j];
+        sums[j] = None;
+        match sum {
+            Some(sum) => {
+                rows.push(*column, sum)?;
+            }
+            None => {}
+        }
+    }
+    Ok(())
+}
+
+/// Empties the sums of the touched columns, which are all that there are.
+pub(crate) fn clear(touched: &[u64], sums: &mut [Option<u64>])
+    requires covers { (j v : ℕ) → slot sums.old j ≡ Some v → Contains touched.now j }
+    requires within { All (λ j. j < length sums.old) touched.now }
+    ensures { (j : ℕ) → slot sums.new j ≡ None }
+{
+    for column in touched {
+        sums[*column as usize] = None;
+    }
+}

@@ -1,0 +1,28 @@
+//! Products of matrices by rows, whole or under a structural mask.
+//!
+//! The one contract is over `specs/Product.antt`: at each position that passes the mask, `add` folded over `mul` of the words
+//! of A's row and B's column, ascending, starting with the first. [`product_rows`] gives a range of rows with the exact steps
+//! of its calls, and on want of memory the steps of the calls that were made; [`mult_count`] says how many multiplications a
+//! product takes, before any is made.
+//!
+//! A row of the result is summed in a [`Scratch`], which a caller keeps from call to call: a sum for each column, whether the
+//! mask's row allows it, and the columns that are touched. The rows of B that A's row names are added one after another, and
+//! the touched columns are then put in order, moved into the result and emptied. So the work is linear in the multiplications,
+//! the rows and the entries, but for the order of a row's columns; and the room is taken row by row.
+//!
+//! Read `product`, `row` (one row), `sums` (rows of B added to the sums), `emit` (sums into the result), `marks` (the mask's
+//! row) and `count`, over `specs/Sums.antt`.
+#![tactic(auto)]
+
+mod count;
+mod emit;
+mod marks;
+mod product;
+mod row;
+mod sums;
+
+pub use count::{mult_count, mult_count_in};
+pub use product::{Scratch, product_rows};
+
+#[cfg(test)]
+mod tests;
