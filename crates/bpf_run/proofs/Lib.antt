@@ -5,3 +5,9 @@ pub mod Standing
 pub mod Flat
 pub mod Running
 pub mod Preparing
+pub mod Columns
+pub mod Rows
+pub mod Turns
+pub mod Passing
+pub mod Gathering
+pub mod LaneCalls

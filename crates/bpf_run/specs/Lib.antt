@@ -3,3 +3,8 @@ pub mod Calls
 pub mod Fold
 pub mod Micro
 pub mod Flat
+pub mod Columns
+pub mod Lanes
+pub mod Ran
+pub mod Gathering
+pub mod Even

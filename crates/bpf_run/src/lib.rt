@@ -2,8 +2,10 @@
 #![tactic(auto)]
 
 mod calls;
-mod execute;
+mod cursor;
 mod flatten;
+mod go;
+mod lanes;
 mod memory;
 mod micro;
 mod operations;

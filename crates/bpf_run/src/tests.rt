@@ -1,5 +1,6 @@
 //! Calls of flat code against the machine that knows of each register what stands in it: values and steps.
 mod forms;
+mod lanes;
 mod sizes;
 
 use super::*;
@@ -73,6 +74,7 @@ fn expect_alike_on(
     };
     let prepared = Prepared::new(alloc, operator)?;
     assert_eq!(rt; prepared.len(), tagged.len());
+    lanes::expect_alike(rt, alloc, &tagged, &prepared, words)?;
     for x in words {
         for y in words {
             let operands = operands_of(prepared.kind(), *x, *y);

@@ -14,3 +14,4 @@ pub mod Merging
 pub mod Runs
 pub mod Joining
 pub mod Along
+pub mod Appending

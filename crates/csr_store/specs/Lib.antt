@@ -9,3 +9,4 @@ pub mod Packed
 pub mod Along
 pub mod Mask
 pub mod Ascending
+pub mod Added

@@ -1,7 +1,8 @@
 //! Runs of rows.
-ghost use Rattle.std.specs.Prelude.{◌≡◌, ◌<◌, ◌+◌, ◌^◌, ◌++◌, ◌∷◌, [], length, map, OnOk, OnErr};
+ghost use Rattle.std.specs.Prelude.{◌≡◌, ◌<◌, ◌≤◌, ◌+◌, ◌^◌, ◌++◌, ◌∷◌, [], length, map, nat_eq, if◌then◌else◌, vec_capacity, OnOk, OnErr};
 ghost use Rattle.std.specs.List.{AllByRecursion};
 ghost use Rattle.csr_store.specs.Grid.{Cell};
+ghost use Rattle.csr_store.specs.Added.{ComeBehind, kept_where, with_values};
 ghost use Rattle.csr_store.specs.ByRows.{ends_of};
 ghost use Rattle.csr_store.specs.Run.{AreClosed, IsRow, ended_rows};
 
@@ -60,6 +61,35 @@ impl Rows {
         Ok(())
     }
 
+    /// Adds cells to the open row, behind its others, each with its value of `values` in place of its own. On a
+    /// refusal the run is as before.
+    pub fn push_all(&mut self, cells: &[Cell], values: &[u64]) -> Result<(), AllocError>
+        requires behind { ComeBehind self.old.columns self.old.opened cells.now }
+        requires values { length values.now ≡ length cells.now }
+        ensures pushed { OnOk result
+            (self.new ≡ record self.old { opened = self.old.opened ++ with_values cells.now values.now }) }
+        ensures kept { OnErr result (self.new ≡ self.old) }
+    {
+        let from = self.cells.len();
+        self.cells.extend_from_slice(cells)?;
+        set_values(&mut self.cells[from..], values);
+        Ok(())
+    }
+
+    /// Adds those of some cells whose answer is not 0 to the open row, behind its others. On a refusal the run is as
+    /// before.
+    pub fn push_where(&mut self, cells: &[Cell], answers: &[u64]) -> Result<(), AllocError>
+        requires behind { ComeBehind self.old.columns self.old.opened cells.now }
+        requires answers { length answers.now ≡ length cells.now }
+        ensures pushed { OnOk result
+            (self.new ≡ record self.old { opened = self.old.opened ++ kept_where cells.now answers.now }) }
+        ensures kept { OnErr result (self.new ≡ self.old) }
+    {
+        self.cells.reserve(cells.len())?;
+        add_where(&mut self.cells, cells, answers);
+        Ok(())
+    }
+
     /// Ends the open row, and opens the next. On a refusal the run is as before.
     pub fn end_row(&mut self) -> Result<(), AllocError>
         ensures ended { OnOk result
@@ -105,6 +135,46 @@ impl Rows {
         push_ends(starts, &self.ends, cells.len() as u64)?;
         cells.extend_from_slice(&self.cells)?;
         Ok(())
+    }
+}
+
+/// Gives cells these values.
+fn set_values(cells: &mut [Cell], values: &[u64])
+    requires { length values.now ≡ length cells.old }
+    ensures { cells.new ≡ with_values cells.old values.now }
+{
+    let mut next = 0;
+    for cell in cells.iter_mut() {
+        cell.1 = values[next];
+        next += 1;
+    }
+}
+
+/// Adds those of some cells whose answer is not 0 to a list that has room for all of them.
+fn add_where(kept: &mut Vec<Cell>, cells: &[Cell], answers: &[u64])
+    requires answers { length answers.now ≡ length cells.now }
+    requires room { length kept.old.items + length cells.now ≤ vec_capacity kept.old }
+    ensures added { kept.new.items ≡ kept.old.items ++ kept_where cells.now answers.now }
+    ensures words { AllByRecursion (λ (c : Cell). c.1 < 2 ^ 64) cells.now }
+{
+    let mut next = 0;
+    for (column, word) in cells {
+        push_if(kept, *column, *word, answers[next]);
+        next += 1;
+    }
+}
+
+/// Adds a cell to a list that has room for it, where an answer is not 0.
+#[inline(always)]
+fn push_if(kept: &mut Vec<Cell>, column: u64, word: u64, answer: u64)
+    requires room { length kept.old.items < vec_capacity kept.old }
+    ensures added { kept.new.items
+        ≡ (if nat_eq answer 0 then kept.old.items else kept.old.items ++ (column, word) ∷ []) }
+    ensures room { vec_capacity kept.old ≤ vec_capacity kept.new }
+    ensures word { word < 2 ^ 64 }
+{
+    if answer != 0 {
+        kept.push((column, word)).unwrap();
     }
 }
 

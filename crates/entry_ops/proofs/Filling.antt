@@ -35,13 +35,12 @@ use Rattle.csr_store.proofs.Along.{along-next, along-over, row_of-ascends, Fills
 use Rattle.bpf_run.specs.Calls.{Call, Gathered, calls_on, steps_of, Charges}
 use Rattle.bpf_run.proofs.Charging.{Spends, spends-start, spends-further, spends-stop, steps-append}
 use Rattle.entry_ops.specs.declared.form.Form.{Form}
-use Rattle.entry_ops.specs.Placing.{Emission, final, Holds, Does, with_end}
+use Rattle.entry_ops.specs.Placing.{Emission, final, Holds, Does, with_end, with_cells}
 use Rattle.entry_ops.specs.Walking.{
   form_row,
   form_row_calls,
   form_rows,
   form_all_calls,
-  with_cells,
   with_rows,
   row_cells,
   row_calls,

@@ -2,6 +2,7 @@ pub mod Placing
 pub mod Nexts
 pub mod Masks
 pub mod Merging
+pub mod Lines
 pub mod Filling
 pub mod Bounds
 pub mod Chunks

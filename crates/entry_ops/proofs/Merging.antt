@@ -38,26 +38,26 @@ use Rattle.bpf_run.specs.Calls.{Call, Gathered, calls_on, steps_of, Charges}
 use Rattle.bpf_run.proofs.Charging.{Spends, spends-start, spends-step, spends-further, spends-stop, steps-append}
 use Rattle.entry_ops.specs.declared.form.Form.{Form}
 use Rattle.entry_ops.specs.declared.form.Form.TheVariants.{Apply, Select, Union, Both}
-use Rattle.entry_ops.specs.Placing.{CanPush, Emission, final, Holds, Does}
-use Rattle.entry_ops.specs.Walking.{form_at, form_calls, row_cells, row_calls, with_cells, IsNext}
+use Rattle.entry_ops.specs.Placing.{CanPush, Emission, final, Holds, Does, with_cells}
+use Rattle.entry_ops.specs.Walking.{form_at, form_calls, row_cells, row_calls, IsNext}
 use Rattle.entry_ops.proofs.Nexts.{next_first}
 
 -- ---- a form gives nothing where nothing stands
 
-abbrev cells_here : Form → Accepted → ℕ → Bool → ℕ → Option ℕ → Option ℕ → Row
+abbrev pub cells_here : Form → Accepted → ℕ → Bool → ℕ → Option ℕ → Option ℕ → Row
 cells_here form f i b j x y = cell_at j (if b then form_at form f (i, j) x y else None)
 
-abbrev calls_here : Form → Accepted → ℕ → Bool → ℕ → Option ℕ → Option ℕ → List Call
+abbrev pub calls_here : Form → Accepted → ℕ → Bool → ℕ → Option ℕ → Option ℕ → List Call
 calls_here form f i b j x y = if b then form_calls form f (i, j) x y else []
 
-no_cell : (form : Form) (f : Accepted) (i : ℕ) (b : Bool) (j : ℕ) → cells_here form f i b j None None ≡ []
+pub no_cell : (form : Form) (f : Accepted) (i : ℕ) (b : Bool) (j : ℕ) → cells_here form f i b j None None ≡ []
 no_cell form f i false j = refl
 no_cell (Apply thunk) f i true j = refl
 no_cell (Select thunk) f i true j = refl
 no_cell Union f i true j = refl
 no_cell Both f i true j = refl
 
-no_call : (form : Form) (f : Accepted) (i : ℕ) (b : Bool) (j : ℕ) → calls_here form f i b j None None ≡ []
+pub no_call : (form : Form) (f : Accepted) (i : ℕ) (b : Bool) (j : ℕ) → calls_here form f i b j None None ≡ []
 no_call form f i false j = refl
 no_call (Apply thunk) f i true j = refl
 no_call (Select thunk) f i true j = refl
@@ -66,13 +66,13 @@ no_call Both f i true j = refl
 
 -- ---- all columns of an open row stand before its next one
 
-above_all : (low c v : ℕ) (o : Option ℕ) (cs : Row) → AllByRecursion (λ (d : Cell). d.0 < low) cs → low ≤ c
+pub above_all : (low c v : ℕ) (o : Option ℕ) (cs : Row) → AllByRecursion (λ (d : Cell). d.0 < low) cs → low ≤ c
     → AllByRecursion (λ (d : Cell). d.0 < c + 1) (cs ++ cell_at c o)
 above_all low c v None [] h l = tt
 above_all low c v (Some x) [] h l = (omega arith, tt)
 above_all low c v o (d ∷ cs) h l = (let b = h.0 in omega arith, above_all low c v o cs h.1 l)
 
-above_less : (low c : ℕ) (cs : Row) → AllByRecursion (λ (d : Cell). d.0 < low) cs → low ≤ c
+pub above_less : (low c : ℕ) (cs : Row) → AllByRecursion (λ (d : Cell). d.0 < low) cs → low ≤ c
     → AllByRecursion (λ (d : Cell). d.0 < c) cs
 above_less low c [] h l = tt
 above_less low c (d ∷ cs) h l = (let b = h.0 in omega arith, above_less low c cs h.1 l)

@@ -4,13 +4,20 @@ use Rattle.std.proofs.Common.{
   ◌≤◌,
   ◌<◌,
   ◌+◌,
+  ◌-◌,
   ℕ,
+  nat_eq,
+  if◌then◌else◌,
   List,
   [],
   ◌∷◌,
   ◌++◌,
   length,
+  length-append,
+  length-drop,
+  take,
   drop,
+  get_or,
   refl,
   sym,
   ap,
@@ -24,9 +31,13 @@ use Rattle.std.proofs.Common.{
   Err,
   OnErr,
 }
+use Rattle.std.proofs.lemmas.List.{drop-append-le, drop_all, drop_more, drop-drop}
+use Rattle.csr_store.specs.Grid.{Cell}
 use Rattle.bpf_insn.specs.declared.operands.Operands.{Operands}
+use denote.Ref.{Bor}
 use Rattle.bpf_verify.specs.Accepted.{Accepted}
-use Rattle.csr_store.specs.Run.{Run}
+use Rattle.csr_store.specs.Run.{Row, Run}
+use Rattle.csr_store.specs.Added.{with_values, kept_where}
 use Rattle.bpf_run.specs.Meaning.{value_of}
 use Rattle.bpf_run.specs.Calls.{Call, Gathered, call_of, calls_on, values_on, steps_of}
 use Rattle.bpf_run.proofs.Charging.{
@@ -39,14 +50,36 @@ use Rattle.bpf_run.proofs.Charging.{
   values_on-append,
 }
 use Rattle.entry_ops.specs.declared.emitter.Mark.{Mark}
-use Rattle.entry_ops.specs.declared.emitter.Mark.TheVariants.{End, Copied, Called, Kept}
-use Rattle.entry_ops.specs.Placing.{placed, Fits, CanPush, with_cell, with_kept, with_end, Emission, final, Holds, Does}
+use Rattle.entry_ops.specs.declared.emitter.Mark.TheVariants.{End, Copied, Called, Kept, CalledAll, KeptAll}
+use Rattle.entry_ops.specs.Placing.{placed, Fits, CanPush, FollowIn, with_cell, with_cells, with_kept, with_end, Emission, final, Holds, Does}
 
 -- what is left is added to the rows so far
 pub record IsPlacing (marks : List Mark) (values : List ℕ) (start : Run) (i next : ℕ) (now : Run) : Type 0 where
   pub fits : Fits (drop i marks) (drop next values) now
   pub same : placed (drop i marks) (drop next values) now ≡ placed marks values start
   pub few : next ≤ length values
+
+-- ---- cells with values, and kept by values: values behind those that are needed say nothing
+
+values-enough : (cells : Row) (vs ws : List ℕ) → length cells ≤ length vs → with_values cells (vs ++ ws) ≡ with_values cells vs
+values-enough [] vs ws l = refl
+values-enough (c ∷ cells) [] ws l = absurd (omega arith)
+values-enough (c ∷ cells) (v ∷ vs) ws l = ap (λ cs. (c.0, v) ∷ cs) (values-enough cells vs ws (omega arith))
+
+kept-enough : (cells : Row) (vs ws : List ℕ) → length cells ≤ length vs → kept_where cells (vs ++ ws) ≡ kept_where cells vs
+kept-enough [] vs ws l = refl
+kept-enough (c ∷ cells) [] ws l = absurd (omega arith)
+kept-enough (c ∷ cells) (v ∷ vs) ws l = ap (λ cs. if nat_eq v 0 then cs else c ∷ cs) (kept-enough cells vs ws (omega arith))
+
+values-first : (cells : Row) (vs : List ℕ) → with_values cells (take (length cells) vs) ≡ with_values cells vs
+values-first [] vs = refl
+values-first (c ∷ cells) [] = refl
+values-first (c ∷ cells) (v ∷ vs) = ap (λ cs. (c.0, v) ∷ cs) (values-first cells vs)
+
+kept-first : (cells : Row) (vs : List ℕ) → kept_where cells (take (length cells) vs) ≡ kept_where cells vs
+kept-first [] vs = refl
+kept-first (c ∷ cells) [] = refl
+kept-first (c ∷ cells) (v ∷ vs) = ap (λ cs. if nat_eq v 0 then cs else c ∷ cs) (kept-first cells vs)
 
 -- marks behind marks
 
@@ -59,6 +92,14 @@ placed-append (Called c ∷ ms) ns [] ws run h = absurd h
 placed-append (Called c ∷ ms) ns (v ∷ vs) ws run h = placed-append ms ns vs ws (with_cell c v run) h.1
 placed-append (Kept c w ∷ ms) ns [] ws run h = absurd h
 placed-append (Kept c w ∷ ms) ns (v ∷ vs) ws run h = placed-append ms ns vs ws (with_kept c w v run) h.1
+placed-append (CalledAll cs ∷ ms) ns vs ws run h =
+    ap (λ us. placed (ms ++ ns) us (with_cells (with_values cs.now (vs ++ ws)) run)) (drop-append-le (length cs.now) vs ws h.1)
+    ∙ ap (λ (us : Row). placed (ms ++ ns) (drop (length cs.now) vs ++ ws) (with_cells us run)) (values-enough cs.now vs ws h.1)
+    ∙ placed-append ms ns (drop (length cs.now) vs) ws (with_cells (with_values cs.now vs) run) h.2
+placed-append (KeptAll cs ∷ ms) ns vs ws run h =
+    ap (λ us. placed (ms ++ ns) us (with_cells (kept_where cs.now (vs ++ ws)) run)) (drop-append-le (length cs.now) vs ws h.1)
+    ∙ ap (λ (us : Row). placed (ms ++ ns) (drop (length cs.now) vs ++ ws) (with_cells us run)) (kept-enough cs.now vs ws h.1)
+    ∙ placed-append ms ns (drop (length cs.now) vs) ws (with_cells (kept_where cs.now vs) run) h.2
 
 fits-append : (ms ns : List Mark) (vs ws : List ℕ) (run : Run) → Fits ms vs run → Fits ns ws (placed ms vs run)
     → Fits (ms ++ ns) (vs ++ ws) run
@@ -69,6 +110,159 @@ fits-append (Called c ∷ ms) ns [] ws run h k = absurd h
 fits-append (Called c ∷ ms) ns (v ∷ vs) ws run h k = (h.0, fits-append ms ns vs ws (with_cell c v run) h.1 k)
 fits-append (Kept c w ∷ ms) ns [] ws run h k = absurd h
 fits-append (Kept c w ∷ ms) ns (v ∷ vs) ws run h k = (h.0, fits-append ms ns vs ws (with_kept c w v run) h.1 k)
+fits-append (CalledAll cs ∷ ms) ns vs ws run h k = (
+  h.0,
+  let l = length-append vs ws in let e = h.1 in omega arith,
+  subst (λ us. Fits (ms ++ ns) us (with_cells (with_values cs.now (vs ++ ws)) run)) (sym (drop-append-le (length cs.now) vs ws h.1))
+      (subst (λ (us : Row). Fits (ms ++ ns) (drop (length cs.now) vs ++ ws) (with_cells us run)) (sym (values-enough cs.now vs ws h.1))
+      (fits-append ms ns (drop (length cs.now) vs) ws (with_cells (with_values cs.now vs) run) h.2 k)),
+)
+fits-append (KeptAll cs ∷ ms) ns vs ws run h k = (
+  h.0,
+  let l = length-append vs ws in let e = h.1 in omega arith,
+  subst (λ us. Fits (ms ++ ns) us (with_cells (kept_where cs.now (vs ++ ws)) run)) (sym (drop-append-le (length cs.now) vs ws h.1))
+      (subst (λ (us : Row). Fits (ms ++ ns) (drop (length cs.now) vs ++ ws) (with_cells us run)) (sym (kept-enough cs.now vs ws h.1))
+      (fits-append ms ns (drop (length cs.now) vs) ws (with_cells (kept_where cs.now vs) run) h.2 k)),
+)
+
+pub placing-at : (marks : List Mark) (values : List ℕ) (start : Run) (i next now_next : ℕ) (now : Run) → now_next ≡ next
+    → IsPlacing marks values start i next now → IsPlacing marks values start i now_next now
+placing-at marks values start i next now_next now e h = subst (λ n. IsPlacing marks values start i n now) (sym e) h
+
+-- ---- one mark is placed
+
+module _ (marks : List Mark) (values : List ℕ) (start : Run) (i next : ℕ) (now : Run) (d : Mark) (h : IsPlacing marks values start i next now)
+    (l : i < length marks) where
+  left_marks : (m : Mark) → get_or marks i d ≡ m → drop i marks ≡ m ∷ drop (i + 1) marks
+  left_marks m here = drop_more marks i d l ∙ ap (λ n. n ∷ drop (i + 1) marks) here
+
+  pub end-placed : get_or marks i d ≡ End → (new : Run) → new ≡ with_end now → IsPlacing marks values start (i + 1) next new
+  end-placed here new is = record {
+    fits = subst (Fits (drop (i + 1) marks) (drop next values)) (sym is) (subst (λ ms. Fits ms (drop next values) now) (left_marks End here) h.fits);
+    same = ap (placed (drop (i + 1) marks) (drop next values)) is ∙ ap (λ ms. placed ms (drop next values) now) (sym (left_marks End here)) ∙ h.same;
+    few = h.few;
+  }
+
+  pub copied-placed : (c v : ℕ) → get_or marks i d ≡ Copied c v → (new : Run) → new ≡ with_cell c v now → IsPlacing marks values start (i + 1) next new
+  copied-placed c v here new is = record {
+    fits = subst (Fits (drop (i + 1) marks) (drop next values)) (sym is)
+        (subst (λ ms. Fits ms (drop next values) now) (left_marks (Copied c v) here) h.fits).1;
+    same = ap (placed (drop (i + 1) marks) (drop next values)) is
+        ∙ ap (λ ms. placed ms (drop next values) now) (sym (left_marks (Copied c v) here)) ∙ h.same;
+    few = h.few;
+  }
+
+  called-some : (c : ℕ) (ms : List Mark) (vs : List ℕ) (run : Run) → Fits (Called c ∷ ms) vs run → 0 < length vs
+  called-some c ms [] run f = absurd f
+  called-some c ms (v ∷ vs) run f = omega arith
+
+  kept-some : (c w : ℕ) (ms : List Mark) (vs : List ℕ) (run : Run) → Fits (Kept c w ∷ ms) vs run → 0 < length vs
+  kept-some c w ms [] run f = absurd f
+  kept-some c w ms (v ∷ vs) run f = omega arith
+
+  pub call-within : (c : ℕ) → get_or marks i d ≡ Called c → next < length values
+  call-within c here =
+      let f = called-some c (drop (i + 1) marks) (drop next values) now (subst (λ ms. Fits ms (drop next values) now) (left_marks (Called c) here) h.fits) in
+      let n = length-drop next values in omega arith
+
+  pub keep-within : (c w : ℕ) → get_or marks i d ≡ Kept c w → next < length values
+  keep-within c w here =
+      let f = kept-some c w (drop (i + 1) marks) (drop next values) now (subst (λ ms. Fits ms (drop next values) now) (left_marks (Kept c w) here) h.fits) in
+      let n = length-drop next values in omega arith
+
+  module _ (ll : next < length values) where
+    left_values : drop next values ≡ get_or values next 0 ∷ drop (next + 1) values
+    left_values = drop_more values next 0 ll
+
+    pub call-placed : (c : ℕ) → get_or marks i d ≡ Called c → (new : Run) → new ≡ with_cell c (get_or values next 0) now
+        → IsPlacing marks values start (i + 1) (next + 1) new
+    call-placed c here new is = record {
+      fits = subst (Fits (drop (i + 1) marks) (drop (next + 1) values)) (sym is)
+          (subst (λ vs. Fits (Called c ∷ drop (i + 1) marks) vs now) left_values
+          (subst (λ ms. Fits ms (drop next values) now) (left_marks (Called c) here) h.fits)).1;
+      same = ap (placed (drop (i + 1) marks) (drop (next + 1) values)) is
+          ∙ ap (λ vs. placed (Called c ∷ drop (i + 1) marks) vs now) (sym left_values)
+          ∙ ap (λ ms. placed ms (drop next values) now) (sym (left_marks (Called c) here)) ∙ h.same;
+      few = omega arith;
+    }
+
+    pub keep-placed : (c w : ℕ) → get_or marks i d ≡ Kept c w → (new : Run) → new ≡ with_kept c w (get_or values next 0) now
+        → IsPlacing marks values start (i + 1) (next + 1) new
+    keep-placed c w here new is = record {
+      fits = subst (Fits (drop (i + 1) marks) (drop (next + 1) values)) (sym is)
+          (subst (λ vs. Fits (Kept c w ∷ drop (i + 1) marks) vs now) left_values
+          (subst (λ ms. Fits ms (drop next values) now) (left_marks (Kept c w) here) h.fits)).1;
+      same = ap (placed (drop (i + 1) marks) (drop (next + 1) values)) is
+          ∙ ap (λ vs. placed (Kept c w ∷ drop (i + 1) marks) vs now) (sym left_values)
+          ∙ ap (λ ms. placed ms (drop next values) now) (sym (left_marks (Kept c w) here)) ∙ h.same;
+      few = omega arith;
+    }
+
+-- ---- many cells are placed at once
+
+module _ (mark : Bor Row → Mark) (made : Row → List ℕ → Row)
+    (fitting : (c : Bor Row) (ms : List Mark) (vs : List ℕ) (run : Run) → Fits (mark c ∷ ms) vs run
+    → FollowIn c.now run × (length c.now ≤ length vs) × Fits ms (drop (length c.now) vs) (with_cells (made c.now vs) run))
+    (placing : (c : Bor Row) (ms : List Mark) (vs : List ℕ) (run : Run)
+    → placed (mark c ∷ ms) vs run ≡ placed ms (drop (length c.now) vs) (with_cells (made c.now vs) run))
+    (first : (cells : Row) (vs : List ℕ) → made cells (take (length cells) vs) ≡ made cells vs)
+    (marks : List Mark) (values : List ℕ) (start : Run) (i next : ℕ) (now : Run) (d : Mark) (c : Bor Row)
+    (h : IsPlacing marks values start i next now) (l : i < length marks) (here : get_or marks i d ≡ mark c) where
+  these : drop i marks ≡ mark c ∷ drop (i + 1) marks
+  these = drop_more marks i d l ∙ ap (λ m. m ∷ drop (i + 1) marks) here
+
+  fits_here : FollowIn c.now now × (length c.now ≤ length (drop next values))
+      × Fits (drop (i + 1) marks) (drop (length c.now) (drop next values)) (with_cells (made c.now (drop next values)) now)
+  fits_here = fitting c (drop (i + 1) marks) (drop next values) now (subst (λ ms. Fits ms (drop next values) now) these h.fits)
+
+  all-enough : next + length c.now ≤ length values
+  all-enough = let f = h.few in let e = fits_here.1 in let n = length-drop next values in omega arith
+
+  module _ (stop end : ℕ) (stops : stop ≡ next + length c.now) (ends : end ≡ next + length c.now) (new : Run)
+      (is : new ≡ with_cells (made c.now (take (stop - next) (drop next values))) now) where
+    count : stop - next ≡ length c.now
+    count = omega arith
+
+    further : drop (length c.now) (drop next values) ≡ drop end values
+    further = drop-drop (length c.now) next values ∙ ap (λ n. drop n values) (sym ends)
+
+    is_here : with_cells (made c.now (drop next values)) now ≡ new
+    is_here = sym (is ∙ ap (λ (us : Row). with_cells us now)
+        (ap (λ n. made c.now (take n (drop next values))) count ∙ first c.now (drop next values)))
+
+    all-placed : IsPlacing marks values start (i + 1) end new
+    all-placed = record {
+      fits = subst (Fits (drop (i + 1) marks) (drop end values)) is_here
+          (subst (λ vs. Fits (drop (i + 1) marks) vs (with_cells (made c.now (drop next values)) now)) further fits_here.2);
+      same = ap (placed (drop (i + 1) marks) (drop end values)) (sym is_here)
+          ∙ ap (λ vs. placed (drop (i + 1) marks) vs (with_cells (made c.now (drop next values)) now)) (sym further)
+          ∙ sym (placing c (drop (i + 1) marks) (drop next values) now) ∙ ap (λ ms. placed ms (drop next values) now) (sym these) ∙ h.same;
+      few = let e = all-enough in omega arith;
+    }
+
+module _ (marks : List Mark) (values : List ℕ) (start : Run) (i next : ℕ) (now : Run) (d : Mark) (c : Bor Row)
+    (h : IsPlacing marks values start i next now) (l : i < length marks) where
+  module _ (here : get_or marks i d ≡ CalledAll c) where
+    pub called-fit : FollowIn c.now now × (next + length c.now ≤ length values)
+    called-fit = (
+      (fits_here CalledAll with_values (λ b ms vs run f. f) (λ b ms vs run. refl) values-first marks values start i next now d c h l here).0,
+      all-enough CalledAll with_values (λ b ms vs run f. f) (λ b ms vs run. refl) values-first marks values start i next now d c h l here,
+    )
+
+    pub called-placed : (stop end : ℕ) → stop ≡ next + length c.now → end ≡ next + length c.now → (new : Run)
+        → new ≡ with_cells (with_values c.now (take (stop - next) (drop next values))) now → IsPlacing marks values start (i + 1) end new
+    called-placed = all-placed CalledAll with_values (λ b ms vs run f. f) (λ b ms vs run. refl) values-first marks values start i next now d c h l here
+
+  module _ (here : get_or marks i d ≡ KeptAll c) where
+    pub kept-fit : FollowIn c.now now × (next + length c.now ≤ length values)
+    kept-fit = (
+      (fits_here KeptAll kept_where (λ b ms vs run f. f) (λ b ms vs run. refl) kept-first marks values start i next now d c h l here).0,
+      all-enough KeptAll kept_where (λ b ms vs run f. f) (λ b ms vs run. refl) kept-first marks values start i next now d c h l here,
+    )
+
+    pub kept-placed : (stop end : ℕ) → stop ≡ next + length c.now → end ≡ next + length c.now → (new : Run)
+        → new ≡ with_cells (kept_where c.now (take (stop - next) (drop next values))) now → IsPlacing marks values start (i + 1) end new
+    kept-placed = all-placed KeptAll kept_where (λ b ms vs run f. f) (λ b ms vs run. refl) kept-first marks values start i next now d c h l here
 
 -- ---- what is done
 
@@ -109,7 +303,7 @@ module _ (f : Accepted) where
       }
 
   -- a mark is added, with the operands of its call, if it has one
-  does-mark : (e n : Emission) (g k : Gathered) (m : Mark) (os : List Operands) (change : Run → Run) → Holds f e g
+  pub does-mark : (e n : Emission) (g k : Gathered) (m : Mark) (os : List Operands) (change : Run → Run) → Holds f e g
       → Fits (m ∷ []) (values_on f os) (final f e g) → placed (m ∷ []) (values_on f os) (final f e g) ≡ change (final f e g)
       → n ≡ record e { marks = e.marks ++ m ∷ [] } → k.kind ≡ g.kind → k.operands ≡ g.operands ++ os
       → Does f (calls_on f os) change e g n k
@@ -133,6 +327,22 @@ module _ (f : Accepted) where
             ++ (calls_on f os ++ rest)) s)
             (sym (ap (λ (x : Emission). x.steps) is)) (spends-start (calls_on f g.operands ++ (calls_on f os ++ rest)) e.steps));
       }
+
+  -- cells are marked, with the operands of their calls
+  module _ (e n : Emission) (g k : Gathered) (cells : Bor Row) (os : List Operands) (h : Holds f e g) (follow : FollowIn cells.now (final f e g))
+      (each : length (values_on f os) ≡ length cells.now) (kind : k.kind ≡ g.kind) (more : k.operands ≡ g.operands ++ os) where
+    none_left : drop (length cells.now) (values_on f os) ≡ []
+    none_left = drop_all (length cells.now) (values_on f os) (omega arith)
+
+    pub does-call-all : n ≡ record e { marks = e.marks ++ CalledAll cells ∷ [] }
+        → Does f (calls_on f os) (with_cells (with_values cells.now (values_on f os))) e g n k
+    does-call-all is = does-mark e n g k (CalledAll cells) os (with_cells (with_values cells.now (values_on f os))) h
+        (follow, (omega arith), none_left) refl is kind more
+
+    pub does-keep-all : n ≡ record e { marks = e.marks ++ KeptAll cells ∷ [] }
+        → Does f (calls_on f os) (with_cells (kept_where cells.now (values_on f os))) e g n k
+    does-keep-all is = does-mark e n g k (KeptAll cells) os (with_cells (kept_where cells.now (values_on f os))) h
+        (follow, (omega arith), none_left) refl is kind more
 
   -- the same after room was made
   module _ (e m n : Emission) (g h k : Gathered) (room : Does f [] (λ run. run) e g m h) where

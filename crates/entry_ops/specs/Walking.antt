@@ -1,5 +1,5 @@
 -- Two rows read side by side, and what each form makes of their positions. This project's own.
-use Rattle.std.specs.Prelude.{◌≡◌, ℕ, ◌+◌, ◌<◌, ◌≤◌, List, [], ◌++◌, Option, None, Some, ◌∷◌, if◌then◌else◌, length}
+use Rattle.std.specs.Prelude.{◌≡◌, ℕ, ◌+◌, ◌<◌, ◌≤◌, List, [], ◌++◌, Option, None, Some, ◌∷◌, if◌then◌else◌, length, Bool, true, false}
 use Rattle.bpf_insn.specs.declared.operands.Kind.{Kind}
 use Rattle.bpf_insn.specs.declared.operands.Kind.TheVariants as kinds
 use Rattle.bpf_verify.specs.Accepted.{Accepted}
@@ -73,9 +73,21 @@ form_all_calls form f a b mask first n = along (λ i. form_row_calls form f a b 
 abbrev pub with_rows : List Row → Run → Run
 with_rows rows run = record run { ended = run.ended ++ rows }
 
--- a run with these cells more in its open row
-abbrev pub with_cells : List Cell → Run → Run
-with_cells cells run = record run { opened = run.opened ++ cells }
+-- the form reads its first operand alone
+abbrev pub of_one : Form → Bool
+of_one (Apply thunk) = true
+of_one (Select thunk) = true
+of_one Union = false
+of_one Both = false
+
+-- the cells and the calls of such a form, from cells of row i
+abbrev pub line_cells : Form → Accepted → ℕ → List Cell → Row
+line_cells form f i [] = []
+line_cells form f i (c ∷ cs) = cell_at c.0 (form_at form f (i, c.0) (Some c.1) None) ++ line_cells form f i cs
+
+abbrev pub line_calls : Form → Accepted → ℕ → List Cell → List Call
+line_calls form f i [] = []
+line_calls form f i (c ∷ cs) = form_calls form f (i, c.0) (Some c.1) None ++ line_calls form f i cs
 
 -- c is the first column at which either row has an entry; p and q stand there, and xs and ys are what is left
 pub record IsNext (n low : ℕ) (left right : List Cell) (c : ℕ) (p q : Option ℕ) (xs ys : List Cell) : Type 0 where

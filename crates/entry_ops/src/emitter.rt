@@ -3,9 +3,12 @@ ghost use Rattle.std.specs.Prelude.{◌≡◌, ◌<◌, ◌≤◌, ◌+◌, ◌^
 ghost use Rattle.bpf_insn.specs.Machine.{kind_of};
 ghost use Rattle.bpf_insn.specs.declared.operands.Operands.TheVariants as on;
 ghost use Rattle.bpf_run.specs.Meaning.{value_of};
-ghost use Rattle.bpf_run.specs.Calls.{call_of, calls_on, steps_of, Charges};
-ghost use Rattle.entry_ops.specs.Placing.{placed, Fits, CanPush, final, Holds, Does, with_cell, with_kept, with_end};
+ghost use Rattle.bpf_insn.specs.declared.operands.Kind.TheVariants as kinds;
+ghost use Rattle.bpf_run.specs.Calls.{call_of, calls_on, values_on, steps_of, Charges, words_of, entries_of};
+ghost use Rattle.csr_store.specs.Added.{with_values, kept_where};
+ghost use Rattle.entry_ops.specs.Placing.{placed, Fits, CanPush, FollowIn, final, Holds, Does, with_cell, with_cells, with_kept, with_end};
 
+use crate::walk::Cell;
 use bpf_insn::Operands;
 use bpf_run::{Calls, MOST_CALLS, Prepared};
 use csr_store::Rows;
@@ -17,7 +20,7 @@ const MOST_MARKS: usize = 256;
 
 /// What is still to be added to some rows.
 #[derive(Clone, Copy)]
-pub enum Mark {
+pub enum Mark<'m> {
     /// The end of the open row.
     End,
     /// A cell whose value is known.
@@ -26,17 +29,21 @@ pub enum Mark {
     Called { column: u64 },
     /// A cell that stands where the value of the next call is not 0.
     Kept { column: u64, word: u64 },
+    /// Cells whose values are those of the next calls.
+    CalledAll { cells: &'m [Cell] },
+    /// Cells that stand where the values of the next calls are not 0.
+    KeptAll { cells: &'m [Cell] },
 }
 
 /// Rows, what is marked behind them while calls wait, and the steps of the calls that were made.
 #[derive(Drop)]
-pub struct Emitter {
+pub struct Emitter<'m> {
     rows: Rows,
-    marks: Vec<Mark>,
+    marks: Vec<Mark<'m>>,
     steps: u64,
 }
 
-impl Model for Emitter {
+impl<'m> Model for Emitter<'m> {
     ghost use Rattle.std.specs.Prelude.{◌≤◌, length, vec_capacity};
     ghost use Rattle.entry_ops.specs.Placing.{Emission};
 
@@ -47,7 +54,7 @@ impl Model for Emitter {
     ghost invariant = { λ e. (256 ≤ vec_capacity e.marks) × (length e.marks.items ≤ 256) };
 }
 
-impl Emitter {
+impl<'m> Emitter<'m> {
     /// No row yet, of those from `first` on, and no call.
     pub fn begin(alloc: Global, first: u64, columns: u64) -> Result<Self, AllocError>
         ensures { IfOk result (λ e. e ≡ record {
@@ -72,7 +79,7 @@ impl Emitter {
 
     /// The rows.
     pub fn into_rows(self) -> Rows
-        ensures { result ≡ self.rows }
+        ensures { result ≡ self.entry.rows }
     {
         self.rows
     }
@@ -93,12 +100,12 @@ impl Emitter {
         self.steps += calls.make(operator);
         place(&self.marks, calls.values(), &mut self.rows)?;
         self.marks.clear();
-        calls.begin(operator.kind());
         Ok(())
     }
 
     /// Flushes where no further mark or call fits in.
-    fn make_room(&mut self, operator: &Prepared, calls: &mut Calls) -> Result<(), AllocError>
+    #[inline(always)]
+    pub fn make_room(&mut self, operator: &Prepared, calls: &mut Calls) -> Result<(), AllocError>
         requires holds { Holds operator.now self.old calls.old }
         requires room { self.old.steps + steps_of (calls_on operator.now calls.old.operands) < 2 ^ 64 }
         ensures does { OnOk result (Does operator.now [] (λ run. run) self.old calls.old self.new calls.new) }
@@ -114,6 +121,7 @@ impl Emitter {
     }
 
     /// Adds a cell whose value is that of a call.
+    #[inline(always)]
     pub fn call(
         &mut self,
         operator: &Prepared,
@@ -136,6 +144,7 @@ impl Emitter {
     }
 
     /// Adds a cell with a word where the value of a call is not 0.
+    #[inline(always)]
     pub fn keep(
         &mut self,
         operator: &Prepared,
@@ -158,7 +167,67 @@ impl Emitter {
         Ok(())
     }
 
+    /// Adds cells whose values are those of calls on their words.
+    pub fn call_words(&mut self, calls: &mut Calls, cells: &'m [Cell], operator: &Prepared)
+        requires holds { Holds operator.now self.old calls.old }
+        requires kind { operator.now.kind ≡ kinds.Unary }
+        requires behind { FollowIn cells.now (final operator.now self.old calls.old) }
+        requires marks { length self.old.marks < 256 }
+        requires room { length calls.old.operands + length cells.now ≤ 64 }
+        ensures { Does operator.now (calls_on operator.now (words_of cells.now))
+            (with_cells (with_values cells.now (values_on operator.now (words_of cells.now))))
+            self.old calls.old self.new calls.new }
+    {
+        self.marks.push(Mark::CalledAll { cells }).unwrap();
+        calls.gather_words(cells);
+    }
+
+    /// Adds cells of a row whose values are those of calls on their words, their positions and a thunk.
+    pub fn call_entries(
+        &mut self,
+        calls: &mut Calls,
+        cells: &'m [Cell],
+        row: u64,
+        thunk: u64,
+        operator: &Prepared,
+    )
+        requires holds { Holds operator.now self.old calls.old }
+        requires kind { operator.now.kind ≡ kinds.Index }
+        requires behind { FollowIn cells.now (final operator.now self.old calls.old) }
+        requires marks { length self.old.marks < 256 }
+        requires room { length calls.old.operands + length cells.now ≤ 64 }
+        ensures { Does operator.now (calls_on operator.now (entries_of row thunk cells.now))
+            (with_cells (with_values cells.now (values_on operator.now (entries_of row thunk cells.now))))
+            self.old calls.old self.new calls.new }
+    {
+        self.marks.push(Mark::CalledAll { cells }).unwrap();
+        calls.gather_entries(cells, row, thunk);
+    }
+
+    /// Adds those cells of a row where the value of a call on the word, its position and a thunk is not 0.
+    pub fn keep_entries(
+        &mut self,
+        calls: &mut Calls,
+        cells: &'m [Cell],
+        row: u64,
+        thunk: u64,
+        operator: &Prepared,
+    )
+        requires holds { Holds operator.now self.old calls.old }
+        requires kind { operator.now.kind ≡ kinds.Index }
+        requires behind { FollowIn cells.now (final operator.now self.old calls.old) }
+        requires marks { length self.old.marks < 256 }
+        requires room { length calls.old.operands + length cells.now ≤ 64 }
+        ensures { Does operator.now (calls_on operator.now (entries_of row thunk cells.now))
+            (with_cells (kept_where cells.now (values_on operator.now (entries_of row thunk cells.now))))
+            self.old calls.old self.new calls.new }
+    {
+        self.marks.push(Mark::KeptAll { cells }).unwrap();
+        calls.gather_entries(cells, row, thunk);
+    }
+
     /// Adds a cell whose value is known.
+    #[inline(always)]
     pub fn copy(
         &mut self,
         operator: &Prepared,
@@ -190,6 +259,18 @@ impl Emitter {
     }
 }
 
+/// Adds a cell where an answer is not 0.
+#[inline(always)]
+fn push_kept(rows: &mut Rows, column: u64, word: u64, answer: u64) -> Result<(), AllocError>
+    requires { CanPush column rows.old }
+    ensures { OnOk result (rows.new ≡ with_kept column word answer rows.old) }
+{
+    if answer == 0 {
+        return Ok(());
+    }
+    rows.push(column, word)
+}
+
 /// Adds what is marked to rows, each call with its value.
 fn place(marks: &[Mark], values: &[u64], rows: &mut Rows) -> Result<(), AllocError>
     requires fits { Fits marks.now values.now rows.old }
@@ -206,10 +287,18 @@ fn place(marks: &[Mark], values: &[u64], rows: &mut Rows) -> Result<(), AllocErr
                 next += 1;
             }
             Mark::Kept { column, word } => {
-                if values[next] != 0 {
-                    rows.push(column, word)?;
-                }
+                push_kept(rows, column, word, values[next])?;
                 next += 1;
+            }
+            Mark::CalledAll { cells } => {
+                let end = next + cells.len();
+                rows.push_all(cells, &values[next..end])?;
+                next = end;
+            }
+            Mark::KeptAll { cells } => {
+                let end = next + cells.len();
+                rows.push_where(cells, &values[next..end])?;
+                next = end;
             }
         }
     }

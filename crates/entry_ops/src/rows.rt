@@ -1,15 +1,15 @@
 //! The rows of a range, one form for all operations entry by entry.
-ghost use Rattle.std.specs.Prelude.{◌≡◌, ℕ, ◌<◌, ◌≤◌, ◌+◌, ◌-◌, ◌^◌, ◌++◌, [], IfOk, OnOk, OnErr, Some, List};
+ghost use Rattle.std.specs.Prelude.{◌≡◌, ℕ, ◌<◌, ◌≤◌, ◌+◌, ◌-◌, ◌^◌, ◌++◌, [], IfOk, OnOk, OnErr, None, Some, List, true};
 ghost use Rattle.csr_store.specs.Grid.{row_of};
 ghost use Rattle.csr_store.specs.Ascending.{Ascends, AscendsIn};
 ghost use Rattle.csr_store.specs.Mask.{HasShape, mask_of};
 ghost use Rattle.bpf_run.specs.Calls.{Call, calls_on, steps_of, Charges};
-ghost use Rattle.entry_ops.specs.Placing.{final, Holds, Does, with_end};
+ghost use Rattle.entry_ops.specs.Placing.{final, Holds, Does, with_end, with_cells};
 ghost use Rattle.entry_ops.specs.Walking.{
   kind_for,
   row_cells,
   row_calls,
-  with_cells,
+  of_one,
   with_rows,
   cells_of,
   row_or_none,
@@ -19,9 +19,9 @@ ghost use Rattle.entry_ops.specs.Walking.{
 };
 
 use crate::emitter::Emitter;
-use crate::form::{Form, Place, emit};
+use crate::form::{Form, Place, add_cells, emit, is_of_one};
 use crate::walk::{Cell, next, show};
-use bpf_run::{Calls, Prepared};
+use bpf_run::{Calls, MOST_CALLS, Prepared};
 use csr_store::{Chunk, Matrix};
 use std::alloc::{AllocError, Global};
 use std::ops::Range;
@@ -83,6 +83,81 @@ fn fill_row(
         }
     }
     Ok(())
+}
+
+/// Adds the cells of a row of a form of one operand, all of which pass.
+fn fill_whole<'m>(
+    form: Form,
+    operator: &Prepared,
+    calls: &mut Calls,
+    emitter: &mut Emitter<'m>,
+    line: Line<'m>,
+) -> Result<(), AllocError>
+    requires kind { operator.now.kind ≡ kind_for form }
+    requires holds { Holds operator.now emitter.old calls.old }
+    requires left { Ascends 0 line.columns line.left.now }
+    requires one { of_one form ≡ true }
+    requires whole { cells_of line.mask ≡ None }
+    requires columns { (final operator.now emitter.old calls.old).columns ≡ line.columns }
+    requires open { (final operator.now emitter.old calls.old).opened ≡ [] }
+    requires room { emitter.old.steps + (steps_of (calls_on operator.now calls.old.operands) + steps_of (row_calls form operator.now
+        line.row line.columns line.left.now line.right.now (cells_of line.mask))) < 2 ^ 64 }
+    ensures does { OnOk result (Does operator.now
+        (row_calls form operator.now line.entry.row line.entry.columns line.entry.left.now line.entry.right.now (cells_of
+        line.entry.mask))
+        (with_cells (row_cells form operator.now line.entry.row line.entry.columns line.entry.left.now line.entry.right.now
+        (cells_of line.entry.mask)))
+        emitter.old calls.old emitter.new calls.new) }
+    ensures spent { OnErr result ((rest : List Call) → Charges (calls_on operator.now calls.old.operands ++ (row_calls
+        form operator.now line.entry.row line.entry.columns line.entry.left.now line.entry.right.now (cells_of line.entry.mask)
+        ++ rest))
+        emitter.old.steps emitter.new.steps) }
+{
+    let mut cells = line.left;
+    while !cells.is_empty() {
+        emitter.make_room(operator, calls)?;
+        let (now, rest) = cells.split_at(cells.len().min(MOST_CALLS - calls.len()));
+        add_cells(form, operator, calls, emitter, line.row, now);
+        cells = rest;
+    }
+    Ok(())
+}
+
+/// Adds the cells of a row, by the shorter way where there is one.
+fn fill_line<'m>(
+    form: Form,
+    operator: &Prepared,
+    calls: &mut Calls,
+    emitter: &mut Emitter<'m>,
+    line: Line<'m>,
+) -> Result<(), AllocError>
+    requires kind { operator.now.kind ≡ kind_for form }
+    requires holds { Holds operator.now emitter.old calls.old }
+    requires left { Ascends 0 line.columns line.left.now }
+    requires right { Ascends 0 line.columns line.right.now }
+    requires mask { AscendsIn line.columns (cells_of line.mask) }
+    requires columns { (final operator.now emitter.old calls.old).columns ≡ line.columns }
+    requires open { (final operator.now emitter.old calls.old).opened ≡ [] }
+    requires room { emitter.old.steps + (steps_of (calls_on operator.now calls.old.operands) + steps_of (row_calls form operator.now
+        line.row line.columns line.left.now line.right.now (cells_of line.mask))) < 2 ^ 64 }
+    ensures does { OnOk result (Does operator.now
+        (row_calls form operator.now line.entry.row line.entry.columns line.entry.left.now line.entry.right.now (cells_of
+        line.entry.mask))
+        (with_cells (row_cells form operator.now line.entry.row line.entry.columns line.entry.left.now line.entry.right.now
+        (cells_of line.entry.mask)))
+        emitter.old calls.old emitter.new calls.new) }
+    ensures spent { OnErr result ((rest : List Call) → Charges (calls_on operator.now calls.old.operands ++ (row_calls
+        form operator.now line.entry.row line.entry.columns line.entry.left.now line.entry.right.now (cells_of line.entry.mask)
+        ++ rest))
+        emitter.old.steps emitter.new.steps) }
+{
+    let None = line.mask else {
+        return fill_row(form, operator, calls, emitter, line);
+    };
+    if is_of_one(form) {
+        return fill_whole(form, operator, calls, emitter, line);
+    }
+    fill_row(form, operator, calls, emitter, line)
 }
 
 /// The operands of an operation, of which the second may be missing, and a mask if there is one.
@@ -149,12 +224,12 @@ fn read_line<'a>(sources: Sources<'a>, row: u64) -> Line<'a>
 }
 
 /// Adds the rows of a range.
-fn fill(
+fn fill<'m>(
     form: Form,
     operator: &Prepared,
     calls: &mut Calls,
-    emitter: &mut Emitter,
-    sources: Sources,
+    emitter: &mut Emitter<'m>,
+    sources: Sources<'m>,
     range: Range<u64>,
 ) -> Result<(), AllocError>
     requires kind { operator.now.kind ≡ kind_for form }
@@ -178,7 +253,7 @@ fn fill(
         (range.end - range.start) ++ rest)) emitter.old.steps emitter.new.steps) }
 {
     for row in range.start..range.end {
-        fill_row(form, operator, calls, emitter, read_line(sources, row))?;
+        fill_line(form, operator, calls, emitter, read_line(sources, row))?;
         emitter.end_row(operator, calls)?;
     }
     Ok(())

@@ -17,6 +17,7 @@ pub struct Meeting<'a> {
 }
 
 /// The first column at which either row has a word.
+#[inline(always)]
 pub fn next<'a>(left: &'a [Cell], right: &'a [Cell]) -> Option<Meeting<'a>>
     ensures { MatchOption result ((left.now ≡ []) × (right.now ≡ []))
         (λ s. (n low : ℕ) → Ascends low n left.now → Ascends low n right.now
@@ -78,6 +79,7 @@ pub struct Shown<'a> {
 }
 
 /// Whether a column passes the row of a mask, if there is one.
+#[inline(always)]
 pub fn show<'a>(mask: Option<&'a [Cell]>, column: u64) -> Shown<'a>
     ensures { (n : ℕ) → AscendsIn n (cells_of mask.entry) → AscendsIn n (cells_of result.rest)
         × (result.passes ≡ shows (cells_of mask.entry) column)
@@ -97,6 +99,7 @@ pub fn show<'a>(mask: Option<&'a [Cell]>, column: u64) -> Shown<'a>
 }
 
 /// The cells from a column on.
+#[inline(always)]
 fn from_column(cells: &[Cell], column: u64) -> &[Cell]
     ensures { (n : ℕ) → Ascends 0 n cells.now
         → Ascends column n result.now × ((j : ℕ) → column ≤ j → at cells.now j ≡ at result.now j) }
@@ -112,6 +115,7 @@ fn from_column(cells: &[Cell], column: u64) -> &[Cell]
 }
 
 /// Whether cells begin at a column.
+#[inline(always)]
 fn begins_at(cells: &[Cell], column: u64) -> bool
     ensures { (n : ℕ) → Ascends column n cells.now → result ≡ shows (Some cells.now) column }
 {

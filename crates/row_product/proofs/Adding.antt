@@ -5,6 +5,7 @@ use Rattle.std.proofs.Common.{
   zero,
   suc,
   ◌+◌,
+  ◌*◌,
   ◌<◌,
   ◌≤◌,
   Bool,
@@ -38,9 +39,12 @@ use Rattle.std.proofs.lemmas.Bool.{ne_eqb}
 use Rattle.std.proofs.lemmas.Bool.Decides.{eqb_tells}
 use Rattle.std.specs.List.{Contains}
 use Rattle.std.specs.FinMap.{get}
-use Rattle.bpf_verify.specs.Accepted.{Accepted}
+use Rattle.bpf_insn.specs.declared.operands.Kind.TheVariants as kinds
+use Rattle.bpf_insn.specs.declared.operands.Operands.TheVariants.{Binary}
+use Rattle.bpf_verify.specs.Accepted.{Accepted, IsAccepted}
+use Rattle.bpf_run.specs.Meaning.{value_of}
 use Rattle.bpf_run.specs.Calls.{Call, steps_of}
-use Rattle.bpf_run.proofs.Charging.{steps-append}
+use Rattle.bpf_run.proofs.Charging.{steps-append, cost-few}
 use Rattle.csr_store.specs.Grid.{Grid, Cell, row_of}
 use Rattle.csr_store.specs.Along.{along}
 use Rattle.csr_store.proofs.Along.{along-same, along-first, along-none, at, at-below, at-first, at-after, Ascends, ascends-weaken}
@@ -295,3 +299,88 @@ pub record Touching (n : ℕ) (sums : List (Option ℕ)) (touched : List ℕ) (r
   pub are : AreTouched n sums touched
   pub left : HasRoom (length sums) room (length touched) more
   pub grown : length touched ≤ len + k
+
+-- room for all that are touched
+pub touched_fit : (n : ℕ) (sums : List (Option ℕ)) (touched : List ℕ) (room more : ℕ) → AreTouched n sums touched
+    → HasRoom (length sums) room (length touched) more → length touched ≤ room
+touched_fit n sums touched room more a h = elim h [ inl w ↦ all_of w | inr w ↦ some_of w ]
+  where
+    all_of : length sums ≤ room → length touched ≤ room
+    all_of w = let f = filled_most sums in let c = a.count in omega (arith, w, f, c)
+
+    some_of : length touched + more ≤ room → length touched ≤ room
+    some_of w = omega (arith, w)
+
+-- ---- the same, where the calls for `left` steps still wait
+
+-- the calls for a term take few steps
+pub extra_few : (add mul : Accepted) (x y : ℕ) (so_far : Option ℕ) → IsAccepted add → IsAccepted mul → add.kind ≡ kinds.Binary
+    → mul.kind ≡ kinds.Binary → steps_of (extra add mul x so_far (Some y)) ≤ 8192
+extra_few add mul x y None a m k l = let c = cost-few mul (Binary x y) m (sym l) in omega (arith, c)
+extra_few add mul x y (Some s) a m k l =
+    let c = cost-few mul (Binary x y) m (sym l) in
+    let d = cost-few add (Binary s (value_of mul (Binary x y))) a (sym k) in
+    omega (arith, c, d)
+
+pub record AddingThen (add mul : Accepted) (x n : ℕ) (t : ℕ
+    → Bool) (first : List (Option ℕ)) (row : List Cell) (sums : List (Option ℕ)) (rest : List Cell) (base left k steps : ℕ) : Type 0
+  where
+    pub made : ℕ
+    pub adding : Adding add mul x n t first row sums rest made
+    pub accounts : steps + left ≡ base + made
+    pub few : made ≤ 8192 * k
+
+pub adding_then_start : (add mul : Accepted) (x n : ℕ) (t : ℕ → Bool) (first : List (Option ℕ)) (row : List Cell) (base : ℕ)
+    → Ascends 0 n row → AddingThen add mul x n t first row first row base base 0 0
+adding_then_start add mul x n t first row base h = record {
+  made = 0;
+  adding = adding_start add mul x n t first row h;
+  accounts = omega arith;
+  few = omega arith;
+}
+
+pub adding_then_skip : (add mul : Accepted) (x n : ℕ) (t : ℕ
+    → Bool) (first : List (Option ℕ)) (row : List Cell) (sums : List (Option ℕ)) (rest : List Cell) (base left k steps : ℕ) (cell :
+    Cell) (more : List Cell)
+    → AddingThen add mul x n t first row sums rest base left k steps → rest ≡ cell ∷ more → t cell.0 ≡ false
+    → AddingThen add mul x n t first row sums more base left (k + 1) steps
+adding_then_skip add mul x n t first row sums rest base left k steps cell more m e h = record {
+  made = m.made;
+  adding = adding_skip add mul x n t first row sums rest m.made cell more m.adding e h;
+  accounts = m.accounts;
+  few = let f = m.few in omega (arith, f);
+}
+
+pub adding_then_step : (add mul : Accepted) (x n : ℕ) (t : ℕ
+    → Bool) (first : List (Option ℕ)) (row : List Cell) (sums : List (Option ℕ)) (rest : List Cell) (base left k steps : ℕ) (cell :
+    Cell) (more : List Cell) (then : List (Option ℕ)) (still cost : ℕ)
+    → AddingThen add mul x n t first row sums rest base left k steps → rest ≡ cell ∷ more → n ≤ length sums → t cell.0 ≡ true
+    → IsAccepted add → IsAccepted mul → add.kind ≡ kinds.Binary → mul.kind ≡ kinds.Binary
+    → cost + still ≡ left + steps_of (extra add mul x (slot sums cell.0) (Some cell.1))
+    → then ≡ set sums cell.0 (after add mul x (slot sums cell.0) (Some cell.1))
+    → AddingThen add mul x n t first row then more base still (k + 1) (steps + cost)
+adding_then_step add mul x n t first row sums rest base left k steps cell more then still cost m e w p a b c d h s =
+    let q = m.accounts in
+    let f = m.few in
+    let g = extra_few add mul x cell.1 (slot sums cell.0) a b c d in
+    record {
+      made = m.made + steps_of (extra add mul x (slot sums cell.0) (Some cell.1));
+      adding = adding_step add mul x n t first row sums rest m.made cell more (after add mul x (slot sums cell.0) (Some
+          cell.1)) then (steps_of (extra add mul x (slot sums cell.0) (Some cell.1))) m.adding e w p refl refl s;
+      accounts = omega (arith, q, h);
+      few = omega (arith, f, g);
+    }
+
+-- the calls for a term leave few steps
+pub adding_then_room : (add mul : Accepted) (x n : ℕ) (t : ℕ
+    → Bool) (first : List (Option ℕ)) (row : List Cell) (sums : List (Option ℕ)) (rest : List Cell) (base left k steps : ℕ) (y still
+    cost : ℕ) (o : Option ℕ)
+    → AddingThen add mul x n t first row sums rest base left k steps
+    → IsAccepted add → IsAccepted mul → add.kind ≡ kinds.Binary → mul.kind ≡ kinds.Binary
+    → cost + still ≡ left + steps_of (extra add mul x o (Some y))
+    → steps + cost ≤ base + 8192 * (k + 1)
+adding_then_room add mul x n t first row sums rest base left k steps y still cost o m a b c d h =
+    let q = m.accounts in
+    let f = m.few in
+    let g = extra_few add mul x y o a b c d in
+    omega (arith, q, f, g, h)

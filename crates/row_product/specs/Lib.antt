@@ -1,2 +1,3 @@
 pub mod Product
 pub mod Sums
+pub mod Terms

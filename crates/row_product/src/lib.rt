@@ -10,16 +10,21 @@
 //! the touched columns are then put in order, moved into the result and emptied. So the work is linear in the multiplications,
 //! the rows and the entries, but for the order of a row's columns; and the room is taken row by row.
 //!
-//! Read `product`, `row` (one row), `sums` (rows of B added to the sums), `emit` (sums into the result), `marks` (the mask's
-//! row) and `count`, over `specs/Sums.antt`.
+//! Calls are made up to 64 together. Products wait until there are so many; an addition waits until there are so many, or one
+//! more falls on its column. What is said of the sums meanwhile is said of what they come to when all that wait is made.
+//!
+//! Read `product`, `row` (one row), `sums` (rows of B added to the sums), `terms` (products that wait), `additions` (additions
+//! that wait), `emit` (sums into the result), `marks` (the mask's row) and `count`, over `specs/Sums.antt` and `specs/Terms.antt`.
 #![tactic(auto)]
 
+mod additions;
 mod count;
 mod emit;
 mod marks;
 mod product;
 mod row;
 mod sums;
+mod terms;
 
 pub use count::{mult_count, mult_count_in};
 pub use product::{Scratch, product_rows};

@@ -11,6 +11,7 @@ use crate::count::{is_open, mults_in_row};
 use crate::emit::{clear, emit, put_in_order};
 use crate::marks::{allow, forbid};
 use crate::sums::sum_row;
+use crate::terms::Terms;
 use bpf_run::Prepared;
 use csr_store::{Matrix, Rows};
 use std::alloc::AllocError;
@@ -24,6 +25,7 @@ fn sum_under(
     b: &Matrix,
     mask: Option<&Matrix>,
     allowed: &mut [bool],
+    terms: &mut Terms,
     sums: &mut [Option<u64>],
     touched: &mut Vec<u64>,
 ) -> u64
@@ -46,10 +48,10 @@ fn sum_under(
     ensures few { result ≤ 8192 * limit * length (row_of a.now i) }
 {
     match mask {
-        None => sum_row(add, mul, a, i, b, false, allowed, sums, touched),
+        None => sum_row(add, mul, a, i, b, false, allowed, terms, sums, touched),
         Some(mask) => {
             allow(mask, i, allowed);
-            let steps = sum_row(add, mul, a, i, b, true, allowed, sums, touched);
+            let steps = sum_row(add, mul, a, i, b, true, allowed, terms, sums, touched);
             forbid(mask, i, allowed);
             steps
         }
@@ -66,6 +68,7 @@ pub(crate) fn fill_row(
     b: &Matrix,
     mask: Option<&Matrix>,
     allowed: &mut [bool],
+    terms: &mut Terms,
     sums: &mut [Option<u64>],
     touched: &mut Vec<u64>,
     rows: &mut Rows,
@@ -103,7 +106,7 @@ pub(crate) fn fill_row(
     let _columns = a.columns();
     let mults = mults_in_row(b, a.row(i)) as usize;
     touched.reserve(mults.min(sums.len()))?;
-    *steps += sum_under(add, mul, a, i, b, mask, allowed, sums, touched);
+    *steps += sum_under(add, mul, a, i, b, mask, allowed, terms, sums, touched);
     put_in_order(touched);
     let emitted = emit(touched, sums, rows);
     clear(touched, sums);

@@ -1,57 +1,17 @@
 //! Rows of B, each times a word, added to the sums of a row of the product.
-ghost use Rattle.std.specs.Prelude.{◌≡◌, ◌≤◌, ◌<◌, ◌+◌, ◌*◌, ℕ, None, Some, length, set, vec_capacity};
+ghost use Rattle.std.specs.Prelude.{◌≡◌, ◌≤◌, ◌<◌, ◌+◌, ◌*◌, ◌^◌, ℕ, length, vec_capacity};
 ghost use Rattle.std.specs.FinMap as fin;
 ghost use Rattle.bpf_insn.specs.declared.operands.Kind.TheVariants as kinds;
 ghost use Rattle.bpf_run.specs.Calls.{steps_of};
 ghost use Rattle.csr_store.specs.Along.{along};
 ghost use Rattle.csr_store.specs.Grid.{limit, row_of};
 ghost use Rattle.row_product.specs.Product.{mults_of};
-ghost use Rattle.row_product.specs.Sums.{slot, takes, seen, after, extra, value_of_rest, calls_of_rest, AreTouched, touch, HasRoom};
+ghost use Rattle.row_product.specs.Sums.{slot, takes, seen, after, extra, value_of_rest, calls_of_rest, AreTouched, HasRoom};
+ghost use Rattle.row_product.specs.Terms.{sums_then, calls_then, touched_then, AreWithin};
 
-use bpf_insn::Operands;
-use bpf_run::{Prepared, call};
+use crate::terms::Terms;
+use bpf_run::Prepared;
 use csr_store::Matrix;
-
-/// Adds the product of two words to the sum of column `j`, which then is touched.
-fn add_term(
-    add: &Prepared,
-    mul: &Prepared,
-    x: u64,
-    y: u64,
-    j: usize,
-    sums: &mut [Option<u64>],
-    touched: &mut Vec<u64>,
-) -> u64
-    requires add { add.now.kind ≡ kinds.Binary }
-    requires mul { mul.now.kind ≡ kinds.Binary }
-    requires within { j < length sums.old }
-    requires room { slot sums.old j ≡ None → length touched.old.items < vec_capacity touched.old }
-    ensures sums { sums.new ≡ set sums.old j (after add.now mul.now x (slot sums.old j) (Some y)) }
-    ensures touched { touched.new.items ≡ touch (slot sums.old j) j touched.old.items }
-    ensures room { vec_capacity touched.old ≤ vec_capacity touched.new }
-    ensures steps { result ≡ steps_of (extra add.now mul.now x (slot sums.old j) (Some y)) }
-    ensures few { result ≤ 8192 }
-{
-    let term = call(mul, &Operands::Binary { x, y });
-    match sums[j] {
-        Some(so_far) => {
-            let sum = call(
-                add,
-                &Operands::Binary {
-                    x: so_far,
-                    y: term.value,
-                },
-            );
-            sums[j] = Some(sum.value);
-            term.steps + sum.steps
-        }
-        None => {
-            sums[j] = Some(term.value);
-            touched.push(j as u64).unwrap();
-            term.steps
-        }
-    }
-}
 
 /// Whether column `j` takes terms.
 #[inline(always)]
@@ -62,7 +22,8 @@ fn takes_term(masked: bool, allowed: &[bool], j: usize) -> bool
     !masked || allowed[j]
 }
 
-/// Adds row `k` of B, times a word, to the sums. Where it is masked, the allowed columns alone take terms.
+/// Adds row `k` of B, times a word, to the sums as they are when all terms that wait are made. Where it is masked, the allowed
+/// columns alone take terms.
 fn add_row(
     add: &Prepared,
     mul: &Prepared,
@@ -71,6 +32,7 @@ fn add_row(
     k: u64,
     masked: bool,
     allowed: &[bool],
+    terms: &mut Terms,
     sums: &mut [Option<u64>],
     touched: &mut Vec<u64>,
 ) -> u64
@@ -79,24 +41,37 @@ fn add_row(
     requires row { k < b.now.rows }
     requires width { b.now.columns ≤ length sums.old }
     requires flags { length sums.old ≤ length allowed.now }
-    requires touched { AreTouched b.now.columns sums.old touched.old.items }
-    requires room { HasRoom (length sums.old) (vec_capacity touched.old) (length touched.old.items) (length (row_of b.now k)) }
-    ensures sums { (j : ℕ) → slot sums.new j ≡ after add.now mul.now x (slot sums.old j)
+    requires within { AreWithin (length sums.old) terms.old }
+    requires small { steps_of (calls_then add.now mul.now sums.old terms.old) + 8192 * limit < 2 ^ 64 }
+    requires touched { AreTouched b.now.columns (sums_then add.now mul.now sums.old terms.old)
+        (touched_then add.now mul.now sums.old terms.old touched.old.items) }
+    requires room { HasRoom (length (sums_then add.now mul.now sums.old terms.old)) (vec_capacity touched.old)
+        (length (touched_then add.now mul.now sums.old terms.old touched.old.items)) (length (row_of b.now k)) }
+    ensures sums { (j : ℕ) → slot (sums_then add.now mul.now sums.new terms.new) j
+        ≡ after add.now mul.now x (slot (sums_then add.now mul.now sums.old terms.old) j)
         (seen (takes masked allowed.now j) (fin.get b.now.cells (k, j))) }
-    ensures touched { AreTouched b.now.columns sums.new touched.new.items }
-    ensures grows { length touched.new.items ≤ length touched.old.items + length (row_of b.now k) }
+    ensures within { AreWithin (length sums.old) terms.new }
+    ensures touched { AreTouched b.now.columns (sums_then add.now mul.now sums.new terms.new)
+        (touched_then add.now mul.now sums.new terms.new touched.new.items) }
+    ensures grows { length (touched_then add.now mul.now sums.new terms.new touched.new.items)
+        ≤ length (touched_then add.now mul.now sums.old terms.old touched.old.items) + length (row_of b.now k) }
     ensures room { vec_capacity touched.old ≤ vec_capacity touched.new }
-    ensures steps { result ≡ steps_of (along (λ j. extra add.now mul.now x (slot sums.old j)
+    ensures steps { result + steps_of (calls_then add.now mul.now sums.new terms.new)
+        ≡ steps_of (calls_then add.now mul.now sums.old terms.old)
+        + steps_of (along (λ j. extra add.now mul.now x (slot (sums_then add.now mul.now sums.old terms.old) j)
         (seen (takes masked allowed.now j) (fin.get b.now.cells (k, j)))) 0 b.now.columns) }
-    ensures few { result ≤ 8192 * limit }
+    ensures few { result + steps_of (calls_then add.now mul.now sums.new terms.new)
+        ≤ steps_of (calls_then add.now mul.now sums.old terms.old) + 8192 * limit }
 {
     let _columns = b.columns();
+    let _add = add.operator().program();
+    let _mul = mul.operator().program();
     let row = b.row(k);
     let mut steps = 0;
     for cell in row {
         let j = cell.0 as usize;
         if takes_term(masked, allowed, j) {
-            steps += add_term(add, mul, x, cell.1, j, sums, touched);
+            steps += terms.add_term(add, mul, x, cell.1, cell.0, sums, touched);
         }
     }
     steps
@@ -111,6 +86,7 @@ pub(crate) fn sum_row(
     b: &Matrix,
     masked: bool,
     allowed: &[bool],
+    terms: &mut Terms,
     sums: &mut [Option<u64>],
     touched: &mut Vec<u64>,
 ) -> u64
@@ -133,10 +109,11 @@ pub(crate) fn sum_row(
 {
     let _columns = a.columns();
     let row = a.row(i);
+    terms.clear();
     let mut steps = 0;
     for k in 0..row.len() {
         let (named, x) = row[k];
-        steps += add_row(add, mul, x, b, named, masked, allowed, sums, touched);
+        steps += add_row(add, mul, x, b, named, masked, allowed, terms, sums, touched);
     }
-    steps
+    steps + terms.finish(add, mul, sums, touched)
 }

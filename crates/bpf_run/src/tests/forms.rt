@@ -166,3 +166,29 @@ fn unreached_slots_are_never_run(rt: HostRuntime) -> Result<(), Fail> {
     let code = [slot(0x05, 0, 0, 1, 0), slot(0xbf, 0, 9, 0, 0), MOVE, EXIT];
     expect_alike(&rt, rt.alloc(), &code, Kind::Unary)
 }
+
+#[test]
+fn parted_lanes_are_alike(rt: HostRuntime) -> Result<(), Fail> {
+    // Each of four jumps parts the lanes; those that go on store, load, compute and exit while the others wait.
+    let code = [
+        slot(0x7b, 10, 1, -8, 0), // stxdw [r10-8], r1
+        slot(0x7b, 10, 2, -16, 0), // stxdw [r10-16], r2
+        MOVE,
+        slot(0x6d, 1, 2, 6, 0), // jsgt64 r1, r2, +6
+        slot(0x63, 10, 2, -8, 0), // stxw [r10-8], r2
+        slot(0x79, 0, 10, -8, 0), // ldxdw r0, [r10-8]
+        slot(0x45, 2, 0, 6, 1), // jset64 r2, 1, +6
+        slot(0x62, 10, 0, -16, -3), // stw [r10-16], -3
+        slot(0x15, 1, 0, 3, 0), // jeq64 r1, 0, +3
+        EXIT,
+        slot(0xac, 0, 2, 0, 0), // xor32 r0, r2
+        slot(0x3e, 0, 1, 1, 0), // jge32 r0, r1, +1
+        slot(0x87, 0, 0, 0, 0), // neg64 r0
+        slot(0x69, 3, 10, -16, 0), // ldxh r3, [r10-16]
+        slot(0x0f, 0, 3, 0, 0), // add64 r0, r3
+        slot(0x79, 3, 10, -8, 0), // ldxdw r3, [r10-8]
+        slot(0xaf, 0, 3, 0, 0), // xor64 r0, r3
+        EXIT,
+    ];
+    expect_alike(&rt, rt.alloc(), &code, Kind::Binary)
+}

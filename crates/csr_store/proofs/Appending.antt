@@ -1,0 +1,211 @@
+-- Cells added to the open row of a run, many at a time.
+use Rattle.std.proofs.Common.{◌≡◌, ◌≤◌, ◌<◌, ◌+◌, ◌-◌, ◌^◌, ℕ, zero, suc, Bool, true, false, nat_eq, if◌then◌else◌, List, [], ◌∷◌, ◌++◌, length, take, drop, get_or, set, refl, sym, ap, ◌∙◌, subst, arith, length-append, length-drop, append-nil, append_assoc}
+use Rattle.std.specs.List.{AllByRecursion}
+use Rattle.std.proofs.lemmas.List.{take-append-le, drop-append-le, take_all, drop_all, drop_more}
+use Rattle.std.proofs.lemmas.Bool.{ne_eqb}
+use Rattle.csr_store.specs.Grid.{Cell}
+use Rattle.csr_store.specs.Ascending.{Ascends}
+use Rattle.csr_store.specs.Added.{ComeBehind, with_values, kept_where}
+use Rattle.csr_store.proofs.Along.{ascends-weaken}
+use Rattle.csr_store.specs.Run.{Run, Row, IsRow, AreRows, AreEnds, ended_rows, open_row}
+use Rattle.csr_store.proofs.Runs.{ends_below, ends_push, all_push, row_push, run}
+
+ended_append : (from : ℕ) (ends : List ℕ) (cells more : Row) → AreEnds from ends (from + length cells) → ended_rows from ends (cells ++ more) ≡ ended_rows from ends cells
+ended_append from [] cells more h = refl
+ended_append from (to ∷ ends) cells more h =
+    let b = ends_below to ends _ h.1 in let a = h.0 in
+    let l : to - from ≤ length cells = omega arith in
+    let e : to + length (drop (to - from) cells) ≡ from + length cells = omega (arith, length-drop (to - from) cells) in
+    ap (λ r. r ∷ ended_rows to ends (drop (to - from) (cells ++ more))) (take-append-le (to - from) cells more l)
+    ∙ ap (λ r. take (to - from) cells ∷ r) (ap (ended_rows to ends) (drop-append-le (to - from) cells more l) ∙ ended_append to ends (drop (to - from) cells) more (rw e h.1))
+
+open_append : (from : ℕ) (ends : List ℕ) (cells more : Row) → AreEnds from ends (from + length cells) → open_row from ends (cells ++ more) ≡ open_row from ends cells ++ more
+open_append from [] cells more h = refl
+open_append from (to ∷ ends) cells more h =
+    let b = ends_below to ends _ h.1 in let a = h.0 in
+    let l : to - from ≤ length cells = omega arith in
+    let e : to + length (drop (to - from) cells) ≡ from + length cells = omega (arith, length-drop (to - from) cells) in
+    ap (open_row to ends) (drop-append-le (to - from) cells more l) ∙ open_append to ends (drop (to - from) cells) more (rw e h.1)
+
+-- columns below a bound are below a higher one
+all_below : (low high : ℕ) (row : Row) → low ≤ high → AllByRecursion (λ (c : Cell). c.0 < low) row → AllByRecursion (λ (c : Cell). c.0 < high) row
+all_below low high [] l h = tt
+all_below low high (c ∷ row) l h = (let b = h.0 in omega arith, all_below low high row l h.1)
+
+row_append : (columns low : ℕ) (row more : Row) → IsRow columns row → AllByRecursion (λ (c : Cell). c.0 < low) row → Ascends low columns more
+    → AllByRecursion (λ (c : Cell). c.1 < 2 ^ 64) more → IsRow columns (row ++ more)
+row_append columns low row [] h a b w = subst (IsRow columns) (sym (append-nil row)) h
+row_append columns low row (c ∷ more) h a b w =
+    let below = all_below low c.0 row b.0 a in
+    subst (IsRow columns) (append_assoc row (c ∷ []) more)
+    (row_append columns (suc c.0) (row ++ c ∷ []) more (row_push columns row c h (b.1, w.0) below)
+    (all_push (λ (d : Cell). d.0 < suc c.0) row c (all_below c.0 (suc c.0) row (omega arith) below) (omega arith)) b.2 w.1)
+
+pub rows_append : (columns : ℕ) (ends : List ℕ) (cells more : Row) → AreRows columns ends cells → ComeBehind columns (open_row 0 ends cells) more
+    → AllByRecursion (λ (c : Cell). c.1 < 2 ^ 64) more → AreRows columns ends (cells ++ more)
+rows_append columns ends cells more h b w =
+    let z : length cells ≡ 0 + length cells = omega arith in
+    let r : AreEnds 0 ends (0 + length cells) = rw z at h.ends_rise in
+    record {
+      ends_rise = ends_push 0 ends (length cells) (length (cells ++ more)) h.ends_rise (omega (arith, length-append cells more));
+      ended_are = rw (ended_append 0 ends cells more r) h.ended_are;
+      open_is = rw (open_append 0 ends cells more r) (row_append columns b.low (open_row 0 ends cells) more h.open_is b.above b.ascend w);
+    }
+
+pub run_append : (first columns : ℕ) (ends : List ℕ) (cells now more : Row) (r : Run) → AreRows columns ends cells → now ≡ cells ++ more → run first columns ends cells ≡ r
+    → run first columns ends now ≡ record r { opened = r.opened ++ more }
+run_append first columns ends cells now more r h m e =
+    let z : length cells ≡ 0 + length cells = omega arith in
+    let k : AreEnds 0 ends (0 + length cells) = rw z at h.ends_rise in
+    ap (run first columns ends) m ∙ (rw (ended_append 0 ends cells more k, open_append 0 ends cells more k) refl ∙ ap (λ (q : Run). record q { opened = q.opened ++ more }) e)
+
+-- ---- other values, and those that are kept, come behind as the cells do
+
+ascends_values : (low n : ℕ) (cells : Row) (values : List ℕ) → Ascends low n cells → Ascends low n (with_values cells values)
+ascends_values low n [] values h = tt
+ascends_values low n (c ∷ cells) [] h = tt
+ascends_values low n (c ∷ cells) (v ∷ values) h = (h.0, h.1, ascends_values (suc c.0) n cells values h.2)
+
+pub values_behind : (columns : ℕ) (row cells : Row) (values : List ℕ) → ComeBehind columns row cells → ComeBehind columns row (with_values cells values)
+values_behind columns row cells values h = record { low = h.low; above = h.above; ascend = ascends_values h.low columns cells values h.ascend }
+
+kept_or_left : (low n : ℕ) (c : Cell) (more : Row) → low ≤ c.0 → c.0 < n → Ascends (suc c.0) n more → (b : Bool) → Ascends low n (if b then more else c ∷ more)
+kept_or_left low n c more l m h true = ascends-weaken low (suc c.0) n more (omega arith) h
+kept_or_left low n c more l m h false = (l, m, h)
+
+ascends_kept : (low n : ℕ) (cells : Row) (answers : List ℕ) → Ascends low n cells → Ascends low n (kept_where cells answers)
+ascends_kept low n [] answers h = tt
+ascends_kept low n (c ∷ cells) [] h = tt
+ascends_kept low n (c ∷ cells) (a ∷ answers) h = kept_or_left low n c (kept_where cells answers) h.0 h.1 (ascends_kept (suc c.0) n cells answers h.2) (nat_eq a 0)
+
+pub kept_behind : (columns : ℕ) (row cells : Row) (answers : List ℕ) → ComeBehind columns row cells → ComeBehind columns row (kept_where cells answers)
+kept_behind columns row cells answers h = record { low = h.low; above = h.above; ascend = ascends_kept h.low columns cells answers h.ascend }
+
+pub values_words : (cells : Row) (values : List ℕ) → AllByRecursion (λ v. v < 2 ^ 64) values → AllByRecursion (λ (c : Cell). c.1 < 2 ^ 64) (with_values cells values)
+values_words [] values h = tt
+values_words (c ∷ cells) [] h = tt
+values_words (c ∷ cells) (v ∷ values) h = (h.0, values_words cells values h.1)
+
+word_or_left : (c : Cell) (more : Row) → c.1 < 2 ^ 64 → AllByRecursion (λ (d : Cell). d.1 < 2 ^ 64) more → (b : Bool) → AllByRecursion (λ (d : Cell). d.1 < 2 ^ 64) (if b then more else c ∷ more)
+word_or_left c more w h true = h
+word_or_left c more w h false = (w, h)
+
+pub each_fits : (values : List ℕ) → ((i : ℕ) → get_or values i 0 < 2 ^ 64) → AllByRecursion (λ v. v < 2 ^ 64) values
+each_fits [] h = tt
+each_fits (v ∷ values) h = (h zero, each_fits values (λ i. h (suc i)))
+
+pub kept_words : (cells : Row) (answers : List ℕ) → AllByRecursion (λ (c : Cell). c.1 < 2 ^ 64) cells → AllByRecursion (λ (c : Cell). c.1 < 2 ^ 64) (kept_where cells answers)
+kept_words [] answers h = tt
+kept_words (c ∷ cells) [] h = tt
+kept_words (c ∷ cells) (a ∷ answers) h = word_or_left c (kept_where cells answers) h.0 (kept_words cells answers h.1) (nat_eq a 0)
+
+all_taken : {X : Type 0} (P : X → Type 0) (xs : List X) (k : ℕ) (d : X) → k < length xs → AllByRecursion P (take k xs) → P (get_or xs k d) → AllByRecursion P (take (suc k) xs)
+all_taken P [] k d l h p = absurd (omega arith)
+all_taken P (x ∷ xs) zero d l h p = (p, tt)
+all_taken P (x ∷ xs) (suc k) d l h p = (h.0, all_taken P xs k d (omega arith) h.1 p)
+
+-- ---- values put in place one by one
+
+pub record AreSet (cells : Row) (values : List ℕ) (k next : ℕ) (now : Row) : Type 0 where
+  pub same : now ≡ with_values (take k cells) values ++ drop k cells
+  pub at : next ≡ k
+
+value_set : (cells : Row) (values : List ℕ) (k : ℕ) (d : Cell) → k < length cells → k < length values
+    → set (with_values (take k cells) values ++ drop k cells) k ((get_or (with_values (take k cells) values ++ drop k cells) k d).0, get_or values k 0)
+    ≡ with_values (take (suc k) cells) values ++ drop (suc k) cells
+value_set [] values k d l m = absurd (omega arith)
+value_set (c ∷ cells) [] k d l m = absurd (omega arith)
+value_set (c ∷ cells) (v ∷ values) zero d l m = refl
+value_set (c ∷ cells) (v ∷ values) (suc k) d l m = ap (λ cs. (c.0, v) ∷ cs) (value_set cells values k d (omega arith) (omega arith))
+
+pub are_set_more : (cells : Row) (values : List ℕ) (k next : ℕ) (now : Row) (d : Cell) → AreSet cells values k next now → k < length cells → length values ≡ length cells
+    → AreSet cells values (k + 1) (next + 1) (set now k ((get_or now k d).0, get_or values next 0))
+are_set_more cells values k next now d h l n =
+    let e : suc k ≡ k + 1 = omega arith in
+    let so_far = with_values (take k cells) values ++ drop k cells in
+    record {
+      same = ap (λ m. set now k ((get_or now k d).0, get_or values m 0)) h.at
+          ∙ ap (λ (cs : Row). set cs k ((get_or cs k d).0, get_or values k 0)) h.same
+          ∙ subst (λ m. set so_far k ((get_or so_far k d).0, get_or values k 0) ≡ with_values (take m cells) values ++ drop m cells) e (value_set cells values k d l (omega arith));
+      at = let a = h.at in omega arith;
+    }
+
+pub are_set : (cells : Row) (values : List ℕ) (k next : ℕ) (now : Row) → AreSet cells values k next now → length cells ≤ k → now ≡ with_values cells values
+are_set cells values k next now h l =
+    h.same ∙ ap (λ cs. with_values cs values ++ drop k cells) (take_all k cells l) ∙ ap (λ cs. with_values cells values ++ cs) (drop_all k cells l) ∙ append-nil (with_values cells values)
+
+length_values : (cells : Row) (values : List ℕ) → length values ≡ length cells → length (with_values cells values) ≡ length cells
+length_values [] values h = refl
+length_values (c ∷ cells) [] h = absurd (omega arith)
+length_values (c ∷ cells) (v ∷ values) h = ap suc (length_values cells values (omega arith))
+
+-- cells behind a place that were given values
+pub set_behind : (old cells all new items : Row) (values : List ℕ) (from n : ℕ) → all ≡ items → items ≡ old ++ cells → from ≡ length old → n ≡ from + length cells
+    → length values ≡ length cells → new ≡ with_values (take (length all - from) (drop from all)) values
+    → take n ((take from all ++ (new ++ drop (length all - from) (drop from all))) ++ drop (length (take from all ++ (new ++ drop (length all - from) (drop from all)))) items) ≡ old ++ with_values cells values
+set_behind old cells all new items values from n same is f m l h =
+    let whole : all ≡ old ++ cells = same ∙ is in
+    let long : length all ≡ from + length cells = omega (arith, ap length whole, length-append old cells, f) in
+    let front : take from all ≡ old = ap (take from) whole ∙ take-append-le from old cells (omega arith) ∙ take_all from old (omega arith) in
+    let back : drop from all ≡ cells = ap (drop from) whole ∙ drop-append-le from old cells (omega arith) ∙ ap (λ cs. cs ++ cells) (drop_all from old (omega arith)) in
+    let none : drop (length all - from) (drop from all) ≡ [] = ap (drop (length all - from)) back ∙ drop_all (length all - from) cells (omega arith) in
+    let mine : new ≡ with_values cells values = h ∙ ap (λ cs. with_values (take (length all - from) cs) values) back ∙ ap (λ cs. with_values cs values) (take_all (length all - from) cells (omega arith)) in
+    let put : take from all ++ (new ++ drop (length all - from) (drop from all)) ≡ old ++ with_values cells values =
+    ap (λ cs. cs ++ (new ++ drop (length all - from) (drop from all))) front ∙ ap (λ cs. old ++ (new ++ cs)) none ∙ ap (λ cs. old ++ cs) (append-nil new) ∙ ap (λ cs. old ++ cs) mine in
+    let count : length (old ++ with_values cells values) ≡ n = omega (arith, length-append old (with_values cells values), length_values cells values l, f, m) in
+    let items_long : length items ≡ n = omega (arith, ap length is, length-append old cells, f, m) in
+    ap (λ cs. take n (cs ++ drop (length cs) items)) put
+    ∙ ap (λ cs. take n ((old ++ with_values cells values) ++ cs)) (drop_all (length (old ++ with_values cells values)) items (omega arith))
+    ∙ ap (take n) (append-nil (old ++ with_values cells values)) ∙ take_all n (old ++ with_values cells values) (omega arith)
+
+-- ---- cells kept one by one
+
+pub record AreKept (cells : Row) (answers : List ℕ) (start : Row) (k next : ℕ) (now : Row) (room : ℕ) : Type 0 where
+  pub same : now ++ kept_where (drop k cells) (drop k answers) ≡ start ++ kept_where cells answers
+  pub words : AllByRecursion (λ (c : Cell). c.1 < 2 ^ 64) (take k cells)
+  pub fits : length now + length (drop k cells) ≤ room
+  pub at : next ≡ k
+
+pub are_kept_none : (cells : Row) (answers : List ℕ) (start : Row) (room : ℕ) → length start + length cells ≤ room → AreKept cells answers start 0 0 start room
+are_kept_none cells answers start room h = record { same = refl; words = tt; fits = h; at = refl }
+
+module _ (cells : Row) (answers : List ℕ) (start : Row) (k next : ℕ) (now : Row) (room : ℕ) (d : Cell) (h : AreKept cells answers start k next now room)
+    (l : k < length cells) (n : length answers ≡ length cells) (w : (get_or cells k d).1 < 2 ^ 64) where
+  here : kept_where (drop k cells) (drop k answers) ≡ kept_where (get_or cells k d ∷ drop (k + 1) cells) (get_or answers k 0 ∷ drop (k + 1) answers)
+  here = ap (λ cs. kept_where cs (drop k answers)) (drop_more cells k d l) ∙ ap (kept_where (get_or cells k d ∷ drop (k + 1) cells)) (drop_more answers k 0 (omega arith))
+
+  taken : AllByRecursion (λ (c : Cell). c.1 < 2 ^ 64) (take (k + 1) cells)
+  taken = let e : suc k ≡ k + 1 = omega arith in subst (λ m. AllByRecursion (λ (c : Cell). c.1 < 2 ^ 64) (take m cells)) e (all_taken (λ (c : Cell). c.1 < 2 ^ 64) cells k d l h.words w)
+
+  chosen : (b : Bool) → nat_eq (get_or answers k 0) 0 ≡ b
+      → now ++ (if b then kept_where (drop (k + 1) cells) (drop (k + 1) answers) else get_or cells k d ∷ kept_where (drop (k + 1) cells) (drop (k + 1) answers)) ≡ start ++ kept_where cells answers
+  chosen b e = ap (λ t. now ++ (if t then kept_where (drop (k + 1) cells) (drop (k + 1) answers) else get_or cells k d ∷ kept_where (drop (k + 1) cells) (drop (k + 1) answers))) (sym e)
+      ∙ ap (λ cs. now ++ cs) (sym here) ∙ h.same
+
+  kept_by : (b : Bool) (new : Row) (more : ℕ) → nat_eq (get_or answers k 0) 0 ≡ b → new ≡ (if b then now else now ++ get_or cells k d ∷ []) → room ≤ more
+      → AreKept cells answers start (k + 1) (next + 1) new more
+  kept_by true new more e is r = record {
+    same = ap (λ cs. cs ++ kept_where (drop (k + 1) cells) (drop (k + 1) answers)) is ∙ chosen true e;
+    words = taken;
+    fits = let f = h.fits in let m = ap length (drop_more cells k d l) in let p = ap length is in omega arith;
+    at = let a = h.at in omega arith;
+  }
+  kept_by false new more e is r = record {
+    same = ap (λ cs. cs ++ kept_where (drop (k + 1) cells) (drop (k + 1) answers)) is
+        ∙ append_assoc now (get_or cells k d ∷ []) (kept_where (drop (k + 1) cells) (drop (k + 1) answers)) ∙ chosen false e;
+    words = taken;
+    fits = let f = h.fits in let m = ap length (drop_more cells k d l) in let q = ap length is in let p = length-append now (get_or cells k d ∷ []) in omega arith;
+    at = let a = h.at in omega arith;
+  }
+
+  pub kept_step : (new : Row) (more : ℕ) → new ≡ (if nat_eq (get_or answers next 0) 0 then now else now ++ get_or cells k d ∷ []) → room ≤ more
+      → AreKept cells answers start (k + 1) (next + 1) new more
+  kept_step new more is r = kept_by (nat_eq (get_or answers k 0) 0) new more refl
+      (is ∙ ap (λ m. if nat_eq (get_or answers m 0) 0 then now else now ++ get_or cells k d ∷ []) h.at) r
+
+pub are_kept : (cells : Row) (answers : List ℕ) (start : Row) (k next : ℕ) (now : Row) (room : ℕ) → AreKept cells answers start k next now room → length cells ≤ k
+    → (now ≡ start ++ kept_where cells answers) × AllByRecursion (λ (c : Cell). c.1 < 2 ^ 64) cells
+are_kept cells answers start k next now room h l = (
+  sym (append-nil now) ∙ ap (λ cs. now ++ kept_where cs (drop k answers)) (sym (drop_all k cells l)) ∙ h.same,
+  subst (λ cs. AllByRecursion (λ (c : Cell). c.1 < 2 ^ 64) cs) (take_all k cells l) h.words,
+)

@@ -1,0 +1,24 @@
+-- Cells added to a row, many at a time. This project's own.
+use Rattle.std.specs.Prelude.{ℕ, ◌<◌, nat_eq, if◌then◌else◌, List, [], ◌∷◌}
+use Rattle.std.specs.List.{AllByRecursion}
+use Rattle.csr_store.specs.Grid.{Cell}
+use Rattle.csr_store.specs.Run.{Row}
+use Rattle.csr_store.specs.Ascending.{Ascends}
+
+-- cells that may be added to a row: by ascending column, behind its own and below a bound
+pub record ComeBehind (columns : ℕ) (row cells : Row) : Type 0 where
+  pub low : ℕ
+  pub above : AllByRecursion (λ (c : Cell). c.0 < low) row
+  pub ascend : Ascends low columns cells
+
+-- cells with other values, as far as there are values
+abbrev pub with_values : Row → List ℕ → Row
+with_values [] values = []
+with_values (c ∷ cells) [] = []
+with_values (c ∷ cells) (v ∷ values) = (c.0, v) ∷ with_values cells values
+
+-- those of some cells whose answer is not 0, as far as there are answers
+abbrev pub kept_where : Row → List ℕ → Row
+kept_where [] answers = []
+kept_where (c ∷ cells) [] = []
+kept_where (c ∷ cells) (a ∷ answers) = if nat_eq a 0 then kept_where cells answers else c ∷ kept_where cells answers

@@ -1,0 +1,129 @@
+-- Terms of a row of a product that wait until many are made together, and what they make of the sums then: as if one was added
+-- after the other. This project's own.
+use Rattle.std.specs.Prelude.{
+  ◌≡◌,
+  ◌<◌,
+  ◌%◌,
+  ℕ,
+  Bool,
+  true,
+  false,
+  List,
+  [],
+  ◌∷◌,
+  ◌++◌,
+  Option,
+  None,
+  Some,
+  length,
+  set,
+  slice_index_or,
+}
+use Rattle.std.specs.List.{AllByRecursion}
+use Rattle.bpf_insn.specs.declared.operands.Operands.{Operands}
+use Rattle.bpf_insn.specs.declared.operands.Operands.TheVariants.{Binary}
+use Rattle.bpf_verify.specs.Accepted.{Accepted}
+use Rattle.csr_store.specs.Grid.{Cell}
+use Rattle.bpf_run.specs.Calls.{Call, calls_on, values_on}
+use Rattle.row_product.specs.Sums.{slot, added, added_calls, touch}
+
+-- additions that wait, and the columns of their values
+pub record Waiting : Type 0 where
+  pub columns : List ℕ
+  pub operands : List Operands
+
+-- products that wait, and the columns of their values, which are added after the additions that wait
+pub record Pending : Type 0 where
+  pub columns : List ℕ
+  pub products : List Operands
+  pub waiting : Waiting
+
+abbrev pub no_waiting : Waiting
+no_waiting = record { columns = []; operands = [] }
+
+abbrev pub no_pending : Pending
+no_pending = record { columns = []; products = []; waiting = no_waiting }
+
+-- values at columns
+abbrev pub cells_of : List ℕ → List ℕ → List Cell
+cells_of (k ∷ ks) (v ∷ vs) = (k, v) ∷ cells_of ks vs
+cells_of (k ∷ ks) [] = []
+cells_of [] vs = []
+
+-- sums with values written at columns
+abbrev pub written : List (Option ℕ) → List ℕ → List ℕ → List (Option ℕ)
+written sums (k ∷ ks) (v ∷ vs) = written (set sums k (Some v)) ks vs
+written sums (k ∷ ks) [] = sums
+written sums [] vs = sums
+
+-- the sums after one term more
+abbrev pub put_term : Accepted → List (Option ℕ) → Cell → List (Option ℕ)
+put_term add sums t = set sums t.0 (Some (added add (slot sums t.0) t.1))
+
+-- the sums after terms, each at its column; the calls of add that they take; and the columns that are touched then
+abbrev pub put_terms : Accepted → List (Option ℕ) → List Cell → List (Option ℕ)
+put_terms add sums [] = sums
+put_terms add sums (t ∷ ts) = put_terms add (put_term add sums t) ts
+
+abbrev pub put_calls : Accepted → List (Option ℕ) → List Cell → List Call
+put_calls add sums [] = []
+put_calls add sums (t ∷ ts) = added_calls add (slot sums t.0) t.1 ++ put_calls add (put_term add sums t) ts
+
+abbrev pub put_touched : Accepted → List (Option ℕ) → List Cell → List ℕ → List ℕ
+put_touched add sums [] touched = touched
+put_touched add sums (t ∷ ts) touched = put_touched add (put_term add sums t) ts (touch (slot sums t.0) t.0 touched)
+
+-- the sums when the additions that wait are made
+abbrev pub settled : Accepted → List (Option ℕ) → Waiting → List (Option ℕ)
+settled add sums w = written sums w.columns (values_on add w.operands)
+
+-- the terms that wait, each at its column
+abbrev pub terms_of : Accepted → Pending → List Cell
+terms_of mul p = cells_of p.columns (values_on mul p.products)
+
+-- when all that wait are made: the sums, the calls that it takes, and the columns that are touched
+abbrev pub sums_then : Accepted → Accepted → List (Option ℕ) → Pending → List (Option ℕ)
+sums_then add mul sums p = put_terms add (settled add sums p.waiting) (terms_of mul p)
+
+abbrev pub calls_then : Accepted → Accepted → List (Option ℕ) → Pending → List Call
+calls_then add mul sums p = calls_on mul p.products
+    ++ (calls_on add p.waiting.operands ++ put_calls add (settled add sums p.waiting) (terms_of mul p))
+
+abbrev pub touched_then : Accepted → Accepted → List (Option ℕ) → Pending → List ℕ → List ℕ
+touched_then add mul sums p touched = put_touched add (settled add sums p.waiting) (terms_of mul p) touched
+
+-- all columns are below n
+abbrev pub AreBelow : ℕ → List ℕ → Type 0
+AreBelow n ks = AllByRecursion (λ k. k < n) ks
+
+pub record AreWithin (n : ℕ) (p : Pending) : Type 0 where
+  pub columns : AreBelow n p.columns
+  pub waiting : AreBelow n p.waiting.columns
+
+-- none of the columns is this one
+abbrev pub Lacks : ℕ → List ℕ → Type 0
+Lacks j ks = AllByRecursion (λ k. k ≡ j → ⊥) ks
+
+-- no addition waits at the column, and there is room for one
+pub record IsFree (j : ℕ) (w : Waiting) : Type 0 where
+  pub lacks : Lacks j w.columns
+  pub paired : length w.columns ≡ length w.operands
+  pub room : length w.operands < 64
+
+-- each product that waits has its column, and there is room for one more
+pub record HasSpace (p : Pending) : Type 0 where
+  pub paired : length p.columns ≡ length p.products
+  pub room : length p.products < 64
+
+-- each column has its mark, which others may share
+abbrev pub AreMarked : List Bool → List ℕ → Type 0
+AreMarked marks ks = AllByRecursion (λ k. slice_index_or marks (k % 1024) false ≡ true) ks
+
+-- a term at a column that has no sum is its sum; at another it waits
+abbrev pub placed_sums : Option ℕ → List (Option ℕ) → ℕ → ℕ → List (Option ℕ)
+placed_sums None sums j t = set sums j (Some t)
+placed_sums (Some s) sums j t = sums
+
+abbrev pub placed : Option ℕ → Waiting → ℕ → ℕ → Waiting
+placed None w j t = w
+placed (Some s) w j t = record { columns = w.columns ++ j ∷ []; operands = w.operands ++ Binary s t ∷ [] }

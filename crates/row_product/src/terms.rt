@@ -1,0 +1,241 @@
+//! Terms of a row of the product, gathered until many products are made together.
+ghost use Rattle.std.specs.Prelude.{◌≡◌, ◌≤◌, ◌<◌, ◌+◌, ◌^◌, ◌++◌, ◌∷◌, [], false, Some, length, set, vec_capacity};
+ghost use Rattle.bpf_insn.specs.declared.operands.Kind.TheVariants as kinds;
+ghost use Rattle.bpf_insn.specs.declared.operands.Operands.TheVariants as on;
+ghost use Rattle.bpf_run.specs.Calls.{steps_of, calls_on};
+ghost use Rattle.row_product.specs.Sums.{slot, touch, after, extra};
+ghost use Rattle.row_product.specs.Terms.{
+  no_pending,
+  cells_of,
+  put_terms,
+  put_calls,
+  put_touched,
+  settled,
+  sums_then,
+  calls_then,
+  touched_then,
+  AreBelow,
+  AreWithin,
+  HasSpace,
+};
+
+use crate::additions::Additions;
+use bpf_insn::{Kind, Operands};
+use bpf_run::{Calls, MOST_CALLS, Prepared};
+use std::alloc::{AllocError, Global};
+use std::marker::Model;
+
+/// Terms that wait: products, and additions before them. A contract sees a `Pending`.
+#[derive(Drop)]
+pub(crate) struct Terms {
+    products: Calls,
+    columns: Vec<u64>,
+    additions: Additions,
+}
+
+impl Model for Terms {
+    ghost use Rattle.std.specs.Prelude.{◌≡◌, ◌≤◌, length, vec_capacity};
+    ghost use Rattle.bpf_insn.specs.declared.operands.Kind.TheVariants as kinds;
+    ghost use Rattle.row_product.specs.Terms.{Pending};
+
+    ghost Value = { Pending };
+
+    ghost view = { λ t. record { columns = t.columns.items; products = t.products.operands; waiting = t.additions } };
+
+    ghost invariant = { λ t. (t.products.kind ≡ kinds.Binary) × (length t.columns.items ≡ length t.products.operands)
+        × (64 ≤ vec_capacity t.columns) };
+}
+
+impl Terms {
+    /// Room for the terms, with none that waits.
+    pub(crate) fn new(alloc: Global) -> Result<Self, AllocError> {
+        let mut products = Calls::new(alloc)?;
+        products.begin(Kind::Binary);
+        Ok(Terms {
+            products,
+            columns: Vec::with_capacity(alloc, MOST_CALLS)?,
+            additions: Additions::new(alloc)?,
+        })
+    }
+
+    /// Forgets all that wait.
+    pub(crate) fn clear(&mut self)
+        ensures { self.new ≡ no_pending }
+    {
+        self.products.begin(Kind::Binary);
+        self.columns.clear();
+        self.additions.clear();
+    }
+
+    /// Makes the products that wait, and puts them at their columns.
+    fn multiply(
+        &mut self,
+        add: &Prepared,
+        mul: &Prepared,
+        sums: &mut [Option<u64>],
+        touched: &mut Vec<u64>,
+    ) -> u64
+        requires add { add.now.kind ≡ kinds.Binary }
+        requires mul { mul.now.kind ≡ kinds.Binary }
+        requires within { AreWithin (length sums.old) self.old }
+        requires fits { length (touched_then add.now mul.now sums.old self.old touched.old.items) ≤ vec_capacity touched.old }
+        requires small { steps_of (calls_then add.now mul.now sums.old self.old) < 2 ^ 64 }
+        ensures none { (self.new.columns ≡ []) × (self.new.products ≡ []) }
+        ensures sums { settled add.now sums.new self.new.waiting ≡ sums_then add.now mul.now sums.old self.old }
+        ensures touched { touched.new.items ≡ touched_then add.now mul.now sums.old self.old touched.old.items }
+        ensures steps { result + steps_of (calls_on add.now self.new.waiting.operands)
+            ≡ steps_of (calls_then add.now mul.now sums.old self.old) }
+        ensures within { AreBelow (length sums.old) self.new.waiting.columns }
+        ensures room { vec_capacity touched.old ≤ vec_capacity touched.new }
+    {
+        let made = self.products.make(mul);
+        let values = self.products.values();
+        let put = put_all(
+            add,
+            &self.columns,
+            values,
+            &mut self.additions,
+            sums,
+            touched,
+        );
+        self.products.begin(Kind::Binary);
+        self.columns.clear();
+        made + put
+    }
+
+    /// Whether there is no room for one product more.
+    fn is_full(&self) -> bool
+        ensures { result ≡ false → HasSpace self.now }
+    {
+        self.products.len() >= MOST_CALLS
+    }
+
+    /// Makes room for one product more.
+    fn make_room(
+        &mut self,
+        add: &Prepared,
+        mul: &Prepared,
+        sums: &mut [Option<u64>],
+        touched: &mut Vec<u64>,
+    ) -> u64
+        requires add { add.now.kind ≡ kinds.Binary }
+        requires mul { mul.now.kind ≡ kinds.Binary }
+        requires within { AreWithin (length sums.old) self.old }
+        requires fits { length (touched_then add.now mul.now sums.old self.old touched.old.items) ≤ vec_capacity touched.old }
+        requires small { steps_of (calls_then add.now mul.now sums.old self.old) < 2 ^ 64 }
+        ensures space { HasSpace self.new }
+        ensures sums { sums_then add.now mul.now sums.new self.new ≡ sums_then add.now mul.now sums.old self.old }
+        ensures touched { touched_then add.now mul.now sums.new self.new touched.new.items
+            ≡ touched_then add.now mul.now sums.old self.old touched.old.items }
+        ensures steps { result + steps_of (calls_then add.now mul.now sums.new self.new)
+            ≡ steps_of (calls_then add.now mul.now sums.old self.old) }
+        ensures within { AreWithin (length sums.old) self.new }
+        ensures room { vec_capacity touched.old ≤ vec_capacity touched.new }
+    {
+        if self.is_full() {
+            self.multiply(add, mul, sums, touched)
+        } else {
+            0
+        }
+    }
+
+    /// Gathers the product of two words, for a column.
+    fn gather(&mut self, column: u64, x: u64, y: u64)
+        requires room { length self.old.products < 64 }
+        ensures { self.new ≡ record self.old {
+          columns = self.old.columns ++ column ∷ [];
+          products = self.old.products ++ on.Binary x y ∷ [];
+        } }
+    {
+        self.products.gather(Operands::Binary { x, y });
+        self.columns.push(column).unwrap();
+    }
+
+    /// Adds the product of two words to the sum of a column, which then is touched, when all that wait is made.
+    pub(crate) fn add_term(
+        &mut self,
+        add: &Prepared,
+        mul: &Prepared,
+        x: u64,
+        y: u64,
+        column: u64,
+        sums: &mut [Option<u64>],
+        touched: &mut Vec<u64>,
+    ) -> u64
+        requires add { add.now.kind ≡ kinds.Binary }
+        requires mul { mul.now.kind ≡ kinds.Binary }
+        requires column { column < length sums.old }
+        requires within { AreWithin (length sums.old) self.old }
+        requires fits { length (touched_then add.now mul.now sums.old self.old touched.old.items) ≤ vec_capacity touched.old }
+        requires small { steps_of (calls_then add.now mul.now sums.old self.old) < 2 ^ 64 }
+        ensures sums { sums_then add.now mul.now sums.new self.new ≡ set (sums_then add.now mul.now sums.old self.old) column
+            (after add.now mul.now x (slot (sums_then add.now mul.now sums.old self.old) column) (Some y)) }
+        ensures touched { touched_then add.now mul.now sums.new self.new touched.new.items
+            ≡ touch (slot (sums_then add.now mul.now sums.old self.old) column) column
+            (touched_then add.now mul.now sums.old self.old touched.old.items) }
+        ensures steps { result + steps_of (calls_then add.now mul.now sums.new self.new)
+            ≡ steps_of (calls_then add.now mul.now sums.old self.old)
+            + steps_of (extra add.now mul.now x (slot (sums_then add.now mul.now sums.old self.old) column) (Some y)) }
+        ensures within { AreWithin (length sums.old) self.new }
+        ensures room { vec_capacity touched.old ≤ vec_capacity touched.new }
+    {
+        let steps = self.make_room(add, mul, sums, touched);
+        self.gather(column, x, y);
+        steps
+    }
+
+    /// Makes all that wait.
+    pub(crate) fn finish(
+        &mut self,
+        add: &Prepared,
+        mul: &Prepared,
+        sums: &mut [Option<u64>],
+        touched: &mut Vec<u64>,
+    ) -> u64
+        requires add { add.now.kind ≡ kinds.Binary }
+        requires mul { mul.now.kind ≡ kinds.Binary }
+        requires within { AreWithin (length sums.old) self.old }
+        requires fits { length (touched_then add.now mul.now sums.old self.old touched.old.items) ≤ vec_capacity touched.old }
+        requires small { steps_of (calls_then add.now mul.now sums.old self.old) < 2 ^ 64 }
+        ensures sums { sums.new ≡ sums_then add.now mul.now sums.old self.old }
+        ensures touched { touched.new.items ≡ touched_then add.now mul.now sums.old self.old touched.old.items }
+        ensures steps { result ≡ steps_of (calls_then add.now mul.now sums.old self.old) }
+        ensures room { vec_capacity touched.old ≤ vec_capacity touched.new }
+    {
+        let steps = self.multiply(add, mul, sums, touched);
+        steps + self.additions.settle(add, sums)
+    }
+}
+
+/// Puts terms at columns.
+fn put_all(
+    add: &Prepared,
+    columns: &[u64],
+    terms: &[u64],
+    additions: &mut Additions,
+    sums: &mut [Option<u64>],
+    touched: &mut Vec<u64>,
+) -> u64
+    requires add { add.now.kind ≡ kinds.Binary }
+    requires terms { length terms.now ≡ length columns.now }
+    requires columns { AreBelow (length sums.old) columns.now }
+    requires within { AreBelow (length sums.old) additions.old.columns }
+    requires fits { length (put_touched add.now (settled add.now sums.old additions.old) (cells_of columns.now terms.now)
+        touched.old.items) ≤ vec_capacity touched.old }
+    requires small { steps_of (calls_on add.now additions.old.operands)
+        + steps_of (put_calls add.now (settled add.now sums.old additions.old) (cells_of columns.now terms.now)) < 2 ^ 64 }
+    ensures sums { settled add.now sums.new additions.new
+        ≡ put_terms add.now (settled add.now sums.old additions.old) (cells_of columns.now terms.now) }
+    ensures touched { touched.new.items ≡ put_touched add.now (settled add.now sums.old additions.old)
+        (cells_of columns.now terms.now) touched.old.items }
+    ensures steps { result + steps_of (calls_on add.now additions.new.operands) ≡ steps_of (calls_on add.now additions.old.operands)
+        + steps_of (put_calls add.now (settled add.now sums.old additions.old) (cells_of columns.now terms.now)) }
+    ensures within { AreBelow (length sums.old) additions.new.columns }
+    ensures room { vec_capacity touched.old ≤ vec_capacity touched.new }
+{
+    let mut steps = 0;
+    for k in 0..columns.len() {
+        steps += additions.put(add, columns[k], terms[k], sums, touched);
+    }
+    steps
+}
