@@ -18,12 +18,13 @@ extern void *__libc_realloc(void *block, word size);
 extern void *__libc_memalign(word alignment, word size);
 extern void __libc_free(void *block);
 extern word malloc_usable_size(void *block);
+extern int *__errno_location(void);
 extern char *getenv(const char *name);
 extern word strtoul(const char *digits, char **end, int base);
 extern int open(const char *path, int flags, ...);
 extern void *mmap(void *place, word size, int protection, int flags, int file, long offset);
 
-enum { READ_AND_WRITE = 2, PAGES_READ_AND_WRITE = 3, SHARED = 1 };
+enum { READ_AND_WRITE = 2, PAGES_READ_AND_WRITE = 3, SHARED = 1, OUT_OF_MEMORY = 12 };
 
 static struct counts unseen;
 static struct counts *counts = &unseen;
@@ -46,12 +47,15 @@ __attribute__((constructor)) static void begin(void)
         counts = page;
 }
 
+/* Whether this request is refused, and if so, says why, as the C library does and relies on when it starts a thread. */
 static int is_refused(void)
 {
     word number = __atomic_add_fetch(&counts->requests, 1, __ATOMIC_SEQ_CST);
     int refused = refused_from <= number && number <= refused_to;
-    if (refused)
+    if (refused) {
         __atomic_add_fetch(&counts->refused, 1, __ATOMIC_SEQ_CST);
+        *__errno_location() = OUT_OF_MEMORY;
+    }
     return refused;
 }
 
@@ -96,7 +100,6 @@ void *aligned_alloc(word alignment, word size)
 
 int posix_memalign(void **place, word alignment, word size)
 {
-    enum { OUT_OF_MEMORY = 12 };
     void *block = memalign(alignment, size);
     if (!block)
         return OUT_OF_MEMORY;

@@ -38,6 +38,7 @@ refusal_words (no.Market rule line) = market.rule_name rule ++ (codes " " ++ dec
 refusal_words (no.Budget price left) = codes "S8 " ++ (decimal price ++ (codes " " ++ decimal left))
 refusal_words no.Memory = codes "memory"
 refusal_words (no.BatchMemory spent) = codes "memory " ++ decimal spent
+refusal_words (no.BatchThread spent) = codes "thread " ++ decimal spent
 
 abbrev pub refusal_text : Refusal → List ℕ
 refusal_text refusal = codes "no " ++ (refusal_words refusal ++ codes "\n")

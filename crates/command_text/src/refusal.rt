@@ -29,4 +29,6 @@ pub enum Refusal {
     Memory,
     /// Out of memory in a batch, of which so many steps were spent.
     BatchMemory { spent: u64 },
+    /// A thread could not be started for a batch, of which so many steps were spent.
+    BatchThread { spent: u64 },
 }

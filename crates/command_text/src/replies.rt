@@ -77,6 +77,10 @@ fn add_reason(reply: &mut Reply, refusal: Refusal)
             reply.add(b"memory");
             add_field(reply, spent);
         }
+        Refusal::BatchThread { spent } => {
+            reply.add(b"thread");
+            add_field(reply, spent);
+        }
     }
 }
 

@@ -192,6 +192,7 @@ fn refusals_tell_why(rt: HostRuntime) -> Result<(), Fail> {
         (shortage, "no S8 12 11\n"),
         (Refusal::Memory, "no memory\n"),
         (Refusal::BatchMemory { spent: 768 }, "no memory 768\n"),
+        (Refusal::BatchThread { spent: 3 }, "no thread 3\n"),
     ];
     for (refusal, line) in refusals {
         refuse(&mut reply, refusal);

@@ -1,53 +1,15 @@
 -- How many entries the rows of a job have: no more than a matrix holds.
-use Rattle.std.proofs.Common.{
-  ◌≡◌,
-  ◌<◌,
-  ◌≤◌,
-  ◌≢◌,
-  ◌⊎◌,
-  ℕ,
-  zero,
-  suc,
-  ◌+◌,
-  ◌-◌,
-  ◌*◌,
-  true,
-  false,
-  not,
-  cond,
-  nat_eq,
-  nat_lt,
-  Bool,
-  ◌&&◌,
-  List,
-  [],
-  ◌∷◌,
-  ◌++◌,
-  map,
-  length,
-  Option,
-  Some,
-  None,
-  refl,
-  sym,
-  ap,
-  ◌∙◌,
-  subst,
-  inl,
-  inr,
-  arith,
-  length-append,
-}
+use Rattle.std.proofs.Common.{◌≡◌, ◌<◌, ◌≤◌, ℕ, zero, suc, ◌+◌, true, false, not, cond, nat_eq, Bool, List, [], ◌∷◌, length, Option, Some, None, refl, sym, ap, ◌∙◌, arith, length-append}
 use Rattle.std.proofs.lemmas.List.{length-map}
 use Rattle.std.proofs.lemmas.Bool.{eqb-true}
 use Rattle.std.specs.Option.{is_some}
 use Rattle.std.specs.Map.{lookup}
 use Rattle.std.specs.FinMap as fin
-use Rattle.csr_store.specs.Grid.{Grid, IsGrid, Position, Cell, row_of, row_start, limit, at_row}
+use Rattle.csr_store.specs.Grid.{Grid, IsGrid, Position, Cell, row_of, row_start, at_row}
 use Rattle.csr_store.specs.Along.{along, cell_at, row_by, summed}
 use Rattle.csr_store.specs.Run.{Row, numbered}
 use Rattle.csr_store.specs.Mask.{cut, passes, row_passes, row_under, rows_under}
-use Rattle.csr_store.proofs.Along.{along-same, row_by-row_of, along-none}
+use Rattle.csr_store.proofs.Along.{row_by-row_of}
 use Rattle.csr_store.proofs.ByRow.{row_start-zero, row_start-next, row_start-within, lookup-row_of}
 use Rattle.bpf_verify.specs.Accepted.{Accepted}
 use Rattle.bpf_run.specs.Fold.{fold}

@@ -1,42 +1,19 @@
 -- What a job keeps that was not refused.
-use Rattle.std.proofs.Common.{
-  ◌≡◌,
-  ◌<◌,
-  ◌≤◌,
-  ℕ,
-  true,
-  false,
-  not,
-  cond,
-  nat_eq,
-  nat_lt,
-  Bool,
-  ◌&&◌,
-  length,
-  Option,
-  Some,
-  None,
-  refl,
-  sym,
-  ap,
-  ◌∙◌,
-  subst,
-  arith,
-}
+use Rattle.std.proofs.Common.{◌≡◌, ◌≤◌, ℕ, true, false, not, cond, nat_eq, nat_lt, Bool, length, Option, Some, None, refl, arith}
 use borrow.Author.Tests.{ltb-false}
 use Rattle.std.proofs.lemmas.Bool.{eqb-true}
-use Rattle.csr_store.specs.Grid.{Grid, IsGrid, limit}
+use Rattle.csr_store.specs.Grid.{Grid, limit}
 use Rattle.csr_store.specs.Run.{numbered}
 use Rattle.csr_store.specs.Mask.{rows_under}
 use Rattle.csr_store.proofs.Order.{both_true}
 use Rattle.entry_ops.specs.Forms as entry
 use Rattle.job_plan.specs.declared.error.JobError.TheVariants.{WrongKind, WrongShapes, WrongMask, ResultTooLarge, PriceTooHigh}
 use Rattle.job_plan.specs.Job.{Job, Form, Apply, Select, Union, Both, Product, Reduce}
-use Rattle.job_plan.specs.Forms.{operation, same_shape}
+use Rattle.job_plan.specs.Forms.{operation}
 use Rattle.job_plan.specs.Kept.{IsForm}
 use Rattle.job_plan.specs.Meaning.{row_count, column_count, rows_in}
 use Rattle.job_plan.specs.Price.{price_of}
-use Rattle.job_plan.specs.Refusal.{job_fault, has_shape, price_limit, IsPriced}
+use Rattle.job_plan.specs.Refusal.{has_shape, price_limit, IsPriced}
 use Rattle.job_runner.proofs.Entries.{
   within_one,
   within_two,

@@ -1,38 +1,5 @@
 -- The pieces of a job's chunks, joined.
-use Rattle.std.proofs.Common.{
-  ◌≡◌,
-  ◌<◌,
-  ◌≤◌,
-  ℕ,
-  zero,
-  suc,
-  ◌+◌,
-  ◌-◌,
-  ◌*◌,
-  ◌/◌,
-  min,
-  Bool,
-  true,
-  false,
-  cond,
-  nat_lt,
-  length-append,
-  List,
-  [],
-  ◌∷◌,
-  ◌++◌,
-  length,
-  get_or,
-  drop,
-  take,
-  map,
-  refl,
-  sym,
-  ap,
-  ◌∙◌,
-  subst,
-  arith,
-}
+use Rattle.std.proofs.Common.{◌≡◌, ◌<◌, ◌≤◌, ℕ, zero, suc, ◌+◌, ◌-◌, ◌*◌, min, Bool, true, false, cond, nat_lt, length-append, List, [], ◌∷◌, ◌++◌, length, get_or, drop, take, map, refl, sym, ap, ◌∙◌, subst, arith}
 use Rattle.std.specs.Prelude.{flat_map, Result as Outcome, Ok, Err, OnOk, OnErr}
 use Rattle.std.specs.List.{AllByRecursion}
 use Rattle.std.proofs.lemmas.Bool.{lt-ltb, le-ltb}
@@ -47,28 +14,17 @@ use Rattle.bpf_run.proofs.Charging.{steps-append, charges-le}
 use Rattle.job_plan.specs.declared.plan.Chunk.{Chunk}
 use Rattle.job_plan.specs.Job.{Job}
 use Rattle.job_plan.specs.Meaning.{IsMatrixOf, row_count, column_count, rows_in, calls_in, steps_of_job}
-use Rattle.job_plan.specs.Price.{price_of, IsWithinPrice}
+use Rattle.job_plan.specs.Price.{IsWithinPrice}
 use Rattle.job_plan.specs.Refusal.{IsPriced}
-use Rattle.job_plan.specs.Chunks.{Cover, chunk_count, chunk_first, chunk_last, chunk_of, chunks_of, chunks_from, plan_chunks}
+use Rattle.job_plan.specs.Chunks.{Cover, chunk_count, chunk_first, chunk_of, chunks_of, chunks_from, plan_chunks}
 use Rattle.job_runner.specs.declared.answer.JobResult.{JobResult}
 use Rattle.job_runner.specs.Batch.{Result, IsResultOf, AreResultsOf, total_steps, result_of}
-use Rattle.job_runner.specs.Chunk.{
-  chunks_in,
-  chunk_total,
-  chunk_rows,
-  run_in_job,
-  calls_in_job,
-  steps_in_job,
-  at_chunk,
-  run_of,
-  calls_of,
-  chunk_steps,
-}
-use Rattle.job_runner.specs.Pieces.{listed, BeginsWith}
-use Rattle.job_runner.proofs.Located.{ones-length, IsAt, said-at}
-use Rattle.job_runner.proofs.Faultless.{IsFaultless, faultless, job_entries}
+use Rattle.job_runner.specs.Chunk.{chunks_in, chunk_total, chunk_rows, run_in_job, calls_in_job, steps_in_job, at_chunk, calls_of, chunk_steps}
+use Rattle.job_runner.specs.Pieces.{listed}
+use Rattle.job_runner.proofs.Located.{ones-length}
+use Rattle.job_runner.proofs.Faultless.{faultless}
 use Rattle.job_runner.proofs.Matrix.{matrix_of}
-use Rattle.job_runner.proofs.Listed.{along-shift, summed-split, summed-shift, summed-same, drop-listed, begins-append}
+use Rattle.job_runner.proofs.Listed.{along-shift, summed-split, summed-shift, summed-same}
 
 -- ---- one job
 

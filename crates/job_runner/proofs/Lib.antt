@@ -5,3 +5,8 @@ pub mod Matrix
 pub mod Listed
 pub mod Joined
 pub mod Theorem
+pub mod Working
+pub mod Costs
+pub mod Placing
+pub mod Gathering
+pub mod Crews

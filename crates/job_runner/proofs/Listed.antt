@@ -1,29 +1,8 @@
 -- What is listed for numbers in a row: taken off from the front, put on at the end, and added up.
-use Rattle.std.proofs.Common.{
-  ◌≡◌,
-  ◌<◌,
-  ◌≤◌,
-  ℕ,
-  zero,
-  suc,
-  ◌+◌,
-  ◌-◌,
-  List,
-  [],
-  ◌∷◌,
-  ◌++◌,
-  length,
-  drop,
-  refl,
-  sym,
-  ap,
-  ◌∙◌,
-  arith,
-  append-nil,
-}
+use Rattle.std.proofs.Common.{◌≡◌, ◌<◌, ◌≤◌, ℕ, zero, suc, ◌+◌, ◌-◌, List, [], ◌∷◌, ◌++◌, length, drop, refl, sym, ap, ◌∙◌, arith}
 use Rattle.std.proofs.Math.Seq.{drop-append_seam}
 use Rattle.csr_store.specs.Along.{along, summed}
-use Rattle.csr_store.proofs.Along.{along-next, along-over, along-snoc, along-split, along-same}
+use Rattle.csr_store.proofs.Along.{along-next, along-over, along-snoc}
 use Rattle.job_runner.specs.Pieces.{listed, BeginsWith}
 use Rattle.job_runner.proofs.Located.{ones-length}
 

@@ -1,47 +1,14 @@
 -- Where a chunk of the jobs is: in which job, and which of the job's own chunks it is.
-use Rattle.std.proofs.Common.{
-  ◌≡◌,
-  ◌<◌,
-  ◌≤◌,
-  ◌⊎◌,
-  ℕ,
-  zero,
-  suc,
-  ◌+◌,
-  ◌-◌,
-  ◌*◌,
-  ◌/◌,
-  min,
-  true,
-  false,
-  cond,
-  nat_lt,
-  List,
-  [],
-  ◌∷◌,
-  ◌++◌,
-  length,
-  Some,
-  None,
-  refl,
-  sym,
-  ap,
-  ◌∙◌,
-  subst,
-  inl,
-  inr,
-  arith,
-}
+use Rattle.std.proofs.Common.{◌≡◌, ◌<◌, ◌≤◌, ◌⊎◌, ℕ, zero, suc, ◌+◌, ◌-◌, cond, List, [], ◌∷◌, ◌++◌, length, Some, refl, sym, ap, ◌∙◌, inl, inr, arith}
 use Rattle.std.specs.List.{slice_get}
 use Rattle.std.proofs.lemmas.Bool.{lt-ltb, le-ltb}
 use Rattle.csr_store.specs.Along.{along}
 use Rattle.csr_store.specs.Run.{Run}
-use Rattle.bpf_run.specs.Calls.{Call}
 use Rattle.job_plan.specs.declared.plan.Chunk.{Chunk}
 use Rattle.job_plan.specs.Job.{Job}
 use Rattle.job_plan.specs.Meaning.{row_count, column_count, rows_in, calls_in}
-use Rattle.job_plan.specs.Chunks.{chunk_count, chunk_first, chunk_last, chunk_of, chunks_of, chunks_from, plan_chunks}
-use Rattle.job_runner.specs.Chunk.{chunks_in, chunk_rows, run_in_job, calls_in_job, at_chunk, run_of, calls_of}
+use Rattle.job_plan.specs.Chunks.{chunk_count, chunk_first, chunk_last, chunk_of, chunks_of, chunks_from}
+use Rattle.job_runner.specs.Chunk.{chunks_in, run_in_job, calls_in_job, at_chunk, run_of, calls_of}
 
 -- ---- lists
 

@@ -1,42 +1,10 @@
 -- The matrix of rows that are given position by position.
-use Rattle.std.proofs.Common.{
-  ◌≡◌,
-  ◌<◌,
-  ◌≤◌,
-  ◌⊎◌,
-  ℕ,
-  zero,
-  suc,
-  ◌+◌,
-  true,
-  false,
-  cond,
-  nat_eq,
-  Bool,
-  List,
-  [],
-  ◌∷◌,
-  ◌++◌,
-  map,
-  filter,
-  Option,
-  Some,
-  None,
-  refl,
-  sym,
-  ap,
-  ◌∙◌,
-  inl,
-  inr,
-  arith,
-  eq-eqb,
-  append-nil,
-}
+use Rattle.std.proofs.Common.{◌≡◌, ◌<◌, ◌≤◌, ℕ, zero, suc, ◌+◌, true, false, cond, nat_eq, Bool, List, [], ◌∷◌, ◌++◌, map, filter, Option, Some, None, refl, sym, ap, ◌∙◌, inl, inr, arith, eq-eqb, append-nil}
 use Rattle.std.proofs.lemmas.Bool.{ne_eqb}
 use Rattle.std.proofs.lemmas.Bool.Decides.{eqb_tells}
 use Rattle.std.specs.Map.{lookup}
-use Rattle.std.specs.FinMap.{get, get-from_entries}
-use Rattle.csr_store.specs.Grid.{Grid, IsInside, Position, Cell, Entry, pos_cmp, row_cells, at_row}
+use Rattle.std.specs.FinMap.{get-from_entries}
+use Rattle.csr_store.specs.Grid.{Cell, Entry, row_cells, at_row}
 use Rattle.csr_store.specs.Along.{along, cell_at, row_by}
 use Rattle.csr_store.specs.ByRows.{grid}
 use Rattle.csr_store.specs.Run.{Row, numbered}

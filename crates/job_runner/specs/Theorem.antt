@@ -1,7 +1,7 @@
 -- The batch theorem: operators that were accepted, on all operands of their kind, are never stuck and exit with the value of the
 -- instruction table in at most as many steps as they have instructions; a batch of jobs over them gives each job's matrix, position
 -- by position, and spends no more than its calls times their operators' lengths. This project's own.
-use Rattle.std.specs.Prelude.{ℕ, ◌≤◌, List, [], ◌∷◌}
+use Rattle.std.specs.Prelude.{◌≤◌, List, [], ◌∷◌}
 use Rattle.std.specs.List.{AllByRecursion}
 use Rattle.bpf_verify.specs.Accepted.{Accepted, IsSound}
 use Rattle.job_plan.specs.Job.{Job, Form, Apply, Select, Union, Both, Product, Reduce}

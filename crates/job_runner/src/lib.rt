@@ -1,24 +1,36 @@
-//! Batches of jobs.
+//! Batches of jobs on workers.
 //!
-//! [`compute`] takes a plan and a chunk's number and gives the rows of that chunk. [`run_in_order`] computes all chunks on the
-//! calling thread, and joins their rows.
+//! [`run_batch`] runs a plan on workers in threads: they draw chunks from a board, each computes the rows of its chunks
+//! ([`work`]), and the rows are joined.
 //!
 //! The one contract is the batch theorem, `BatchTheorem` of `specs/Theorem.antt`: operators that were accepted are never stuck, and
 //! a batch of jobs over them gives each job's matrix and its steps, which are no more than its calls' operators' lengths.
-//! `specs/Batch.antt` says what a batch gives, `specs/Chunk.antt` what each chunk gives, by its number.
+//! `specs/Batch.antt` says what a batch gives, `specs/Chunk.antt` what each chunk gives, by its number, and `specs/Worked.antt`
+//! what a worker did at its seat.
 //!
-//! Read `answer` first, then `chunk` (the work on one chunk), `join` (pieces of chunks as matrices of jobs) and `in_order`.
+//! Read `answer` first, then `chunk` (the work on one chunk), `worker` (one worker's chunks), `crew` (workers in threads),
+//! `gathered` and `places` (what came back of them), `join` (pieces of chunks as matrices of jobs) and `batch`. `in_order` runs a
+//! plan without threads.
 #![tactic(auto)]
 
 mod answer;
+mod batch;
 mod chunk;
+mod crew;
+mod gate;
+mod gathered;
 mod in_order;
 mod join;
 mod piece;
+mod places;
 #[cfg(test)]
 mod tests;
+mod worker;
 
 pub use answer::{BatchAnswer, BatchFault, Cause, JobResult};
+pub use batch::{prices, run_batch};
 pub use chunk::{Scratch, compute};
+pub use gate::{Gate, Open};
 pub use in_order::run_in_order;
 pub use piece::Piece;
+pub use worker::{Worked, work};

@@ -2,13 +2,15 @@
 use crate::{BatchAnswer, run_in_order};
 use bpf_insn::{Kind, decode};
 use bpf_run::Prepared;
-use bpf_verify::verify;
+use bpf_verify::{VerifyError, verify};
 use csr_store::{Builder, Matrix, Version};
 use job_plan::{Form, Job, Plan, Priced, Queue};
 use std::alloc::{AllocError, Global};
 use std::process::Abort;
 use std::sync::Arc;
 use std::test::Fail;
+
+mod workers;
 
 /// `mov64 r0, r1`
 const FIRST: u64 = 0xbf10_0000_0000_0000;
@@ -27,16 +29,18 @@ fn operator(
     alloc: Global,
     kind: Kind,
     slots: &[u64],
-) -> Result<Arc<Prepared>, Fail> {
+) -> Result<Arc<Prepared>, AllocError> {
     let mut code = Vec::new(alloc);
     for slot in slots {
         for byte in slot.to_be_bytes() {
             code.push(byte)?;
         }
     }
-    match verify(alloc, decode(alloc, &code)?, kind) {
+    let program = decode(alloc, &code).map_err(|_| AllocError)?;
+    match verify(alloc, program, kind) {
         Ok(operator) => Ok(Arc::new(alloc, Prepared::new(alloc, operator)?)?),
-        Err(_) => panic!(rt; "refused"),
+        Err((_, VerifyError::Memory)) => Err(AllocError),
+        Err((_, VerifyError::Fault(_))) => panic!(rt; "refused"),
     }
 }
 
@@ -56,11 +60,11 @@ fn matrix(
 }
 
 /// The matrix with 1, 2 and so on down its diagonal.
-fn diagonal(alloc: Global, rows: u32) -> Result<Version, Fail> {
+fn diagonal(alloc: Global, rows: u32) -> Result<Version, AllocError> {
     let rows = u64::from(rows) % 4096;
     let mut builder = Builder::new(alloc, rows, rows);
     for row in 0..rows {
-        builder.put(row, row, row + 1)?;
+        builder.put(row, row, row + 1).map_err(|_| AllocError)?;
     }
     let matrix = builder.finish().map_err(|_| AllocError)?;
     Ok(Arc::new(alloc, matrix)?)
@@ -73,7 +77,7 @@ fn submit(
     queue: &mut Queue,
     form: Form,
     mask: Option<Version>,
-) -> Result<(), Fail> {
+) -> Result<(), AllocError> {
     match Priced::of(Job::new(form, mask, String::new(alloc))) {
         Ok(priced) => {
             assert!(rt; queue.has_room());
@@ -85,10 +89,10 @@ fn submit(
 }
 
 /// The plan of one job.
-fn plan_of(rt: &impl Abort, alloc: Global, form: Form) -> Result<Plan, Fail> {
+fn plan_of(rt: &impl Abort, alloc: Global, form: Form) -> Result<Plan, AllocError> {
     let mut queue = Queue::open(alloc)?;
     submit(rt, alloc, &mut queue, form, None)?;
-    Ok(queue.take()?)
+    queue.take()
 }
 
 /// A batch that isn't refused.

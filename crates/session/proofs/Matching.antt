@@ -158,7 +158,7 @@ module _ (s t : State) (ds : List Dealing) where
   run_matched : (reply : List ℕ) → RunTurn s ds reply t → IsMatched s ds t
   run_matched reply h = elim h [
     | inl w ↦ emptied (ap amounts_settled w.2 ∙ settled-settled s.queue w.0 w.1) (ap amounts_taken w.2 ∙ taken-settled s.queue w.0) (ap (λ (x : State). x.queue) w.4)
-    | inr w ↦ emptied (ap amounts_settled w.2.0 ∙ settled-charged s.queue w.0) (ap amounts_taken w.2.0 ∙ taken-charged s.queue w.0) (ap (λ (x : State). x.queue) w.2.2)
+    | inr w ↦ emptied (ap amounts_settled w.3.0 ∙ settled-charged s.queue w.1) (ap amounts_taken w.3.0 ∙ taken-charged s.queue w.1) (ap (λ (x : State). x.queue) w.3.2)
   ]
 
   matrix_matched : (name body reply : List ℕ) → TakesMatrix s name body ds reply t → IsMatched s ds t

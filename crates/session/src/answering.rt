@@ -15,19 +15,23 @@ use crate::hearing::Heard;
 use command_text::{Command, Refusal, Reply, refuse};
 use std::alloc::Global;
 use std::sync::Wait;
+use std::thread::Threads;
 use step_budget::Steps;
 use wire::{Sink, WriteFailed, put};
 use workspace::{Workspace, answer, answer_with_body};
 
-/// Answers what was heard. Tells how the session ends, if it does.
-fn respond<T: Steps, H: Wait>(
+/// Answers what was heard, a batch on so many workers. Tells how the session ends, if it does.
+fn respond<T: Steps, H: Threads + Wait>(
     rt: &H,
     alloc: Global,
     heard: Heard<'_>,
     workspace: &mut Workspace,
+    workers: u64,
     steps: &mut T,
     reply: &mut Reply,
 ) -> Option<End>
+    requires some { 1 ≤ workers }
+    requires few { workers ≤ 64 }
     requires owed { total_price (state_of workspace.old).queue ≤ T.owes steps.old }
     ensures turn { (dealings : List Dealing) ×
         Responds (state_of workspace.old) heard.entry dealings (whole reply.new)
@@ -41,7 +45,7 @@ fn respond<T: Steps, H: Wait>(
             Some(End::Refused(rule))
         }
         Heard::Plain(command) => {
-            answer(rt, alloc, workspace, command, steps, reply);
+            answer(rt, alloc, workspace, workers, command, steps, reply);
             match command {
                 Command::Quit => Some(End::Quit),
                 _ => None,
@@ -85,15 +89,18 @@ fn say<W: Sink>(writer: &mut W, reply: &Reply) -> Result<(), WriteFailed>
 /// # Errors
 ///
 /// A write failed.
-pub fn respond_and_say<W: Sink, T: Steps, H: Wait>(
+pub fn respond_and_say<W: Sink, T: Steps, H: Threads + Wait>(
     rt: &H,
     alloc: Global,
     heard: Heard<'_>,
     workspace: &mut Workspace,
+    workers: u64,
     writer: &mut W,
     steps: &mut T,
     reply: &mut Reply,
 ) -> Result<Option<End>, WriteFailed>
+    requires some { 1 ≤ workers }
+    requires few { workers ≤ 64 }
     requires owed { total_price (state_of workspace.old).queue ≤ T.owes steps.old }
     ensures told { Tells T.leads
         (record { budget = steps.old; sink = W.state writer.old; state = state_of workspace.old })
@@ -102,7 +109,7 @@ pub fn respond_and_say<W: Sink, T: Steps, H: Wait>(
     ensures owed { total_price (state_of workspace.new).queue + T.owes steps.old ≡
         total_price (state_of workspace.old).queue + T.owes steps.new }
 {
-    let end = respond(rt, alloc, heard, workspace, steps, reply);
+    let end = respond(rt, alloc, heard, workspace, workers, steps, reply);
     match say(writer, reply) {
         Ok(()) => Ok(end),
         Err(failed) => Err(failed),

@@ -14,6 +14,7 @@ use crate::hearing::{Heard, hear};
 use command_text::{FatalRule, Reply, parse};
 use std::alloc::{AllocError, Global};
 use std::sync::Wait;
+use std::thread::Threads;
 use step_budget::Steps;
 use wire::{Input, Lined, ReadFault, Sink, Source, next_line};
 use workspace::{Workspace, release};
@@ -28,12 +29,18 @@ struct Desk {
     line: Vec<u8>,
     reply: Reply,
     workspace: Workspace,
+    /// How many workers run a batch.
+    workers: u64,
     ghost line_room: { 1026 ≤ vec_capacity line },
+    ghost some: { 1 ≤ workers },
+    ghost few: { workers ≤ 64 },
 }
 
 impl Desk {
-    /// Nothing read, nothing bound, and so many reads that may be made.
-    fn new(alloc: Global, reads: u64) -> Result<Desk, AllocError>
+    /// Nothing read, nothing bound, so many workers, and so many reads that may be made.
+    fn new(alloc: Global, workers: u64, reads: u64) -> Result<Desk, AllocError>
+        requires some { 1 ≤ workers }
+        requires few { workers ≤ 64 }
         ensures input { IfOk result (λ d. d.input ≡ record { bytes = []; ended = false; reads_left = reads }) }
         ensures state { IfOk result (λ d. state_of d.workspace ≡ empty) }
     {
@@ -42,6 +49,7 @@ impl Desk {
             line: Vec::with_capacity(alloc, LINE_ROOM)?,
             reply: Reply::new(alloc)?,
             workspace: Workspace::new(alloc)?,
+            workers,
         })
     }
 }
@@ -58,7 +66,7 @@ fn fault_of(fault: ReadFault) -> ServeFault
 }
 
 /// Reads what a line asks for to its end, answers it, and writes the reply.
-fn answer_line<R: Source, W: Sink, T: Steps, H: Wait>(
+fn answer_line<R: Source, W: Sink, T: Steps, H: Threads + Wait>(
     rt: &H,
     alloc: Global,
     desk: &mut Desk,
@@ -86,6 +94,7 @@ fn answer_line<R: Source, W: Sink, T: Steps, H: Wait>(
             alloc,
             heard,
             &mut desk.workspace,
+            desk.workers,
             writer,
             steps,
             &mut desk.reply,
@@ -98,7 +107,7 @@ fn answer_line<R: Source, W: Sink, T: Steps, H: Wait>(
 }
 
 /// Reads one command, answers it, and writes the reply. Tells how the session ends, if it does.
-fn exchange<R: Source, W: Sink, T: Steps, H: Wait>(
+fn exchange<R: Source, W: Sink, T: Steps, H: Threads + Wait>(
     rt: &H,
     alloc: Global,
     desk: &mut Desk,
@@ -127,6 +136,7 @@ fn exchange<R: Source, W: Sink, T: Steps, H: Wait>(
             alloc,
             Heard::Stopped(FatalRule::LineTooLong),
             &mut desk.workspace,
+            desk.workers,
             writer,
             steps,
             &mut desk.reply,
@@ -140,7 +150,7 @@ fn exchange<R: Source, W: Sink, T: Steps, H: Wait>(
 }
 
 /// Makes exchanges until the session ends or breaks off.
-fn converse<R: Source, W: Sink, T: Steps, H: Wait>(
+fn converse<R: Source, W: Sink, T: Steps, H: Threads + Wait>(
     rt: &H,
     alloc: Global,
     desk: &mut Desk,
@@ -176,7 +186,7 @@ fn converse<R: Source, W: Sink, T: Steps, H: Wait>(
 /// # Errors
 ///
 /// As those of `serve`; `Turns` where more than so many reads were needed.
-pub fn serve_turns<R: Source, W: Sink, T: Steps, H: Wait>(
+pub fn serve_turns<R: Source, W: Sink, T: Steps, H: Threads + Wait>(
     rt: &H,
     alloc: Global,
     reader: &mut R,
@@ -192,8 +202,7 @@ pub fn serve_turns<R: Source, W: Sink, T: Steps, H: Wait>(
         (record { budget = steps.new; source = R.state reader.new; sink = W.state writer.new }) result }
     ensures owed { T.owes steps.new ≡ T.owes steps.old }
 {
-    let _ = workers;
-    let Ok(mut desk) = Desk::new(alloc, reads) else {
+    let Ok(mut desk) = Desk::new(alloc, workers, reads) else {
         return Err(ServeFault::Memory);
     };
     let outcome = converse(rt, alloc, &mut desk, reader, writer, steps);
@@ -205,13 +214,13 @@ pub fn serve_turns<R: Source, W: Sink, T: Steps, H: Wait>(
 const MOST_READS: u64 = 4_294_967_296;
 
 /// Serves one session: reads commands, and writes the reply to each, until `quit`, the end of the input, or a refusal after
-/// which a session can't go on. The batch runs on the calling thread as yet, whatever the number of workers.
+/// which a session can't go on. Each batch runs on so many workers.
 ///
 /// # Errors
 ///
 /// A device failed, more than 4,294,967,296 reads were needed, or the room that a session needs from its start was refused.
 /// On each end and each fault every reservation that is still held is settled with 0.
-pub fn serve<R: Source, W: Sink, T: Steps, H: Wait>(
+pub fn serve<R: Source, W: Sink, T: Steps, H: Threads + Wait>(
     rt: &H,
     alloc: Global,
     reader: &mut R,

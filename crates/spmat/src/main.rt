@@ -29,6 +29,7 @@ use std::process::ExitCode;
 use std::rt::Env;
 use std::sync::Wait;
 use std::sync::ledger::{Blank, Ledger};
+use std::thread::Threads;
 use std::{env, io};
 
 const NOT_TEXT: &str = "error: the command line is not text\n";
@@ -57,7 +58,7 @@ fn serve_streams<H, C: Ledger, F: Ledger, W: Ledger, G: Ledger>(
     failed_writes: Blank,
 ) -> Result<End, ServeFault>
 where
-    H: Input + Print + Wait + AllocGlobal,
+    H: Input + Print + Threads + Wait + AllocGlobal,
     requires some { 1 ≤ workers }
     requires most { workers ≤ 64 }
     requires reads_name { reads.name ≡ C.name }
@@ -89,7 +90,7 @@ where
 /// Does what the words of the command line ask for.
 fn run<H>(rt: &H) -> Result<End, Failure>
 where
-    H: Env + Input + Print + Wait + AllocGlobal,
+    H: Env + Input + Print + Threads + Wait + AllocGlobal,
 {
     let Settings::Run { steps, workers } = read_settings(rt)?;
     let (reads, failed_reads) = (Blank::new(1), Blank::new(1));

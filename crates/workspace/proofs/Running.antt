@@ -37,6 +37,7 @@ use Rattle.std.proofs.Common.{append_assoc, ◌++◌}
 use Rattle.command_text.specs.ReplyText.{ReplyText}
 use Rattle.workspace.specs.Turn.{RunTurn, all_bound, charged, job_line, job_lines}
 use Rattle.job_runner.specs.declared.answer.JobResult.{JobResult}
+use Rattle.job_runner.specs.declared.answer.Cause.TheVariants as cause
 
 -- what holds of each of the first i elements, and of the next one, holds of one more
 pub each_more : {A : Type 0} (P : A → Type 0) (xs : List A) (i : ℕ) (x : A) → i < length xs → x ≡ get_or xs i x
@@ -211,6 +212,6 @@ module _ {S : Type 0} (leads : S → Dealing → S → Type 0) (s t : S) where
   refused_before old mid jobs queue reply e h q r d =
       let same : jobs ≡ old.queue = h ∙ ap (λ (x : State). x.queue) e in (
         charged old.queue 0,
-        inr (0, omega arith, (refl, r, ap (λ js. record mid { queue = js }) q ∙ ap (λ (x : State). record x { queue = [] }) e)),
+        inr (cause.Memory, 0, omega arith, (refl, r, ap (λ js. record mid { queue = js }) q ∙ ap (λ (x : State). record x { queue = [] }) e)),
         subst (λ js. Deals leads s (charged js 0) t) same d,
       )

@@ -34,6 +34,8 @@ use Rattle.job_plan.specs.Job.{Job}
 use Rattle.job_plan.specs.Price.{price_of}
 use Rattle.job_plan.specs.Refusal.{job_fault}
 use Rattle.job_plan.specs.declared.error.JobError.{JobError}
+use Rattle.job_runner.specs.declared.answer.Cause.{Cause}
+use Rattle.job_runner.specs.declared.answer.Cause.TheVariants as cause
 use Rattle.job_runner.specs.Batch as batch
 use Rattle.job_runner.specs.Batch.{AreResultsOf, total_steps}
 use Rattle.command_text.specs.Replies.{JobLine, refusal_text, matrix_text, operator_text, queued_text, run_text, show_text, list_text, budget_text, quit_text}
@@ -183,13 +185,19 @@ job_lines [] results = []
 job_lines (job ∷ jobs) [] = []
 job_lines (job ∷ jobs) (r ∷ rs) = job_line job r ∷ job_lines jobs rs
 
--- all jobs come to an end; or the batch runs out of memory when its calls have taken some of the steps of all
+-- a batch breaks off for want of memory or of a thread, with the steps that its calls had taken by then
+abbrev pub batch_refusal : Cause → ℕ → Refusal
+batch_refusal cause.Memory spent = no.BatchMemory spent
+batch_refusal cause.Thread spent = no.BatchThread spent
+
+-- all jobs come to an end; or the batch breaks off when its calls have taken some of the steps of all
 abbrev pub RunTurn : State → List Dealing → List ℕ → State → Type 0
 RunTurn old dealings reply new =
     ((results : List batch.Result) × AreResultsOf old.queue results
     × (dealings ≡ settled old.queue results) × (reply ≡ run_text (total_steps old.queue) (job_lines old.queue results))
     × (new ≡ record old { matrices = all_bound old.matrices old.queue results; queue = [] }))
-    ⊎ ((spent : ℕ) × (spent ≤ total_steps old.queue) × BatchRefused (no.BatchMemory spent) spent old dealings reply new)
+    ⊎ ((why : Cause) × (spent : ℕ) × (spent ≤ total_steps old.queue)
+    × BatchRefused (batch_refusal why spent) spent old dealings reply new)
 
 -- ---- `show NAME`
 

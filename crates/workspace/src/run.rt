@@ -12,7 +12,7 @@ ghost use Rattle.step_budget.specs.Budget.{Deals};
 ghost use Rattle.step_purse.specs.declared.dealings.Dealing.{Dealing};
 ghost use Rattle.command_text.specs.Replies.{job_text, run_text, refusal_text};
 ghost use Rattle.command_text.specs.ReplyText.{whole};
-ghost use Rattle.workspace.specs.Turn.{RunTurn, settled, charged, all_bound, job_line, job_lines, released};
+ghost use Rattle.workspace.specs.Turn.{RunTurn, settled, charged, all_bound, batch_refusal, job_line, job_lines, released};
 ghost use Rattle.workspace.specs.Workspace.{state_of};
 
 use crate::names::Names;
@@ -20,9 +20,10 @@ use crate::workspace::Workspace;
 use command_text::{JobLine, Refusal, Reply, add_job, begin_run, refuse};
 use csr_store::Version;
 use job_plan::{Plan, Priced, price};
-use job_runner::{BatchAnswer, JobResult, run_in_order};
+use job_runner::{BatchAnswer, BatchFault, Cause, JobResult, Open, run_batch};
 use std::alloc::{AllocError, Global};
 use std::sync::Wait;
+use std::thread::Threads;
 use step_budget::Steps;
 
 /// Declares the output of each job, so that to bind it later takes no memory.
@@ -158,15 +159,26 @@ fn break_off<T: Steps, H: Wait>(
     steps: &mut T,
     reply: &mut Reply,
     jobs: &[Priced],
-    spent: u64,
+    fault: BatchFault,
 )
     requires owed { total_price jobs.now ≤ T.owes steps.old }
-    ensures said { whole reply.new ≡ refusal_text (Refusal.BatchMemory spent) }
-    ensures dealt { Deals T.leads steps.old (charged jobs.now spent) steps.new }
+    ensures said { whole reply.new ≡ refusal_text (batch_refusal fault.cause fault.spent) }
+    ensures dealt { Deals T.leads steps.old (charged jobs.now fault.spent) steps.new }
     ensures owed { T.owes steps.new + total_price jobs.now ≡ T.owes steps.old }
 {
-    charge_all(rt, steps, jobs, spent);
-    refuse(reply, Refusal::BatchMemory { spent });
+    charge_all(rt, steps, jobs, fault.spent);
+    refuse(reply, refusal_of(fault));
+}
+
+/// Why a batch that broke off is refused.
+fn refusal_of(fault: BatchFault) -> Refusal
+    ensures { result ≡ batch_refusal fault.cause fault.spent }
+{
+    let spent = fault.spent;
+    match fault.cause {
+        Cause::Memory => Refusal::BatchMemory { spent },
+        Cause::Thread => Refusal::BatchThread { spent },
+    }
 }
 
 /// Declares the outputs of the jobs that wait, and takes them out of the queue as a plan.
@@ -185,16 +197,19 @@ fn begin(workspace: &mut Workspace) -> Result<Plan, AllocError>
     workspace.queue.take()
 }
 
-/// Runs the jobs that wait, in order of submission: each output is bound, each price is settled, and the reply has a line for
-/// each job. Where there is no memory, no name is bound, and the steps that were taken are charged to the
-/// jobs in order. No job waits any longer.
-pub fn run<T: Steps, H: Wait>(
+/// Runs the jobs that wait, on so many workers: each output is bound, in order of submission, each price is settled, and the
+/// reply has a line for each job. Where memory or a thread is refused, no name is bound, and the steps that were taken are charged
+/// to the jobs in order. No job waits any longer.
+pub fn run<T: Steps, H: Threads + Wait>(
     rt: &H,
     alloc: Global,
     workspace: &mut Workspace,
+    workers: u64,
     steps: &mut T,
     reply: &mut Reply,
 )
+    requires some { 1 ≤ workers }
+    requires few { workers ≤ 64 }
     requires owed { total_price (state_of workspace.old).queue ≤ T.owes steps.old }
     ensures turn { (dealings : List Dealing) ×
         RunTurn (state_of workspace.old) dealings (whole reply.new) (state_of workspace.new) ×
@@ -202,13 +217,17 @@ pub fn run<T: Steps, H: Wait>(
     ensures owed { T.owes steps.new + total_price (state_of workspace.old).queue ≡ T.owes steps.old }
 {
     let Ok(plan) = begin(workspace) else {
-        break_off(rt, steps, reply, workspace.queue.jobs(), 0);
+        let fault = BatchFault {
+            cause: Cause::Memory,
+            spent: 0,
+        };
+        break_off(rt, steps, reply, workspace.queue.jobs(), fault);
         workspace.queue.clear();
         return;
     };
-    match run_in_order(alloc, &plan) {
+    match run_batch(rt, alloc, &plan, workers, &Open) {
         Ok(answer) => finish(rt, workspace, &plan, answer, steps, reply),
-        Err(fault) => break_off(rt, steps, reply, plan.jobs(), fault.spent),
+        Err(fault) => break_off(rt, steps, reply, plan.jobs(), fault),
     }
 }
 

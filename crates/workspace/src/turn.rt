@@ -17,6 +17,7 @@ use crate::workspace::Workspace;
 use command_text::{Command, Header, Refusal, Reply, bye, refuse, silent};
 use std::alloc::Global;
 use std::sync::Wait;
+use std::thread::Threads;
 use step_budget::Steps;
 
 /// Answers a command with its body.
@@ -39,14 +40,18 @@ pub fn answer_with_body(
 }
 
 /// Answers a command without a body. What the caller owes its budget grows and shrinks with the prices of the jobs that wait.
-pub fn answer<T: Steps, H: Wait>(
+/// A batch runs on so many workers.
+pub fn answer<T: Steps, H: Threads + Wait>(
     rt: &H,
     alloc: Global,
     workspace: &mut Workspace,
+    workers: u64,
     command: Command<'_>,
     steps: &mut T,
     reply: &mut Reply,
 )
+    requires some { 1 ≤ workers }
+    requires few { workers ≤ 64 }
     requires owed { total_price (state_of workspace.old).queue ≤ T.owes steps.old }
     ensures turn { (dealings : List Dealing) ×
         Turn (state_of workspace.old) (command_of command.entry) dealings (whole reply.new)
@@ -57,7 +62,7 @@ pub fn answer<T: Steps, H: Wait>(
     match command {
         Command::Blank => silent(reply),
         Command::Submit(submission) => submit(rt, alloc, workspace, &submission, steps, reply),
-        Command::Run => run(rt, alloc, workspace, steps, reply),
+        Command::Run => run(rt, alloc, workspace, workers, steps, reply),
         Command::Show { name } => show(alloc, workspace, name, reply),
         Command::Types { name } => types(alloc, workspace, name, reply),
         Command::Dis { name } => disassembly(alloc, workspace, name, reply),

@@ -1,0 +1,50 @@
+use Rattle.std.proofs.Common.{◌≡◌, ◌<◌, length, ◌∙◌, arith}
+use Rattle.job_runner.proofs.Gathering.{gathered_spent, gathered_full}
+use Rattle.job_runner.proofs.batch.results.Goals as goal
+
+pub work_all-gathered-requires-clause-gathered : goal.work_all-gathered-requires-clause-gathered
+work_all-gathered-requires-clause-gathered g c κs within = c.in_ok-gathered.ensures.gathered c.in_ok-board.board
+
+pub in_order-requires-clause-full : goal.in_order-requires-clause-full
+in_order-requires-clause-full g c =
+    let board = c.in_ok-board.board in
+    let gathered = c.work_all-gathered.result.0 in
+    let all = c.work_all-gathered.ensures.all (cc) in
+    let seats = c.in_ok-board.ensures.seats in
+    let workers = c.in_ok-board.ensures.board.1 in
+    let count = c.max-count.ensures in
+    let len = gathered.seats.ok.0 in
+    let some : 0 < length gathered.seats.items = omega (arith, all, seats, count, len) in
+    let whole : length gathered.seats.items ≡ board.workers = omega (arith, all, seats, workers, len) in
+    gathered_full board c.args.plan.now gathered c.work_all-gathered.ensures.gathered c.close.ensures.completed
+    (c.in_ok-board.ensures.board.0 ∙ c.in_ok-prices.ensures.prices) some whole c.if-failed.false
+
+pub returns-in-Some-clause-spent : goal.returns-in-Some-clause-spent
+returns-in-Some-clause-spent g c =
+    gathered_spent c.in_ok-board.board c.args.plan.now c.work_all-gathered.result.0 c.close.result.spent
+    c.work_all-gathered.ensures.gathered c.close.ensures.once c.close.ensures.spent
+    (c.in_ok-board.ensures.board.0 ∙ c.in_ok-prices.ensures.prices) c.chunks.ensures.cover
+
+pub returns-then-failed-clause-spent : goal.returns-then-failed-clause-spent
+returns-then-failed-clause-spent g c =
+    gathered_spent c.in_ok-board.board c.args.plan.now c.work_all-gathered.result.0 c.close.result.spent
+    c.work_all-gathered.ensures.gathered c.close.ensures.once c.close.ensures.spent
+    (c.in_ok-board.ensures.board.0 ∙ c.in_ok-prices.ensures.prices) c.chunks.ensures.cover
+
+pub returns-in_err-pieces-clause-spent : goal.returns-in_err-pieces-clause-spent
+returns-in_err-pieces-clause-spent g c =
+    gathered_spent c.in_ok-board.board c.args.plan.now c.work_all-gathered.result.0 c.close.result.spent
+    c.work_all-gathered.ensures.gathered c.close.ensures.once c.close.ensures.spent
+    (c.in_ok-board.ensures.board.0 ∙ c.in_ok-prices.ensures.prices) c.chunks.ensures.cover
+
+pub returns-in_err-join_jobs-clause-spent : goal.returns-in_err-join_jobs-clause-spent
+returns-in_err-join_jobs-clause-spent g c =
+    gathered_spent c.in_ok-board.board c.args.plan.now c.work_all-gathered.result.0 c.close.result.spent
+    c.work_all-gathered.ensures.gathered c.close.ensures.once c.close.ensures.spent
+    (c.in_ok-board.ensures.board.0 ∙ c.in_ok-prices.ensures.prices) c.chunks.ensures.cover
+
+pub returns-clause-spent : goal.returns-clause-spent
+returns-clause-spent g c =
+    gathered_spent c.in_ok-board.board c.args.plan.now c.work_all-gathered.result.0 c.close.result.spent
+    c.work_all-gathered.ensures.gathered c.close.ensures.once c.close.ensures.spent
+    (c.in_ok-board.ensures.board.0 ∙ c.in_ok-prices.ensures.prices) c.chunks.ensures.cover

@@ -1,0 +1,35 @@
+use Rattle.std.proofs.Common.{◌<◌, inl, inr, List, sym, subst, arith}
+use Rattle.std.specs.Prelude.{All}
+use Rattle.race_board.specs.Race.{SeatState, IsSeatOf, IsToldEnd, workers_of}
+use Rattle.race_board.specs.Chunks.{CostAtMost, completed_by, recorded_by, times_in}
+use Rattle.race_board.proofs.Elements.{all_snoc}
+use Rattle.job_runner.specs.Chunk.{chunk_steps}
+use Rattle.job_runner.proofs.Gathering.{gathered_cost, gathered_told, completed_or, neither}
+use Rattle.job_runner.proofs.gathered.Gathered.add.Goals as goal
+
+pub returns-clause-gathered : goal.returns-clause-gathered
+returns-clause-gathered c =
+    let board = c.args.task.board.now in
+    let jobs = c.args.task.plan.now in
+    let old = c.args.self.now.seats.items in
+    let ended = c.args.ended in
+    let is = c.requires.ended in
+    let was = c.requires.gathered in
+    let items = rw c.unwrap.ensures at c.push.ensures.items in
+    let long = c.put.ensures.long in
+    let len = c.put.new.places.ok.0 in
+    record {
+      own = subst (All (IsSeatOf board)) (sym items) (all_snoc (IsSeatOf board) old ended.seat was.own is.own);
+      cost = subst (λ (ss : List SeatState). CostAtMost (chunk_steps jobs) (recorded_by (workers_of ss))) (sym items)
+          (gathered_cost board jobs old ended is was.cost);
+      long = omega (arith, long, len);
+      placed = c.put.ensures.placed;
+      there = λ k l. elim (completed_or board jobs old ended k is
+          (subst (λ (ss : List SeatState). 0 < times_in k (completed_by (workers_of ss))) items l)) [
+            | inl a ↦ c.put.ensures.kept k (was.there k a)
+            | inr b ↦ c.put.ensures.there k b
+          ];
+      told = λ f. let both = neither c.args.self.now.failed ended.worked.failed f in
+          subst (All (λ (s : SeatState). IsToldEnd s.worker)) (sym items)
+          (gathered_told board jobs old ended is both.1 (was.told both.0));
+    }

@@ -1,0 +1,28 @@
+use Rattle.std.proofs.Common.{sym, subst, ◌∙◌, arith}
+use Rattle.job_runner.specs.Places.{ArePlaced}
+use Rattle.job_runner.proofs.Joined.{count_of_chunks}
+use Rattle.job_runner.proofs.Placing.{none_more, none_placed}
+use Rattle.job_runner.proofs.places.no_pieces.Goals as goal
+
+pub loop-place-preserved : goal.loop-place-preserved
+loop-place-preserved c =
+    let i = c.loop-place.invariant in
+    let len = i.len in
+    let more = c.in_ok-push.ensures.len in
+    record {
+      len = omega (arith, len, more);
+      none = c.in_ok-push.ensures.items ∙ none_more c.loop-place._place c.loop-place.places.items i.none;
+    }
+
+pub returns-clause-long : goal.returns-clause-long
+returns-clause-long c =
+    let len = c.loop-place.invariant.len in
+    let over = c.loop-place-test.false in
+    let end = c.loop-place.auto._place-end in
+    let count = c.chunks-count.ensures.count in
+    let all = count_of_chunks 0 c.args.plan.now in
+    omega (arith, len, over, end, count, all)
+
+pub returns-clause-placed : goal.returns-clause-placed
+returns-clause-placed c =
+    subst (ArePlaced c.args.plan.now) (sym c.loop-place.invariant.none) (none_placed c.args.plan.now c.loop-place._place)

@@ -1,0 +1,47 @@
+use Rattle.std.proofs.Common.{◌<◌, length, subst, arith}
+use Rattle.std.specs.List.{AllByRecursion}
+use Rattle.job_runner.specs.Worked.{IsPieceOf}
+use Rattle.job_runner.proofs.Placing.{put_placed, put_kept, put_there, all_front, all_end}
+use Rattle.job_runner.proofs.places.put.Goals as goal
+
+pub loop-piece-preserved-in-Some : goal.loop-piece-preserved-in-Some
+loop-piece-preserved-in-Some c =
+    let jobs = c.args.plan.now in
+    let i = c.loop-piece.invariant in
+    let places = c.loop-piece.places.items in
+    let rest = c.pop.new.self.items in
+    let piece = c.in-Some.piece in
+    let right = subst (AllByRecursion (IsPieceOf jobs)) c.in-Some.ensures.items i.right in
+    let is = all_end (IsPieceOf jobs) rest piece right in
+    let there = is.there in
+    let long = i.long in
+    let len = c.loop-piece.places.ok.0 in
+    let inside : piece.chunk < length places = omega (arith, there, long, len) in
+    record {
+      long = i.long;
+      placed = put_placed jobs places piece inside is i.placed;
+      right = all_front (IsPieceOf jobs) rest piece right;
+      kept = λ k f. put_kept places piece k inside (i.kept k f);
+      there = λ k l. put_there places rest c.loop-piece.pieces.items piece k inside c.in-Some.ensures.items (i.there k l);
+    }
+
+pub loop-piece-preserved : goal.loop-piece-preserved
+loop-piece-preserved c =
+    let jobs = c.args.plan.now in
+    let i = c.loop-piece.invariant in
+    let places = c.loop-piece.places.items in
+    let rest = c.pop.new.self.items in
+    let piece = c.in-Some.piece in
+    let right = subst (AllByRecursion (IsPieceOf jobs)) c.in-Some.ensures.items i.right in
+    let is = all_end (IsPieceOf jobs) rest piece right in
+    let there = is.there in
+    let long = i.long in
+    let len = c.loop-piece.places.ok.0 in
+    let inside : piece.chunk < length places = omega (arith, there, long, len) in
+    record {
+      long = i.long;
+      placed = put_placed jobs places piece inside is i.placed;
+      right = all_front (IsPieceOf jobs) rest piece right;
+      kept = λ k f. put_kept places piece k inside (i.kept k f);
+      there = λ k l. put_there places rest c.loop-piece.pieces.items piece k inside c.in-Some.ensures.items (i.there k l);
+    }

@@ -1,0 +1,24 @@
+use Rattle.std.proofs.Common.{◌≡◌, ◌<◌, ◌≤◌, ◌+◌, ◌-◌, ◌++◌, length}
+use Rattle.std.specs.List.{AllByRecursion}
+use Rattle.csr_store.specs.Along.{summed}
+use Rattle.race_board.specs.declared.stand.Stand.TheVariants.{Free}
+use Rattle.race_board.specs.Race.{IsSeatOf, times_drawn, steps_of}
+use Rattle.job_runner.specs.Chunk.{chunk_steps}
+use Rattle.job_runner.specs.Worked.{recorded, IsPieceOf}
+use Rattle.job_runner.proofs.worker.work_with.Given as goal
+
+abbrev pub invariant-loop-chunk : goal.invariant-loop-chunk
+invariant-loop-chunk g l = record {
+  own : IsSeatOf l.board l.seat;
+  number : l.seat.worker.number ≡ l.fn.seat.worker.number;
+  gained : l.seat.worker.done ≡ l.fn.seat.worker.done ++ recorded l.pieces.items;
+  right : AllByRecursion (IsPieceOf l.plan) l.pieces.items;
+  free : l.seat.worker.stand ≡ Free;
+  sum : steps_of l.seat.worker ≡ steps_of l.fn.seat.worker + l.spent;
+  drawn : 0 < l.next → 0 < times_drawn (l.next - 1) l.seat.worker;
+  most : l.spent ≤ summed (chunk_steps l.plan) 0 l.next;
+}
+
+-- how many chunks are above the last one
+abbrev pub decreases-loop-chunk : goal.decreases-loop-chunk
+decreases-loop-chunk g l = length l.board.prices - l.next

@@ -1,0 +1,13 @@
+-- Pieces at places: each at that of its chunk's number. This project's own.
+use Rattle.std.specs.Prelude.{◌≡◌, ℕ, List, Option, Some, slice_get}
+use Rattle.job_plan.specs.Job.{Job}
+use Rattle.job_runner.specs.declared.piece.Piece.{Piece}
+use Rattle.job_runner.specs.Worked.{IsPieceOf}
+
+-- a piece stands at this place
+abbrev pub IsFull : List (Option Piece) → ℕ → Type 0
+IsFull places c = (p : Piece) × (slice_get places c ≡ Some (Some p))
+
+-- what stands at a place is the piece of the chunk of that number
+abbrev pub ArePlaced : List Job → List (Option Piece) → Type 0
+ArePlaced jobs places = (c : ℕ) (p : Piece) → slice_get places c ≡ Some (Some p) → IsPieceOf jobs p × (p.chunk ≡ c)

@@ -1,0 +1,106 @@
+//! A batch on workers.
+ghost use Rattle.std.specs.Prelude.{◌≡◌, ◌<◌, ◌≤◌, ◌^◌, length, map, sum, IfOk, IfErr};
+ghost use Rattle.job_plan.specs.Chunks.{plan_chunks};
+ghost use Rattle.job_runner.specs.Batch.{AreResultsOf, result_of, total_steps};
+ghost use Rattle.job_runner.specs.Theorem.{BatchTheorem};
+ghost use Rattle.job_runner.specs.Worked.{prices_of};
+
+use crate::answer::{BatchAnswer, BatchFault, Cause, JobResult};
+use crate::crew::{Task, work_all};
+use crate::gate::Gate;
+use crate::gathered::Gathered;
+use crate::join::join_jobs;
+use crate::places::in_order;
+use job_plan::Plan;
+use race_board::Board;
+use std::alloc::{AllocError, Global};
+use std::sync::Wait;
+use std::thread::Threads;
+
+/// Runs a plan on up to so many workers: no more than the plan has chunks, one of them on the calling thread, each other in a
+/// thread of its own. They draw chunks from one board, and share the plan's operators and matrices.
+///
+/// # Errors
+///
+/// There is no memory, or a thread could not be started or kept for want of memory, which is told where memory is wanted too. The
+/// workers that had started go on to their ends; the steps are those of all their calls.
+pub fn run_batch<H: Threads + Wait, G: Gate + Sync>(
+    rt: &H,
+    alloc: Global,
+    plan: &Plan,
+    workers: u64,
+    gate: &G,
+) -> Result<BatchAnswer, BatchFault>
+    requires some { 1 ≤ workers }
+    requires few { workers ≤ 64 }
+    ensures theorem { IfOk result (λ a. BatchTheorem plan.now (map result_of a.results.items)) }
+    ensures results { IfOk result (λ a. AreResultsOf plan.now (map result_of a.results.items)) }
+    ensures spent { IfErr result (λ f. f.spent ≤ total_steps plan.now) }
+{
+    let _jobs = plan.jobs();
+    let mut spent = 0;
+    match results(rt, alloc, plan, workers, gate, &mut spent) {
+        Ok(results) => Ok(BatchAnswer { results }),
+        Err(cause) => Err(BatchFault { cause, spent }),
+    }
+}
+
+impl From<AllocError> for Cause {
+    fn from(_refused: AllocError) -> Cause {
+        Cause::Memory
+    }
+}
+
+/// What each job gives. The steps of all calls are told, also where the batch is refused.
+fn results<H: Threads + Wait, G: Gate + Sync>(
+    rt: &H,
+    alloc: Global,
+    plan: &Plan,
+    workers: u64,
+    gate: &G,
+    spent: &mut u64,
+) -> Result<Vec<JobResult>, Cause>
+    requires some { 1 ≤ workers }
+    requires few { workers ≤ 64 }
+    requires spent { spent.old ≡ 0 }
+    ensures results { IfOk result (λ rs. AreResultsOf plan.now (map result_of rs.items)) }
+    ensures spent { spent.new ≤ total_steps plan.now }
+{
+    let count = workers.min(plan.chunks()).max(1);
+    let gathered = Gathered::new(alloc, plan, count)?;
+    let (board, seats) = Board::open(alloc, prices(alloc, plan)?, count)?;
+    let task = Task {
+        plan,
+        board: &board,
+    };
+    let (gathered, refused) = work_all(rt, alloc, task, gate, seats, gathered);
+    let Gathered {
+        seats,
+        places,
+        failed,
+    } = gathered;
+    *spent = board.close(seats).spent;
+    if let Some(cause) = refused {
+        return Err(cause);
+    }
+    if failed {
+        return Err(Cause::Memory);
+    }
+    let pieces = in_order(alloc, plan, places)?;
+    Ok(join_jobs(alloc, plan, pieces)?)
+}
+
+/// The prices of a plan's chunks, in order of their numbers.
+pub fn prices(alloc: Global, plan: &Plan) -> Result<Vec<u64>, AllocError>
+    ensures prices { IfOk result (λ v. v.items ≡ prices_of plan.now) }
+    ensures small { sum (prices_of plan.now) ≤ 2 ^ 62 }
+{
+    let _jobs = plan.jobs();
+    let count = plan.chunks();
+    let mut prices = Vec::with_capacity(alloc, count as usize)?;
+    for chunk in 0..count {
+        let (_job, _rows, price) = plan.chunk(chunk);
+        prices.push(price)?;
+    }
+    Ok(prices)
+}

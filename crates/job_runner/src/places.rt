@@ -1,0 +1,68 @@
+//! Pieces of a batch, each at the place of its chunk's number.
+ghost use Rattle.std.specs.Prelude.{◌≡◌, ◌<◌, ℕ, IfOk, vec_len};
+ghost use Rattle.std.specs.List.{AllByRecursion};
+ghost use Rattle.race_board.specs.Chunks.{times_in};
+ghost use Rattle.job_runner.specs.Chunk.{chunk_total};
+ghost use Rattle.job_runner.specs.Pieces.{AreAll};
+ghost use Rattle.job_runner.specs.Worked.{recorded, IsPieceOf};
+ghost use Rattle.job_runner.specs.Places.{ArePlaced, IsFull};
+
+use crate::piece::Piece;
+use job_plan::Plan;
+use std::alloc::{AllocError, Global};
+
+/// A place for each chunk, and no piece at any.
+pub(crate) fn no_pieces(alloc: Global, plan: &Plan) -> Result<Vec<Option<Piece>>, AllocError>
+    ensures long { IfOk result (λ v. vec_len v ≡ chunk_total plan.now) }
+    ensures placed { IfOk result (λ v. ArePlaced plan.now v.items) }
+{
+    let count = plan.chunks();
+    let mut places = Vec::with_capacity(alloc, count as usize)?;
+    for _place in 0..count {
+        places.push(None)?;
+    }
+    Ok(places)
+}
+
+/// Puts pieces at the places of their chunks.
+pub(crate) fn put(plan: &Plan, places: &mut Vec<Option<Piece>>, pieces: Vec<Piece>)
+    requires long { vec_len places.old ≡ chunk_total plan.now }
+    requires placed { ArePlaced plan.now places.old.items }
+    requires right { AllByRecursion (IsPieceOf plan.now) pieces.items }
+    ensures long { vec_len places.new ≡ chunk_total plan.now }
+    ensures placed { ArePlaced plan.now places.new.items }
+    ensures kept { (c : ℕ) → IsFull places.old.items c → IsFull places.new.items c }
+    ensures there { (c : ℕ) → 0 < times_in c (recorded pieces.items) → IsFull places.new.items c }
+{
+    let _ = plan;
+    let mut pieces = pieces;
+    while let Some(piece) = pieces.pop() {
+        let place = piece.chunk as usize;
+        places[place] = Some(piece);
+    }
+}
+
+/// The pieces of all chunks, in order of their numbers.
+pub(crate) fn in_order(
+    alloc: Global,
+    plan: &Plan,
+    places: Vec<Option<Piece>>,
+) -> Result<Vec<Piece>, AllocError>
+    requires long { vec_len places ≡ chunk_total plan.now }
+    requires placed { ArePlaced plan.now places.items }
+    requires full { (c : ℕ) → c < chunk_total plan.now → IsFull places.items c }
+    ensures { IfOk result (λ ps. AreAll plan.now ps.items) }
+{
+    let _ = plan;
+    let count = places.len();
+    let mut pieces = Vec::with_capacity(alloc, count)?;
+    let mut places = places.into_iter();
+    for _next in 0..count {
+        let Some(place) = places.next() else {
+            unreachable!()
+        };
+        let Some(piece) = place else { unreachable!() };
+        pieces.push(piece)?;
+    }
+    Ok(pieces)
+}
