@@ -22,8 +22,8 @@ use std::thread::Threads;
 ///
 /// # Errors
 ///
-/// There is no memory, or a thread could not be started or kept for want of memory, which is told where memory is wanted too. The
-/// workers that had started go on to their ends; the steps are those of all their calls.
+/// There is no memory, or a thread could not be started, which is told where a worker wants memory too. The workers that had started
+/// go on to their ends; the steps are those of all their calls.
 pub fn run_batch<H: Threads + Wait, G: Gate + Sync>(
     rt: &H,
     alloc: Global,
