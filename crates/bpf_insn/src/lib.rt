@@ -40,8 +40,6 @@ mod slot;
 mod spell;
 mod stepped;
 mod tagged;
-#[cfg(test)]
-mod tests;
 
 pub use content::Content;
 pub use decoder::decode;

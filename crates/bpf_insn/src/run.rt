@@ -42,6 +42,3 @@ pub fn run_tagged(program: &Program, kind: Kind, operands: &Operands) -> Ran
     }
     unreachable!()
 }
-
-#[cfg(test)]
-mod tests;

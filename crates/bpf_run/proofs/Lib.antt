@@ -7,7 +7,10 @@ pub mod Running
 pub mod Preparing
 pub mod Columns
 pub mod Rows
+pub mod Waiting
 pub mod Turns
 pub mod Passing
 pub mod Gathering
 pub mod LaneCalls
+pub mod Bytes
+pub mod Slots

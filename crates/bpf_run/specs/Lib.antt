@@ -5,6 +5,7 @@ pub mod Micro
 pub mod Flat
 pub mod Columns
 pub mod Lanes
+pub mod Slots
 pub mod Ran
 pub mod Gathering
 pub mod Even

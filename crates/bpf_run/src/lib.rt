@@ -13,8 +13,6 @@ mod prepare;
 mod run;
 mod single;
 mod step;
-#[cfg(test)]
-mod tests;
 mod words;
 
 pub use calls::{Calls, MOST_CALLS};

@@ -24,8 +24,6 @@ mod operand;
 mod rule;
 mod shape;
 mod statement;
-#[cfg(test)]
-mod tests;
 
 pub use assembler::assemble;
 pub use disassembler::disassemble;

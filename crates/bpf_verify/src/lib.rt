@@ -20,8 +20,6 @@ mod marks;
 mod operator;
 mod slot_pass;
 mod tag;
-#[cfg(test)]
-mod tests;
 mod typing;
 
 pub use error::VerifyError;

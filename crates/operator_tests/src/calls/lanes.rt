@@ -1,0 +1,201 @@
+//! Calls that are made together, in all counts of lanes that differ in kind.
+ghost use Rattle.std.specs.Prelude.{◌≡◌};
+
+use super::*;
+
+/// How many calls are gathered: below the counts from which on they are made in lanes, and above.
+const COUNTS: [u64; 27] = [
+    0, 1, 8, 9, 10, 11, 12, 13, 14, 15, 16, 17, 18, 19, 20, 21, 22, 23, 24, 25, 26, 27, 28, 29, 30,
+    63, 64,
+];
+
+/// How many calls of a long operator are gathered.
+const FEW_COUNTS: [u64; 2] = [1, 64];
+
+/// The operands of the lane of this number, among all pairs of these words; or those of lane 0, where all are alike.
+fn operands_at(kind: Kind, words: &[u64], lane: u64, alike: bool) -> Operands {
+    let count = words.len() as u64;
+    if alike || count == 0 {
+        return operands_of(kind, 5, 6);
+    }
+    let x = words[(lane % count) as usize];
+    let y = words[((lane / count).wrapping_add(lane) % count) as usize];
+    operands_of(kind, x, y)
+}
+
+/// Gathers those operands that are of this kind.
+fn gather_all(calls: &mut Calls, kind: Kind, operands: &[Operands])
+    ensures { calls.new.kind ≡ kind }
+{
+    calls.begin(kind);
+    for one in operands {
+        if calls.len() < MOST_CALLS && one.kind() == kind {
+            calls.gather(*one);
+        }
+    }
+}
+
+/// That these values are what the tagged machine gives on these operands. Answers the sum of its steps.
+fn expect_values(rt: &impl Abort, tagged: &Program, operands: &[Operands], values: &[u64]) -> u64 {
+    assert_eq!(rt; values.len(), operands.len());
+    let mut sum = 0u64;
+    for (one, given) in operands.iter().zip(values) {
+        let Ran::Done { value, steps } = run_tagged(tagged, one.kind(), one) else {
+            panic!(rt; "an accepted operator is stuck");
+        };
+        assert_eq!(rt; *given, value);
+        sum = sum.wrapping_add(steps);
+    }
+    sum
+}
+
+/// That calls made together give and cost what the tagged machine says of each.
+fn expect_together(
+    rt: &impl Abort,
+    tagged: &Program,
+    prepared: &Prepared,
+    calls: &mut Calls,
+    operands: &[Operands],
+) {
+    gather_all(calls, prepared.kind(), operands);
+    assert_eq!(rt; calls.len(), operands.len());
+    let steps = calls.make(prepared);
+    assert_eq!(rt; calls.len(), 0);
+    let expected = expect_values(rt, tagged, operands, calls.values());
+    assert_eq!(rt; steps, expected);
+}
+
+/// The operands of so many lanes, all alike or all different.
+fn lanes_of(
+    alloc: Global,
+    kind: Kind,
+    words: &[u64],
+    count: u64,
+    alike: bool,
+) -> Result<Vec<Operands>, Fail> {
+    let mut operands = Vec::new(alloc);
+    for lane in 0..count {
+        let number = lane.wrapping_mul(7).wrapping_add(count);
+        operands.push(operands_at(kind, words, number, alike))?;
+    }
+    Ok(operands)
+}
+
+/// The same in each count, of lanes all alike and of lanes that differ.
+pub(super) fn expect_alike(
+    rt: &impl Abort,
+    alloc: Global,
+    tagged: &Program,
+    prepared: &Prepared,
+    words: &[u64],
+) -> Result<(), Fail> {
+    let mut calls = Calls::new(alloc)?;
+    let counts = if prepared.len() < 100 {
+        COUNTS.as_slice()
+    } else {
+        FEW_COUNTS.as_slice()
+    };
+    for count in counts {
+        for alike in [false, true] {
+            let operands = lanes_of(alloc, prepared.kind(), words, *count, alike)?;
+            expect_together(rt, tagged, prepared, &mut calls, &operands);
+        }
+    }
+    Ok(())
+}
+
+/// That 64 calls of an operator of these slots that are made together give and cost what they do one by one.
+pub(super) fn expect_as_single(
+    rt: &impl Abort,
+    alloc: Global,
+    slots: &[u64],
+    words: &[u64],
+) -> Result<(), Fail> {
+    let operator = prepared(alloc, slots, Kind::Binary)?;
+    let kind = operator.kind();
+    let mut calls = Calls::new(alloc)?;
+    let operands = lanes_of(alloc, kind, words, 64, false)?;
+    gather_all(&mut calls, kind, &operands);
+    let steps = calls.make(&operator);
+    let mut sum = 0u64;
+    assert_eq!(rt; calls.values().len(), operands.len());
+    for (one, given) in operands.iter().zip(calls.values()) {
+        if one.kind() == kind {
+            let outcome = call(&operator, one);
+            assert_eq!(rt; *given, outcome.value);
+            sum = sum.wrapping_add(outcome.steps);
+        }
+    }
+    assert_eq!(rt; steps, sum);
+    Ok(())
+}
+
+/// An operator of these slots.
+fn prepared(alloc: Global, slots: &[u64], kind: Kind) -> Result<Prepared, Fail> {
+    let Ok(operator) = verify(alloc, program(alloc, slots)?, kind) else {
+        return Err(AllocError.into());
+    };
+    Ok(Prepared::new(alloc, operator)?)
+}
+
+/// Cells, each a column with a word.
+const CELLS: [(u64, u64); 3] = [(1, 10), (4, 40), (7, 70)];
+
+/// That the calls that were gathered cost and give this.
+fn expect_made(rt: &impl Abort, calls: &mut Calls, operator: &Prepared, steps: u64, values: &[u64])
+    requires { calls.old.kind ≡ operator.now.kind }
+{
+    assert_eq!(rt; calls.make(operator), steps);
+    assert_eq!(rt; calls.values(), values);
+}
+
+/// Words that are gathered in bulk stand behind those that were gathered before.
+#[test]
+fn words_in_bulk(rt: HostRuntime) -> Result<(), Fail> {
+    let operator = prepared(rt.alloc(), &[MOVE, EXIT], Kind::Unary)?;
+    let mut calls = Calls::new(rt.alloc())?;
+    calls.begin(Kind::Unary);
+    calls.gather(Operands::Unary { x: 9 });
+    calls.gather_words(&CELLS);
+    if operator.kind() == Kind::Unary {
+        expect_made(&rt, &mut calls, &operator, 8, &[9, 10, 40, 70]);
+    }
+    Ok(())
+}
+
+/// And so do pairs of one word with each of many.
+#[test]
+fn pairs_in_bulk(rt: HostRuntime) -> Result<(), Fail> {
+    // mov64 r0, r1; add64 r0, r2
+    let sum = [MOVE, 0x0f20_0000_0000_0000, EXIT];
+    let operator = prepared(rt.alloc(), &sum, Kind::Binary)?;
+    let mut calls = Calls::new(rt.alloc())?;
+    calls.begin(Kind::Binary);
+    calls.gather_pair(1, 2);
+    calls.gather_with(100, &CELLS);
+    if operator.kind() == Kind::Binary {
+        expect_made(&rt, &mut calls, &operator, 12, &[3, 110, 140, 170]);
+    }
+    Ok(())
+}
+
+/// Cells of a row are called with their positions and a number.
+#[test]
+fn entries_in_bulk(rt: HostRuntime) -> Result<(), Fail> {
+    // mov64 r0, r1; add64 r0, r2; add64 r0, r3; add64 r0, r4
+    let sum = [
+        MOVE,
+        0x0f20_0000_0000_0000,
+        0x0f30_0000_0000_0000,
+        0x0f40_0000_0000_0000,
+        EXIT,
+    ];
+    let operator = prepared(rt.alloc(), &sum, Kind::Index)?;
+    let mut calls = Calls::new(rt.alloc())?;
+    calls.begin(Kind::Index);
+    calls.gather_entries(&CELLS, 1000, 5000);
+    if operator.kind() == Kind::Index {
+        expect_made(&rt, &mut calls, &operator, 15, &[6011, 6044, 6077]);
+    }
+    Ok(())
+}

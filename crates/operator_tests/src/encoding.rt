@@ -1,0 +1,356 @@
+//! Code as bytes: what no clause shows, on values from outside.
+mod sizes;
+
+use crate::programs::{EXIT, code_of};
+use bpf_insn::{
+    AluOp, CodeRule, DecodeError, Fault, Insn, InsnsError, Operand, Program, Reads, Reg, Width,
+    decode, encode, is_outside_stack,
+};
+use std::alloc::Global;
+use std::test::Fail;
+
+/// A slot with each opcode of the profile but the wide load's.
+const SLOTS: [u64; 115] = [
+    // The arithmetic of two operands.
+    0x0401_0000_feff_ffff,
+    0x0c21_0000_0000_0000,
+    0x0701_0000_feff_ffff,
+    0x0f21_0000_0000_0000,
+    0x1401_0000_feff_ffff,
+    0x1c21_0000_0000_0000,
+    0x1701_0000_feff_ffff,
+    0x1f21_0000_0000_0000,
+    0x2401_0000_feff_ffff,
+    0x2c21_0000_0000_0000,
+    0x2701_0000_feff_ffff,
+    0x2f21_0000_0000_0000,
+    0x3401_0000_feff_ffff,
+    0x3c21_0000_0000_0000,
+    0x3701_0000_feff_ffff,
+    0x3f21_0000_0000_0000,
+    0x4401_0000_feff_ffff,
+    0x4c21_0000_0000_0000,
+    0x4701_0000_feff_ffff,
+    0x4f21_0000_0000_0000,
+    0x5401_0000_feff_ffff,
+    0x5c21_0000_0000_0000,
+    0x5701_0000_feff_ffff,
+    0x5f21_0000_0000_0000,
+    0x6401_0000_feff_ffff,
+    0x6c21_0000_0000_0000,
+    0x6701_0000_feff_ffff,
+    0x6f21_0000_0000_0000,
+    0x7401_0000_feff_ffff,
+    0x7c21_0000_0000_0000,
+    0x7701_0000_feff_ffff,
+    0x7f21_0000_0000_0000,
+    0x9401_0000_feff_ffff,
+    0x9c21_0000_0000_0000,
+    0x9701_0000_feff_ffff,
+    0x9f21_0000_0000_0000,
+    0xa401_0000_feff_ffff,
+    0xac21_0000_0000_0000,
+    0xa701_0000_feff_ffff,
+    0xaf21_0000_0000_0000,
+    0xb401_0000_feff_ffff,
+    0xbc21_0000_0000_0000,
+    0xb701_0000_feff_ffff,
+    0xbf21_0000_0000_0000,
+    0xc401_0000_feff_ffff,
+    0xcc21_0000_0000_0000,
+    0xc701_0000_feff_ffff,
+    0xcf21_0000_0000_0000,
+    // NEG and END.
+    0x8403_0000_0000_0000,
+    0x8703_0000_0000_0000,
+    0xd404_0000_1000_0000,
+    0xdc04_0000_2000_0000,
+    0xd704_0000_4000_0000,
+    // The jumps and EXIT.
+    0x0500_ffff_0000_0000,
+    0x0600_0000_ffff_ffff,
+    0x9500_0000_0000_0000,
+    0x1505_0700_6400_0000,
+    0x1d65_f9ff_0000_0000,
+    0x1605_0700_6400_0000,
+    0x1e65_f9ff_0000_0000,
+    0x2505_0700_6400_0000,
+    0x2d65_f9ff_0000_0000,
+    0x2605_0700_6400_0000,
+    0x2e65_f9ff_0000_0000,
+    0x3505_0700_6400_0000,
+    0x3d65_f9ff_0000_0000,
+    0x3605_0700_6400_0000,
+    0x3e65_f9ff_0000_0000,
+    0x4505_0700_6400_0000,
+    0x4d65_f9ff_0000_0000,
+    0x4605_0700_6400_0000,
+    0x4e65_f9ff_0000_0000,
+    0x5505_0700_6400_0000,
+    0x5d65_f9ff_0000_0000,
+    0x5605_0700_6400_0000,
+    0x5e65_f9ff_0000_0000,
+    0x6505_0700_6400_0000,
+    0x6d65_f9ff_0000_0000,
+    0x6605_0700_6400_0000,
+    0x6e65_f9ff_0000_0000,
+    0x7505_0700_6400_0000,
+    0x7d65_f9ff_0000_0000,
+    0x7605_0700_6400_0000,
+    0x7e65_f9ff_0000_0000,
+    0xa505_0700_6400_0000,
+    0xad65_f9ff_0000_0000,
+    0xa605_0700_6400_0000,
+    0xae65_f9ff_0000_0000,
+    0xb505_0700_6400_0000,
+    0xbd65_f9ff_0000_0000,
+    0xb605_0700_6400_0000,
+    0xbe65_f9ff_0000_0000,
+    0xc505_0700_6400_0000,
+    0xcd65_f9ff_0000_0000,
+    0xc605_0700_6400_0000,
+    0xce65_f9ff_0000_0000,
+    0xd505_0700_6400_0000,
+    0xdd65_f9ff_0000_0000,
+    0xd605_0700_6400_0000,
+    0xde65_f9ff_0000_0000,
+    // The loads and stores.
+    0x71a0_f8ff_0000_0000,
+    0x69a0_f8ff_0000_0000,
+    0x61a0_f8ff_0000_0000,
+    0x79a0_f8ff_0000_0000,
+    0x91a0_f8ff_0000_0000,
+    0x89a0_f8ff_0000_0000,
+    0x81a0_f8ff_0000_0000,
+    0x739a_f0ff_0000_0000,
+    0x6b9a_f0ff_0000_0000,
+    0x639a_f0ff_0000_0000,
+    0x7b9a_f0ff_0000_0000,
+    0x720a_e8ff_0403_0201,
+    0x6a0a_e8ff_0403_0201,
+    0x620a_e8ff_0403_0201,
+    0x7a0a_e8ff_0403_0201,
+];
+
+fn fault_of(alloc: Global, code: &[u8]) -> Option<Fault> {
+    match decode(alloc, code) {
+        Err(DecodeError::Fault(fault)) => Some(fault),
+        _ => None,
+    }
+}
+
+#[test]
+fn each_opcode_is_decoded_and_encoded(rt: HostRuntime) -> Result<(), Fail> {
+    for slot in &SLOTS {
+        let code = code_of(rt.alloc(), &[*slot])?;
+        let program = decode(rt.alloc(), &code)?;
+        assert_eq!(rt; program.len(), 1, "at {slot:x}");
+        assert_eq!(rt;
+            encode(rt.alloc(), &program)?.as_slice(),
+            code.as_slice(),
+            "at {slot:x}"
+        );
+    }
+    Ok(())
+}
+
+#[test]
+fn all_opcodes_are_one_program(rt: HostRuntime) -> Result<(), Fail> {
+    let mut code = code_of(rt.alloc(), &SLOTS)?;
+    code.extend_from_slice(&code_of(rt.alloc(), &[0x1807_0000_0100_0000, 0x0000_0000_0200_0000])?)?;
+    let program = decode(rt.alloc(), &code)?;
+    assert_eq!(rt; program.len(), 116);
+    assert_eq!(rt; program.slots(), 117);
+    assert_eq!(rt; encode(rt.alloc(), &program)?.as_slice(), code.as_slice());
+    Ok(())
+}
+
+#[test]
+fn the_table_has_116_opcodes(rt: HostRuntime) -> Result<(), Fail> {
+    let mut known = Vec::new(rt.alloc());
+    let mut outside = Vec::new(rt.alloc());
+    for opcode in 0..=255u8 {
+        match fault_of(rt.alloc(), &[opcode, 0, 0, 0, 0, 0, 0, 0]).map(|fault| fault.rule) {
+            Some(CodeRule::UnknownOpcode) => {}
+            Some(CodeRule::OutsideProfile) => outside.push(opcode)?,
+            _ => known.push(opcode)?,
+        }
+    }
+    let left_out = [0x20, 0x28, 0x30, 0x40, 0x48, 0x50, 0x85, 0xc3, 0xdb];
+    assert_eq!(rt; outside.as_slice(), left_out.as_slice());
+    assert_eq!(rt; known.len(), 116);
+    Ok(())
+}
+
+#[test]
+fn a_broken_slot_is_refused(rt: HostRuntime) -> Result<(), Fail> {
+    let rows = [
+        (0xff00_0000_0000_0000, CodeRule::UnknownOpcode),
+        (0x8f00_0000_0000_0000, CodeRule::UnknownOpcode),
+        (0x8500_0000_0100_0000, CodeRule::OutsideProfile),
+        (0x1810_0000_0000_0000, CodeRule::OutsideProfile),
+        (0xbfb0_0000_0000_0000, CodeRule::RegisterAboveTen),
+        (0xbfb0_0100_0000_0000, CodeRule::RegisterAboveTen),
+        (0x3700_0200_0100_0000, CodeRule::UnusedField),
+        (0x9500_0000_0100_0000, CodeRule::UnusedField),
+        (0xd400_0000_1800_0000, CodeRule::UnusedField),
+        (0xbc10_2000_0000_0000, CodeRule::UnusedField),
+        (0x05b0_0000_0000_0000, CodeRule::UnusedField),
+        (0x1800_0000_0100_0000, CodeRule::BrokenWideLoad),
+        (0x180b_0000_0100_0000, CodeRule::RegisterAboveTen),
+        (0x181b_0000_0100_0000, CodeRule::OutsideProfile),
+        (0x8400_0000_0100_0000, CodeRule::UnusedField),
+        (0x8410_0000_0000_0000, CodeRule::UnusedField),
+    ];
+    for (slot, rule) in rows {
+        let alone = code_of(rt.alloc(), &[slot])?;
+        assert_eq!(rt;
+            fault_of(rt.alloc(), &alone),
+            Some(Fault { slot: 0, rule }),
+            "at {slot:x}"
+        );
+        let third = code_of(rt.alloc(), &[0x1800_0000_0100_0000, 0, slot])?;
+        assert_eq!(rt;
+            fault_of(rt.alloc(), &third),
+            Some(Fault { slot: 2, rule }),
+            "at {slot:x}"
+        );
+    }
+    let twice = code_of(rt.alloc(), &[0x1800_0000_0100_0000, 0x1800_0000_0000_0000])?;
+    let rule = CodeRule::BrokenWideLoad;
+    assert_eq!(rt; fault_of(rt.alloc(), &twice), Some(Fault { slot: 0, rule }));
+    Ok(())
+}
+
+#[test]
+fn a_bad_length_is_refused(rt: HostRuntime) -> Result<(), Fail> {
+    let rule = CodeRule::BadLength;
+    let mut code = code_of(rt.alloc(), &[0xbf10_0000_0000_0000, 0x0700_0000_0100_0000])?;
+    code.pop();
+    assert_eq!(rt; fault_of(rt.alloc(), &code), Some(Fault { slot: 1, rule }));
+    assert_eq!(rt; fault_of(rt.alloc(), &[]), Some(Fault { slot: 0, rule }));
+    let mut longest = Vec::new(rt.alloc());
+    for _ in 0..4096 {
+        longest.extend_from_slice(&EXIT.to_be_bytes())?;
+    }
+    assert_eq!(rt; decode(rt.alloc(), &longest)?.slots(), 4096);
+    longest.extend_from_slice(&EXIT.to_be_bytes())?;
+    assert_eq!(rt;
+        fault_of(rt.alloc(), &longest),
+        Some(Fault { slot: 4096, rule })
+    );
+    Ok(())
+}
+
+#[test]
+fn a_wide_load_is_one_instruction_in_two_slots(rt: HostRuntime) -> Result<(), Fail> {
+    let slots = [0x1800_0000_0100_0000, 0x0000_0000_0100_0000, EXIT];
+    let program = decode(rt.alloc(), &code_of(rt.alloc(), &slots)?)?;
+    assert_eq!(rt; program.len(), 2);
+    assert_eq!(rt; program.slots(), 3);
+    let value = match program.insn_at(0) {
+        Some(Insn::Wide { value, .. }) => *value,
+        _ => 0,
+    };
+    assert_eq!(rt; value, 4_294_967_297);
+    assert!(rt; program.insn_at(1).is_none());
+    assert!(rt; matches!(program.insn_at(2), Some(Insn::Exit)));
+    assert!(rt; program.insn_at(3).is_none());
+    assert!(rt; program.insn_at(0x1_0000_0000).is_none());
+    Ok(())
+}
+
+#[test]
+fn instructions_are_made_a_program_and_encoded(rt: HostRuntime) -> Result<(), Fail> {
+    let insns = [
+        Insn::Alu {
+            width: Width::W64,
+            op: AluOp::Mov,
+            dst: Reg::R0,
+            src: Operand::Register(Reg::R1),
+        },
+        Insn::Alu {
+            width: Width::W64,
+            op: AluOp::Add,
+            dst: Reg::R0,
+            src: Operand::Imm(1),
+        },
+        Insn::Exit,
+    ];
+    let program = Program::from_insns(rt.alloc(), insns.to_vec(rt.alloc())?)?;
+    let slots = [0xbf10_0000_0000_0000, 0x0700_0000_0100_0000, EXIT];
+    let code = encode(rt.alloc(), &program)?;
+    assert_eq!(rt; code.as_slice(), code_of(rt.alloc(), &slots)?.as_slice());
+    Ok(())
+}
+
+#[test]
+fn a_bad_number_of_instructions_is_refused(rt: HostRuntime) -> Result<(), Fail> {
+    let fault_of = |insns: Vec<Insn>| match Program::from_insns(rt.alloc(), insns) {
+        Err(InsnsError::Fault(fault)) => Some(fault),
+        _ => None,
+    };
+    let rule = CodeRule::BadLength;
+    assert_eq!(rt;
+        fault_of(Vec::new(rt.alloc())),
+        Some(Fault { slot: 0, rule })
+    );
+    let wide = Insn::Wide {
+        dst: Reg::R0,
+        value: 7,
+    };
+    let half = vec![in rt.alloc(); wide; 2048]?;
+    assert_eq!(rt; Program::from_insns(rt.alloc(), half)?.slots(), 4096);
+    let more = vec![in rt.alloc(); wide; 2049]?;
+    assert_eq!(rt; fault_of(more), Some(Fault { slot: 4096, rule }));
+    Ok(())
+}
+
+#[test]
+fn errors_name_the_slot_and_the_rule(rt: HostRuntime) -> Result<(), Fail> {
+    let alloc = rt.alloc();
+    let fault = Fault {
+        slot: 4094,
+        rule: CodeRule::BrokenWideLoad,
+    };
+    let code = DecodeError::Fault(fault);
+    assert_eq!(rt; format!(in alloc; "{code}")?.as_str(), "slot 4094: V6");
+    let insns = InsnsError::Fault(fault);
+    assert_eq!(rt; format!(in alloc; "{insns}")?.as_str(), "slot 4094: V6");
+    let code = DecodeError::Memory;
+    assert_eq!(rt;
+        format!(in alloc; "{code}")?.as_str(),
+        "out of memory for the program"
+    );
+    let insns = InsnsError::Memory;
+    assert_eq!(rt;
+        format!(in alloc; "{insns}")?.as_str(),
+        "out of memory for the program"
+    );
+    Ok(())
+}
+
+#[test]
+fn an_instruction_tells_what_it_touches(rt: HostRuntime) -> Result<(), Fail> {
+    let code = code_of(
+        rt.alloc(),
+        &[0x739a_f0ff_0000_0000, 0x89a0_f8ff_0000_0000, EXIT],
+    )?;
+    let program = decode(rt.alloc(), &code)?;
+    let insns = [program.insn_at(0), program.insn_at(1), program.insn_at(2)];
+    let [Some(store), Some(load), Some(exit)] = insns else {
+        panic!(rt; "no instruction");
+    };
+    assert!(rt; matches!(store.reads(), Reads::AsPlaceAndNumber(Reg::R10, Reg::R9)));
+    assert!(rt; matches!(load.reads(), Reads::AsPlace(Reg::R10)));
+    assert!(rt; matches!(exit.reads(), Reads::AsNumber(Reg::R0)));
+    assert_eq!(rt; load.written_reg(), Some(Reg::R0));
+    assert_eq!(rt; store.written_reg(), None);
+    assert_eq!(rt;
+        load.access().map(|access| (access.offset, access.bytes)),
+        Some((-8, 2))
+    );
+    assert!(rt; exit.access().is_none());
+    assert!(rt; is_outside_stack(-513, 1) && is_outside_stack(-1, 2) && !is_outside_stack(-512, 8));
+    Ok(())
+}

@@ -1,0 +1,232 @@
+//! What programs give, by examples from outside and by arithmetic done by hand.
+mod arithmetic;
+mod conditions;
+mod faults;
+mod stack;
+
+use crate::programs::{EXIT, MOVE, program};
+use bpf_insn::{CodeRule, Fault, Kind, Operands, Ran, Stepped, Tagged, run_tagged};
+use std::alloc::Global;
+use std::process::Abort;
+use std::test::Fail;
+
+fn unary(x: u64) -> Operands {
+    Operands::Unary { x }
+}
+
+fn binary(x: u64, y: u64) -> Operands {
+    Operands::Binary { x, y }
+}
+
+fn index(x: u64, row: u64, column: u64, thunk: u64) -> Operands {
+    Operands::Index {
+        x,
+        row,
+        column,
+        thunk,
+    }
+}
+
+fn done(value: u64, steps: u64) -> Ran {
+    Ran::Done { value, steps }
+}
+
+fn stuck(slot: u64, rule: CodeRule) -> Ran {
+    Ran::Stuck(Fault { slot, rule })
+}
+
+/// That the program of these slots comes to this end.
+fn expect_end(
+    rt: &impl Abort,
+    alloc: Global,
+    (name, slots, operands, end): (&str, &[u64], Operands, Ran),
+) -> Result<(), Fail> {
+    let program = program(alloc, slots)?;
+    let ran = run_tagged(&program, operands.kind(), &operands);
+    assert_eq!(rt; ran, end, "{name}");
+    Ok(())
+}
+
+#[test]
+fn programs_give_values(rt: HostRuntime) -> Result<(), Fail> {
+    let rows: [(&str, &[u64], Operands, Ran); 16] = [
+        (
+            "add 1",
+            &[MOVE, 0x0700_0000_0100_0000, EXIT],
+            unary(41),
+            done(42, 3),
+        ),
+        (
+            "add 1, wrapping",
+            &[MOVE, 0x0700_0000_0100_0000, EXIT],
+            unary(0x7fff_ffff_ffff_ffff),
+            done(0x8000_0000_0000_0000, 3),
+        ),
+        (
+            "wide load",
+            &[0x1800_0000_0100_0000, 0x0000_0000_0100_0000, EXIT],
+            unary(5),
+            done(0x1_0000_0001, 2),
+        ),
+        (
+            "jump to the next slot",
+            &[0xb700_0000_0000_0000, 0x0500_0000_0000_0000, EXIT],
+            unary(5),
+            done(0, 3),
+        ),
+        (
+            "jump by offset",
+            &[
+                0xb700_0000_0500_0000,
+                0x0500_0100_0000_0000,
+                0xb700_0000_0600_0000,
+                EXIT,
+            ],
+            unary(5),
+            done(5, 3),
+        ),
+        (
+            "jump by imm",
+            &[
+                0xb700_0000_0500_0000,
+                0x0600_0000_0100_0000,
+                0xb700_0000_0600_0000,
+                EXIT,
+            ],
+            unary(5),
+            done(5, 3),
+        ),
+        (
+            "the stack's first bytes",
+            &[0x7b1a_00fe_0000_0000, 0x79a0_00fe_0000_0000, EXIT],
+            unary(0x1234_5678_9abc_def0),
+            done(0x1234_5678_9abc_def0, 3),
+        ),
+        (
+            "two halves stored",
+            &[
+                0x631a_fcff_0000_0000,
+                0x631a_f8ff_0000_0000,
+                0x79a0_f8ff_0000_0000,
+                EXIT,
+            ],
+            unary(1),
+            done(0x1_0000_0001, 4),
+        ),
+        (
+            "a moved place",
+            &[
+                0xbfa2_0000_0000_0000,
+                0x0702_0000_f8ff_ffff,
+                0x7b12_0000_0000_0000,
+                0x79a0_f8ff_0000_0000,
+                EXIT,
+            ],
+            unary(77),
+            done(77, 5),
+        ),
+        (
+            "jump not taken",
+            &[0x1501_0100_0000_0000, 0xb700_0000_0100_0000, EXIT],
+            unary(5),
+            done(1, 3),
+        ),
+        (
+            "two ways",
+            &[
+                0x1501_0200_0000_0000,
+                0xbfa3_0000_0000_0000,
+                0x0500_0100_0000_0000,
+                0xbf23_0000_0000_0000,
+                0xbf30_0000_0000_0000,
+                EXIT,
+            ],
+            binary(0, 9),
+            done(9, 4),
+        ),
+        (
+            "diagonal",
+            &[
+                0xb700_0000_0100_0000,
+                0x1d32_0100_0000_0000,
+                0xb700_0000_0000_0000,
+                EXIT,
+            ],
+            index(7, 3, 3, 0),
+            done(1, 3),
+        ),
+        (
+            "diagonal",
+            &[
+                0xb700_0000_0100_0000,
+                0x1d32_0100_0000_0000,
+                0xb700_0000_0000_0000,
+                EXIT,
+            ],
+            index(7, 3, 4, 0),
+            done(0, 4),
+        ),
+        (
+            "row",
+            &[0xbf20_0000_0000_0000, EXIT],
+            index(1, 2, 3, 4),
+            done(2, 2),
+        ),
+        (
+            "column",
+            &[0xbf30_0000_0000_0000, EXIT],
+            index(1, 2, 3, 4),
+            done(3, 2),
+        ),
+        (
+            "thunk",
+            &[0xbf40_0000_0000_0000, EXIT],
+            index(1, 2, 3, 4),
+            done(4, 2),
+        ),
+    ];
+    for row in rows {
+        expect_end(&rt, rt.alloc(), row)?;
+    }
+    Ok(())
+}
+
+/// A machine that is stepped by hand tells its slot, and stays where it is stuck.
+#[test]
+fn steps_by_hand(rt: HostRuntime) -> Result<(), Fail> {
+    let slots = [
+        0xb700_0000_0100_0000,
+        0x5501_0100_0500_0000,
+        EXIT,
+        0xbf50_0000_0000_0000,
+        EXIT,
+    ];
+    let program = program(rt.alloc(), &slots)?;
+    assert!(rt; program.insn_at(0).is_some());
+    let mut tagged = Tagged::enter(Kind::Unary, &Operands::Unary { x: 5 });
+    assert_eq!(rt; tagged.slot(), Some(0));
+    assert!(rt; matches!(tagged.step(&program), Stepped::Went));
+    assert_eq!(rt; tagged.slot(), Some(1));
+    assert!(rt; matches!(tagged.step(&program), Stepped::Went));
+    assert_eq!(rt; tagged.slot(), Some(2));
+    assert!(rt; matches!(tagged.step(&program), Stepped::Done(1)));
+    assert_eq!(rt; tagged.slot(), None);
+
+    let mut tagged = Tagged::enter(Kind::Unary, &Operands::Unary { x: 6 });
+    assert!(rt; matches!(tagged.step(&program), Stepped::Went));
+    assert!(rt; matches!(tagged.step(&program), Stepped::Went));
+    assert_eq!(rt; tagged.slot(), Some(3));
+    assert!(rt; is_unset_read(tagged.step(&program)));
+    assert_eq!(rt; tagged.slot(), Some(3));
+    Ok(())
+}
+
+fn is_unset_read(stepped: Stepped) -> bool {
+    matches!(
+        stepped,
+        Stepped::Stuck(Fault {
+            slot: 3,
+            rule: CodeRule::UnsetRead
+        })
+    )
+}
