@@ -1,11 +1,10 @@
 -- Cells added to the open row of a run, many at a time.
-use Rattle.std.proofs.Common.{◌≡◌, ◌≤◌, ◌<◌, ◌+◌, ◌-◌, ◌^◌, ℕ, zero, suc, Bool, true, false, nat_eq, if◌then◌else◌, List, [], ◌∷◌, ◌++◌, length, take, drop, get_or, set, refl, sym, ap, ◌∙◌, subst, arith, length-append, length-drop, append-nil, append_assoc}
+use Rattle.std.proofs.Common.{◌≡◌, ◌≤◌, ◌<◌, ◌+◌, ◌-◌, ◌^◌, ℕ, zero, suc, Bool, true, false, nat_eq, if◌then◌else◌, List, [], ◌∷◌, ◌++◌, length, take, drop, get_or, refl, sym, ap, ◌∙◌, subst, arith, length-append, length-drop, append-nil, append_assoc}
 use Rattle.std.specs.List.{AllByRecursion}
 use Rattle.std.proofs.lemmas.List.{take-append-le, drop-append-le, take_all, drop_all, drop_more}
-use Rattle.std.proofs.lemmas.Bool.{ne_eqb}
 use Rattle.csr_store.specs.Grid.{Cell}
 use Rattle.csr_store.specs.Ascending.{Ascends}
-use Rattle.csr_store.specs.Added.{ComeBehind, with_values, kept_where}
+use Rattle.csr_store.specs.Added.{ComeBehind, kept_where}
 use Rattle.csr_store.proofs.Along.{ascends-weaken}
 use Rattle.csr_store.specs.Run.{Run, Row, IsRow, AreRows, AreEnds, ended_rows, open_row}
 use Rattle.csr_store.proofs.Runs.{ends_below, ends_push, all_push, row_push, run}
@@ -59,15 +58,7 @@ run_append first columns ends cells now more r h m e =
     let k : AreEnds 0 ends (0 + length cells) = rw z at h.ends_rise in
     ap (run first columns ends) m ∙ (rw (ended_append 0 ends cells more k, open_append 0 ends cells more k) refl ∙ ap (λ (q : Run). record q { opened = q.opened ++ more }) e)
 
--- ---- other values, and those that are kept, come behind as the cells do
-
-ascends_values : (low n : ℕ) (cells : Row) (values : List ℕ) → Ascends low n cells → Ascends low n (with_values cells values)
-ascends_values low n [] values h = tt
-ascends_values low n (c ∷ cells) [] h = tt
-ascends_values low n (c ∷ cells) (v ∷ values) h = (h.0, h.1, ascends_values (suc c.0) n cells values h.2)
-
-pub values_behind : (columns : ℕ) (row cells : Row) (values : List ℕ) → ComeBehind columns row cells → ComeBehind columns row (with_values cells values)
-values_behind columns row cells values h = record { low = h.low; above = h.above; ascend = ascends_values h.low columns cells values h.ascend }
+-- ---- those that are kept come behind as the cells do
 
 kept_or_left : (low n : ℕ) (c : Cell) (more : Row) → low ≤ c.0 → c.0 < n → Ascends (suc c.0) n more → (b : Bool) → Ascends low n (if b then more else c ∷ more)
 kept_or_left low n c more l m h true = ascends-weaken low (suc c.0) n more (omega arith) h
@@ -81,18 +72,9 @@ ascends_kept low n (c ∷ cells) (a ∷ answers) h = kept_or_left low n c (kept_
 pub kept_behind : (columns : ℕ) (row cells : Row) (answers : List ℕ) → ComeBehind columns row cells → ComeBehind columns row (kept_where cells answers)
 kept_behind columns row cells answers h = record { low = h.low; above = h.above; ascend = ascends_kept h.low columns cells answers h.ascend }
 
-pub values_words : (cells : Row) (values : List ℕ) → AllByRecursion (λ v. v < 2 ^ 64) values → AllByRecursion (λ (c : Cell). c.1 < 2 ^ 64) (with_values cells values)
-values_words [] values h = tt
-values_words (c ∷ cells) [] h = tt
-values_words (c ∷ cells) (v ∷ values) h = (h.0, values_words cells values h.1)
-
 word_or_left : (c : Cell) (more : Row) → c.1 < 2 ^ 64 → AllByRecursion (λ (d : Cell). d.1 < 2 ^ 64) more → (b : Bool) → AllByRecursion (λ (d : Cell). d.1 < 2 ^ 64) (if b then more else c ∷ more)
 word_or_left c more w h true = h
 word_or_left c more w h false = (w, h)
-
-pub each_fits : (values : List ℕ) → ((i : ℕ) → get_or values i 0 < 2 ^ 64) → AllByRecursion (λ v. v < 2 ^ 64) values
-each_fits [] h = tt
-each_fits (v ∷ values) h = (h zero, each_fits values (λ i. h (suc i)))
 
 pub kept_words : (cells : Row) (answers : List ℕ) → AllByRecursion (λ (c : Cell). c.1 < 2 ^ 64) cells → AllByRecursion (λ (c : Cell). c.1 < 2 ^ 64) (kept_where cells answers)
 kept_words [] answers h = tt
@@ -103,60 +85,6 @@ all_taken : {X : Type 0} (P : X → Type 0) (xs : List X) (k : ℕ) (d : X) → 
 all_taken P [] k d l h p = absurd (omega arith)
 all_taken P (x ∷ xs) zero d l h p = (p, tt)
 all_taken P (x ∷ xs) (suc k) d l h p = (h.0, all_taken P xs k d (omega arith) h.1 p)
-
--- ---- values put in place one by one
-
-pub record AreSet (cells : Row) (values : List ℕ) (k next : ℕ) (now : Row) : Type 0 where
-  pub same : now ≡ with_values (take k cells) values ++ drop k cells
-  pub at : next ≡ k
-
-value_set : (cells : Row) (values : List ℕ) (k : ℕ) (d : Cell) → k < length cells → k < length values
-    → set (with_values (take k cells) values ++ drop k cells) k ((get_or (with_values (take k cells) values ++ drop k cells) k d).0, get_or values k 0)
-    ≡ with_values (take (suc k) cells) values ++ drop (suc k) cells
-value_set [] values k d l m = absurd (omega arith)
-value_set (c ∷ cells) [] k d l m = absurd (omega arith)
-value_set (c ∷ cells) (v ∷ values) zero d l m = refl
-value_set (c ∷ cells) (v ∷ values) (suc k) d l m = ap (λ cs. (c.0, v) ∷ cs) (value_set cells values k d (omega arith) (omega arith))
-
-pub are_set_more : (cells : Row) (values : List ℕ) (k next : ℕ) (now : Row) (d : Cell) → AreSet cells values k next now → k < length cells → length values ≡ length cells
-    → AreSet cells values (k + 1) (next + 1) (set now k ((get_or now k d).0, get_or values next 0))
-are_set_more cells values k next now d h l n =
-    let e : suc k ≡ k + 1 = omega arith in
-    let so_far = with_values (take k cells) values ++ drop k cells in
-    record {
-      same = ap (λ m. set now k ((get_or now k d).0, get_or values m 0)) h.at
-          ∙ ap (λ (cs : Row). set cs k ((get_or cs k d).0, get_or values k 0)) h.same
-          ∙ subst (λ m. set so_far k ((get_or so_far k d).0, get_or values k 0) ≡ with_values (take m cells) values ++ drop m cells) e (value_set cells values k d l (omega arith));
-      at = let a = h.at in omega arith;
-    }
-
-pub are_set : (cells : Row) (values : List ℕ) (k next : ℕ) (now : Row) → AreSet cells values k next now → length cells ≤ k → now ≡ with_values cells values
-are_set cells values k next now h l =
-    h.same ∙ ap (λ cs. with_values cs values ++ drop k cells) (take_all k cells l) ∙ ap (λ cs. with_values cells values ++ cs) (drop_all k cells l) ∙ append-nil (with_values cells values)
-
-length_values : (cells : Row) (values : List ℕ) → length values ≡ length cells → length (with_values cells values) ≡ length cells
-length_values [] values h = refl
-length_values (c ∷ cells) [] h = absurd (omega arith)
-length_values (c ∷ cells) (v ∷ values) h = ap suc (length_values cells values (omega arith))
-
--- cells behind a place that were given values
-pub set_behind : (old cells all new items : Row) (values : List ℕ) (from n : ℕ) → all ≡ items → items ≡ old ++ cells → from ≡ length old → n ≡ from + length cells
-    → length values ≡ length cells → new ≡ with_values (take (length all - from) (drop from all)) values
-    → take n ((take from all ++ (new ++ drop (length all - from) (drop from all))) ++ drop (length (take from all ++ (new ++ drop (length all - from) (drop from all)))) items) ≡ old ++ with_values cells values
-set_behind old cells all new items values from n same is f m l h =
-    let whole : all ≡ old ++ cells = same ∙ is in
-    let long : length all ≡ from + length cells = omega (arith, ap length whole, length-append old cells, f) in
-    let front : take from all ≡ old = ap (take from) whole ∙ take-append-le from old cells (omega arith) ∙ take_all from old (omega arith) in
-    let back : drop from all ≡ cells = ap (drop from) whole ∙ drop-append-le from old cells (omega arith) ∙ ap (λ cs. cs ++ cells) (drop_all from old (omega arith)) in
-    let none : drop (length all - from) (drop from all) ≡ [] = ap (drop (length all - from)) back ∙ drop_all (length all - from) cells (omega arith) in
-    let mine : new ≡ with_values cells values = h ∙ ap (λ cs. with_values (take (length all - from) cs) values) back ∙ ap (λ cs. with_values cs values) (take_all (length all - from) cells (omega arith)) in
-    let put : take from all ++ (new ++ drop (length all - from) (drop from all)) ≡ old ++ with_values cells values =
-    ap (λ cs. cs ++ (new ++ drop (length all - from) (drop from all))) front ∙ ap (λ cs. old ++ (new ++ cs)) none ∙ ap (λ cs. old ++ cs) (append-nil new) ∙ ap (λ cs. old ++ cs) mine in
-    let count : length (old ++ with_values cells values) ≡ n = omega (arith, length-append old (with_values cells values), length_values cells values l, f, m) in
-    let items_long : length items ≡ n = omega (arith, ap length is, length-append old cells, f, m) in
-    ap (λ cs. take n (cs ++ drop (length cs) items)) put
-    ∙ ap (λ cs. take n ((old ++ with_values cells values) ++ cs)) (drop_all (length (old ++ with_values cells values)) items (omega arith))
-    ∙ ap (take n) (append-nil (old ++ with_values cells values)) ∙ take_all n (old ++ with_values cells values) (omega arith)
 
 -- ---- cells kept one by one
 

@@ -12,7 +12,7 @@ use Rattle.std.specs.BTreeMap.{is_at}
 use Rattle.std.specs.FinMap.{FinMap, entries, len, len-entries, empty, get, insert, from_entries, get-from_entries, get-entries, get-insert}
 use Rattle.std.specs.FinMap.Entries.{find}
 use Rattle.csr_store.specs.declared.error.StoreError.TheVariants.{PositionGivenTwice, TooManyEntries}
-use Rattle.csr_store.specs.Grid.{Grid, IsGrid, Position, Entry, IsInside, pos_cmp, limit}
+use Rattle.csr_store.specs.Grid.{Grid, Position, Entry, IsInside, pos_cmp, limit}
 use Rattle.csr_store.specs.Refusal.{put_fault}
 use Rattle.csr_store.specs.ByRows.{grid}
 use Rattle.csr_store.specs.Collected.{IsCollected}

@@ -1,6 +1,6 @@
 -- Runs of rows, one behind another.
-use Rattle.std.proofs.Common.{zero, suc, ◌≡◌, ◌≤◌, ◌<◌, ◌+◌, ◌-◌, ◌^◌, ℕ, Bool, true, false, cond, ◌&&◌, List, [], ◌∷◌, ◌++◌, Option, None, Some, IsSome, map, length, take, drop, get_or, refl, sym, ap, ◌∙◌, subst, arith, length-append, append_assoc, append-nil, length-drop}
-use Rattle.std.proofs.lemmas.List.{take-append-le, drop-append-le, drop_more, drop_all, take_all, take_more, map_more, length-map}
+use Rattle.std.proofs.Common.{zero, suc, ◌≡◌, ◌≤◌, ◌<◌, ◌+◌, ◌-◌, ◌^◌, ℕ, Bool, true, cond, ◌&&◌, List, [], ◌∷◌, ◌++◌, Option, None, Some, IsSome, map, length, take, drop, get_or, refl, sym, ap, ◌∙◌, subst, arith, length-append, append_assoc, append-nil, length-drop}
+use Rattle.std.proofs.lemmas.List.{take-append-le, drop-append-le, take_more}
 use Rattle.std.proofs.lemmas.Bool.{lt-ltb}
 use Rattle.std.proofs.lemmas.Bool.Decides.{nat_tests}
 use Rattle.std.specs.List.{AllByRecursion}
@@ -9,7 +9,7 @@ use Rattle.std.specs.declared.cmp.Ordering.TheVariants.{Less, Equal, Greater}
 use Rattle.std.specs.Ordering.{nat_cmp, is_lt, is_eq, ordering_then}
 use Rattle.std.specs.FinMap.{is_sorted, from_entries, get, get-from_entries, len, len-entries}
 use Rattle.std.specs.FinMap.Entries.{below_all, find}
-use Rattle.csr_store.specs.Grid.{Grid, IsGrid, Position, Cell, Entry, pos_cmp, limit, at_row}
+use Rattle.csr_store.specs.Grid.{IsGrid, Position, Cell, Entry, pos_cmp, limit, at_row}
 use Rattle.csr_store.specs.ByRows.{grid, by_rows, entries_from, Within, ends_of, AreStarts}
 use Rattle.csr_store.specs.Run.{Run, Row, IsRow, numbered, ended_rows, open_row, AreEnds, all_ended, Follow, AreClosed}
 use Rattle.csr_store.proofs.Order.{pos_total, pos_exact, both_true}

@@ -12,6 +12,9 @@ pub mod Slicing
 pub mod Collecting
 pub mod Merging
 pub mod Runs
+pub mod Copies
+pub mod Valuing
+pub mod Revalued
 pub mod Joining
 pub mod Along
 pub mod Appending

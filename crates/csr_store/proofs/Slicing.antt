@@ -1,5 +1,5 @@
 -- The rows of a list of cells, by where each row ends.
-use Rattle.std.proofs.Common.{zero, suc, ◌≡◌, ◌≤◌, ◌<◌, ◌+◌, ◌-◌, ℕ, true, false, List, [], ◌∷◌, ◌++◌, map, filter, length, take, drop, get_or, nat_eq, refl, sym, ap, ◌∙◌, subst, arith, eq-eqb, append-nil, length-append, length-take, length-drop}
+use Rattle.std.proofs.Common.{zero, suc, ◌≡◌, ◌≤◌, ◌<◌, ◌+◌, ◌-◌, ℕ, List, [], ◌∷◌, ◌++◌, map, filter, length, take, drop, get_or, nat_eq, refl, sym, ap, ◌∙◌, subst, arith, eq-eqb, append-nil, length-take, length-drop}
 use Rattle.std.specs.List.{range_with_len}
 use Rattle.std.proofs.lemmas.Bool.{ne_eqb}
 use Rattle.std.proofs.lemmas.List.{map-append, drop-drop, ext_get_or}

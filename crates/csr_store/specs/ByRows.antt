@@ -1,8 +1,8 @@
 -- How a matrix is kept: compressed rows. All cells stand in one list, row after row, and a second list says where each
 -- row ends in it; the row behind those that have an end is open. This project's own.
-use Rattle.std.specs.Prelude.{◌≡◌, ◌≤◌, ◌+◌, ◌-◌, zero, suc, ℕ, List, [], ◌∷◌, ◌++◌, map, length, take, drop, true, Option}
+use Rattle.std.specs.Prelude.{◌≡◌, ◌≤◌, ◌+◌, ◌-◌, zero, suc, ℕ, List, [], ◌∷◌, ◌++◌, map, length, take, drop, true}
 use Rattle.std.specs.FinMap as fin
-use Rattle.csr_store.specs.Grid.{Grid, IsGrid, Position, Cell, Entry, pos_cmp, at_row}
+use Rattle.csr_store.specs.Grid.{Grid, IsGrid, Cell, Entry, pos_cmp, at_row}
 
 -- the grid of two sizes and a list of entries
 abbrev pub grid : ℕ → ℕ → List Entry → Grid

@@ -10,3 +10,4 @@ pub mod Along
 pub mod Mask
 pub mod Ascending
 pub mod Added
+pub mod Valued

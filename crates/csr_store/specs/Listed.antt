@@ -1,6 +1,6 @@
 -- Entries of a matrix in any order, as the tuples that `GrB_Matrix_build` of the GraphBLAS C API Specification 2.0
 -- takes where no operator joins duplicates: two of one position make no matrix.
-use Rattle.std.specs.Prelude.{◌≡◌, ◌<◌, ◌≤◌, ◌^◌, if◌then◌else◌, ℕ, ◌&&◌, not, nat_lt, nat_le, Option, None, Some, List, length, refl}
+use Rattle.std.specs.Prelude.{if◌then◌else◌, ℕ, ◌&&◌, not, nat_lt, nat_le, Option, None, Some, List, length, refl}
 use Rattle.std.specs.List.{IsDistinct}
 use Rattle.std.specs.Map.{keys_of}
 use Rattle.std.specs.Ordering.{eq_by_cmp}

@@ -33,6 +33,3 @@ pub use error::StoreError;
 pub use join::join_rows;
 pub use matrix::{Matrix, Version};
 pub use rows::Rows;
-
-#[cfg(test)]
-mod tests;

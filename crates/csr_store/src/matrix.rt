@@ -1,12 +1,16 @@
 //! A finished matrix.
-ghost use Rattle.std.specs.Prelude.{◌≡◌, ◌<◌, ◌+◌, map};
-ghost use Rattle.std.specs.List.{range_with_len};
+ghost use Rattle.std.specs.Prelude.{◌≡◌, ◌<◌, ◌≤◌, ◌+◌, ◌-◌, ◌∷◌, [], map, IfOk};
+ghost use Rattle.std.specs.List.{range_with_len, AllByRecursion};
 ghost use Rattle.std.specs.FinMap as fin;
+ghost use Rattle.csr_store.specs.Along.{along};
 ghost use Rattle.csr_store.specs.Grid.{IsGrid, row_of, row_start};
 ghost use Rattle.csr_store.specs.ByRows.{grid, by_rows, ends_of, AreStarts};
 
-use crate::row::{cells_between, value_at};
+use crate::row::{append, cells_between, value_at};
+use crate::rows::Rows;
+use std::alloc::{AllocError, Global};
 use std::marker::Model;
+use std::ops::Range;
 use std::sync::Arc;
 
 /// A column with its value, in a row that is known.
@@ -96,6 +100,27 @@ impl Matrix {
         cells_between(&self.cells, from, to)
     }
 
+    /// Rows of the matrix in a range, copied. Takes their memory first.
+    pub fn copy_rows(&self, alloc: Global, range: Range<u64>) -> Result<Rows, AllocError>
+        requires range { range.start ≤ range.end }
+        requires within { range.end ≤ self.now.rows }
+        ensures { IfOk result (λ r. r ≡ record {
+          first = range.start;
+          columns = self.now.columns;
+          ended = along (λ i. row_of self.now i ∷ []) range.start (range.end - range.start);
+          opened = [];
+        }) }
+    {
+        let from = range.start as usize;
+        let to = range.end as usize;
+        let base = self.starts[from];
+        let ends = ends_behind(alloc, &self.starts[from + 1..to + 1], base)?;
+        let mut cells = Vec::new(alloc);
+        let copied = cells_between(&self.cells, base as usize, self.starts[to] as usize);
+        append(&mut cells, copied)?;
+        Ok(Rows::of_ends(range.start, self.columns, ends, cells))
+    }
+
     /// The value at a position, where it has one.
     pub fn get(&self, i: u64, j: u64) -> Option<u64>
         ensures { result ≡ fin.get self.now.cells (i, j) }
@@ -106,6 +131,18 @@ impl Matrix {
             None
         }
     }
+}
+
+/// Where rows end behind a place, by where they end.
+fn ends_behind(alloc: Global, ends: &[u64], base: u64) -> Result<Vec<u64>, AllocError>
+    requires { AllByRecursion (λ e. base ≤ e) ends.now }
+    ensures { IfOk result (λ behind. behind.items ≡ map (λ e. e - base) ends.now) }
+{
+    let mut behind = Vec::with_capacity(alloc, ends.len())?;
+    for end in ends {
+        behind.push(*end - base)?;
+    }
+    Ok(behind)
 }
 
 /// A matrix with several owners. `Arc::try_clone` makes a further one.

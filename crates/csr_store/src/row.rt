@@ -1,11 +1,13 @@
-//! Parts of a list of cells, and searches in a row.
-ghost use Rattle.std.specs.Prelude.{◌≡◌, ◌<◌, ◌≤◌, ℕ, IsTrue, length, slice_index, slice_range, nat_eq};
+//! Parts of a list of cells, searches in a row, and cells copied behind others.
+ghost use Rattle.std.specs.Prelude.{◌≡◌, ◌<◌, ◌≤◌, ◌+◌, ◌++◌, ℕ, IsTrue, OnOk, length, slice_index, slice_range, nat_eq};
 ghost use Rattle.std.specs.Ordering.{nat_cmp};
 ghost use Rattle.std.specs.FinMap as map;
 ghost use Rattle.std.specs.Map.{lookup};
 ghost use Rattle.csr_store.specs.ByRows.{columns_of};
+ghost use Rattle.csr_store.specs.Valued.{valued_from};
 
 use crate::matrix::Cell;
+use std::alloc::AllocError;
 
 /// The cells between two places.
 #[inline(always)]
@@ -36,5 +38,35 @@ pub fn value_at(row: &[Cell], j: u64) -> Option<u64>
     match row.get(cells_before(row, j)) {
         Some(cell) if cell.0 == j => Some(cell.1),
         _ => None,
+    }
+}
+
+/// The most cells that are copied at once. The C library copies this many in vector registers, and a good many more byte by
+/// byte, by one instruction of which tools count each byte.
+const PART: usize = 128;
+
+/// Adds cells behind others.
+pub fn append(cells: &mut Vec<Cell>, more: &[Cell]) -> Result<(), AllocError>
+    ensures { OnOk result (cells.new.items ≡ cells.old.items ++ more.now) }
+{
+    cells.reserve(more.len())?;
+    let mut rest = more;
+    while !rest.is_empty() {
+        let (part, behind) = rest.split_at(rest.len().min(PART));
+        cells.extend_from_slice(part)?;
+        rest = behind;
+    }
+    Ok(())
+}
+
+/// Gives other values to cells from one on, as many as there are values.
+pub fn put_values(cells: &mut [Cell], from: usize, values: &[u64])
+    requires { from + length values.now ≤ length cells.old }
+    ensures { cells.new ≡ valued_from from values.now cells.old }
+{
+    let mut entry = from;
+    for value in values {
+        cells[entry].1 = *value;
+        entry += 1;
     }
 }

@@ -2,11 +2,13 @@
 ghost use Rattle.std.specs.Prelude.{◌≡◌, ◌<◌, ◌≤◌, ◌+◌, ◌^◌, ◌++◌, ◌∷◌, [], length, map, nat_eq, if◌then◌else◌, vec_capacity, OnOk, OnErr};
 ghost use Rattle.std.specs.List.{AllByRecursion};
 ghost use Rattle.csr_store.specs.Grid.{Cell};
-ghost use Rattle.csr_store.specs.Added.{ComeBehind, kept_where, with_values};
+ghost use Rattle.csr_store.specs.Added.{ComeBehind, kept_where};
 ghost use Rattle.csr_store.specs.ByRows.{ends_of};
-ghost use Rattle.csr_store.specs.Run.{AreClosed, IsRow, ended_rows};
+ghost use Rattle.csr_store.specs.Valued.{entries_of, with_value, all_cells, valued_from, AreAlike};
+ghost use Rattle.csr_store.specs.Run.{AreClosed, AreRows, IsRow, ended_rows, open_row};
 
 use crate::matrix::Cell;
+use crate::row::{append, put_values};
 use std::alloc::{AllocError, Global};
 use std::marker::Model;
 
@@ -37,6 +39,24 @@ impl Model for Rows {
 }
 
 impl Rows {
+    /// Rows by where each ends among cells.
+    pub(crate) fn of_ends(first: u64, columns: u64, ends: Vec<u64>, cells: Vec<Cell>) -> Self
+        requires { AreRows columns ends.items cells.items }
+        ensures { result ≡ record {
+          first = first;
+          columns = columns;
+          ended = ended_rows 0 ends.items cells.items;
+          opened = open_row 0 ends.items cells.items;
+        } }
+    {
+        Rows {
+            first,
+            columns,
+            ends,
+            cells,
+        }
+    }
+
     /// No row yet, of those from `first` on. Takes no memory.
     pub fn begin(alloc: Global, first: u64, columns: u64) -> Self
         ensures { result ≡ record { first = first; columns = columns; ended = []; opened = [] } }
@@ -49,6 +69,14 @@ impl Rows {
         }
     }
 
+    /// Makes room for so many entries more.
+    pub fn reserve(&mut self, entries: usize) -> Result<(), AllocError>
+        ensures { self.new ≡ self.old }
+    {
+        self.cells.reserve(entries)?;
+        Ok(())
+    }
+
     /// Adds an entry to the open row, behind its others. On a refusal the run is as before.
     pub fn push(&mut self, column: u64, value: u64) -> Result<(), AllocError>
         requires within { column < self.old.columns }
@@ -58,21 +86,6 @@ impl Rows {
         ensures kept { OnErr result (self.new ≡ self.old) }
     {
         self.cells.push((column, value))?;
-        Ok(())
-    }
-
-    /// Adds cells to the open row, behind its others, each with its value of `values` in place of its own. On a
-    /// refusal the run is as before.
-    pub fn push_all(&mut self, cells: &[Cell], values: &[u64]) -> Result<(), AllocError>
-        requires behind { ComeBehind self.old.columns self.old.opened cells.now }
-        requires values { length values.now ≡ length cells.now }
-        ensures pushed { OnOk result
-            (self.new ≡ record self.old { opened = self.old.opened ++ with_values cells.now values.now }) }
-        ensures kept { OnErr result (self.new ≡ self.old) }
-    {
-        let from = self.cells.len();
-        self.cells.extend_from_slice(cells)?;
-        set_values(&mut self.cells[from..], values);
         Ok(())
     }
 
@@ -88,6 +101,23 @@ impl Rows {
         self.cells.reserve(cells.len())?;
         add_where(&mut self.cells, cells, answers);
         Ok(())
+    }
+
+    /// The entries, row after row, with those of the open row.
+    pub fn cells(&self) -> &[Cell]
+        ensures { result.now ≡ all_cells self.now }
+    {
+        &self.cells
+    }
+
+    /// Gives other values to the entries from one on, as many as there are values.
+    pub fn set_values(&mut self, from: usize, values: &[u64])
+        requires { from + length values.now ≤ entries_of self.old }
+        ensures alike { AreAlike self.old self.new }
+        ensures values { all_cells self.new ≡ valued_from from values.now (all_cells self.old) }
+    {
+        let _ = self.entries();
+        put_values(&mut self.cells, from, values);
     }
 
     /// Ends the open row, and opens the next. On a refusal the run is as before.
@@ -114,9 +144,20 @@ impl Rows {
         self.ends.len() as u64
     }
 
-    /// How many entries the run has.
-    pub(crate) fn entries(&self) -> usize {
+    /// How many entries the run has, with those of its open row.
+    pub fn entries(&self) -> usize
+        ensures { result ≡ entries_of self.now }
+    {
         self.cells.len()
+    }
+
+    /// Gives an entry another value. Entries are numbered from 0, in the order in which they were added.
+    #[inline(always)]
+    pub fn set_value(&mut self, entry: usize, value: u64)
+        requires { entry < entries_of self.old }
+        ensures { self.new ≡ with_value entry value self.old }
+    {
+        self.cells[entry].1 = value;
     }
 
     /// Adds the ended rows behind those of compressed rows.
@@ -133,20 +174,8 @@ impl Rows {
         ensures rows { AllByRecursion (λ r. IsRow self.now.columns r) self.now.ended }
     {
         push_ends(starts, &self.ends, cells.len() as u64)?;
-        cells.extend_from_slice(&self.cells)?;
+        append(cells, &self.cells)?;
         Ok(())
-    }
-}
-
-/// Gives cells these values.
-fn set_values(cells: &mut [Cell], values: &[u64])
-    requires { length values.now ≡ length cells.old }
-    ensures { cells.new ≡ with_values cells.old values.now }
-{
-    let mut next = 0;
-    for cell in cells.iter_mut() {
-        cell.1 = values[next];
-        next += 1;
     }
 }
 

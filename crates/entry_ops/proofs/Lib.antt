@@ -1,12 +1,15 @@
+pub mod Standing
 pub mod Placing
+pub mod Sifting
 pub mod Nexts
 pub mod Masks
 pub mod Merging
 pub mod Lines
+pub mod Mapped
+pub mod Whole
 pub mod Filling
 pub mod Bounds
 pub mod Chunks
 pub mod Positions
 pub mod Folding
 pub mod Reducing
-pub mod Pieces

@@ -1,104 +1,27 @@
--- A row of one operand, of which all passes, some cells at a time: what is still to come completes the row.
-use Rattle.std.proofs.Common.{
-  ◌≡◌,
-  ◌≤◌,
-  ◌<◌,
-  ◌+◌,
-  ◌^◌,
-  ℕ,
-  suc,
-  Bool,
-  true,
-  false,
-  nat_eq,
-  if◌then◌else◌,
-  List,
-  [],
-  ◌∷◌,
-  ◌++◌,
-  length,
-  Option,
-  None,
-  Some,
-  refl,
-  sym,
-  ap,
-  ◌∙◌,
-  subst,
-  arith,
-  append_assoc,
-  append-nil,
-}
+-- The words of a row that an operator keeps, some cells at a time: what is still to come completes the row.
+use Rattle.std.proofs.Common.{◌≡◌, ◌<◌, ◌+◌, ℕ, suc, Bool, true, false, nat_eq, if◌then◌else◌, List, [], ◌∷◌, ◌++◌, length, Option, None, Some, refl, sym, ap, ◌∙◌, subst, arith, append_assoc, append-nil}
 use Rattle.std.specs.List.{AllByRecursion}
-use Rattle.bpf_insn.specs.declared.operands.Operands.TheVariants.{Unary, Index}
+use Rattle.bpf_insn.specs.declared.operands.Operands.TheVariants.{Index}
 use Rattle.bpf_verify.specs.Accepted.{Accepted}
 use Rattle.csr_store.specs.Grid.{Cell}
 use Rattle.csr_store.specs.Run.{Row, Run}
-use Rattle.csr_store.specs.Added.{ComeBehind, with_values, kept_where}
+use Rattle.csr_store.specs.Added.{ComeBehind, kept_where}
 use Rattle.csr_store.specs.Along.{cell_at}
-use Rattle.csr_store.specs.Ascending.{Ascends, at}
+use Rattle.csr_store.specs.Ascending.{Ascends}
 use Rattle.csr_store.proofs.Along.{along-none}
 use Rattle.bpf_run.specs.Meaning.{value_of}
-use Rattle.bpf_run.specs.Calls.{Call, Gathered, call_of, calls_on, values_on, steps_of, Charges, words_of, entries_of}
-use Rattle.bpf_run.proofs.Charging.{Spends, spends-start, spends-further, spends-stop, steps-append}
-use Rattle.entry_ops.specs.declared.form.Form.{Form}
-use Rattle.entry_ops.specs.declared.form.Form.TheVariants.{Apply, Select, Union, Both}
-use Rattle.entry_ops.specs.Forms.{applied}
-use Rattle.entry_ops.specs.Placing.{FollowIn, Emission, final, Holds, Does, with_cells}
-use Rattle.entry_ops.specs.Walking.{form_at, form_calls, row_cells, row_calls, of_one, line_cells, line_calls}
+use Rattle.bpf_run.specs.Calls.{Call, call_of, calls_on, values_on, entries_of}
+use Rattle.entry_ops.specs.declared.form.Form.TheVariants.{Select}
+use Rattle.entry_ops.specs.Standing.{FollowIn, Standing, Adds, with_cell, with_cells}
+use Rattle.entry_ops.specs.Sifting.{with_kept}
+use Rattle.entry_ops.specs.Walking.{row_cells, row_calls, IsOpen}
 use Rattle.entry_ops.proofs.Nexts.{next_left, next_first}
-use Rattle.entry_ops.proofs.Merging.{cells_here, calls_here, no_cell, no_call, above_all}
-
--- ---- what is gathered and marked for cells is what the form makes of them
-
-pub words-calls : (f : Accepted) (i : ℕ) (cs : List Cell) → calls_on f (words_of cs) ≡ line_calls (Apply None) f i cs
-words-calls f i [] = refl
-words-calls f i (c ∷ cs) = ap (λ ds. call_of f (Unary c.1) ∷ ds) (words-calls f i cs)
-
-pub words-cells : (f : Accepted) (i : ℕ) (cs : List Cell) → with_values cs (values_on f (words_of cs)) ≡ line_cells (Apply None) f i cs
-words-cells f i [] = refl
-words-cells f i (c ∷ cs) = ap (λ ds. (c.0, value_of f (Unary c.1)) ∷ ds) (words-cells f i cs)
-
-pub entries-calls : (f : Accepted) (i thunk : ℕ) (cs : List Cell) → calls_on f (entries_of i thunk cs) ≡ line_calls (Apply (Some thunk)) f i cs
-entries-calls f i thunk [] = refl
-entries-calls f i thunk (c ∷ cs) = ap (λ ds. call_of f (Index c.1 i c.0 thunk) ∷ ds) (entries-calls f i thunk cs)
-
-pub entries-cells : (f : Accepted) (i thunk : ℕ) (cs : List Cell)
-    → with_values cs (values_on f (entries_of i thunk cs)) ≡ line_cells (Apply (Some thunk)) f i cs
-entries-cells f i thunk [] = refl
-entries-cells f i thunk (c ∷ cs) = ap (λ ds. (c.0, value_of f (Index c.1 i c.0 thunk)) ∷ ds) (entries-cells f i thunk cs)
-
-pub kept-calls : (f : Accepted) (i thunk : ℕ) (cs : List Cell) → calls_on f (entries_of i thunk cs) ≡ line_calls (Select thunk) f i cs
-kept-calls f i thunk [] = refl
-kept-calls f i thunk (c ∷ cs) = ap (λ ds. call_of f (Index c.1 i c.0 thunk) ∷ ds) (kept-calls f i thunk cs)
-
-kept-here : (c : Cell) (more : Row) (b : Bool) → (if b then more else c ∷ more) ≡ cell_at c.0 (if b then None else Some c.1) ++ more
-kept-here c more true = refl
-kept-here c more false = refl
-
-pub kept-cells : (f : Accepted) (i thunk : ℕ) (cs : List Cell)
-    → kept_where cs (values_on f (entries_of i thunk cs)) ≡ line_cells (Select thunk) f i cs
-kept-cells f i thunk [] = refl
-kept-cells f i thunk (c ∷ cs) =
-    let b = nat_eq (value_of f (Index c.1 i c.0 thunk)) 0 in
-    kept-here c (kept_where cs (values_on f (entries_of i thunk cs))) b
-    ∙ ap (λ ds. cell_at c.0 (if b then None else Some c.1) ++ ds) (kept-cells f i thunk cs)
-
-pub words-count : (f : Accepted) (cs : List Cell) → length (values_on f (words_of cs)) ≡ length cs
-words-count f [] = refl
-words-count f (c ∷ cs) = ap suc (words-count f cs)
+use Rattle.entry_ops.proofs.Merging.{cells_here, calls_here, no_cell, no_call}
+use Rattle.entry_ops.proofs.Standing.{Completes, completes-start, completes-same, completes-step, completes-end, above_all}
 
 pub entries-count : (f : Accepted) (i thunk : ℕ) (cs : List Cell) → length (values_on f (entries_of i thunk cs)) ≡ length cs
 entries-count f i thunk [] = refl
 entries-count f i thunk (c ∷ cs) = ap suc (entries-count f i thunk cs)
-
--- done so, it is done as the form says
-pub does-line : (f : Accepted) (made calls : List Call) (placed cells : Row) (e n : Emission) (g k : Gathered) → made ≡ calls → placed ≡ cells
-    → Does f made (with_cells placed) e g n k → Does f calls (with_cells cells) e g n k
-does-line f made calls placed cells e n g k c p d =
-    subst (λ cs. Does f cs (with_cells cells) e g n k) c (subst (λ (us : Row). Does f made (with_cells us) e g n k) p d)
-
--- ---- cells behind cells
 
 pub front_behind : (n : ℕ) (opened now rest : Row) → ComeBehind n opened (now ++ rest) → ComeBehind n opened now
 front_behind n opened now rest h = record { low = h.low; above = h.above; ascend = front h.low now h.ascend }
@@ -107,141 +30,119 @@ front_behind n opened now rest h = record { low = h.low; above = h.above; ascend
     front low [] a = tt
     front low (c ∷ cs) a = (a.0, a.1, front (suc c.0) cs a.2)
 
-module _ (form : Form) (f : Accepted) (i n : ℕ) where
-  pub rest_behind : (opened now rest : Row) → ComeBehind n opened (now ++ rest) → ComeBehind n (opened ++ line_cells form f i now) rest
-  rest_behind opened [] rest h = subst (λ (o : Row). ComeBehind n o rest) (sym (append-nil opened)) h
-  rest_behind opened (c ∷ cs) rest h =
-      let here = cell_at c.0 (form_at form f (i, c.0) (Some c.1) None) in
-      let above : AllByRecursion (λ (d : Cell). d.0 < c.0 + 1) (opened ++ here) =
-      above_all h.low c.0 0 (form_at form f (i, c.0) (Some c.1) None) opened h.above h.ascend.0 in
+module _ (f : Accepted) (i thunk : ℕ) where
+  -- the cells that are kept, and the calls that are made for them
+  abbrev pub kept : Row → Row
+  kept cs = kept_where cs (values_on f (entries_of i thunk cs))
+
+  abbrev pub asked : Row → List Call
+  asked cs = calls_on f (entries_of i thunk cs)
+
+  here : Cell → Option ℕ
+  here c = if nat_eq (value_of f (Index c.1 i c.0 thunk)) 0 then None else Some c.1
+
+  kept-or-not : (c : Cell) (more : Row) (b : Bool) → (if b then more else c ∷ more) ≡ cell_at c.0 (if b then None else Some c.1) ++ more
+  kept-or-not c more true = refl
+  kept-or-not c more false = refl
+
+  kept-first : (c : Cell) (cs : Row) → kept (c ∷ cs) ≡ cell_at c.0 (here c) ++ kept cs
+  unfolding here
+  kept-first c cs = kept-or-not c (kept cs) (nat_eq (value_of f (Index c.1 i c.0 thunk)) 0)
+
+  kept-append : (now rest : Row) → kept (now ++ rest) ≡ kept now ++ kept rest
+  kept-append [] rest = refl
+  kept-append (c ∷ cs) rest =
+      kept-first c (cs ++ rest) ∙ (ap (λ us. cell_at c.0 (here c) ++ us) (kept-append cs rest)
+      ∙ (sym (append_assoc (cell_at c.0 (here c)) (kept cs) (kept rest)) ∙ ap (λ us. us ++ kept rest) (sym (kept-first c cs))))
+
+  asked-append : (now rest : Row) → asked (now ++ rest) ≡ asked now ++ asked rest
+  asked-append [] rest = refl
+  asked-append (c ∷ cs) rest = ap (λ ds. call_of f (Index c.1 i c.0 thunk) ∷ ds) (asked-append cs rest)
+
+  -- cells behind those that are kept
+  pub rest_behind : (n : ℕ) (opened now rest : Row) → ComeBehind n opened (now ++ rest) → ComeBehind n (opened ++ kept now) rest
+  rest_behind n opened [] rest h = subst (λ (o : Row). ComeBehind n o rest) (sym (append-nil opened)) h
+  rest_behind n opened (c ∷ cs) rest h =
+      let above : AllByRecursion (λ (d : Cell). d.0 < c.0 + 1) (opened ++ cell_at c.0 (here c)) =
+      above_all h.low c.0 0 (here c) opened h.above h.ascend.0 in
       let same : c.0 + 1 ≡ suc c.0 = omega arith in
-      subst (λ (o : Row). ComeBehind n o rest) (append_assoc opened here (line_cells form f i cs))
-      (rest_behind (opened ++ here) cs rest (record {
+      subst (λ (o : Row). ComeBehind n o rest)
+      (append_assoc opened (cell_at c.0 (here c)) (kept cs) ∙ ap (λ us. opened ++ us) (sym (kept-first c cs)))
+      (rest_behind n (opened ++ cell_at c.0 (here c)) cs rest (record {
         low = suc c.0;
-        above = subst (λ m. AllByRecursion (λ (d : Cell). d.0 < m) (opened ++ here)) same above;
+        above = subst (λ m. AllByRecursion (λ (d : Cell). d.0 < m) (opened ++ cell_at c.0 (here c))) same above;
         ascend = h.ascend.2;
       }))
 
-  pub line_cells-append : (now rest : Row) → line_cells form f i (now ++ rest) ≡ line_cells form f i now ++ line_cells form f i rest
-  line_cells-append [] rest = refl
-  line_cells-append (c ∷ cs) rest =
-      let here = cell_at c.0 (form_at form f (i, c.0) (Some c.1) None) in
-      ap (λ us. here ++ us) (line_cells-append cs rest) ∙ sym (append_assoc here (line_cells form f i cs) (line_cells form f i rest))
+  -- ---- the row of the form is what is kept of the operand's cells
 
-  pub line_calls-append : (now rest : Row) → line_calls form f i (now ++ rest) ≡ line_calls form f i now ++ line_calls form f i rest
-  line_calls-append [] rest = refl
-  line_calls-append (c ∷ cs) rest =
-      let here = form_calls form f (i, c.0) (Some c.1) None in
-      ap (λ us. here ++ us) (line_calls-append cs rest) ∙ sym (append_assoc here (line_calls form f i cs) (line_calls form f i rest))
+  alone-cells : (n low : ℕ) (xs : List Cell) → Ascends low n xs → row_cells (Select thunk) f i n xs [] None ≡ kept xs
+  unfolding here
+  alone-cells n low [] h = along-none (λ j. cells_here (Select thunk) f i true j None None) 0 n (λ j. no_cell (Select thunk) f i true j)
+  alone-cells n low (x ∷ xs) h =
+      next_first (cells_here (Select thunk) f i) (no_cell (Select thunk) f i) n low (x ∷ xs) [] None None x.0 (Some x.1) None xs [] (next_left n low x xs [] h tt) (λ j l. refl)
+      ∙ (ap (λ us. cell_at x.0 (here x) ++ us) (alone-cells n (suc x.0) xs h.2) ∙ sym (kept-first x xs))
 
-  -- ---- the row of a form of one operand is what it makes of the operand's cells
+  alone-calls : (n low : ℕ) (xs : List Cell) → Ascends low n xs → row_calls (Select thunk) f i n xs [] None ≡ asked xs
+  alone-calls n low [] h = along-none (λ j. calls_here (Select thunk) f i true j None None) 0 n (λ j. no_call (Select thunk) f i true j)
+  alone-calls n low (x ∷ xs) h =
+      next_first (calls_here (Select thunk) f i) (no_call (Select thunk) f i) n low (x ∷ xs) [] None None x.0 (Some x.1) None xs [] (next_left n low x xs [] h tt) (λ j l. refl)
+      ∙ ap (λ us. call_of f (Index x.1 i x.0 thunk) ∷ us) (alone-calls n (suc x.0) xs h.2)
 
-  alone-cells : (low : ℕ) (xs : List Cell) → Ascends low n xs → row_cells form f i n xs [] None ≡ line_cells form f i xs
-  alone-cells low [] h = along-none (λ j. cells_here form f i true j None None) 0 n (λ j. no_cell form f i true j)
-  alone-cells low (x ∷ xs) h =
-      next_first (cells_here form f i) (no_cell form f i) n low (x ∷ xs) [] None None x.0 (Some x.1) None xs [] (next_left n low x xs [] h tt) (λ j l. refl)
-      ∙ ap (λ us. cell_at x.0 (form_at form f (i, x.0) (Some x.1) None) ++ us) (alone-cells (suc x.0) xs h.2)
+  -- ---- a row under way
 
-  alone-calls : (low : ℕ) (xs : List Cell) → Ascends low n xs → row_calls form f i n xs [] None ≡ line_calls form f i xs
-  alone-calls low [] h = along-none (λ j. calls_here form f i true j None None) 0 n (λ j. no_call form f i true j)
-  alone-calls low (x ∷ xs) h =
-      next_first (calls_here form f i) (no_call form f i) n low (x ∷ xs) [] None None x.0 (Some x.1) None xs [] (next_left n low x xs [] h tt) (λ j l. refl)
-      ∙ ap (λ us. form_calls form f (i, x.0) (Some x.1) None ++ us) (alone-calls (suc x.0) xs h.2)
+  module _ (n : ℕ) (cells : Row) (calls : List Call) (old : Standing) where
+    pub record IsLining (xs : List Cell) (now : Standing) : Type 0 where
+      pub behind : ComeBehind n now.rows.opened xs
+      pub columns : now.rows.columns ≡ n
+      pub completes : Completes cells calls old (kept xs) (asked xs) now
 
-pub whole-cells : (form : Form) (f : Accepted) (i n : ℕ) (xs right : List Cell) (mask : Option (List Cell)) → of_one form ≡ true → mask ≡ None → Ascends 0 n xs
-    → row_cells form f i n xs right mask ≡ line_cells form f i xs
-whole-cells (Apply thunk) f i n xs right mask one none h = ap (row_cells (Apply thunk) f i n xs right) none ∙ alone-cells (Apply thunk) f i n 0 xs h
-whole-cells (Select thunk) f i n xs right mask one none h = ap (row_cells (Select thunk) f i n xs right) none ∙ alone-cells (Select thunk) f i n 0 xs h
-whole-cells Union f i n xs right mask one none h = absurd (cc)
-whole-cells Both f i n xs right mask one none h = absurd (cc)
-
-pub whole-calls : (form : Form) (f : Accepted) (i n : ℕ) (xs right : List Cell) (mask : Option (List Cell)) → of_one form ≡ true → mask ≡ None → Ascends 0 n xs
-    → row_calls form f i n xs right mask ≡ line_calls form f i xs
-whole-calls (Apply thunk) f i n xs right mask one none h = ap (row_calls (Apply thunk) f i n xs right) none ∙ alone-calls (Apply thunk) f i n 0 xs h
-whole-calls (Select thunk) f i n xs right mask one none h = ap (row_calls (Select thunk) f i n xs right) none ∙ alone-calls (Select thunk) f i n 0 xs h
-whole-calls Union f i n xs right mask one none h = absurd (cc)
-whole-calls Both f i n xs right mask one none h = absurd (cc)
-
-pub none_left : (xs : List Cell) → length xs ≡ 0 → xs ≡ []
-none_left [] e = refl
-none_left (x ∷ xs) e = absurd (omega arith)
-
--- ---- a row under way
-
-module _ (form : Form) (f : Accepted) (i n : ℕ) (left : List Cell) (old : Emission) (was : Gathered) where
-  pub record IsLining (xs : List Cell) (e : Emission) (g : Gathered) : Type 0 where
-    pub behind : ComeBehind n (final f e g).opened xs
-    pub columns : (final f e g).columns ≡ n
-    pub holds : Holds f e g
-    pub rows : with_cells (line_cells form f i xs) (final f e g) ≡ with_cells (line_cells form f i left) (final f old was)
-    pub spends : (rest : List Call) → Spends (calls_on f was.operands ++ (line_calls form f i left ++ rest)) old.steps
-        (calls_on f g.operands ++ (line_calls form f i xs ++ rest)) e.steps
-
-  pub lining-start : Holds f old was → Ascends 0 n left → (final f old was).columns ≡ n → (final f old was).opened ≡ [] → IsLining left old was
-  lining-start h l c o = record {
-    behind = record { low = 0; above = subst (AllByRecursion (λ (d : Cell). d.0 < 0)) (sym o) tt; ascend = l };
-    columns = c;
-    holds = h;
-    rows = refl;
-    spends = λ rest. spends-start _ old.steps;
-  }
-
-  module _ (xs : List Cell) (e : Emission) (g : Gathered) (now : IsLining xs e g) where
-    pub lining-room : old.steps + (steps_of (calls_on f was.operands) + steps_of (line_calls form f i left)) < 2 ^ 64
-        → e.steps + steps_of (calls_on f g.operands) < 2 ^ 64
-    lining-room h =
-        let s = (now.spends []).counted in
-        let a = steps-append (calls_on f was.operands) (line_calls form f i left ++ []) in
-        let b = steps-append (line_calls form f i left) [] in
-        let c = steps-append (calls_on f g.operands) (line_calls form f i xs ++ []) in
-        omega arith
-
-    -- room was made
-    pub lining-made : (m : Emission) (h : Gathered) → Does f [] (λ run. run) e g m h → IsLining xs m h
-    lining-made m h d = record {
-      behind = subst (λ (r : Run). ComeBehind n r.opened xs) (sym d.rows) now.behind;
-      columns = ap (λ (r : Run). r.columns) d.rows ∙ now.columns;
-      holds = d.holds;
-      rows = ap (with_cells (line_cells form f i xs)) d.rows ∙ now.rows;
-      spends = λ rest. spends-further _ old.steps _ e.steps _ m.steps (now.spends rest) (d.spends (line_calls form f i xs ++ rest));
+    pub lining-start : (left right : List Cell) (mask : Option (List Cell)) → Ascends 0 n left → mask ≡ None
+        → cells ≡ row_cells (Select thunk) f i n left right mask → calls ≡ row_calls (Select thunk) f i n left right mask
+        → IsOpen n old.rows → IsLining left old
+    lining-start left right mask l none c d o = record {
+      behind = record { low = 0; above = subst (AllByRecursion (λ (d : Cell). d.0 < 0)) (sym o.none) tt; ascend = l };
+      columns = o.columns_are;
+      completes = completes-same cells calls old cells _ calls _ old (completes-start cells calls old)
+          (c ∙ (ap (row_cells (Select thunk) f i n left right) none ∙ alone-cells n 0 left l))
+          (d ∙ (ap (row_calls (Select thunk) f i n left right) none ∙ alone-calls n 0 left l));
     }
 
-    -- the first of what is left may be added, and is
-    module _ (first rest : List Cell) (parts : first ++ rest ≡ xs) where
-      pub lining-fits : FollowIn first (final f e g)
-      lining-fits = subst (λ m. ComeBehind m (final f e g).opened first) (sym now.columns)
-          (front_behind n (final f e g).opened first rest (subst (ComeBehind n (final f e g).opened) (sym parts) now.behind))
+    module _ (xs : List Cell) (now : Standing) (m : IsLining xs now) where
+      -- room was made
+      pub lining-made : (new : Standing) → Adds [] (λ run. run) now new → IsLining xs new
+      lining-made new d = record {
+        behind = subst (λ (r : Run). ComeBehind n r.opened xs) (sym d.rows) m.behind;
+        columns = ap (λ (r : Run). r.columns) d.rows ∙ m.columns;
+        completes = completes-step cells calls old [] (kept xs) [] (asked xs) now new m.completes
+            (record { rows = d.rows ∙ ap (λ cs. record now.rows { opened = cs }) (sym (append-nil now.rows.opened)); spends = d.spends });
+      }
 
-      pub lining-step : (m : Emission) (h : Gathered) → Does f (line_calls form f i first) (with_cells (line_cells form f i first)) e g m h
-          → IsLining rest m h
-      lining-step m h d =
-          let cells = ap (line_cells form f i) (sym parts) ∙ line_cells-append form f i n first rest in
-          let calls = ap (line_calls form f i) (sym parts) ∙ line_calls-append form f i n first rest in
-          record {
-            behind = subst (λ (r : Run). ComeBehind n r.opened rest) (sym d.rows)
-                (rest_behind form f i n (final f e g).opened first rest (subst (ComeBehind n (final f e g).opened) (sym parts) now.behind));
-            columns = ap (λ (r : Run). r.columns) d.rows ∙ now.columns;
-            holds = d.holds;
-            rows = ap (with_cells (line_cells form f i rest)) d.rows
-                ∙ ap (λ cs. record (final f e g) { opened = cs }) (append_assoc (final f e g).opened (line_cells form f i first) (line_cells form f i rest))
-                ∙ ap (λ cs. with_cells cs (final f e g)) (sym cells) ∙ now.rows;
-            spends = λ more. spends-further _ old.steps _ e.steps _ m.steps (now.spends more)
-                (subst (λ cs. Spends (calls_on f g.operands ++ cs) e.steps (calls_on f h.operands ++ (line_calls form f i rest ++ more)) m.steps)
-                (sym (ap (λ cs. cs ++ more) calls ∙ append_assoc (line_calls form f i first) (line_calls form f i rest) more))
-                (d.spends (line_calls form f i rest ++ more)));
-          }
+      -- the first of what is left may be added, and is
+      module _ (first rest : List Cell) (parts : first ++ rest ≡ xs) where
+        pub lining-fits : FollowIn first now.rows
+        lining-fits = subst (λ k. ComeBehind k now.rows.opened first) (sym m.columns)
+            (front_behind n now.rows.opened first rest (subst (ComeBehind n now.rows.opened) (sym parts) m.behind))
 
-    -- no memory
-    pub lining-stop : (steps : ℕ) → Charges (calls_on f g.operands) e.steps steps → (rest : List Call)
-        → Charges (calls_on f was.operands ++ (line_calls form f i left ++ rest)) old.steps steps
-    lining-stop steps h rest = spends-stop _ old.steps _ e.steps (calls_on f g.operands) _ steps (now.spends rest) refl h
+        pub lining-step : (new : Standing) → Adds (asked first) (with_cells (kept first)) now new → IsLining rest new
+        lining-step new d = record {
+          behind = subst (λ (r : Run). ComeBehind n r.opened rest) (sym d.rows)
+              (rest_behind n now.rows.opened first rest (subst (ComeBehind n now.rows.opened) (sym parts) m.behind));
+          columns = ap (λ (r : Run). r.columns) d.rows ∙ m.columns;
+          completes = completes-step cells calls old (kept first) (kept rest) (asked first) (asked rest) now new
+              (completes-same cells calls old _ _ _ _ now m.completes (ap kept (sym parts) ∙ kept-append first rest)
+              (ap asked (sym parts) ∙ asked-append first rest)) d;
+        }
 
-    -- nothing is left
-    pub lining-end : xs ≡ [] → Does f (line_calls form f i left) (with_cells (line_cells form f i left)) old was e g
-    lining-end a = record {
-      holds = now.holds;
-      rows = ap (λ cs. record (final f e g) { opened = cs }) (sym (append-nil (final f e g).opened))
-          ∙ ap (λ cs. with_cells (line_cells form f i cs) (final f e g)) (sym a) ∙ now.rows;
-      spends = λ rest. subst (λ (cs : List Cell). Spends (calls_on f was.operands ++ (line_calls form f i left ++ rest)) old.steps
-          (calls_on f g.operands ++ (line_calls form f i cs ++ rest)) e.steps) a (now.spends rest);
-    }
+      -- nothing is left
+      pub lining-end : xs ≡ [] → Adds calls (with_cells cells) old now
+      lining-end e = completes-end cells calls old now (completes-same cells calls old _ _ _ _ now m.completes (ap kept e) (ap asked e))
+
+-- a cell that is kept or not, as the form has it
+pub adds-kept : (cs : List Call) (c w v : ℕ) (s t : Standing) → Adds cs (with_kept c w v) s t
+    → Adds cs (with_cells (cell_at c (if nat_eq v 0 then None else Some w))) s t
+adds-kept cs c w v s t d = record { rows = d.rows ∙ same (nat_eq v 0); spends = d.spends }
+  where
+    same : (b : Bool) → (if b then s.rows else with_cell c w s.rows) ≡ with_cells (cell_at c (if b then None else Some w)) s.rows
+    same true = ap (λ os. record s.rows { opened = os }) (sym (append-nil s.rows.opened))
+    same false = refl

@@ -1,46 +1,20 @@
--- The rows of two operands under a mask, position by position: what is still to come completes the row.
-use Rattle.std.proofs.Common.{
-  ◌≡◌,
-  ◌≤◌,
-  ◌<◌,
-  ◌+◌,
-  ◌^◌,
-  ℕ,
-  Bool,
-  true,
-  false,
-  if◌then◌else◌,
-  List,
-  [],
-  ◌∷◌,
-  ◌++◌,
-  length,
-  Option,
-  None,
-  Some,
-  refl,
-  sym,
-  ap,
-  ◌∙◌,
-  subst,
-  arith,
-  append_assoc,
-  append-nil,
-}
+-- The rows of two operands, position by position: what is still to come completes the row.
+use Rattle.std.proofs.Common.{◌≡◌, ◌<◌, ◌+◌, ℕ, suc, Bool, true, false, if◌then◌else◌, List, [], ◌∷◌, ◌++◌, Option, None, Some, refl, sym, ap, ◌∙◌, subst, arith, append-nil}
 use Rattle.std.specs.List.{AllByRecursion}
 use Rattle.bpf_verify.specs.Accepted.{Accepted}
-use Rattle.csr_store.specs.Grid.{Cell, Position}
+use Rattle.csr_store.specs.Grid.{Cell}
 use Rattle.csr_store.specs.Run.{Row, Run}
 use Rattle.csr_store.specs.Along.{along, cell_at}
-use Rattle.csr_store.specs.Ascending.{Ascends, at, shows, AscendsIn}
+use Rattle.csr_store.specs.Ascending.{Ascends, at}
 use Rattle.csr_store.proofs.Along.{along-none}
-use Rattle.bpf_run.specs.Calls.{Call, Gathered, calls_on, steps_of, Charges}
-use Rattle.bpf_run.proofs.Charging.{Spends, spends-start, spends-step, spends-further, spends-stop, steps-append}
+use Rattle.bpf_run.specs.Calls.{Call}
 use Rattle.entry_ops.specs.declared.form.Form.{Form}
 use Rattle.entry_ops.specs.declared.form.Form.TheVariants.{Apply, Select, Union, Both}
-use Rattle.entry_ops.specs.Placing.{CanPush, Emission, final, Holds, Does, with_cells}
-use Rattle.entry_ops.specs.Walking.{form_at, form_calls, row_cells, row_calls, IsNext}
-use Rattle.entry_ops.proofs.Nexts.{next_first}
+use Rattle.entry_ops.specs.Forms.{joint, joint_calls}
+use Rattle.entry_ops.specs.Standing.{CanPush, FollowIn, Standing, Adds, with_cells}
+use Rattle.entry_ops.specs.Walking.{form_at, form_calls, row_cells, row_calls, IsNext, IsOpen}
+use Rattle.entry_ops.proofs.Nexts.{next_left, next_right, next_first}
+use Rattle.entry_ops.proofs.Standing.{Completes, completes-start, completes-same, completes-step, completes-end, adds-nothing, above_all, above_less}
 
 -- ---- a form gives nothing where nothing stands
 
@@ -64,143 +38,121 @@ no_call (Select thunk) f i true j = refl
 no_call Union f i true j = refl
 no_call Both f i true j = refl
 
--- ---- all columns of an open row stand before its next one
+-- ---- a row under way, all of which passes
 
-pub above_all : (low c v : ℕ) (o : Option ℕ) (cs : Row) → AllByRecursion (λ (d : Cell). d.0 < low) cs → low ≤ c
-    → AllByRecursion (λ (d : Cell). d.0 < c + 1) (cs ++ cell_at c o)
-above_all low c v None [] h l = tt
-above_all low c v (Some x) [] h l = (omega arith, tt)
-above_all low c v o (d ∷ cs) h l = (let b = h.0 in omega arith, above_all low c v o cs h.1 l)
-
-pub above_less : (low c : ℕ) (cs : Row) → AllByRecursion (λ (d : Cell). d.0 < low) cs → low ≤ c
-    → AllByRecursion (λ (d : Cell). d.0 < c) cs
-above_less low c [] h l = tt
-above_less low c (d ∷ cs) h l = (let b = h.0 in omega arith, above_less low c cs h.1 l)
-
--- ---- a row under way
-
-module _ (form : Form) (f : Accepted) (i n : ℕ) (left right : List Cell) (mask : Option (List Cell)) (old : Emission) (was :
-    Gathered) where
-  pub record IsMerging (xs ys : List Cell) (ms : Option (List Cell)) (e : Emission) (g : Gathered) : Type 0 where
+module _ (form : Form) (f : Accepted) (i n : ℕ) (cells : Row) (calls : List Call) (old : Standing) where
+  pub record IsMerging (xs ys : List Cell) (now : Standing) : Type 0 where
     pub low : ℕ
     pub left_row : Ascends low n xs
     pub right_row : Ascends low n ys
-    pub mask_row : AscendsIn n ms
-    pub above : AllByRecursion (λ (d : Cell). d.0 < low) (final f e g).opened
-    pub columns : (final f e g).columns ≡ n
-    pub holds : Holds f e g
-    pub rows : with_cells (row_cells form f i n xs ys ms) (final f e g)
-        ≡ with_cells (row_cells form f i n left right mask) (final f old was)
-    pub spends : (rest : List Call) → Spends (calls_on f was.operands ++ (row_calls form f i n left right mask ++ rest)) old.steps
-        (calls_on f g.operands ++ (row_calls form f i n xs ys ms ++ rest)) e.steps
+    pub above : AllByRecursion (λ (d : Cell). d.0 < low) now.rows.opened
+    pub columns : now.rows.columns ≡ n
+    pub completes : Completes cells calls old (row_cells form f i n xs ys None) (row_calls form f i n xs ys None) now
 
-  pub merging-start : Holds f old was → Ascends 0 n left → Ascends 0 n right → AscendsIn n mask → (final f old was).columns ≡ n
-      → (final f old was).opened ≡ [] → IsMerging left right mask old was
-  merging-start h l r m c o = record {
+  pub merging-start : (left right : List Cell) (mask : Option (List Cell)) → Ascends 0 n left → Ascends 0 n right → mask ≡ None
+      → cells ≡ row_cells form f i n left right mask → calls ≡ row_calls form f i n left right mask → IsOpen n old.rows
+      → IsMerging left right old
+  merging-start left right mask l r none c d o = record {
     low = 0;
     left_row = l;
     right_row = r;
-    mask_row = m;
-    above = subst (AllByRecursion (λ (d : Cell). d.0 < 0)) (sym o) tt;
-    columns = c;
-    holds = h;
-    rows = refl;
-    spends = λ rest. spends-start _ old.steps;
+    above = subst (AllByRecursion (λ (d : Cell). d.0 < 0)) (sym o.none) tt;
+    columns = o.columns_are;
+    completes = completes-same cells calls old cells _ calls _ old (completes-start cells calls old)
+        (c ∙ ap (row_cells form f i n left right) none) (d ∙ ap (row_calls form f i n left right) none);
   }
 
-  module _ (xs ys : List Cell) (ms : Option (List Cell)) (e : Emission) (g : Gathered) (now : IsMerging xs ys ms e g) where
-    -- a call more fits in
-    pub merging-room : old.steps + (steps_of (calls_on f was.operands) + steps_of (row_calls form f i n left right mask)) < 2 ^ 64
-        → e.steps + steps_of (calls_on f g.operands) < 2 ^ 64
-    merging-room h =
-        let s = (now.spends []).counted in
-        let a = steps-append (calls_on f was.operands) (row_calls form f i n left right mask ++ []) in
-        let b = steps-append (row_calls form f i n left right mask) [] in
-        let c = steps-append (calls_on f g.operands) (row_calls form f i n xs ys ms ++ []) in
-        omega arith
-
-    module _ (c : ℕ) (p q : Option ℕ) (us vs : List Cell) (rest : Option (List Cell)) (next : IsNext n now.low xs ys c p q us vs)
-        (rest_row : AscendsIn n rest) (rest_shows : (j : ℕ) → c < j → shows ms j ≡ shows rest j) where
-      pub merging-fits : CanPush c (final f e g)
+  module _ (xs ys : List Cell) (now : Standing) (m : IsMerging xs ys now) where
+    module _ (c : ℕ) (p q : Option ℕ) (us vs : List Cell) (next : IsNext n m.low xs ys c p q us vs) where
+      pub merging-fits : CanPush c now.rows
       merging-fits = (
-        let k = now.columns in let l = next.inside in omega arith,
-        above_less now.low c (final f e g).opened
-            now.above next.from,
+        let k = m.columns in let l = next.inside in omega arith,
+        above_less m.low c now.rows.opened m.above next.from,
       )
 
-      cells_next : row_cells form f i n xs ys ms ≡ cells_here form f i (shows ms c) c p q ++ row_cells form f i n us vs rest
-      cells_next = next_first (cells_here form f i) (no_cell form f i) n now.low xs ys ms rest c p q us vs next rest_shows
+      cells_next : row_cells form f i n xs ys None ≡ cells_here form f i true c p q ++ row_cells form f i n us vs None
+      cells_next = next_first (cells_here form f i) (no_cell form f i) n m.low xs ys None None c p q us vs next (λ j l. refl)
 
-      calls_next : row_calls form f i n xs ys ms ≡ calls_here form f i (shows ms c) c p q ++ row_calls form f i n us vs rest
-      calls_next = next_first (calls_here form f i) (no_call form f i) n now.low xs ys ms rest c p q us vs next rest_shows
+      calls_next : row_calls form f i n xs ys None ≡ calls_here form f i true c p q ++ row_calls form f i n us vs None
+      calls_next = next_first (calls_here form f i) (no_call form f i) n m.low xs ys None None c p q us vs next (λ j l. refl)
 
-      -- a position that doesn't pass
-      pub merging-hidden : shows ms c ≡ false → IsMerging us vs rest e g
-      merging-hidden h =
-          let cells = cells_next ∙ ap (λ b. cells_here form f i b c p q ++ row_cells form f i n us vs rest) h in
-          let calls = calls_next ∙ ap (λ b. calls_here form f i b c p q ++ row_calls form f i n us vs rest) h in
-          record {
-            low = c + 1;
-            left_row = next.left_row;
-            right_row = next.right_row;
-            mask_row = rest_row;
-            above = above_less now.low (c + 1) (final f e g).opened now.above (let l = next.from in omega arith);
-            columns = now.columns;
-            holds = now.holds;
-            rows = ap (λ cs. with_cells cs (final f e g)) (sym cells) ∙ now.rows;
-            spends = λ more. subst (λ cs. Spends (calls_on f was.operands ++ (row_calls form f i n left right mask
-                ++ more)) old.steps
-                (calls_on f g.operands ++ (cs ++ more)) e.steps) calls (now.spends more);
-          }
+      -- a position more
+      pub merging-step : (new : Standing)
+          → Adds (form_calls form f (i, c) p q) (with_cells (cell_at c (form_at form f (i, c) p q))) now new → IsMerging us vs new
+      merging-step new d = record {
+        low = c + 1;
+        left_row = next.left_row;
+        right_row = next.right_row;
+        above = subst (λ (r : Run). AllByRecursion (λ (d : Cell). d.0 < c + 1) r.opened) (sym d.rows)
+            (above_all m.low c 0 (form_at form f (i, c) p q) now.rows.opened m.above next.from);
+        columns = ap (λ (r : Run). r.columns) d.rows ∙ m.columns;
+        completes = completes-step cells calls old (cell_at c (form_at form f (i, c) p q)) _ (form_calls form f (i, c) p q) _ now new
+            (completes-same cells calls old _ _ _ _ now m.completes cells_next calls_next) d;
+      }
 
-      -- one that does
-      pub merging-shown : (e' : Emission) (g' : Gathered) → shows ms c ≡ true
-          → Does f (form_calls form f (i, c) p q) (with_cells (cell_at c (form_at form f (i, c) p q))) e g e' g'
-          → IsMerging us vs rest e' g'
-      merging-shown e' g' h d =
-          let cells = cells_next ∙ ap (λ b. cells_here form f i b c p q ++ row_cells form f i n us vs rest) h in
-          let calls = calls_next ∙ ap (λ b. calls_here form f i b c p q ++ row_calls form f i n us vs rest) h in
-          let here = cell_at c (form_at form f (i, c) p q) in
-          let made = form_calls form f (i, c) p q in
-          record {
-            low = c + 1;
-            left_row = next.left_row;
-            right_row = next.right_row;
-            mask_row = rest_row;
-            above = subst (λ (r : Run). AllByRecursion (λ (d : Cell). d.0 < c + 1) r.opened) (sym d.rows)
-                (above_all now.low c 0 (form_at form f (i, c) p q) (final f e g).opened now.above next.from);
-            columns = ap (λ (r : Run). r.columns) d.rows ∙ now.columns;
-            holds = d.holds;
-            rows = ap (with_cells (row_cells form f i n us vs rest)) d.rows
-                ∙ ap (λ cs. record (final f e g) { opened = cs }) (append_assoc (final f e g).opened here (row_cells form f i n
-                us vs rest))
-                ∙ ap (λ cs. with_cells cs (final f e g)) (sym cells) ∙ now.rows;
-            spends = λ more. spends-further _ old.steps _ e.steps _ e'.steps (now.spends more)
-                (subst (λ cs. Spends (calls_on f g.operands ++ cs) e.steps (calls_on f g'.operands
-                ++ (row_calls form f i n us vs rest ++ more)) e'.steps)
-                (sym (ap (λ cs. cs ++ more) calls ∙ append_assoc made (row_calls form f i n us vs rest) more))
-                (d.spends (row_calls form f i n us vs rest ++ more)));
-          }
+-- a position at which nothing is added
+pub adds-none : (s : Standing) → Adds [] (with_cells []) s s
+adds-none s = record { rows = ap (λ cs. record s.rows { opened = cs }) (sym (append-nil s.rows.opened)); spends = (adds-nothing s).spends }
 
-    -- no memory
-    pub merging-stop : (steps : ℕ) → Charges (calls_on f g.operands) e.steps steps → (rest : List Call)
-        → Charges (calls_on f was.operands ++ (row_calls form f i n left right mask ++ rest)) old.steps steps
-    merging-stop steps h rest = spends-stop _ old.steps _ e.steps (calls_on f g.operands) _ steps (now.spends rest) refl h
+-- ---- what is left where one of two rows has ended
 
-    -- nothing is left
-    pub merging-end : xs ≡ [] → ys ≡ []
-        → Does f (row_calls form f i n left right mask) (with_cells (row_cells form f i n left right mask)) old was e g
-    merging-end a b =
-        let no_cells : row_cells form f i n xs ys ms ≡ [] =
-        ap (λ us. row_cells form f i n us ys ms) a ∙ ap (λ vs. row_cells form f i n [] vs ms) b
-        ∙ along-none (λ j. cells_here form f i (shows ms j) j None None) 0 n (λ j. no_cell form f i (shows ms j) j) in
-        let no_calls : row_calls form f i n xs ys ms ≡ [] =
-        ap (λ us. row_calls form f i n us ys ms) a ∙ ap (λ vs. row_calls form f i n [] vs ms) b
-        ∙ along-none (λ j. calls_here form f i (shows ms j) j None None) 0 n (λ j. no_call form f i (shows ms j) j) in
-        record {
-          holds = now.holds;
-          rows = ap (λ cs. record (final f e g) { opened = cs }) (sym (append-nil (final f e g).opened))
-              ∙ ap (λ cs. with_cells cs (final f e g)) (sym no_cells) ∙ now.rows;
-          spends = λ rest. subst (λ cs. Spends (calls_on f was.operands ++ (row_calls form f i n left right mask ++ rest)) old.steps
-              (calls_on f g.operands ++ (cs ++ rest)) e.steps) no_calls (now.spends rest);
-        }
+module _ (f : Accepted) (i n : ℕ) where
+  union_left : (low : ℕ) (xs : List Cell) → Ascends low n xs → row_cells Union f i n xs [] None ≡ xs
+  union_left low [] h = along-none (λ j. cells_here Union f i true j None None) 0 n (λ j. no_cell Union f i true j)
+  union_left low (x ∷ xs) h =
+      next_first (cells_here Union f i) (no_cell Union f i) n low (x ∷ xs) [] None None x.0 (Some x.1) None xs [] (next_left n low x xs [] h tt) (λ j l. refl)
+      ∙ ap (λ us. x ∷ us) (union_left (suc x.0) xs h.2)
+
+  union_right : (low : ℕ) (ys : List Cell) → Ascends low n ys → row_cells Union f i n [] ys None ≡ ys
+  union_right low [] h = along-none (λ j. cells_here Union f i true j None None) 0 n (λ j. no_cell Union f i true j)
+  union_right low (y ∷ ys) h =
+      next_first (cells_here Union f i) (no_cell Union f i) n low [] (y ∷ ys) None None y.0 None (Some y.1) [] ys (next_right n low [] y ys h tt) (λ j l. refl)
+      ∙ ap (λ us. y ∷ us) (union_right (suc y.0) ys h.2)
+
+  joint_left : (x : Option ℕ) → joint_calls f x None ≡ []
+  joint_left None = refl
+  joint_left (Some x) = refl
+
+  both_left : (j : ℕ) (x : Option ℕ) → cell_at j (joint f x None) ≡ []
+  both_left j None = refl
+  both_left j (Some x) = refl
+
+  calls_left : (xs : List Cell) → along (λ j. joint_calls f (at xs j) None) 0 n ≡ []
+  calls_left xs = along-none (λ j. joint_calls f (at xs j) None) 0 n (λ j. joint_left (at xs j))
+
+  calls_right : (ys : List Cell) → along (λ j. joint_calls f None (at ys j)) 0 n ≡ []
+  calls_right ys = along-none (λ j. joint_calls f None (at ys j)) 0 n (λ j. refl)
+
+  module _ (cells : Row) (calls : List Call) (old : Standing) (xs ys : List Cell) (now : Standing) where
+    module _ (m : IsMerging Union f i n cells calls old xs ys now) where
+      pub union-end-left : ys ≡ [] → (new : Standing) → Adds [] (with_cells xs) now new → Adds calls (with_cells cells) old new
+      union-end-left e new d =
+          completes-end cells calls old new (completes-step cells calls old xs [] [] [] now new
+          (completes-same cells calls old _ _ _ _ now m.completes
+          (ap (λ us. row_cells Union f i n xs us None) e ∙ (union_left m.low xs m.left_row ∙ sym (append-nil xs)))
+          (ap (λ us. row_calls Union f i n xs us None) e ∙ calls_left xs)) d)
+
+      pub union-end-right : xs ≡ [] → (new : Standing) → Adds [] (with_cells ys) now new → Adds calls (with_cells cells) old new
+      union-end-right e new d =
+          completes-end cells calls old new (completes-step cells calls old ys [] [] [] now new
+          (completes-same cells calls old _ _ _ _ now m.completes
+          (ap (λ us. row_cells Union f i n us ys None) e ∙ (union_right m.low ys m.right_row ∙ sym (append-nil ys)))
+          (ap (λ us. row_calls Union f i n us ys None) e ∙ calls_right ys)) d)
+
+      -- the cells of either row may be added
+      pub merging-follow-left : FollowIn xs now.rows
+      merging-follow-left = record { low = m.low; above = m.above; ascend = subst (λ k. Ascends m.low k xs) (sym m.columns) m.left_row }
+
+      pub merging-follow-right : FollowIn ys now.rows
+      merging-follow-right = record { low = m.low; above = m.above; ascend = subst (λ k. Ascends m.low k ys) (sym m.columns) m.right_row }
+
+    module _ (m : IsMerging Both f i n cells calls old xs ys now) where
+      pub both-end-left : ys ≡ [] → Adds calls (with_cells cells) old now
+      both-end-left e = completes-end cells calls old now (completes-same cells calls old _ _ _ _ now m.completes
+          (ap (λ us. row_cells Both f i n xs us None) e ∙ along-none (λ j. cell_at j (joint f (at xs j) None)) 0 n (λ j. both_left j (at xs j)))
+          (ap (λ us. row_calls Both f i n xs us None) e ∙ calls_left xs))
+
+      pub both-end-right : xs ≡ [] → Adds calls (with_cells cells) old now
+      both-end-right e = completes-end cells calls old now (completes-same cells calls old _ _ _ _ now m.completes
+          (ap (λ us. row_cells Both f i n us ys None) e ∙ along-none (λ j. cell_at j (joint f None (at ys j))) 0 n (λ j. refl))
+          (ap (λ us. row_calls Both f i n us ys None) e ∙ calls_right ys))

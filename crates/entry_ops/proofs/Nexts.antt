@@ -1,32 +1,14 @@
 -- What is listed along two rows begins with what stands at their next column.
-use Rattle.std.proofs.Common.{
-  ◌≡◌,
-  ◌≤◌,
-  ◌<◌,
-  ◌+◌,
-  ℕ,
-  suc,
-  Bool,
-  List,
-  [],
-  ◌∷◌,
-  ◌++◌,
-  length,
-  Option,
-  None,
-  Some,
-  refl,
-  ap,
-  ◌∙◌,
-  arith,
-  subst,
-  sym,
-}
+use Rattle.std.proofs.Common.{◌≡◌, ◌<◌, ◌+◌, ℕ, suc, Bool, List, [], ◌∷◌, ◌++◌, length, Option, None, Some, refl, ap, ◌∙◌, arith, subst, sym}
 use Rattle.csr_store.specs.Grid.{Cell}
 use Rattle.csr_store.specs.Along.{along}
 use Rattle.csr_store.specs.Ascending.{Ascends, at, shows}
 use Rattle.csr_store.proofs.Along.{along-first, at-below, at-first, at-after, ascends-weaken}
 use Rattle.entry_ops.specs.Walking.{IsNext}
+
+pub none_left : (xs : List Cell) → length xs ≡ 0 → xs ≡ []
+none_left [] e = refl
+none_left (x ∷ xs) e = absurd (omega arith)
 
 -- a row beside one that begins later
 pub next_left : (n low : ℕ) (x : Cell) (xs right : List Cell) → Ascends low n (x ∷ xs) → Ascends (suc x.0) n right

@@ -1,399 +1,276 @@
--- What is marked is added mark by mark, and calls wait until they are made.
-use Rattle.std.proofs.Common.{
-  ◌≡◌,
-  ◌≤◌,
-  ◌<◌,
-  ◌+◌,
-  ◌-◌,
-  ℕ,
-  nat_eq,
-  if◌then◌else◌,
-  List,
-  [],
-  ◌∷◌,
-  ◌++◌,
-  length,
-  length-append,
-  length-drop,
-  take,
-  drop,
-  get_or,
-  refl,
-  sym,
-  ap,
-  ◌∙◌,
-  subst,
-  arith,
-  append-nil,
-  append_assoc,
-  Result,
-  Ok,
-  Err,
-  OnErr,
-}
-use Rattle.std.proofs.lemmas.List.{drop-append-le, drop_all, drop_more, drop-drop}
-use Rattle.csr_store.specs.Grid.{Cell}
+-- Values are put in the places of their calls, whatever was added behind those.
+use Rattle.std.proofs.Common.{◌≡◌, ◌≤◌, ◌<◌, ◌+◌, ℕ, suc, List, [], ◌∷◌, ◌++◌, length, length-append, length-drop, drop, set, get_or, refl, sym, ap, ◌∙◌, subst, arith, append_assoc, append-nil}
+use Rattle.std.specs.List.{AllByRecursion}
+use Rattle.std.proofs.lemmas.List.{drop_more, drop_all}
 use Rattle.bpf_insn.specs.declared.operands.Operands.{Operands}
-use denote.Ref.{Bor}
 use Rattle.bpf_verify.specs.Accepted.{Accepted}
+use Rattle.csr_store.specs.Grid.{Cell}
 use Rattle.csr_store.specs.Run.{Row, Run}
-use Rattle.csr_store.specs.Added.{with_values, kept_where}
+use Rattle.csr_store.specs.Ascending.{Ascends}
+use Rattle.csr_store.specs.Valued.{entries_of, with_value}
+use Rattle.csr_store.proofs.Revalued.{entries_push, entries_end, entries_with_value, below_without_value, with_value_push, with_value_last, with_value_end}
 use Rattle.bpf_run.specs.Meaning.{value_of}
-use Rattle.bpf_run.specs.Calls.{Call, Gathered, call_of, calls_on, values_on, steps_of}
-use Rattle.bpf_run.proofs.Charging.{
-  Spends,
-  spends-start,
-  spends-step,
-  spends-further,
-  steps-append,
-  calls_on-append,
-  values_on-append,
-}
-use Rattle.entry_ops.specs.declared.emitter.Mark.{Mark}
-use Rattle.entry_ops.specs.declared.emitter.Mark.TheVariants.{End, Copied, Called, Kept, CalledAll, KeptAll}
-use Rattle.entry_ops.specs.Placing.{placed, Fits, CanPush, FollowIn, with_cell, with_cells, with_kept, with_end, Emission, final, Holds, Does}
+use Rattle.bpf_run.specs.Calls.{Call, Gathered, call_of, calls_on, values_on, steps_of, Charges}
+use Rattle.bpf_run.proofs.Charging.{Spends, spends-start, spends-step, calls_on-append, values_on-append}
+use Rattle.entry_ops.specs.Standing.{CanPush, FollowIn, with_cell, with_cells, with_end}
+use Rattle.entry_ops.specs.Placing.{placed, HavePlaces, Emission, final, Holds, standing, Does}
+use Rattle.entry_ops.proofs.Standing.{empty_run, adds-nothing, adds-then, adds-waiting, adds-charged}
 
--- what is left is added to the rows so far
-pub record IsPlacing (marks : List Mark) (values : List ℕ) (start : Run) (i next : ℕ) (now : Run) : Type 0 where
-  pub fits : Fits (drop i marks) (drop next values) now
-  pub same : placed (drop i marks) (drop next values) now ≡ placed marks values start
-  pub few : next ≤ length values
+pub values-count : (f : Accepted) (os : List Operands) → length (values_on f os) ≡ length os
+values-count f [] = refl
+values-count f (o ∷ os) = ap suc (values-count f os)
 
--- ---- cells with values, and kept by values: values behind those that are needed say nothing
+-- ---- what other values leave as it was
 
-values-enough : (cells : Row) (vs ws : List ℕ) → length cells ≤ length vs → with_values cells (vs ++ ws) ≡ with_values cells vs
-values-enough [] vs ws l = refl
-values-enough (c ∷ cells) [] ws l = absurd (omega arith)
-values-enough (c ∷ cells) (v ∷ vs) ws l = ap (λ cs. (c.0, v) ∷ cs) (values-enough cells vs ws (omega arith))
+placed-entries : (ps vs : List ℕ) (run : Run) → entries_of (placed ps vs run) ≡ entries_of run
+placed-entries ps [] run = refl
+placed-entries [] (v ∷ vs) run = refl
+placed-entries (p ∷ ps) (v ∷ vs) run = placed-entries ps vs (with_value p v run) ∙ entries_with_value p v run
 
-kept-enough : (cells : Row) (vs ws : List ℕ) → length cells ≤ length vs → kept_where cells (vs ++ ws) ≡ kept_where cells vs
-kept-enough [] vs ws l = refl
-kept-enough (c ∷ cells) [] ws l = absurd (omega arith)
-kept-enough (c ∷ cells) (v ∷ vs) ws l = ap (λ cs. if nat_eq v 0 then cs else c ∷ cs) (kept-enough cells vs ws (omega arith))
+placed-columns : (ps vs : List ℕ) (run : Run) → (placed ps vs run).columns ≡ run.columns
+placed-columns ps [] run = refl
+placed-columns [] (v ∷ vs) run = refl
+placed-columns (p ∷ ps) (v ∷ vs) run = placed-columns ps vs (with_value p v run)
 
-values-first : (cells : Row) (vs : List ℕ) → with_values cells (take (length cells) vs) ≡ with_values cells vs
-values-first [] vs = refl
-values-first (c ∷ cells) [] = refl
-values-first (c ∷ cells) (v ∷ vs) = ap (λ cs. (c.0, v) ∷ cs) (values-first cells vs)
+placed-above : (low : ℕ) (ps vs : List ℕ) (run : Run) → AllByRecursion (λ (c : Cell). c.0 < low) (placed ps vs run).opened
+    → AllByRecursion (λ (c : Cell). c.0 < low) run.opened
+placed-above low ps [] run h = h
+placed-above low [] (v ∷ vs) run h = h
+placed-above low (p ∷ ps) (v ∷ vs) run h = below_without_value low p v run (placed-above low ps vs (with_value p v run) h)
 
-kept-first : (cells : Row) (vs : List ℕ) → kept_where cells (take (length cells) vs) ≡ kept_where cells vs
-kept-first [] vs = refl
-kept-first (c ∷ cells) [] = refl
-kept-first (c ∷ cells) (v ∷ vs) = ap (λ cs. if nat_eq v 0 then cs else c ∷ cs) (kept-first cells vs)
+have-entries : (ps vs : List ℕ) (n m : ℕ) → n ≡ m → HavePlaces ps vs n → HavePlaces ps vs m
+have-entries ps vs n m e h = subst (HavePlaces ps vs) e h
 
--- marks behind marks
+-- ---- what is added behind
 
-placed-append : (ms ns : List Mark) (vs ws : List ℕ) (run : Run) → Fits ms vs run
-    → placed (ms ++ ns) (vs ++ ws) run ≡ placed ns ws (placed ms vs run)
-placed-append [] ns vs ws run h = ap (λ us. placed ns (us ++ ws) run) h
-placed-append (End ∷ ms) ns vs ws run h = placed-append ms ns vs ws (with_end run) h
-placed-append (Copied c v ∷ ms) ns vs ws run h = placed-append ms ns vs ws (with_cell c v run) h.1
-placed-append (Called c ∷ ms) ns [] ws run h = absurd h
-placed-append (Called c ∷ ms) ns (v ∷ vs) ws run h = placed-append ms ns vs ws (with_cell c v run) h.1
-placed-append (Kept c w ∷ ms) ns [] ws run h = absurd h
-placed-append (Kept c w ∷ ms) ns (v ∷ vs) ws run h = placed-append ms ns vs ws (with_kept c w v run) h.1
-placed-append (CalledAll cs ∷ ms) ns vs ws run h =
-    ap (λ us. placed (ms ++ ns) us (with_cells (with_values cs.now (vs ++ ws)) run)) (drop-append-le (length cs.now) vs ws h.1)
-    ∙ ap (λ (us : Row). placed (ms ++ ns) (drop (length cs.now) vs ++ ws) (with_cells us run)) (values-enough cs.now vs ws h.1)
-    ∙ placed-append ms ns (drop (length cs.now) vs) ws (with_cells (with_values cs.now vs) run) h.2
-placed-append (KeptAll cs ∷ ms) ns vs ws run h =
-    ap (λ us. placed (ms ++ ns) us (with_cells (kept_where cs.now (vs ++ ws)) run)) (drop-append-le (length cs.now) vs ws h.1)
-    ∙ ap (λ (us : Row). placed (ms ++ ns) (drop (length cs.now) vs ++ ws) (with_cells us run)) (kept-enough cs.now vs ws h.1)
-    ∙ placed-append ms ns (drop (length cs.now) vs) ws (with_cells (kept_where cs.now vs) run) h.2
+have-more : (ps vs : List ℕ) (n m : ℕ) → n ≤ m → HavePlaces ps vs n → HavePlaces ps vs m
+have-more ps [] n m l h = tt
+have-more [] (v ∷ vs) n m l h = absurd h
+have-more (p ∷ ps) (v ∷ vs) n m l h = (let b = h.0 in omega arith, have-more ps vs n m l h.1)
 
-fits-append : (ms ns : List Mark) (vs ws : List ℕ) (run : Run) → Fits ms vs run → Fits ns ws (placed ms vs run)
-    → Fits (ms ++ ns) (vs ++ ws) run
-fits-append [] ns vs ws run h k = subst (λ us. Fits ns (us ++ ws) run) (sym h) k
-fits-append (End ∷ ms) ns vs ws run h k = fits-append ms ns vs ws (with_end run) h k
-fits-append (Copied c v ∷ ms) ns vs ws run h k = (h.0, fits-append ms ns vs ws (with_cell c v run) h.1 k)
-fits-append (Called c ∷ ms) ns [] ws run h k = absurd h
-fits-append (Called c ∷ ms) ns (v ∷ vs) ws run h k = (h.0, fits-append ms ns vs ws (with_cell c v run) h.1 k)
-fits-append (Kept c w ∷ ms) ns [] ws run h k = absurd h
-fits-append (Kept c w ∷ ms) ns (v ∷ vs) ws run h k = (h.0, fits-append ms ns vs ws (with_kept c w v run) h.1 k)
-fits-append (CalledAll cs ∷ ms) ns vs ws run h k = (
-  h.0,
-  let l = length-append vs ws in let e = h.1 in omega arith,
-  subst (λ us. Fits (ms ++ ns) us (with_cells (with_values cs.now (vs ++ ws)) run)) (sym (drop-append-le (length cs.now) vs ws h.1))
-      (subst (λ (us : Row). Fits (ms ++ ns) (drop (length cs.now) vs ++ ws) (with_cells us run)) (sym (values-enough cs.now vs ws h.1))
-      (fits-append ms ns (drop (length cs.now) vs) ws (with_cells (with_values cs.now vs) run) h.2 k)),
-)
-fits-append (KeptAll cs ∷ ms) ns vs ws run h k = (
-  h.0,
-  let l = length-append vs ws in let e = h.1 in omega arith,
-  subst (λ us. Fits (ms ++ ns) us (with_cells (kept_where cs.now (vs ++ ws)) run)) (sym (drop-append-le (length cs.now) vs ws h.1))
-      (subst (λ (us : Row). Fits (ms ++ ns) (drop (length cs.now) vs ++ ws) (with_cells us run)) (sym (kept-enough cs.now vs ws h.1))
-      (fits-append ms ns (drop (length cs.now) vs) ws (with_cells (kept_where cs.now vs) run) h.2 k)),
-)
+module _ (c x : ℕ) where
+  placed-push : (ps vs : List ℕ) (run : Run) → HavePlaces ps vs (entries_of run)
+      → placed ps vs (with_cell c x run) ≡ with_cell c x (placed ps vs run)
+  placed-push ps [] run h = refl
+  placed-push [] (v ∷ vs) run h = absurd h
+  placed-push (p ∷ ps) (v ∷ vs) run h =
+      ap (placed ps vs) (with_value_push p v run (c, x) h.0)
+      ∙ placed-push ps vs (with_value p v run) (have-entries ps vs _ _ (sym (entries_with_value p v run)) h.1)
 
-pub placing-at : (marks : List Mark) (values : List ℕ) (start : Run) (i next now_next : ℕ) (now : Run) → now_next ≡ next
-    → IsPlacing marks values start i next now → IsPlacing marks values start i now_next now
-placing-at marks values start i next now_next now e h = subst (λ n. IsPlacing marks values start i n now) (sym e) h
+placed-cells : (cells : Row) (ps vs : List ℕ) (run : Run) → HavePlaces ps vs (entries_of run)
+    → placed ps vs (with_cells cells run) ≡ with_cells cells (placed ps vs run)
+placed-cells [] ps vs run h =
+    ap (λ os. placed ps vs (record run { opened = os })) (append-nil run.opened)
+    ∙ ap (λ os. record (placed ps vs run) { opened = os }) (sym (append-nil (placed ps vs run).opened))
+placed-cells (c ∷ cells) ps vs run h =
+    ap (λ os. placed ps vs (record run { opened = os })) (sym (append_assoc run.opened (c ∷ []) cells))
+    ∙ (placed-cells cells ps vs (with_cell c.0 c.1 run)
+    (have-more ps vs (entries_of run) _ (let m = entries_push run c in omega arith) h)
+    ∙ (ap (with_cells cells) (placed-push c.0 c.1 ps vs run h)
+    ∙ ap (λ os. record (placed ps vs run) { opened = os }) (append_assoc (placed ps vs run).opened (c ∷ []) cells)))
 
--- ---- one mark is placed
+placed-end : (ps vs : List ℕ) (run : Run) → HavePlaces ps vs (entries_of run) → placed ps vs (with_end run) ≡ with_end (placed ps vs run)
+placed-end ps [] run h = refl
+placed-end [] (v ∷ vs) run h = absurd h
+placed-end (p ∷ ps) (v ∷ vs) run h =
+    ap (placed ps vs) (with_value_end p v run h.0)
+    ∙ placed-end ps vs (with_value p v run) (have-entries ps vs _ _ (sym (entries_with_value p v run)) h.1)
 
-module _ (marks : List Mark) (values : List ℕ) (start : Run) (i next : ℕ) (now : Run) (d : Mark) (h : IsPlacing marks values start i next now)
-    (l : i < length marks) where
-  left_marks : (m : Mark) → get_or marks i d ≡ m → drop i marks ≡ m ∷ drop (i + 1) marks
-  left_marks m here = drop_more marks i d l ∙ ap (λ n. n ∷ drop (i + 1) marks) here
+-- a place more
+have-set : (ps vs : List ℕ) (p v n : ℕ) → length vs < length ps → p < n → HavePlaces ps vs n
+    → HavePlaces (set ps (length vs) p) (vs ++ v ∷ []) n
+have-set [] vs p v n l b h = elim l [ ]
+have-set (q ∷ ps) [] p v n l b h = (b, tt)
+have-set (q ∷ ps) (w ∷ vs) p v n l b h = (h.0, have-set ps vs p v n (omega arith) b h.1)
 
-  pub end-placed : get_or marks i d ≡ End → (new : Run) → new ≡ with_end now → IsPlacing marks values start (i + 1) next new
-  end-placed here new is = record {
-    fits = subst (Fits (drop (i + 1) marks) (drop next values)) (sym is) (subst (λ ms. Fits ms (drop next values) now) (left_marks End here) h.fits);
-    same = ap (placed (drop (i + 1) marks) (drop next values)) is ∙ ap (λ ms. placed ms (drop next values) now) (sym (left_marks End here)) ∙ h.same;
-    few = h.few;
-  }
+placed-set : (ps vs : List ℕ) (p v : ℕ) (run : Run) → length vs < length ps
+    → placed (set ps (length vs) p) (vs ++ v ∷ []) run ≡ with_value p v (placed ps vs run)
+placed-set [] vs p v run l = elim l [ ]
+placed-set (q ∷ ps) [] p v run l = refl
+placed-set (q ∷ ps) (w ∷ vs) p v run l = placed-set ps vs p v (with_value q w run) (omega arith)
 
-  pub copied-placed : (c v : ℕ) → get_or marks i d ≡ Copied c v → (new : Run) → new ≡ with_cell c v now → IsPlacing marks values start (i + 1) next new
-  copied-placed c v here new is = record {
-    fits = subst (Fits (drop (i + 1) marks) (drop next values)) (sym is)
-        (subst (λ ms. Fits ms (drop next values) now) (left_marks (Copied c v) here) h.fits).1;
-    same = ap (placed (drop (i + 1) marks) (drop next values)) is
-        ∙ ap (λ ms. placed ms (drop next values) now) (sym (left_marks (Copied c v) here)) ∙ h.same;
-    few = h.few;
-  }
+-- ---- values are put in place one by one
 
-  called-some : (c : ℕ) (ms : List Mark) (vs : List ℕ) (run : Run) → Fits (Called c ∷ ms) vs run → 0 < length vs
-  called-some c ms [] run f = absurd f
-  called-some c ms (v ∷ vs) run f = omega arith
+pub record IsPlacing (places values : List ℕ) (start : Run) (i : ℕ) (now : Run) : Type 0 where
+  pub have : HavePlaces (drop i places) (drop i values) (entries_of now)
+  pub same : placed (drop i places) (drop i values) now ≡ placed places values start
 
-  kept-some : (c w : ℕ) (ms : List Mark) (vs : List ℕ) (run : Run) → Fits (Kept c w ∷ ms) vs run → 0 < length vs
-  kept-some c w ms [] run f = absurd f
-  kept-some c w ms (v ∷ vs) run f = omega arith
+module _ (places values : List ℕ) (start : Run) where
+  pub placing-start : HavePlaces places values (entries_of start) → IsPlacing places values start 0 start
+  placing-start h = record { have = h; same = refl }
 
-  pub call-within : (c : ℕ) → get_or marks i d ≡ Called c → next < length values
-  call-within c here =
-      let f = called-some c (drop (i + 1) marks) (drop next values) now (subst (λ ms. Fits ms (drop next values) now) (left_marks (Called c) here) h.fits) in
-      let n = length-drop next values in omega arith
+  module _ (i : ℕ) (now : Run) (h : IsPlacing places values start i now) where
+    module _ (l : i < length values) where
+      value_first : drop i values ≡ get_or values i 0 ∷ drop (i + 1) values
+      value_first = drop_more values i 0 l
 
-  pub keep-within : (c w : ℕ) → get_or marks i d ≡ Kept c w → next < length values
-  keep-within c w here =
-      let f = kept-some c w (drop (i + 1) marks) (drop next values) now (subst (λ ms. Fits ms (drop next values) now) (left_marks (Kept c w) here) h.fits) in
-      let n = length-drop next values in omega arith
+      has_one : (ps : List ℕ) (v : ℕ) (vs : List ℕ) (n : ℕ) → HavePlaces ps (v ∷ vs) n → 0 < length ps
+      has_one [] v vs n h = absurd h
+      has_one (p ∷ ps) v vs n h = omega arith
 
-  module _ (ll : next < length values) where
-    left_values : drop next values ≡ get_or values next 0 ∷ drop (next + 1) values
-    left_values = drop_more values next 0 ll
+      pub place-inside : i < length places
+      place-inside =
+          let o = has_one (drop i places) (get_or values i 0) (drop (i + 1) values) (entries_of now) (subst (λ vs. HavePlaces (drop i places) vs (entries_of now)) value_first h.have) in
+          let n = length-drop i places in omega arith
 
-    pub call-placed : (c : ℕ) → get_or marks i d ≡ Called c → (new : Run) → new ≡ with_cell c (get_or values next 0) now
-        → IsPlacing marks values start (i + 1) (next + 1) new
-    call-placed c here new is = record {
-      fits = subst (Fits (drop (i + 1) marks) (drop (next + 1) values)) (sym is)
-          (subst (λ vs. Fits (Called c ∷ drop (i + 1) marks) vs now) left_values
-          (subst (λ ms. Fits ms (drop next values) now) (left_marks (Called c) here) h.fits)).1;
-      same = ap (placed (drop (i + 1) marks) (drop (next + 1) values)) is
-          ∙ ap (λ vs. placed (Called c ∷ drop (i + 1) marks) vs now) (sym left_values)
-          ∙ ap (λ ms. placed ms (drop next values) now) (sym (left_marks (Called c) here)) ∙ h.same;
-      few = omega arith;
-    }
+      place_first : drop i places ≡ get_or places i 0 ∷ drop (i + 1) places
+      place_first = drop_more places i 0 place-inside
 
-    pub keep-placed : (c w : ℕ) → get_or marks i d ≡ Kept c w → (new : Run) → new ≡ with_kept c w (get_or values next 0) now
-        → IsPlacing marks values start (i + 1) (next + 1) new
-    keep-placed c w here new is = record {
-      fits = subst (Fits (drop (i + 1) marks) (drop (next + 1) values)) (sym is)
-          (subst (λ vs. Fits (Kept c w ∷ drop (i + 1) marks) vs now) left_values
-          (subst (λ ms. Fits ms (drop next values) now) (left_marks (Kept c w) here) h.fits)).1;
-      same = ap (placed (drop (i + 1) marks) (drop (next + 1) values)) is
-          ∙ ap (λ vs. placed (Kept c w ∷ drop (i + 1) marks) vs now) (sym left_values)
-          ∙ ap (λ ms. placed ms (drop next values) now) (sym (left_marks (Kept c w) here)) ∙ h.same;
-      few = omega arith;
-    }
+      have_here : HavePlaces (get_or places i 0 ∷ drop (i + 1) places) (get_or values i 0 ∷ drop (i + 1) values) (entries_of now)
+      have_here = subst (λ ps. HavePlaces ps (get_or values i 0 ∷ drop (i + 1) values) (entries_of now)) place_first
+          (subst (λ vs. HavePlaces (drop i places) vs (entries_of now)) value_first h.have)
 
--- ---- many cells are placed at once
+      pub entry-inside : get_or places i 0 < entries_of now
+      entry-inside = have_here.0
 
-module _ (mark : Bor Row → Mark) (made : Row → List ℕ → Row)
-    (fitting : (c : Bor Row) (ms : List Mark) (vs : List ℕ) (run : Run) → Fits (mark c ∷ ms) vs run
-    → FollowIn c.now run × (length c.now ≤ length vs) × Fits ms (drop (length c.now) vs) (with_cells (made c.now vs) run))
-    (placing : (c : Bor Row) (ms : List Mark) (vs : List ℕ) (run : Run)
-    → placed (mark c ∷ ms) vs run ≡ placed ms (drop (length c.now) vs) (with_cells (made c.now vs) run))
-    (first : (cells : Row) (vs : List ℕ) → made cells (take (length cells) vs) ≡ made cells vs)
-    (marks : List Mark) (values : List ℕ) (start : Run) (i next : ℕ) (now : Run) (d : Mark) (c : Bor Row)
-    (h : IsPlacing marks values start i next now) (l : i < length marks) (here : get_or marks i d ≡ mark c) where
-  these : drop i marks ≡ mark c ∷ drop (i + 1) marks
-  these = drop_more marks i d l ∙ ap (λ m. m ∷ drop (i + 1) marks) here
+      pub placing-step : (new : Run) → new ≡ with_value (get_or places i 0) (get_or values i 0) now → IsPlacing places values start (i + 1) new
+      placing-step new is = record {
+        have = subst (λ (r : Run). HavePlaces (drop (i + 1) places) (drop (i + 1) values) (entries_of r)) (sym is)
+            (have-entries _ _ _ _ (sym (entries_with_value (get_or places i 0) (get_or values i 0) now)) have_here.1);
+        same = ap (placed (drop (i + 1) places) (drop (i + 1) values)) is
+            ∙ (ap (λ ps. placed ps (get_or values i 0 ∷ drop (i + 1) values) now) (sym place_first)
+            ∙ (ap (λ vs. placed (drop i places) vs now) (sym value_first) ∙ h.same));
+      }
 
-  fits_here : FollowIn c.now now × (length c.now ≤ length (drop next values))
-      × Fits (drop (i + 1) marks) (drop (length c.now) (drop next values)) (with_cells (made c.now (drop next values)) now)
-  fits_here = fitting c (drop (i + 1) marks) (drop next values) now (subst (λ ms. Fits ms (drop next values) now) these h.fits)
-
-  all-enough : next + length c.now ≤ length values
-  all-enough = let f = h.few in let e = fits_here.1 in let n = length-drop next values in omega arith
-
-  module _ (stop end : ℕ) (stops : stop ≡ next + length c.now) (ends : end ≡ next + length c.now) (new : Run)
-      (is : new ≡ with_cells (made c.now (take (stop - next) (drop next values))) now) where
-    count : stop - next ≡ length c.now
-    count = omega arith
-
-    further : drop (length c.now) (drop next values) ≡ drop end values
-    further = drop-drop (length c.now) next values ∙ ap (λ n. drop n values) (sym ends)
-
-    is_here : with_cells (made c.now (drop next values)) now ≡ new
-    is_here = sym (is ∙ ap (λ (us : Row). with_cells us now)
-        (ap (λ n. made c.now (take n (drop next values))) count ∙ first c.now (drop next values)))
-
-    all-placed : IsPlacing marks values start (i + 1) end new
-    all-placed = record {
-      fits = subst (Fits (drop (i + 1) marks) (drop end values)) is_here
-          (subst (λ vs. Fits (drop (i + 1) marks) vs (with_cells (made c.now (drop next values)) now)) further fits_here.2);
-      same = ap (placed (drop (i + 1) marks) (drop end values)) (sym is_here)
-          ∙ ap (λ vs. placed (drop (i + 1) marks) vs (with_cells (made c.now (drop next values)) now)) (sym further)
-          ∙ sym (placing c (drop (i + 1) marks) (drop next values) now) ∙ ap (λ ms. placed ms (drop next values) now) (sym these) ∙ h.same;
-      few = let e = all-enough in omega arith;
-    }
-
-module _ (marks : List Mark) (values : List ℕ) (start : Run) (i next : ℕ) (now : Run) (d : Mark) (c : Bor Row)
-    (h : IsPlacing marks values start i next now) (l : i < length marks) where
-  module _ (here : get_or marks i d ≡ CalledAll c) where
-    pub called-fit : FollowIn c.now now × (next + length c.now ≤ length values)
-    called-fit = (
-      (fits_here CalledAll with_values (λ b ms vs run f. f) (λ b ms vs run. refl) values-first marks values start i next now d c h l here).0,
-      all-enough CalledAll with_values (λ b ms vs run f. f) (λ b ms vs run. refl) values-first marks values start i next now d c h l here,
-    )
-
-    pub called-placed : (stop end : ℕ) → stop ≡ next + length c.now → end ≡ next + length c.now → (new : Run)
-        → new ≡ with_cells (with_values c.now (take (stop - next) (drop next values))) now → IsPlacing marks values start (i + 1) end new
-    called-placed = all-placed CalledAll with_values (λ b ms vs run f. f) (λ b ms vs run. refl) values-first marks values start i next now d c h l here
-
-  module _ (here : get_or marks i d ≡ KeptAll c) where
-    pub kept-fit : FollowIn c.now now × (next + length c.now ≤ length values)
-    kept-fit = (
-      (fits_here KeptAll kept_where (λ b ms vs run f. f) (λ b ms vs run. refl) kept-first marks values start i next now d c h l here).0,
-      all-enough KeptAll kept_where (λ b ms vs run f. f) (λ b ms vs run. refl) kept-first marks values start i next now d c h l here,
-    )
-
-    pub kept-placed : (stop end : ℕ) → stop ≡ next + length c.now → end ≡ next + length c.now → (new : Run)
-        → new ≡ with_cells (kept_where c.now (take (stop - next) (drop next values))) now → IsPlacing marks values start (i + 1) end new
-    kept-placed = all-placed KeptAll kept_where (λ b ms vs run f. f) (λ b ms vs run. refl) kept-first marks values start i next now d c h l here
+    pub placing-end : length values ≤ i → now ≡ placed places values start
+    placing-end l = ap (λ vs. placed (drop i places) vs now) (sym (drop_all i values l)) ∙ h.same
 
 -- ---- what is done
 
 module _ (f : Accepted) where
   pub does-nothing : (e : Emission) (g : Gathered) → Holds f e g → Does f [] (λ run. run) e g e g
-  does-nothing e g h = record { holds = h; rows = refl; spends = λ rest. spends-start (calls_on f g.operands ++ rest) e.steps }
+  does-nothing e g h = record { holds = h; adds = adds-nothing (standing f e g) }
 
   pub does-then : (cs ds : List Call) (change further : Run → Run) (e m n : Emission) (g h k : Gathered)
       → Does f cs change e g m h → Does f ds further m h n k → Does f (cs ++ ds) (λ run. further (change run)) e g n k
-  does-then cs ds change further e m n g h k a b = record {
-    holds = b.holds;
-    rows = b.rows ∙ ap further a.rows;
-    spends = λ rest. subst (λ all. Spends (calls_on f g.operands ++ all) e.steps (calls_on f k.operands ++ rest) n.steps)
-        (sym (append_assoc cs ds rest))
-        (spends-further (calls_on f g.operands ++ (cs ++ (ds ++ rest))) e.steps (calls_on f h.operands ++ (ds ++ rest)) m.steps
-        (calls_on f k.operands ++ rest) n.steps (a.spends (ds ++ rest)) (b.spends rest));
-  }
+  does-then cs ds change further e m n g h k a b =
+      record { holds = b.holds; adds = adds-then cs ds change further (standing f e g) (standing f m h) (standing f n k) a.adds b.adds }
 
   -- all that was gathered is made
-  pub does-flush : (e n : Emission) (g k : Gathered)
-      → n ≡ record { rows = final f e g; marks = []; steps = e.steps + steps_of (calls_on f g.operands) }
+  pub does-flush : (e n : Emission) (g k : Gathered) → n.rows ≡ final f e g → n.steps ≡ e.steps + steps_of (calls_on f g.operands)
       → k.operands ≡ [] → k.kind ≡ f.kind → Does f [] (λ run. run) e g n k
-  does-flush e n g k is none kind =
-      let none_marked = ap (λ (x : Emission). x.marks) is in
-      let s = ap (λ (x : Emission). x.steps) is in
-      let gone : calls_on f k.operands ≡ [] = ap (calls_on f) none in
-      record {
-        holds = record {
-          kind = kind;
-          fits = subst (λ ms. Fits ms (values_on f k.operands) n.rows) (sym none_marked) (ap
-              (values_on f) none);
+  does-flush e n g k rows steps none kind =
+      let values : values_on f k.operands ≡ [] = ap (values_on f) none in
+      let gone : calls_on f k.operands ≡ [] = ap (calls_on f) none in record {
+        holds = record { kind = kind; places = subst (λ vs. HavePlaces n.places vs (entries_of n.rows)) (sym values) tt };
+        adds = record {
+          rows = ap (λ vs. placed n.places vs n.rows) values ∙ rows;
+          spends = λ rest. subst (λ cs. Spends (calls_on f g.operands ++ rest) e.steps (cs ++ rest) n.steps) (sym gone)
+              (spends-step (calls_on f g.operands ++ rest) e.steps (calls_on f g.operands ++ rest) e.steps
+              (calls_on f g.operands) rest n.steps (spends-start (calls_on f g.operands ++ rest) e.steps) refl steps);
         };
-        rows = ap (λ ms. placed ms (values_on f k.operands) n.rows) none_marked ∙ ap (λ (x : Emission). x.rows) is;
-        spends = λ rest. subst (λ cs. Spends (calls_on f g.operands ++ rest) e.steps (cs ++ rest) n.steps) (sym gone)
-            (spends-step (calls_on f g.operands ++ rest) e.steps (calls_on f g.operands
-            ++ rest) e.steps (calls_on f g.operands) rest n.steps
-            (spends-start (calls_on f g.operands ++ rest) e.steps) refl s);
       }
 
-  -- a mark is added, with the operands of its call, if it has one
-  pub does-mark : (e n : Emission) (g k : Gathered) (m : Mark) (os : List Operands) (change : Run → Run) → Holds f e g
-      → Fits (m ∷ []) (values_on f os) (final f e g) → placed (m ∷ []) (values_on f os) (final f e g) ≡ change (final f e g)
-      → n ≡ record e { marks = e.marks ++ m ∷ [] } → k.kind ≡ g.kind → k.operands ≡ g.operands ++ os
-      → Does f (calls_on f os) change e g n k
-  does-mark e n g k m os change h fit same is kind more =
-      let values = ap (values_on f) more ∙ values_on-append f g.operands os in
-      let calls = ap (calls_on f) more ∙ calls_on-append f g.operands os in
-      record {
-        holds = record {
-          kind = kind ∙ h.kind;
-          fits = subst (λ (x : Emission). Fits x.marks (values_on f k.operands) x.rows) (sym is)
-              (subst (λ vs. Fits (e.marks ++ m ∷ []) vs e.rows) (sym values)
-              (fits-append e.marks (m ∷ []) (values_on f g.operands) (values_on f os) e.rows h.fits fit));
-        };
-        rows = ap (λ (x : Emission). placed x.marks (values_on f k.operands) x.rows) is
-            ∙ ap (λ vs. placed (e.marks ++ m ∷ []) vs e.rows) values
-            ∙ placed-append e.marks (m ∷ []) (values_on f g.operands) (values_on f os) e.rows h.fits ∙ same;
-        spends = λ rest.
-            let whole = ap (λ cs. cs ++ rest) calls ∙ append_assoc (calls_on f g.operands) (calls_on f os) rest in
-            subst (λ cs. Spends (calls_on f g.operands ++ (calls_on f os ++ rest)) e.steps cs n.steps) (sym whole)
-            (subst (λ s. Spends (calls_on f g.operands ++ (calls_on f os ++ rest)) e.steps (calls_on f g.operands
-            ++ (calls_on f os ++ rest)) s)
-            (sym (ap (λ (x : Emission). x.steps) is)) (spends-start (calls_on f g.operands ++ (calls_on f os ++ rest)) e.steps));
-      }
+  module _ (e : Emission) (g : Gathered) (h : Holds f e g) where
+    -- what may be added at last may be added now
+    pub can-push : (c : ℕ) → CanPush c (final f e g) → CanPush c e.rows
+    can-push c p = (
+      let n = placed-columns e.places (values_on f g.operands) e.rows in let b = p.0 in omega arith,
+      placed-above c e.places (values_on f g.operands) e.rows p.1,
+    )
 
-  -- cells are marked, with the operands of their calls
-  module _ (e n : Emission) (g k : Gathered) (cells : Bor Row) (os : List Operands) (h : Holds f e g) (follow : FollowIn cells.now (final f e g))
-      (each : length (values_on f os) ≡ length cells.now) (kind : k.kind ≡ g.kind) (more : k.operands ≡ g.operands ++ os) where
-    none_left : drop (length cells.now) (values_on f os) ≡ []
-    none_left = drop_all (length cells.now) (values_on f os) (omega arith)
+    pub can-follow : (cells : Row) → FollowIn cells (final f e g) → FollowIn cells e.rows
+    can-follow cells b = record {
+      low = b.low;
+      above = placed-above b.low e.places (values_on f g.operands) e.rows b.above;
+      ascend = subst (λ n. Ascends b.low n cells) (placed-columns e.places (values_on f g.operands) e.rows) b.ascend;
+    }
 
-    pub does-call-all : n ≡ record e { marks = e.marks ++ CalledAll cells ∷ [] }
-        → Does f (calls_on f os) (with_cells (with_values cells.now (values_on f os))) e g n k
-    does-call-all is = does-mark e n g k (CalledAll cells) os (with_cells (with_values cells.now (values_on f os))) h
-        (follow, (omega arith), none_left) refl is kind more
+    -- a cell whose value is known
+    pub does-copy : (c x : ℕ) (n : Emission) → n ≡ record e { rows = with_cell c x e.rows } → Does f [] (with_cell c x) e g n g
+    does-copy c x n is = subst (λ (m : Emission). Does f [] (with_cell c x) e g m g) (sym is) (record {
+      holds = record {
+        kind = h.kind;
+        places = have-more e.places (values_on f g.operands) (entries_of e.rows) _ (let m = entries_push e.rows (c, x) in omega arith) h.places;
+      };
+      adds = adds-waiting [] (with_cell c x) (standing f e g) (standing f (record e { rows = with_cell c x e.rows }) g)
+          (placed-push c x e.places (values_on f g.operands) e.rows h.places) (sym (append-nil (calls_on f g.operands))) refl;
+    })
 
-    pub does-keep-all : n ≡ record e { marks = e.marks ++ KeptAll cells ∷ [] }
-        → Does f (calls_on f os) (with_cells (kept_where cells.now (values_on f os))) e g n k
-    does-keep-all is = does-mark e n g k (KeptAll cells) os (with_cells (kept_where cells.now (values_on f os))) h
-        (follow, (omega arith), none_left) refl is kind more
+    -- cells whose values are known
+    pub does-copies : (cells : Row) (n : Emission) → n ≡ record e { rows = with_cells cells e.rows } → Does f [] (with_cells cells) e g n g
+    does-copies cells n is = subst (λ (m : Emission). Does f [] (with_cells cells) e g m g) (sym is) (record {
+      holds = record {
+        kind = h.kind;
+        places = have-more e.places (values_on f g.operands) (entries_of e.rows) _
+            (let m = length-append e.rows.opened cells in omega arith) h.places;
+      };
+      adds = adds-waiting [] (with_cells cells) (standing f e g) (standing f (record e { rows = with_cells cells e.rows }) g)
+          (placed-cells cells e.places (values_on f g.operands) e.rows h.places) (sym (append-nil (calls_on f g.operands))) refl;
+    })
 
-  -- the same after room was made
-  module _ (e m n : Emission) (g h k : Gathered) (room : Does f [] (λ run. run) e g m h) where
-    pub does-call : (c : ℕ) (o : Operands) → CanPush c (final f e g) → n ≡ record m { marks = m.marks ++ Called c ∷ [] }
-        → k ≡ record h { operands = h.operands ++ o ∷ [] } → Does f (call_of f o ∷ []) (with_cell c (value_of f o)) e g n k
-    does-call c o p is more = does-then [] (call_of f o ∷ []) (λ run. run) (with_cell c (value_of f o)) e m n g h k room
-        (does-mark m n h k (Called c) (o ∷ []) (with_cell c (value_of f o)) room.holds (
-          subst (CanPush c) (sym room.rows) p,
-          refl,
-        ) refl is
-        (ap (λ (x : Gathered). x.kind) more) (ap (λ (x : Gathered). x.operands) more))
+    -- the open row ends
+    pub does-end : (n : Emission) → n ≡ record e { rows = with_end e.rows } → Does f [] with_end e g n g
+    does-end n is = subst (λ (m : Emission). Does f [] with_end e g m g) (sym is) (record {
+      holds = record {
+        kind = h.kind;
+        places = have-entries e.places (values_on f g.operands) (entries_of e.rows) _ (sym (entries_end e.rows)) h.places;
+      };
+      adds = adds-waiting [] with_end (standing f e g) (standing f (record e { rows = with_end e.rows }) g)
+          (placed-end e.places (values_on f g.operands) e.rows h.places) (sym (append-nil (calls_on f g.operands))) refl;
+    })
 
-    pub does-keep : (c w : ℕ) (o : Operands) → CanPush c (final f e g) → n ≡ record m { marks = m.marks ++ Kept c w ∷ [] }
-        → k ≡ record h { operands = h.operands ++ o ∷ [] } → Does f (call_of f o ∷ []) (with_kept c w (value_of f o)) e g n k
-    does-keep c w o p is more = does-then [] (call_of f o ∷ []) (λ run. run) (with_kept c w (value_of f o)) e m n g h k room
-        (does-mark m n h k (Kept c w) (o ∷ []) (with_kept c w (value_of f o)) room.holds (
-          subst (CanPush c) (sym room.rows) p,
-          refl,
-        ) refl is
-        (ap (λ (x : Gathered). x.kind) more) (ap (λ (x : Gathered). x.operands) more))
+    -- a cell whose value is that of a call
+    pub does-call : (c x : ℕ) (o : Operands) (n : Emission) (k : Gathered) → length g.operands < length e.places
+        → n ≡ record e { rows = with_cell c x e.rows; places = set e.places (length g.operands) (entries_of e.rows) }
+        → k ≡ record g { operands = g.operands ++ o ∷ [] } → Does f (call_of f o ∷ []) (with_cell c (value_of f o)) e g n k
+    does-call c x o n k l is more =
+        let vs = values_on f g.operands in
+        let count : length g.operands ≡ length vs = sym (values-count f g.operands) in
+        let room : length vs < length e.places = omega arith in
+        let places : n.places ≡ set e.places (length vs) (entries_of e.rows) =
+        ap (λ (m : Emission). m.places) is ∙ ap (λ i. set e.places i (entries_of e.rows)) count in
+        let rows : n.rows ≡ with_cell c x e.rows = ap (λ (m : Emission). m.rows) is in
+        let operands = ap (λ (m : Gathered). m.operands) more in
+        let values : values_on f k.operands ≡ vs ++ value_of f o ∷ [] = ap (values_on f) operands ∙ values_on-append f g.operands (o ∷ []) in
+        let calls : calls_on f k.operands ≡ calls_on f g.operands ++ call_of f o ∷ [] = ap (calls_on f) operands ∙ calls_on-append f g.operands (o ∷ []) in
+        let pushed : entries_of (with_cell c x e.rows) ≡ entries_of e.rows + 1 = entries_push e.rows (c, x) in
+        let here : HavePlaces (set e.places (length vs) (entries_of e.rows)) (vs ++ value_of f o ∷ []) (entries_of (with_cell c x e.rows))
+        = have-set e.places vs (entries_of e.rows) (value_of f o) _ room (omega arith) (have-more e.places vs (entries_of e.rows) _ (omega arith) h.places) in record {
+          holds = record {
+            kind = ap (λ (m : Gathered). m.kind) more ∙ h.kind;
+            places = subst (λ (r : Run). HavePlaces n.places (values_on f k.operands) (entries_of r)) (sym rows)
+                (subst (λ ps. HavePlaces ps (values_on f k.operands) (entries_of (with_cell c x e.rows))) (sym places)
+                (subst (λ us. HavePlaces (set e.places (length vs) (entries_of e.rows)) us (entries_of (with_cell c x e.rows))) (sym values) here));
+          };
+          adds = adds-waiting (call_of f o ∷ []) (with_cell c (value_of f o)) (standing f e g) (standing f n k)
+              (ap (placed n.places (values_on f k.operands)) rows
+              ∙ (ap (λ ps. placed ps (values_on f k.operands) (with_cell c x e.rows)) places
+              ∙ (ap (λ us. placed (set e.places (length vs) (entries_of e.rows)) us (with_cell c x e.rows)) values
+              ∙ (placed-set e.places vs (entries_of e.rows) (value_of f o) (with_cell c x e.rows) room
+              ∙ (ap (with_value (entries_of e.rows) (value_of f o)) (placed-push c x e.places vs e.rows h.places)
+              ∙ (ap (λ p. with_value p (value_of f o) (with_cell c x (placed e.places vs e.rows))) (sym (placed-entries e.places vs e.rows))
+              ∙ with_value_last c x (value_of f o) (placed e.places vs e.rows)))))))
+              calls (ap (λ (m : Emission). m.steps) is);
+        }
 
-    pub does-copy : (c v : ℕ) → CanPush c (final f e g) → n ≡ record m { marks = m.marks ++ Copied c v ∷ [] } → k ≡ h
-        → Does f [] (with_cell c v) e g n k
-    does-copy c v p is more = does-then [] [] (λ run. run) (with_cell c v) e m n g h k room
-        (does-mark m n h k (Copied c v) [] (with_cell c v) room.holds (subst (CanPush c) (sym room.rows) p, refl) refl is
-        (ap (λ (x : Gathered). x.kind) more) (ap (λ (x : Gathered). x.operands) more ∙ sym (append-nil h.operands)))
+-- ---- the same by what an emitter keeps, after room was made
 
-    pub does-end : n ≡ record m { marks = m.marks ++ End ∷ [] } → k ≡ h → Does f [] with_end e g n k
-    does-end is more = does-then [] [] (λ run. run) with_end e m n g h k room
-        (does-mark m n h k End [] with_end room.holds refl refl is
-        (ap (λ (x : Gathered). x.kind) more) (ap (λ (x : Gathered). x.operands) more ∙ sym (append-nil h.operands)))
+module _ (f : Accepted) (e : Emission) (g : Gathered) (m : Emission) (h : Gathered) (room : Does f [] (λ run. run) e g m h)
+    (rows : Run) (places : List ℕ) (steps : ℕ) (is : record { rows = rows; places = places; steps = steps } ≡ m) where
+  kept : Does f [] (λ run. run) e g (record { rows = rows; places = places; steps = steps }) h
+  kept = subst (λ (n : Emission). Does f [] (λ run. run) e g n h) (sym is) room
 
--- a mark was pushed to what is kept of an emission
-pub marked : (rows : Run) (marks items : List Mark) (steps : ℕ) (m : Emission) (x : Mark)
-    → record { rows = rows; marks = marks; steps = steps } ≡ m
-    → items ≡ marks ++ x ∷ [] → record { rows = rows; marks = items; steps = steps } ≡ record m { marks = m.marks ++ x ∷ [] }
-marked rows marks items steps m x is pushed =
-    ap (λ ms. record { rows = rows; marks = ms; steps = steps }) pushed
-    ∙ ap (λ (e : Emission). record e { marks = e.marks ++ x ∷ [] }) is
+  pub called-fits : (c : ℕ) → CanPush c (final f e g) → CanPush c rows
+  called-fits c p = can-push f (record { rows = rows; places = places; steps = steps }) h kept.holds c (subst (CanPush c) (sym kept.adds.rows) p)
 
-pub on_err : {X E P : Type 0} (r : Result X E) → P → OnErr r P
-on_err (Ok x) p = tt
-on_err (Err e) p = p
+  pub called : (c x : ℕ) (o : Operands) (k : Gathered) (now : Run) (at entry : ℕ) → length places ≡ 64 → length h.operands < 64
+      → now ≡ with_cell c x rows → at ≡ length h.operands → entry ≡ entries_of rows → k ≡ record h { operands = h.operands ++ o ∷ [] }
+      → Does f (call_of f o ∷ []) (with_cell c (value_of f o)) e g (record { rows = now; places = set places at entry; steps = steps }) k
+  called c x o k now at entry all few pushed at_is entry_is more =
+      let n : Emission = record { rows = now; places = set places at entry; steps = steps } in
+      does-then f [] (call_of f o ∷ []) (λ run. run) (with_cell c (value_of f o)) e (record { rows = rows; places = places; steps = steps }) n g h k kept
+      (does-call f (record { rows = rows; places = places; steps = steps }) h kept.holds c x o n k (omega arith)
+      (ap (λ r. record { rows = r; places = set places at entry; steps = steps }) pushed
+      ∙ (ap (λ i. record { rows = with_cell c x rows; places = set places i entry; steps = steps }) at_is
+      ∙ ap (λ j. record { rows = with_cell c x rows; places = set places (length h.operands) j; steps = steps }) entry_is)) more)
 
--- what was done, and what waits, costs what was to be done
-pub does-costs : (f : Accepted) (made : List Call) (change : Run → Run) (e n : Emission) (g k : Gathered)
-    → Does f made change e g n k
-    → n.steps + steps_of (calls_on f k.operands) ≡ e.steps + (steps_of (calls_on f g.operands) + steps_of made)
-does-costs f made change e n g k d =
-    let s = (d.spends []).counted in
-    let x = steps-append (calls_on f g.operands) (made ++ []) in
-    let y = steps-append made [] in
-    let z = steps-append (calls_on f k.operands) [] in
-    omega arith
+  -- no memory
+  pub called-spent : Charges (calls_on f g.operands) e.steps steps
+  called-spent = adds-charged (λ run. run) (standing f e g) (standing f (record { rows = rows; places = places; steps = steps }) h) kept.adds
+
+-- ---- nothing was added yet
+
+pub begin-final : (f : Accepted) (e : Emission) (g : Gathered) (first columns : ℕ) → e.rows ≡ empty_run first columns → g.operands ≡ []
+    → final f e g ≡ empty_run first columns
+begin-final f e g first columns rows none = ap (λ os. placed e.places (values_on f os) e.rows) none ∙ rows

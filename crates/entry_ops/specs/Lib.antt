@@ -1,4 +1,6 @@
 pub mod Forms
+pub mod Standing
 pub mod Placing
+pub mod Sifting
 pub mod Walking
-pub mod Pieces
+pub mod Mapped

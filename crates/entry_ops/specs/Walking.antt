@@ -1,5 +1,6 @@
 -- Two rows read side by side, and what each form makes of their positions. This project's own.
-use Rattle.std.specs.Prelude.{◌≡◌, ℕ, ◌+◌, ◌<◌, ◌≤◌, List, [], ◌++◌, Option, None, Some, ◌∷◌, if◌then◌else◌, length, Bool, true, false}
+use Rattle.std.specs.Prelude.{◌≡◌, ℕ, ◌+◌, ◌<◌, ◌≤◌, List, [], ◌∷◌, ◌++◌, Option, None, Some}
+use Rattle.std.specs.Prelude.{Bool, true, false, if◌then◌else◌, length}
 use Rattle.bpf_insn.specs.declared.operands.Kind.{Kind}
 use Rattle.bpf_insn.specs.declared.operands.Kind.TheVariants as kinds
 use Rattle.bpf_verify.specs.Accepted.{Accepted}
@@ -7,11 +8,12 @@ use denote.Ref.{Bor}
 use Rattle.std.specs.Option.{option_map}
 use Rattle.csr_store.specs.Grid.{Grid, Cell, Position, row_of}
 use Rattle.csr_store.specs.Run.{Row, Run}
-use Rattle.csr_store.specs.Along.{along, row_by, cell_at}
-use Rattle.csr_store.specs.Ascending.{Ascends, at, shows}
+use Rattle.csr_store.specs.Along.{along, cell_at}
+use Rattle.csr_store.specs.Ascending.{Ascends, AscendsIn, at, shows}
 use Rattle.bpf_run.specs.Calls.{Call}
 use Rattle.entry_ops.specs.Forms.{applied, apply_calls, selected, united, joint, joint_calls}
 use Rattle.entry_ops.specs.declared.form.Form.{Form}
+use Rattle.entry_ops.specs.declared.line.Line.{Line}
 use Rattle.entry_ops.specs.declared.form.Form.TheVariants.{Apply, Select, Union, Both}
 
 -- how the operator of a form is called
@@ -48,6 +50,24 @@ row_calls form f i n left right mask =
 abbrev pub cells_of : Option (Bor (List Cell)) → Option (List Cell)
 cells_of lent = option_map (λ (r : Bor (List Cell)). r.now) lent
 
+-- the rows that are read for a row ascend
+pub record IsLine (line : Line) : Type 0 where
+  pub left : Ascends 0 line.columns line.left.now
+  pub right : Ascends 0 line.columns line.right.now
+  pub mask : AscendsIn line.columns (cells_of line.mask)
+
+-- the cells of a row by what is read for it, and its calls
+abbrev pub cells_along : Form → Accepted → Line → Row
+cells_along form f line = row_cells form f line.row line.columns line.left.now line.right.now (cells_of line.mask)
+
+abbrev pub calls_along : Form → Accepted → Line → List Call
+calls_along form f line = row_calls form f line.row line.columns line.left.now line.right.now (cells_of line.mask)
+
+-- a run of so many columns whose open row has no cell
+pub record IsOpen (columns : ℕ) (run : Run) : Type 0 where
+  pub columns_are : run.columns ≡ columns
+  pub none : run.opened ≡ []
+
 -- row i of a second operand, if there is one, and of a mask
 abbrev pub row_or_none : Option Grid → ℕ → List Cell
 row_or_none None i = []
@@ -73,21 +93,12 @@ form_all_calls form f a b mask first n = along (λ i. form_row_calls form f a b 
 abbrev pub with_rows : List Row → Run → Run
 with_rows rows run = record run { ended = run.ended ++ rows }
 
--- the form reads its first operand alone
-abbrev pub of_one : Form → Bool
-of_one (Apply thunk) = true
-of_one (Select thunk) = true
-of_one Union = false
-of_one Both = false
-
--- the cells and the calls of such a form, from cells of row i
-abbrev pub line_cells : Form → Accepted → ℕ → List Cell → Row
-line_cells form f i [] = []
-line_cells form f i (c ∷ cs) = cell_at c.0 (form_at form f (i, c.0) (Some c.1) None) ++ line_cells form f i cs
-
-abbrev pub line_calls : Form → Accepted → ℕ → List Cell → List Call
-line_calls form f i [] = []
-line_calls form f i (c ∷ cs) = form_calls form f (i, c.0) (Some c.1) None ++ line_calls form f i cs
+-- each cell of the form is a copy or the value of a call
+abbrev pub of_values : Form → Bool
+of_values (Apply thunk) = true
+of_values (Select thunk) = false
+of_values Union = true
+of_values Both = true
 
 -- c is the first column at which either row has an entry; p and q stand there, and xs and ys are what is left
 pub record IsNext (n low : ℕ) (left right : List Cell) (c : ℕ) (p q : Option ℕ) (xs ys : List Cell) : Type 0 where

@@ -6,7 +6,10 @@ ghost use Rattle.bpf_run.specs.Calls.{steps_of, Charges};
 ghost use Rattle.entry_ops.specs.Forms.{apply_kind, apply_at, apply_calls_at, select_at, select_calls_at};
 
 use crate::form::Form;
-use crate::rows::{Sources, fill_chunk};
+use crate::line::Sources;
+use crate::mapping::map_chunk;
+use crate::rows::fill_chunk;
+use crate::select::select_chunk;
 use bpf_run::{Calls, Prepared};
 use csr_store::{Chunk, Matrix};
 use std::alloc::Global;
@@ -43,6 +46,9 @@ pub fn apply_rows<'m>(
     ensures spent { OnErr result.result (Charges (all_listed_under (mask_of mask.entry) a.now.columns
         (apply_calls_at operator.now thunk a.now) range.start (range.end - range.start)) 0 result.steps) }
 {
+    let Some(_) = mask else {
+        return map_chunk(alloc, calls, a, operator, thunk, range);
+    };
     let sources = Sources {
         left: a,
         right: None,
@@ -86,5 +92,5 @@ pub fn select_rows<'m>(
         right: None,
         mask,
     };
-    fill_chunk(alloc, calls, Form::Select(thunk), operator, sources, range)
+    select_chunk(alloc, calls, thunk, operator, sources, range)
 }

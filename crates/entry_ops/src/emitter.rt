@@ -1,73 +1,57 @@
-//! Rows whose last cells wait for the values of gathered calls.
-ghost use Rattle.std.specs.Prelude.{◌≡◌, ◌<◌, ◌≤◌, ◌+◌, ◌^◌, ◌++◌, ◌∷◌, [], length, vec_capacity, OnOk, OnErr, IfOk};
+//! Rows whose cells are added at once, and whose values are put in place when gathered calls are made.
+ghost use Rattle.std.specs.Prelude.{◌≡◌, ◌<◌, ◌+◌, ◌^◌, ◌∷◌, [], length, OnOk, OnErr};
 ghost use Rattle.bpf_insn.specs.Machine.{kind_of};
-ghost use Rattle.bpf_insn.specs.declared.operands.Operands.TheVariants as on;
 ghost use Rattle.bpf_run.specs.Meaning.{value_of};
-ghost use Rattle.bpf_insn.specs.declared.operands.Kind.TheVariants as kinds;
-ghost use Rattle.bpf_run.specs.Calls.{call_of, calls_on, values_on, steps_of, Charges, words_of, entries_of};
-ghost use Rattle.csr_store.specs.Added.{with_values, kept_where};
-ghost use Rattle.entry_ops.specs.Placing.{placed, Fits, CanPush, FollowIn, final, Holds, Does, with_cell, with_cells, with_kept, with_end};
+ghost use Rattle.bpf_run.specs.Calls.{call_of, calls_on, steps_of, Charges};
+ghost use Rattle.csr_store.specs.Valued.{entries_of};
+ghost use Rattle.entry_ops.specs.Standing.{CanPush, FollowIn, with_cell, with_cells, with_end};
+ghost use Rattle.entry_ops.specs.Placing.{placed, HavePlaces, final, Holds, Does};
 
-use crate::walk::Cell;
+use crate::line::Cell;
 use bpf_insn::Operands;
 use bpf_run::{Calls, MOST_CALLS, Prepared};
 use csr_store::Rows;
 use std::alloc::{AllocError, Global};
 use std::marker::Model;
 
-/// The most marks that wait.
-const MOST_MARKS: usize = 256;
-
-/// What is still to be added to some rows.
-#[derive(Clone, Copy)]
-pub enum Mark<'m> {
-    /// The end of the open row.
-    End,
-    /// A cell whose value is known.
-    Copied { column: u64, value: u64 },
-    /// A cell whose value is that of the next call.
-    Called { column: u64 },
-    /// A cell that stands where the value of the next call is not 0.
-    Kept { column: u64, word: u64 },
-    /// Cells whose values are those of the next calls.
-    CalledAll { cells: &'m [Cell] },
-    /// Cells that stand where the values of the next calls are not 0.
-    KeptAll { cells: &'m [Cell] },
-}
-
-/// Rows, what is marked behind them while calls wait, and the steps of the calls that were made.
+/// Rows, the entries whose values are those of calls that wait, and the steps of the calls that were made.
 #[derive(Drop)]
-pub struct Emitter<'m> {
+pub struct Emitter {
     rows: Rows,
-    marks: Vec<Mark<'m>>,
+    /// The entry of each call that waits, in step with the gathered operands.
+    places: [usize; MOST_CALLS],
     steps: u64,
 }
 
-impl<'m> Model for Emitter<'m> {
-    ghost use Rattle.std.specs.Prelude.{◌≤◌, length, vec_capacity};
+impl Model for Emitter {
+    ghost use Rattle.std.specs.Prelude.{◌≡◌, length};
     ghost use Rattle.entry_ops.specs.Placing.{Emission};
 
     ghost Value = { Emission };
 
-    ghost view = { λ e. record { rows = e.rows; marks = e.marks.items; steps = e.steps } };
+    ghost view = { λ e. record { rows = e.rows; places = e.places; steps = e.steps } };
 
-    ghost invariant = { λ e. (256 ≤ vec_capacity e.marks) × (length e.marks.items ≤ 256) };
+    ghost invariant = { λ e. length e.places ≡ 64 };
 }
 
-impl<'m> Emitter<'m> {
-    /// No row yet, of those from `first` on, and no call.
-    pub fn begin(alloc: Global, first: u64, columns: u64) -> Result<Self, AllocError>
-        ensures { IfOk result (λ e. e ≡ record {
-          rows = record { first = first; columns = columns; ended = []; opened = [] };
-          marks = [];
-          steps = 0;
-        }) }
+impl Emitter {
+    /// No row yet, of those from `first` on, and no call. Takes no memory.
+    pub fn begin(alloc: Global, first: u64, columns: u64) -> Self
+        ensures rows { result.rows ≡ record { first = first; columns = columns; ended = []; opened = [] } }
+        ensures steps { result.steps ≡ 0 }
     {
-        Ok(Emitter {
+        Emitter {
             rows: Rows::begin(alloc, first, columns),
-            marks: Vec::with_capacity(alloc, MOST_MARKS)?,
+            places: [0; MOST_CALLS],
             steps: 0,
-        })
+        }
+    }
+
+    /// Makes room for so many cells.
+    pub fn reserve(&mut self, cells: usize) -> Result<(), AllocError>
+        ensures { self.new ≡ self.old }
+    {
+        self.rows.reserve(cells)
     }
 
     /// The steps of the calls that were made.
@@ -79,45 +63,35 @@ impl<'m> Emitter<'m> {
 
     /// The rows.
     pub fn into_rows(self) -> Rows
-        ensures { result ≡ self.entry.rows }
+        ensures { result ≡ self.rows }
     {
         self.rows
     }
 
-    /// Makes the calls that were gathered, and adds what is marked.
-    pub fn flush(&mut self, operator: &Prepared, calls: &mut Calls) -> Result<(), AllocError>
+    /// Makes the calls that were gathered, and puts their values in place.
+    pub fn flush(&mut self, operator: &Prepared, calls: &mut Calls)
         requires holds { Holds operator.now self.old calls.old }
         requires room { self.old.steps + steps_of (calls_on operator.now calls.old.operands) < 2 ^ 64 }
-        ensures made { OnOk result (self.new ≡ record {
-          rows = final operator.now self.old calls.old;
-          marks = [];
-          steps = self.old.steps + steps_of (calls_on operator.now calls.old.operands);
-        }) }
-        ensures none { OnOk result (calls.new.operands ≡ []) }
-        ensures kind { OnOk result (calls.new.kind ≡ operator.now.kind) }
-        ensures spent { OnErr result (self.new.steps ≡ self.old.steps + steps_of (calls_on operator.now calls.old.operands)) }
+        ensures rows { self.new.rows ≡ final operator.now self.old calls.old }
+        ensures steps { self.new.steps ≡ self.old.steps + steps_of (calls_on operator.now calls.old.operands) }
+        ensures none { calls.new.operands ≡ [] }
+        ensures kind { calls.new.kind ≡ operator.now.kind }
     {
         self.steps += calls.make(operator);
-        place(&self.marks, calls.values(), &mut self.rows)?;
-        self.marks.clear();
-        Ok(())
+        place(&self.places, calls.values(), &mut self.rows);
     }
 
-    /// Flushes where no further mark or call fits in.
+    /// Flushes where no further call fits in.
     #[inline(always)]
-    pub fn make_room(&mut self, operator: &Prepared, calls: &mut Calls) -> Result<(), AllocError>
+    fn make_room(&mut self, operator: &Prepared, calls: &mut Calls)
         requires holds { Holds operator.now self.old calls.old }
         requires room { self.old.steps + steps_of (calls_on operator.now calls.old.operands) < 2 ^ 64 }
-        ensures does { OnOk result (Does operator.now [] (λ run. run) self.old calls.old self.new calls.new) }
-        ensures marks { OnOk result (length self.new.marks < 256) }
-        ensures calls { OnOk result (length calls.new.operands < 64) }
-        ensures spent { OnErr result (Charges (calls_on operator.now calls.old.operands) self.old.steps self.new.steps) }
+        ensures does { Does operator.now [] (λ run. run) self.old calls.old self.new calls.new }
+        ensures calls { length calls.new.operands < 64 }
     {
-        if self.marks.len() < MOST_MARKS && calls.len() < MOST_CALLS {
-            return Ok(());
+        if calls.len() == MOST_CALLS {
+            self.flush(operator, calls);
         }
-        self.flush(operator, calls)?;
-        Ok(())
     }
 
     /// Adds a cell whose value is that of a call.
@@ -137,170 +111,58 @@ impl<'m> Emitter<'m> {
             (with_cell column (value_of operator.now operands)) self.old calls.old self.new calls.new) }
         ensures spent { OnErr result (Charges (calls_on operator.now calls.old.operands) self.old.steps self.new.steps) }
     {
-        self.make_room(operator, calls)?;
-        self.marks.push(Mark::Called { column }).unwrap();
+        self.make_room(operator, calls);
+        self.places[calls.len()] = self.rows.entries();
+        self.rows.push(column, 0)?;
         calls.gather(operands);
         Ok(())
-    }
-
-    /// Adds a cell with a word where the value of a call is not 0.
-    #[inline(always)]
-    pub fn keep(
-        &mut self,
-        operator: &Prepared,
-        calls: &mut Calls,
-        column: u64,
-        word: u64,
-        operands: Operands,
-    ) -> Result<(), AllocError>
-        requires holds { Holds operator.now self.old calls.old }
-        requires kind { kind_of operands ≡ operator.now.kind }
-        requires fits { CanPush column (final operator.now self.old calls.old) }
-        requires room { self.old.steps + steps_of (calls_on operator.now calls.old.operands) < 2 ^ 64 }
-        ensures does { OnOk result (Does operator.now (call_of operator.now operands ∷ [])
-            (with_kept column word (value_of operator.now operands)) self.old calls.old self.new calls.new) }
-        ensures spent { OnErr result (Charges (calls_on operator.now calls.old.operands) self.old.steps self.new.steps) }
-    {
-        self.make_room(operator, calls)?;
-        self.marks.push(Mark::Kept { column, word }).unwrap();
-        calls.gather(operands);
-        Ok(())
-    }
-
-    /// Adds cells whose values are those of calls on their words.
-    pub fn call_words(&mut self, calls: &mut Calls, cells: &'m [Cell], operator: &Prepared)
-        requires holds { Holds operator.now self.old calls.old }
-        requires kind { operator.now.kind ≡ kinds.Unary }
-        requires behind { FollowIn cells.now (final operator.now self.old calls.old) }
-        requires marks { length self.old.marks < 256 }
-        requires room { length calls.old.operands + length cells.now ≤ 64 }
-        ensures { Does operator.now (calls_on operator.now (words_of cells.now))
-            (with_cells (with_values cells.now (values_on operator.now (words_of cells.now))))
-            self.old calls.old self.new calls.new }
-    {
-        self.marks.push(Mark::CalledAll { cells }).unwrap();
-        calls.gather_words(cells);
-    }
-
-    /// Adds cells of a row whose values are those of calls on their words, their positions and a thunk.
-    pub fn call_entries(
-        &mut self,
-        calls: &mut Calls,
-        cells: &'m [Cell],
-        row: u64,
-        thunk: u64,
-        operator: &Prepared,
-    )
-        requires holds { Holds operator.now self.old calls.old }
-        requires kind { operator.now.kind ≡ kinds.Index }
-        requires behind { FollowIn cells.now (final operator.now self.old calls.old) }
-        requires marks { length self.old.marks < 256 }
-        requires room { length calls.old.operands + length cells.now ≤ 64 }
-        ensures { Does operator.now (calls_on operator.now (entries_of row thunk cells.now))
-            (with_cells (with_values cells.now (values_on operator.now (entries_of row thunk cells.now))))
-            self.old calls.old self.new calls.new }
-    {
-        self.marks.push(Mark::CalledAll { cells }).unwrap();
-        calls.gather_entries(cells, row, thunk);
-    }
-
-    /// Adds those cells of a row where the value of a call on the word, its position and a thunk is not 0.
-    pub fn keep_entries(
-        &mut self,
-        calls: &mut Calls,
-        cells: &'m [Cell],
-        row: u64,
-        thunk: u64,
-        operator: &Prepared,
-    )
-        requires holds { Holds operator.now self.old calls.old }
-        requires kind { operator.now.kind ≡ kinds.Index }
-        requires behind { FollowIn cells.now (final operator.now self.old calls.old) }
-        requires marks { length self.old.marks < 256 }
-        requires room { length calls.old.operands + length cells.now ≤ 64 }
-        ensures { Does operator.now (calls_on operator.now (entries_of row thunk cells.now))
-            (with_cells (kept_where cells.now (values_on operator.now (entries_of row thunk cells.now))))
-            self.old calls.old self.new calls.new }
-    {
-        self.marks.push(Mark::KeptAll { cells }).unwrap();
-        calls.gather_entries(cells, row, thunk);
     }
 
     /// Adds a cell whose value is known.
     #[inline(always)]
-    pub fn copy(
-        &mut self,
-        operator: &Prepared,
-        calls: &mut Calls,
-        column: u64,
-        value: u64,
-    ) -> Result<(), AllocError>
-        requires holds { Holds operator.now self.old calls.old }
-        requires fits { CanPush column (final operator.now self.old calls.old) }
-        requires room { self.old.steps + steps_of (calls_on operator.now calls.old.operands) < 2 ^ 64 }
-        ensures does { OnOk result (Does operator.now [] (with_cell column value) self.old calls.old self.new calls.new) }
-        ensures spent { OnErr result (Charges (calls_on operator.now calls.old.operands) self.old.steps self.new.steps) }
+    pub fn copy(&mut self, column: u64, value: u64) -> Result<(), AllocError>
+        requires { CanPush column self.old.rows }
+        ensures copied { OnOk result (self.new ≡ record self.old { rows = with_cell column value self.old.rows }) }
+        ensures kept { OnErr result (self.new.steps ≡ self.old.steps) }
     {
-        self.make_room(operator, calls)?;
-        self.marks.push(Mark::Copied { column, value }).unwrap();
-        Ok(())
+        self.rows.push(column, value)
+    }
+
+    /// Adds cells whose values are known.
+    pub fn copy_all(&mut self, cells: &[Cell]) -> Result<(), AllocError>
+        requires { FollowIn cells.now self.old.rows }
+        ensures copied { OnOk result (self.new ≡ record self.old { rows = with_cells cells.now self.old.rows }) }
+        ensures kept { OnErr result (self.new.steps ≡ self.old.steps) }
+    {
+        push_all(&mut self.rows, cells)
     }
 
     /// Ends the open row.
-    pub fn end_row(&mut self, operator: &Prepared, calls: &mut Calls) -> Result<(), AllocError>
-        requires holds { Holds operator.now self.old calls.old }
-        requires room { self.old.steps + steps_of (calls_on operator.now calls.old.operands) < 2 ^ 64 }
-        ensures does { OnOk result (Does operator.now [] with_end self.old calls.old self.new calls.new) }
-        ensures spent { OnErr result (Charges (calls_on operator.now calls.old.operands) self.old.steps self.new.steps) }
+    pub fn end_row(&mut self) -> Result<(), AllocError>
+        ensures ended { OnOk result (self.new ≡ record self.old { rows = with_end self.old.rows }) }
+        ensures kept { OnErr result (self.new.steps ≡ self.old.steps) }
     {
-        self.make_room(operator, calls)?;
-        self.marks.push(Mark::End).unwrap();
-        Ok(())
+        self.rows.end_row()
     }
 }
 
-/// Adds a cell where an answer is not 0.
-#[inline(always)]
-fn push_kept(rows: &mut Rows, column: u64, word: u64, answer: u64) -> Result<(), AllocError>
-    requires { CanPush column rows.old }
-    ensures { OnOk result (rows.new ≡ with_kept column word answer rows.old) }
+/// Puts values in their places.
+fn place(places: &[usize], values: &[u64], rows: &mut Rows)
+    requires { HavePlaces places.now values.now (entries_of rows.old) }
+    ensures { rows.new ≡ placed places.now values.now rows.old }
 {
-    if answer == 0 {
-        return Ok(());
+    for next in 0..values.len() {
+        rows.set_value(places[next], values[next]);
     }
-    rows.push(column, word)
 }
 
-/// Adds what is marked to rows, each call with its value.
-fn place(marks: &[Mark], values: &[u64], rows: &mut Rows) -> Result<(), AllocError>
-    requires fits { Fits marks.now values.now rows.old }
-    requires few { length marks.now ≤ 256 }
-    ensures { OnOk result (rows.new ≡ placed marks.now values.now rows.old) }
+/// Adds cells to an open row.
+fn push_all(rows: &mut Rows, cells: &[Cell]) -> Result<(), AllocError>
+    requires { FollowIn cells.now rows.old }
+    ensures { OnOk result (rows.new ≡ with_cells cells.now rows.old) }
 {
-    let mut next: usize = 0;
-    for mark in marks {
-        match *mark {
-            Mark::End => rows.end_row()?,
-            Mark::Copied { column, value } => rows.push(column, value)?,
-            Mark::Called { column } => {
-                rows.push(column, values[next])?;
-                next += 1;
-            }
-            Mark::Kept { column, word } => {
-                push_kept(rows, column, word, values[next])?;
-                next += 1;
-            }
-            Mark::CalledAll { cells } => {
-                let end = next + cells.len();
-                rows.push_all(cells, &values[next..end])?;
-                next = end;
-            }
-            Mark::KeptAll { cells } => {
-                let end = next + cells.len();
-                rows.push_where(cells, &values[next..end])?;
-                next = end;
-            }
-        }
+    for (column, value) in cells {
+        rows.push(*column, *value)?;
     }
     Ok(())
 }

@@ -1,14 +1,13 @@
 //! What each form makes of a position.
-ghost use Rattle.std.specs.Prelude.{◌≡◌, ◌<◌, ◌≤◌, ◌+◌, ◌^◌, OnOk, OnErr, length, true};
+ghost use Rattle.std.specs.Prelude.{◌≡◌, ◌<◌, ◌+◌, ◌^◌, OnOk, OnErr, true};
 ghost use Rattle.bpf_run.specs.Calls.{calls_on, steps_of, Charges};
 ghost use Rattle.csr_store.specs.Along.{cell_at};
-ghost use Rattle.entry_ops.specs.Forms.{apply_kind, operands_at};
-ghost use Rattle.entry_ops.specs.Placing.{CanPush, FollowIn, final, Holds, Does, with_cells};
-ghost use Rattle.entry_ops.specs.declared.form.Form.TheVariants as forms;
-ghost use Rattle.entry_ops.specs.Walking.{kind_for, form_at, form_calls, of_one, line_cells, line_calls};
+ghost use Rattle.entry_ops.specs.Forms.{operands_at};
+ghost use Rattle.entry_ops.specs.Standing.{CanPush, with_cells};
+ghost use Rattle.entry_ops.specs.Placing.{final, Holds, Does};
+ghost use Rattle.entry_ops.specs.Walking.{kind_for, of_values, form_at, form_calls};
 
 use crate::emitter::Emitter;
-use crate::walk::Cell;
 use bpf_insn::Operands;
 use bpf_run::{Calls, Prepared};
 use std::alloc::AllocError;
@@ -35,7 +34,7 @@ pub struct Place {
     pub right: Option<u64>,
 }
 
-/// Adds what a form makes of a position.
+/// Adds what a form makes of a position: a copy, the value of a call, or nothing.
 #[inline(always)]
 pub fn emit(
     form: Form,
@@ -45,6 +44,7 @@ pub fn emit(
     place: Place,
 ) -> Result<(), AllocError>
     requires kind { operator.now.kind ≡ kind_for form }
+    requires values { of_values form ≡ true }
     requires holds { Holds operator.now emitter.old calls.old }
     requires fits { CanPush place.column (final operator.now emitter.old calls.old) }
     requires room { emitter.old.steps + steps_of (calls_on operator.now calls.old.operands) < 2 ^ 64 }
@@ -62,17 +62,11 @@ pub fn emit(
             let operands = operands_of(thunk, place.row, column, x);
             emitter.call(operator, calls, column, operands)
         }
-        Form::Select(thunk) => {
-            let Some(x) = place.left else {
-                return Ok(());
-            };
-            let operands = operands_of(Some(thunk), place.row, column, x);
-            emitter.keep(operator, calls, column, x, operands)
-        }
+        Form::Select(_) => Ok(()),
         Form::Union => match (place.left, place.right) {
             (Some(x), Some(y)) => emitter.call(operator, calls, column, Operands::Binary { x, y }),
-            (Some(x), None) => emitter.copy(operator, calls, column, x),
-            (None, Some(y)) => emitter.copy(operator, calls, column, y),
+            (Some(x), None) => emitter.copy(column, x),
+            (None, Some(y)) => emitter.copy(column, y),
             (None, None) => Ok(()),
         },
         Form::Both => match (place.left, place.right) {
@@ -82,69 +76,9 @@ pub fn emit(
     }
 }
 
-/// Whether a form reads its first operand alone.
-pub fn is_of_one(form: Form) -> bool
-    ensures { result ≡ of_one form }
-{
-    match form {
-        Form::Apply(_) => true,
-        Form::Select(_) => true,
-        Form::Union => false,
-        Form::Both => false,
-    }
-}
-
-/// Adds what a form of one operand makes of cells of a row, for which there is room.
-pub fn add_cells<'m>(
-    form: Form,
-    operator: &Prepared,
-    calls: &mut Calls,
-    emitter: &mut Emitter<'m>,
-    row: u64,
-    cells: &'m [Cell],
-)
-    requires kind { operator.now.kind ≡ kind_for form }
-    requires one { of_one form ≡ true }
-    requires holds { Holds operator.now emitter.old calls.old }
-    requires behind { FollowIn cells.now (final operator.now emitter.old calls.old) }
-    requires marks { length emitter.old.marks < 256 }
-    requires room { length calls.old.operands + length cells.now ≤ 64 }
-    ensures { Does operator.now (line_calls form operator.now row cells.now)
-        (with_cells (line_cells form operator.now row cells.now)) emitter.old calls.old emitter.new calls.new }
-{
-    match form {
-        Form::Apply(thunk) => call_cells(thunk, operator, calls, emitter, row, cells),
-        Form::Select(thunk) => emitter.keep_entries(calls, cells, row, thunk, operator),
-        Form::Union | Form::Both => {}
-    }
-}
-
-/// Adds what an operator makes of cells of a row, for which there is room.
-fn call_cells<'m>(
-    thunk: Option<u64>,
-    operator: &Prepared,
-    calls: &mut Calls,
-    emitter: &mut Emitter<'m>,
-    row: u64,
-    cells: &'m [Cell],
-)
-    requires kind { operator.now.kind ≡ apply_kind thunk }
-    requires holds { Holds operator.now emitter.old calls.old }
-    requires behind { FollowIn cells.now (final operator.now emitter.old calls.old) }
-    requires marks { length emitter.old.marks < 256 }
-    requires room { length calls.old.operands + length cells.now ≤ 64 }
-    ensures { Does operator.now (line_calls (forms.Apply thunk) operator.now row cells.now)
-        (with_cells (line_cells (forms.Apply thunk) operator.now row cells.now)) emitter.old calls.old emitter.new calls.new }
-{
-    match thunk {
-        None => emitter.call_words(calls, cells, operator),
-        Some(thunk) => emitter.call_entries(calls, cells, row, thunk, operator),
-    }
-}
-
 /// What an operator is called on: a word, and with a thunk its position too.
 #[inline(always)]
-fn operands_of(thunk: Option<u64>, row: u64, column: u64, x: u64) -> Operands
+pub fn operands_of(thunk: Option<u64>, row: u64, column: u64, x: u64) -> Operands
     ensures { result ≡ operands_at thunk (row, column) x }
 {
     match thunk {

@@ -6,23 +6,29 @@
 //! at most once (`specs/Forms.antt`, under the masks of csr_store). In which order the calls are made is nobody's
 //! promise: they are gathered across the rows of the range, made together, and their values then put in place.
 //!
-//! Read `specs/Forms.antt` first, then `apply`, `union` and `reduce`, the public calls; below them `rows` (the
-//! rows of a range, one loop for all forms), `form` (what a form makes of a position), `walk` (two rows read
-//! side by side, under the row of a mask) and `emitter` (rows whose last cells wait for the values of gathered
-//! calls), over `specs/Walking.antt` and `specs/Placing.antt`.
+//! Read `specs/Forms.antt` first, then `apply`, `union` and `reduce`, the public calls. Below them `line` has the
+//! rows that are read for a row of the result, and there are three ways to fill a range. `mapping` is apply without
+//! a mask: rows are copied, and their entries get the values of calls, over `specs/Mapped.antt`. `rows` fills that of
+//! a form whose cells are copies and values of calls: `joint` reads two rows side by side, `masked` walks the row of
+//! a mask, `form` says what a form makes of a position, and `emitter` adds each cell at once and puts the values of
+//! gathered calls in their places, over `specs/Placing.antt`. `select` fills that of a selection, by `sieve`, whose
+//! last cells wait for the answers of gathered calls, over `specs/Sifting.antt`. `specs/Walking.antt` has what a row
+//! is, and `specs/Standing.antt` what is added to rows while calls wait.
 #![tactic(auto)]
 
 mod apply;
 mod emitter;
 mod form;
+mod joint;
+mod line;
+mod mapping;
+mod masked;
 mod reduce;
 mod rows;
+mod select;
+mod sieve;
 mod union;
-mod walk;
 
 pub use apply::{apply_rows, select_rows};
 pub use reduce::reduce_rows;
 pub use union::{both_rows, union_rows};
-
-#[cfg(test)]
-mod tests;

@@ -9,7 +9,7 @@ ghost use Rattle.bpf_run.specs.Fold.{fold, fold_calls};
 ghost use Rattle.entry_ops.specs.Forms.{reduce_at, reduce_calls_at};
 ghost use Rattle.entry_ops.specs.Walking.{with_rows};
 
-use crate::walk::Cell;
+use crate::line::Cell;
 use bpf_insn::Operands;
 use bpf_run::{Calls, Prepared, call};
 use csr_store::{Chunk, Matrix, Rows};

@@ -1,43 +1,33 @@
-//! The rows of a range, one form for all operations entry by entry.
-ghost use Rattle.std.specs.Prelude.{◌≡◌, ℕ, ◌<◌, ◌≤◌, ◌+◌, ◌-◌, ◌^◌, ◌++◌, [], IfOk, OnOk, OnErr, None, Some, List, true};
-ghost use Rattle.csr_store.specs.Grid.{row_of};
-ghost use Rattle.csr_store.specs.Ascending.{Ascends, AscendsIn};
+//! The rows of a range, of forms whose cells are copies and values of calls.
+ghost use Rattle.std.specs.Prelude.{◌≡◌, ◌<◌, ◌≤◌, ◌+◌, ◌-◌, ◌^◌, ◌++◌, [], IfOk, OnOk, OnErr, List, true};
 ghost use Rattle.csr_store.specs.Mask.{HasShape, mask_of};
 ghost use Rattle.bpf_run.specs.Calls.{Call, calls_on, steps_of, Charges};
-ghost use Rattle.entry_ops.specs.Placing.{final, Holds, Does, with_end, with_cells};
+ghost use Rattle.entry_ops.specs.Standing.{with_cells};
+ghost use Rattle.entry_ops.specs.Placing.{final, Holds, Does};
 ghost use Rattle.entry_ops.specs.Walking.{
   kind_for,
-  row_cells,
-  row_calls,
-  of_one,
+  of_values,
+  IsLine,
+  IsOpen,
+  cells_along,
+  calls_along,
   with_rows,
-  cells_of,
-  row_or_none,
-  mask_row,
   form_rows,
   form_all_calls,
 };
 
 use crate::emitter::Emitter;
-use crate::form::{Form, Place, add_cells, emit, is_of_one};
-use crate::walk::{Cell, next, show};
-use bpf_run::{Calls, MOST_CALLS, Prepared};
+use crate::form::Form;
+use crate::joint::{fill_both, fill_union};
+use crate::line::{Cell, Line, Sources, read_line};
+use crate::masked::fill_masked;
+use bpf_run::{Calls, Prepared};
 use csr_store::{Chunk, Matrix};
 use std::alloc::{AllocError, Global};
 use std::ops::Range;
 
-/// A row of each operand, and of the mask if there is one.
-#[derive(Clone, Copy)]
-pub struct Line<'a> {
-    pub row: u64,
-    pub columns: u64,
-    pub left: &'a [Cell],
-    pub right: &'a [Cell],
-    pub mask: Option<&'a [Cell]>,
-}
-
-/// Adds the cells of a row.
-fn fill_row(
+/// Adds the cells of a row, each form by a loop of its own.
+fn fill_line(
     form: Form,
     operator: &Prepared,
     calls: &mut Calls,
@@ -45,201 +35,59 @@ fn fill_row(
     line: Line,
 ) -> Result<(), AllocError>
     requires kind { operator.now.kind ≡ kind_for form }
+    requires values { of_values form ≡ true }
     requires holds { Holds operator.now emitter.old calls.old }
-    requires left { Ascends 0 line.columns line.left.now }
-    requires right { Ascends 0 line.columns line.right.now }
-    requires mask { AscendsIn line.columns (cells_of line.mask) }
-    requires columns { (final operator.now emitter.old calls.old).columns ≡ line.columns }
-    requires open { (final operator.now emitter.old calls.old).opened ≡ [] }
-    requires room { emitter.old.steps + (steps_of (calls_on operator.now calls.old.operands) + steps_of (row_calls form operator.now
-        line.row line.columns line.left.now line.right.now (cells_of line.mask))) < 2 ^ 64 }
-    ensures does { OnOk result (Does operator.now
-        (row_calls form operator.now line.entry.row line.entry.columns line.entry.left.now line.entry.right.now (cells_of
-        line.entry.mask))
-        (with_cells (row_cells form operator.now line.entry.row line.entry.columns line.entry.left.now line.entry.right.now
-        (cells_of line.entry.mask)))
-        emitter.old calls.old emitter.new calls.new) }
-    ensures spent { OnErr result ((rest : List Call) → Charges (calls_on operator.now calls.old.operands ++ (row_calls
-        form operator.now line.entry.row line.entry.columns line.entry.left.now line.entry.right.now (cells_of line.entry.mask)
-        ++ rest))
-        emitter.old.steps emitter.new.steps) }
+    requires line { IsLine line }
+    requires open { IsOpen line.columns (final operator.now emitter.old calls.old) }
+    requires room { emitter.old.steps + (steps_of (calls_on operator.now calls.old.operands)
+        + steps_of (calls_along form operator.now line)) < 2 ^ 64 }
+    ensures does { OnOk result (Does operator.now (calls_along form operator.now line.entry)
+        (with_cells (cells_along form operator.now line.entry)) emitter.old calls.old emitter.new calls.new) }
+    ensures spent { OnErr result ((rest : List Call) → Charges (calls_on operator.now calls.old.operands
+        ++ (calls_along form operator.now line.entry ++ rest)) emitter.old.steps emitter.new.steps) }
 {
-    let mut lefts = line.left;
-    let mut rights = line.right;
-    let mut masks = line.mask;
-    while let Some(meeting) = next(lefts, rights) {
-        lefts = meeting.lefts;
-        rights = meeting.rights;
-        let shown = show(masks, meeting.column);
-        masks = shown.rest;
-        if shown.passes {
-            let place = Place {
-                row: line.row,
-                column: meeting.column,
-                left: meeting.left,
-                right: meeting.right,
-            };
-            emit(form, operator, calls, emitter, place)?;
-        }
-    }
-    Ok(())
-}
-
-/// Adds the cells of a row of a form of one operand, all of which pass.
-fn fill_whole<'m>(
-    form: Form,
-    operator: &Prepared,
-    calls: &mut Calls,
-    emitter: &mut Emitter<'m>,
-    line: Line<'m>,
-) -> Result<(), AllocError>
-    requires kind { operator.now.kind ≡ kind_for form }
-    requires holds { Holds operator.now emitter.old calls.old }
-    requires left { Ascends 0 line.columns line.left.now }
-    requires one { of_one form ≡ true }
-    requires whole { cells_of line.mask ≡ None }
-    requires columns { (final operator.now emitter.old calls.old).columns ≡ line.columns }
-    requires open { (final operator.now emitter.old calls.old).opened ≡ [] }
-    requires room { emitter.old.steps + (steps_of (calls_on operator.now calls.old.operands) + steps_of (row_calls form operator.now
-        line.row line.columns line.left.now line.right.now (cells_of line.mask))) < 2 ^ 64 }
-    ensures does { OnOk result (Does operator.now
-        (row_calls form operator.now line.entry.row line.entry.columns line.entry.left.now line.entry.right.now (cells_of
-        line.entry.mask))
-        (with_cells (row_cells form operator.now line.entry.row line.entry.columns line.entry.left.now line.entry.right.now
-        (cells_of line.entry.mask)))
-        emitter.old calls.old emitter.new calls.new) }
-    ensures spent { OnErr result ((rest : List Call) → Charges (calls_on operator.now calls.old.operands ++ (row_calls
-        form operator.now line.entry.row line.entry.columns line.entry.left.now line.entry.right.now (cells_of line.entry.mask)
-        ++ rest))
-        emitter.old.steps emitter.new.steps) }
-{
-    let mut cells = line.left;
-    while !cells.is_empty() {
-        emitter.make_room(operator, calls)?;
-        let (now, rest) = cells.split_at(cells.len().min(MOST_CALLS - calls.len()));
-        add_cells(form, operator, calls, emitter, line.row, now);
-        cells = rest;
-    }
-    Ok(())
-}
-
-/// Adds the cells of a row, by the shorter way where there is one.
-fn fill_line<'m>(
-    form: Form,
-    operator: &Prepared,
-    calls: &mut Calls,
-    emitter: &mut Emitter<'m>,
-    line: Line<'m>,
-) -> Result<(), AllocError>
-    requires kind { operator.now.kind ≡ kind_for form }
-    requires holds { Holds operator.now emitter.old calls.old }
-    requires left { Ascends 0 line.columns line.left.now }
-    requires right { Ascends 0 line.columns line.right.now }
-    requires mask { AscendsIn line.columns (cells_of line.mask) }
-    requires columns { (final operator.now emitter.old calls.old).columns ≡ line.columns }
-    requires open { (final operator.now emitter.old calls.old).opened ≡ [] }
-    requires room { emitter.old.steps + (steps_of (calls_on operator.now calls.old.operands) + steps_of (row_calls form operator.now
-        line.row line.columns line.left.now line.right.now (cells_of line.mask))) < 2 ^ 64 }
-    ensures does { OnOk result (Does operator.now
-        (row_calls form operator.now line.entry.row line.entry.columns line.entry.left.now line.entry.right.now (cells_of
-        line.entry.mask))
-        (with_cells (row_cells form operator.now line.entry.row line.entry.columns line.entry.left.now line.entry.right.now
-        (cells_of line.entry.mask)))
-        emitter.old calls.old emitter.new calls.new) }
-    ensures spent { OnErr result ((rest : List Call) → Charges (calls_on operator.now calls.old.operands ++ (row_calls
-        form operator.now line.entry.row line.entry.columns line.entry.left.now line.entry.right.now (cells_of line.entry.mask)
-        ++ rest))
-        emitter.old.steps emitter.new.steps) }
-{
-    let None = line.mask else {
-        return fill_row(form, operator, calls, emitter, line);
-    };
-    if is_of_one(form) {
-        return fill_whole(form, operator, calls, emitter, line);
-    }
-    fill_row(form, operator, calls, emitter, line)
-}
-
-/// The operands of an operation, of which the second may be missing, and a mask if there is one.
-#[derive(Clone, Copy)]
-pub struct Sources<'a> {
-    pub left: &'a Matrix,
-    pub right: Option<&'a Matrix>,
-    pub mask: Option<&'a Matrix>,
-}
-
-/// Row `row` of a second matrix, if there is one.
-fn second_row<'a>(first: &Matrix, second: Option<&'a Matrix>, row: u64) -> &'a [Cell]
-    requires shape { HasShape first.now.rows first.now.columns (mask_of second) }
-    requires within { row < first.now.rows }
-    ensures cells { result.now ≡ row_or_none (mask_of second.entry) row }
-    ensures ascends { Ascends 0 first.now.columns result.now }
-{
-    match second {
-        None => &[],
-        Some(matrix) => {
-            let _ = matrix.columns();
-            matrix.row(row)
-        }
-    }
-}
-
-/// Row `row` of a mask, if there is one.
-fn row_of_mask<'a>(first: &Matrix, mask: Option<&'a Matrix>, row: u64) -> Option<&'a [Cell]>
-    requires shape { HasShape first.now.rows first.now.columns (mask_of mask) }
-    requires within { row < first.now.rows }
-    ensures cells { cells_of result ≡ mask_row (mask_of mask.entry) row }
-    ensures ascends { AscendsIn first.now.columns (cells_of result) }
-{
-    match mask {
-        None => None,
-        Some(matrix) => {
-            let _ = matrix.columns();
-            Some(matrix.row(row))
-        }
-    }
-}
-
-/// The rows of operands and mask that are read for a row of the result.
-fn read_line<'a>(sources: Sources<'a>, row: u64) -> Line<'a>
-    requires right { HasShape sources.left.now.rows sources.left.now.columns (mask_of sources.right) }
-    requires mask { HasShape sources.left.now.rows sources.left.now.columns (mask_of sources.mask) }
-    requires within { row < sources.left.now.rows }
-    ensures row { result.row ≡ row }
-    ensures columns { result.columns ≡ sources.entry.left.now.columns }
-    ensures left { result.left.now ≡ row_of sources.entry.left.now row }
-    ensures right { result.right.now ≡ row_or_none (mask_of sources.entry.right) row }
-    ensures mask { cells_of result.mask ≡ mask_row (mask_of sources.entry.mask) row }
-    ensures left_ascends { Ascends 0 sources.entry.left.now.columns result.left.now }
-    ensures right_ascends { Ascends 0 sources.entry.left.now.columns result.right.now }
-    ensures mask_ascends { AscendsIn sources.entry.left.now.columns (cells_of result.mask) }
-{
-    Line {
-        row,
-        columns: sources.left.columns(),
-        left: sources.left.row(row),
-        right: second_row(sources.left, sources.right, row),
-        mask: row_of_mask(sources.left, sources.mask, row),
+    match (form, line.mask) {
+        (Form::Apply(thunk), Some(mask)) => fill_masked(
+            Form::Apply(thunk),
+            operator,
+            calls,
+            emitter,
+            line,
+            mask,
+        ),
+        (Form::Apply(thunk), None) => fill_masked(
+            Form::Apply(thunk),
+            operator,
+            calls,
+            emitter,
+            line,
+            line.left,
+        ),
+        (Form::Select(_), _) => Ok(()),
+        (Form::Union, Some(mask)) => fill_masked(Form::Union, operator, calls, emitter, line, mask),
+        (Form::Union, None) => fill_union(operator, calls, emitter, line),
+        (Form::Both, Some(mask)) => fill_masked(Form::Both, operator, calls, emitter, line, mask),
+        (Form::Both, None) => fill_both(operator, calls, emitter, line),
     }
 }
 
 /// Adds the rows of a range.
-fn fill<'m>(
+fn fill(
     form: Form,
     operator: &Prepared,
     calls: &mut Calls,
-    emitter: &mut Emitter<'m>,
-    sources: Sources<'m>,
+    emitter: &mut Emitter,
+    sources: Sources,
     range: Range<u64>,
 ) -> Result<(), AllocError>
     requires kind { operator.now.kind ≡ kind_for form }
+    requires values { of_values form ≡ true }
     requires holds { Holds operator.now emitter.old calls.old }
     requires right { HasShape sources.left.now.rows sources.left.now.columns (mask_of sources.right) }
     requires mask { HasShape sources.left.now.rows sources.left.now.columns (mask_of sources.mask) }
     requires range { range.start ≤ range.end }
     requires within { range.end ≤ sources.left.now.rows }
-    requires columns { (final operator.now emitter.old calls.old).columns ≡ sources.left.now.columns }
-    requires open { (final operator.now emitter.old calls.old).opened ≡ [] }
+    requires open { IsOpen sources.left.now.columns (final operator.now emitter.old calls.old) }
     requires room { emitter.old.steps + (steps_of (calls_on operator.now calls.old.operands) + steps_of (form_all_calls form
         operator.now
         sources.left.now (mask_of sources.right) (mask_of sources.mask) range.start (range.end - range.start))) < 2 ^ 64 }
@@ -254,9 +102,31 @@ fn fill<'m>(
 {
     for row in range.start..range.end {
         fill_line(form, operator, calls, emitter, read_line(sources, row))?;
-        emitter.end_row(operator, calls)?;
+        emitter.end_row()?;
     }
     Ok(())
+}
+
+/// For how many cells room is made at once. A union without a mask has at least half as many as its operands together; the rows
+/// of another form may have far fewer, and grow as they are filled.
+fn room_for(form: Form, sources: Sources, first: u64, end: u64) -> usize {
+    match (form, sources.right, sources.mask) {
+        (Form::Union, Some(right), None) => {
+            entries_between(sources.left, first, end).saturating_add(entries_between(
+                right, first, end,
+            ))
+        }
+        _ => 0,
+    }
+}
+
+/// How many entries some rows of a matrix have.
+fn entries_between(matrix: &Matrix, first: u64, end: u64) -> usize {
+    let starts = matrix.starts();
+    match (starts.get(first as usize), starts.get(end as usize)) {
+        (Some(from), Some(to)) => to.saturating_sub(*from) as usize,
+        _ => 0,
+    }
 }
 
 /// The rows of a range of a form's result.
@@ -269,6 +139,7 @@ pub fn fill_chunk(
     range: Range<u64>,
 ) -> Chunk
     requires kind { operator.now.kind ≡ kind_for form }
+    requires values { of_values form ≡ true }
     requires right { HasShape sources.left.now.rows sources.left.now.columns (mask_of sources.right) }
     requires mask { HasShape sources.left.now.rows sources.left.now.columns (mask_of sources.mask) }
     requires range { range.start ≤ range.end }
@@ -287,15 +158,16 @@ pub fn fill_chunk(
         (mask_of sources.entry.right) (mask_of sources.entry.mask) range.start (range.end - range.start)) 0 result.steps) }
 {
     let _ = operator.operator().program();
-    let mut emitter = match Emitter::begin(alloc, range.start, sources.left.columns()) {
-        Ok(emitter) => emitter,
+    let mut emitter = Emitter::begin(alloc, range.start, sources.left.columns());
+    match emitter.reserve(room_for(form, sources, range.start, range.end)) {
+        Ok(()) => {}
         Err(error) => {
             return Chunk {
                 result: Err(error),
                 steps: 0,
             };
         }
-    };
+    }
     calls.begin(operator.kind());
     match fill(form, operator, calls, &mut emitter, sources, range) {
         Ok(()) => {}
@@ -306,15 +178,7 @@ pub fn fill_chunk(
             };
         }
     }
-    match emitter.flush(operator, calls) {
-        Ok(()) => {}
-        Err(error) => {
-            return Chunk {
-                result: Err(error),
-                steps: emitter.steps(),
-            };
-        }
-    }
+    emitter.flush(operator, calls);
     let steps = emitter.steps();
     Chunk {
         result: Ok(emitter.into_rows()),

@@ -6,7 +6,8 @@ ghost use Rattle.bpf_run.specs.Calls.{steps_of, Charges};
 ghost use Rattle.entry_ops.specs.Forms.{union_at, both_at, joint_calls_at};
 
 use crate::form::Form;
-use crate::rows::{Sources, fill_chunk};
+use crate::line::Sources;
+use crate::rows::fill_chunk;
 use bpf_run::{Calls, Prepared};
 use csr_store::{Chunk, Matrix};
 use std::alloc::Global;

@@ -23,6 +23,3 @@ pub use job::{Form, Job};
 pub use plan::Plan;
 pub use priced::{Priced, price};
 pub use queue::Queue;
-
-#[cfg(test)]
-mod tests;

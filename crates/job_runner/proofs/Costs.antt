@@ -20,7 +20,7 @@ use Rattle.job_runner.specs.Worked.{prices_of}
 use Rattle.job_runner.proofs.Faultless.{faultless}
 use Rattle.job_runner.proofs.Located.{located, said-at, place_within}
 use Rattle.job_runner.proofs.Working.{spent_room}
-use Rattle.job_runner.proofs.Joined.{count_of_chunks, sum_of_all, total_low}
+use Rattle.job_runner.proofs.Joined.{count_of_chunks, total_of_jobs, total_low}
 
 within_at : (jobs : List Job) (i : ℕ) (job : Job) → AllByRecursion IsWithinPrice jobs → slice_get jobs i ≡ Some job
     → IsWithinPrice job
@@ -71,10 +71,6 @@ price_there jobs c s prices e h l m =
     omega (arith, a, b, m)
 
 -- all chunks together
-pub steps_of_all : (jobs : List Job) → ((k : ℕ) (job : Job) → Cover k job)
-    → summed (chunk_steps jobs) 0 (chunk_total jobs) ≡ total_steps jobs
-steps_of_all jobs cover = sum_of_all jobs (chunk_total jobs) cover (sym (count_of_chunks 0 jobs))
-
 pub steps_small : (jobs : List Job) → AllByRecursion IsPriced jobs → AllByRecursion IsWithinPrice jobs → length jobs ≤ 64
     → total_steps jobs < 2 ^ 62
 steps_small jobs p w few = let low = total_low jobs p w in omega (arith, low, few)
@@ -85,7 +81,7 @@ pub room_of : (jobs : List Job) (next c spent steps : ℕ) → ((k : ℕ) (job :
     → next ≤ c → steps ≤ chunk_steps jobs c → spent + steps < 2 ^ 64
 room_of jobs next c spent steps cover p w few there sum below most =
     let room = (spent_room (chunk_steps jobs) next c (chunk_total jobs) spent steps sum below there most).1 in
-    let all = steps_of_all jobs cover in
+    let all = total_of_jobs cover jobs in
     let small = steps_small jobs p w few in
     omega (arith, room, all, small)
 

@@ -82,25 +82,3 @@ form_entries (Reduce f a) mask h s e = let w = within_column mask (entry.reduce_
 -- a job's matrix has no more entries than a matrix may have
 pub job_entries : (job : Job) → IsPriced job → length (numbered 0 (rows_in job 0 (row_count job))) ≤ limit
 job_entries job p = let f = faultless job p in form_entries job.form job.mask p.form f.shapes f.entries
-
-form_rows : (form : Form) → IsForm form → (operation form).rows ≤ limit
-form_rows (Apply f thunk a) h = h.1.rows_small
-form_rows (Select f thunk a) h = h.1.rows_small
-form_rows (Union f a b) h = h.1.rows_small
-form_rows (Both f a b) h = h.1.rows_small
-form_rows (Product add mul a b) h = h.2.rows_small
-form_rows (Reduce f a) h = h.1.rows_small
-
-form_columns : (form : Form) → IsForm form → (operation form).columns ≤ limit
-form_columns (Apply f thunk a) h = h.1.columns_small
-form_columns (Select f thunk a) h = h.1.columns_small
-form_columns (Union f a b) h = h.1.columns_small
-form_columns (Both f a b) h = h.1.columns_small
-form_columns (Product add mul a b) h = h.3.columns_small
-form_columns (Reduce f a) h = omega arith
-
-pub job_rows : (job : Job) → IsPriced job → row_count job ≤ limit
-job_rows job p = form_rows job.form p.form
-
-pub job_columns : (job : Job) → IsPriced job → column_count job ≤ limit
-job_columns job p = form_columns job.form p.form

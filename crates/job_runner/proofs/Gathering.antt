@@ -25,7 +25,8 @@ use Rattle.job_runner.specs.Places.{IsFull}
 use Rattle.job_runner.specs.Worked.{prices_of, recorded, IsPieceOf, StandsAfter}
 use Rattle.job_runner.specs.Crew.{IsEnded, IsGathered}
 use Rattle.job_runner.proofs.Listed.{summed-split}
-use Rattle.job_runner.proofs.Costs.{all_listed, steps_of_all}
+use Rattle.job_runner.proofs.Joined.{total_of_jobs}
+use Rattle.job_runner.proofs.Costs.{all_listed}
 
 cost_append : (g : ℕ → ℕ) (ds es : List (ℕ × ℕ)) → CostAtMost g ds → CostAtMost g es → CostAtMost g (ds ++ es)
 cost_append g [] es h k = k
@@ -145,7 +146,7 @@ gathered_spent board jobs g spent h once s prices cover =
     let most = closed_spent board jobs (workers_of g.seats.items) (chunk_total jobs) spent
     (all_listed jobs board.prices prices) once
     h.cost s in
-    let all = steps_of_all jobs cover in
+    let all = total_of_jobs cover jobs in
     omega (arith, most, all)
 
 -- where all workers are here and none failed, each chunk has its piece

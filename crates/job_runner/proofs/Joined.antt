@@ -16,7 +16,7 @@ use Rattle.job_plan.specs.Job.{Job}
 use Rattle.job_plan.specs.Meaning.{IsMatrixOf, row_count, column_count, rows_in, calls_in, steps_of_job}
 use Rattle.job_plan.specs.Price.{IsWithinPrice}
 use Rattle.job_plan.specs.Refusal.{IsPriced}
-use Rattle.job_plan.specs.Chunks.{Cover, chunk_count, chunk_first, chunk_of, chunks_of, chunks_from, plan_chunks}
+use Rattle.job_plan.specs.Chunks.{Cover, chunk_count, chunk_first, chunk_of, chunks_of, chunks_from}
 use Rattle.job_runner.specs.declared.answer.JobResult.{JobResult}
 use Rattle.job_runner.specs.Batch.{Result, IsResultOf, AreResultsOf, total_steps, result_of}
 use Rattle.job_runner.specs.Chunk.{chunks_in, chunk_total, chunk_rows, run_in_job, calls_in_job, steps_in_job, at_chunk, calls_of, chunk_steps}
@@ -127,6 +127,7 @@ module _ {T : Type 0} where
       ∙ along-same (λ c. f (n + c) ∷ []) (λ c. at_chunk said none jobs c ∷ []) 0 m
       (λ c l u. ap (λ x. x ∷ []) (at-behind said none job jobs c)))
 
+-- the steps of all chunks
 pub total_of_jobs : ((k : ℕ) (job : Job) → Cover k job) → (jobs : List Job)
     → summed (chunk_steps jobs) 0 (chunk_total jobs) ≡ total_steps jobs
 total_of_jobs cover [] = refl
@@ -209,8 +210,3 @@ pub chunk_at_most : {R E : Type 0} → (jobs : List Job) (c steps : ℕ) (r : Ou
     → OnErr r (Charges (calls_of jobs c) 0 steps) → steps ≤ chunk_steps jobs c
 chunk_at_most jobs c steps (Ok x) a b = let e = steps-of-chunk jobs c in omega (arith, a, e)
 chunk_at_most jobs c steps (Err x) a b = charged-chunk jobs c steps b
-
--- the steps of all chunks
-pub sum_of_all : (jobs : List Job) (count : ℕ) → ((k : ℕ) (job : Job) → Cover k job) → count ≡ length (plan_chunks jobs)
-    → summed (chunk_steps jobs) 0 count ≡ total_steps jobs
-sum_of_all jobs count cover e = ap (summed (chunk_steps jobs) 0) (e ∙ count_of_chunks 0 jobs) ∙ total_of_jobs cover jobs

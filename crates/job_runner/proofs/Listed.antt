@@ -2,16 +2,13 @@
 use Rattle.std.proofs.Common.{◌≡◌, ◌<◌, ◌≤◌, ℕ, zero, suc, ◌+◌, ◌-◌, List, [], ◌∷◌, ◌++◌, length, drop, refl, sym, ap, ◌∙◌, arith}
 use Rattle.std.proofs.Math.Seq.{drop-append_seam}
 use Rattle.csr_store.specs.Along.{along, summed}
-use Rattle.csr_store.proofs.Along.{along-next, along-over, along-snoc}
+use Rattle.csr_store.proofs.Along.{along-next, along-snoc}
 use Rattle.job_runner.specs.Pieces.{listed, BeginsWith}
 use Rattle.job_runner.proofs.Located.{ones-length}
 
 module _ {T : Type 0} where
   first_same : (x y : T) (xs ys : List T) → x ∷ xs ≡ y ∷ ys → (x ≡ y) × (xs ≡ ys)
   first_same x y xs ys e = (cc, cc)
-
-  pub begins : (f : ℕ → T) (n : ℕ) (xs : List T) → BeginsWith f n xs → xs ≡ along (λ c. f c ∷ []) 0 (n - 0) ++ drop n xs
-  begins f n xs h = let e : n ≡ n - 0 = omega arith in h ∙ ap (λ m. along (λ c. f c ∷ []) 0 m ++ drop n xs) e
 
   -- the next of those that are left
   pub next-listed : (f : ℕ → T) (i n : ℕ) (x : T) (xs others : List T) → i < n → x ∷ xs ≡ along (λ c. f c ∷ []) i (n - i) ++ others
@@ -24,9 +21,6 @@ module _ {T : Type 0} where
       → length xs ≡ 0 → ⊥
   none-listed f i n xs others l h z =
       let e = ap length (h ∙ ap (λ ys. ys ++ others) (along-next (λ c. f c ∷ []) i n l)) in omega (arith, e, z)
-
-  pub all-listed : (f : ℕ → T) (i n : ℕ) (xs others : List T) → n ≤ i → xs ≡ along (λ c. f c ∷ []) i (n - i) ++ others → xs ≡ others
-  all-listed f i n xs others l h = h ∙ ap (λ ys. ys ++ others) (along-over (λ c. f c ∷ []) i n l)
 
   -- one more at the end
   pub listed-more : (f : ℕ → T) (i : ℕ) (x : T) (xs : List T) → xs ≡ listed f i → x ≡ f i → xs ++ x ∷ [] ≡ listed f (i + 1)
@@ -59,12 +53,6 @@ summed-next p i n l =
     let s : suc i ≡ i + 1 = omega arith in
     ap (summed p i) e ∙ ap (λ k. p i + summed p k (n - (i + 1))) s
 
-pub summed-over : (p : ℕ → ℕ) (i n : ℕ) → n ≤ i → summed p i (n - i) ≡ 0
-summed-over p i n l = let z : n - i ≡ 0 = omega (arith, l) in ap (summed p i) z
-
-pub summed-whole : (p : ℕ → ℕ) (n : ℕ) → summed p 0 (n - 0) ≡ summed p 0 n
-summed-whole p n = let z : n - 0 ≡ n = omega arith in ap (summed p 0) z
-
 -- the sum so far, and what is left of it
 pub summed-step : (p : ℕ → ℕ) (i n so_far x all : ℕ) → i < n → so_far + summed p i (n - i) ≡ all → x ≡ p i
     → so_far + x + summed p (i + 1) (n - (i + 1)) ≡ all
@@ -72,9 +60,6 @@ summed-step p i n so_far x all l h e = let s = summed-next p i n l in omega (ari
 
 pub summed-room : (p : ℕ → ℕ) (i n so_far x all : ℕ) → i < n → so_far + summed p i (n - i) ≡ all → x ≤ p i → so_far + x ≤ all
 summed-room p i n so_far x all l h e = let s = summed-next p i n l in omega (arith, h, e, s)
-
-pub summed-end : (p : ℕ → ℕ) (i n so_far all : ℕ) → n ≤ i → so_far + summed p i (n - i) ≡ all → so_far ≡ all
-summed-end p i n so_far all l h = let s = summed-over p i n l in omega (arith, h, s)
 
 pub summed-split : (p : ℕ → ℕ) (from m n : ℕ) → summed p from (m + n) ≡ summed p from m + summed p (from + m) n
 summed-split p from zero n =

@@ -5,7 +5,7 @@ use Rattle.std.specs.List.{AllByRecursion}
 use Rattle.csr_store.specs.Along.{summed}
 use Rattle.race_board.specs.declared.stand.Stand.{Stand}
 use Rattle.race_board.specs.declared.stand.Stand.TheVariants.{Free}
-use Rattle.race_board.specs.Race.{Worker, times_drawn, steps_of, steps_now, holding, told_end, completed, failed, IsAboveDraws}
+use Rattle.race_board.specs.Race.{Worker, times_drawn, steps_of, steps_now, holding, completed, IsAboveDraws}
 use Rattle.race_board.proofs.Sums.{sum_append}
 use Rattle.race_board.proofs.Turns.{completed_drew}
 use Rattle.job_plan.specs.Job.{Job}
@@ -52,18 +52,6 @@ pub turn_drawn : (v u : Worker) (c s : ℕ) → u ≡ completed c s v → 0 < ti
 turn_drawn v u c s e =
     let z : (c + 1) - 1 ≡ c = omega arith in
     subst (λ k. 0 < times_drawn k u) (sym z) (subst (λ (x : Worker). 0 < times_drawn c x) (sym e) (completed_drew c s v))
-
-pub failed_steps : (w v u : Worker) (c s : ℕ) → w.stand ≡ Free → v ≡ holding c w → u ≡ failed c s v → steps_of u ≡ steps_of w + s
-failed_steps w v u c s f d e =
-    let a = ap steps_of (e ∙ ap (failed c s) d) in
-    let z = ap (λ (t : Stand). steps_now t) f in
-    omega (arith, a, z)
-
-pub ended_steps : (w v : Worker) → w.stand ≡ Free → v ≡ told_end w → steps_of v ≡ steps_of w
-ended_steps w v f e =
-    let a = ap steps_of e in
-    let z = ap (λ (t : Stand). steps_now t) f in
-    omega (arith, a, z)
 
 -- one more behind others
 pub all_more : {X : Type 0} → (P : X → Type 0) (xs : List X) (x : X) → AllByRecursion P xs → P x → AllByRecursion P (xs ++ x ∷ [])

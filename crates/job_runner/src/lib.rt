@@ -9,8 +9,7 @@
 //! what a worker did at its seat.
 //!
 //! Read `answer` first, then `chunk` (the work on one chunk), `worker` (one worker's chunks), `crew` (workers in threads),
-//! `gathered` and `places` (what came back of them), `join` (pieces of chunks as matrices of jobs) and `batch`. `in_order` runs a
-//! plan without threads.
+//! `gathered` and `places` (what came back of them), `join` (pieces of chunks as matrices of jobs) and `batch`.
 #![tactic(auto)]
 
 mod answer;
@@ -19,18 +18,14 @@ mod chunk;
 mod crew;
 mod gate;
 mod gathered;
-mod in_order;
 mod join;
 mod piece;
 mod places;
-#[cfg(test)]
-mod tests;
 mod worker;
 
 pub use answer::{BatchAnswer, BatchFault, Cause, JobResult};
 pub use batch::{prices, run_batch};
 pub use chunk::{Scratch, compute};
 pub use gate::{Gate, Open};
-pub use in_order::run_in_order;
 pub use piece::Piece;
 pub use worker::{Worked, work};

@@ -16,8 +16,6 @@ mod kinds;
 mod lines;
 mod reader;
 mod rule;
-#[cfg(test)]
-mod tests;
 mod usual;
 mod values;
 mod words;

@@ -85,17 +85,17 @@ climbs_least low n (k ∷ ks) h = (h.0, lower low k ks h.0 (climbs_least k n ks 
 least_of : (low n : ℕ) (xs : List ℕ) (j : ℕ) → Climbs low n xs → Contains xs j → low ≤ j
 least_of low n xs j h c = All-contains (λ j. low ≤ j) xs j (All-from_recursion (λ j. low ≤ j) xs (climbs_least low n xs h)) c
 
-cells_below : (low high : ℕ) (cs : List Cell) → low ≤ high → AllByRecursion (λ (c : Cell). c.0 < low) cs
+pub cells_below : (low high : ℕ) (cs : List Cell) → low ≤ high → AllByRecursion (λ (c : Cell). c.0 < low) cs
     → AllByRecursion (λ (c : Cell). c.0 < high) cs
 cells_below low high [] l h = _
 cells_below low high (c ∷ cs) l h = (let a = h.0 in omega (arith, a, l), cells_below low high cs l h.1)
 
-cells_joined : (high : ℕ) (cs ds : List Cell) → AllByRecursion (λ (c : Cell). c.0 < high) cs
+pub cells_joined : (high : ℕ) (cs ds : List Cell) → AllByRecursion (λ (c : Cell). c.0 < high) cs
     → AllByRecursion (λ (c : Cell). c.0 < high) ds → AllByRecursion (λ (c : Cell). c.0 < high) (cs ++ ds)
 cells_joined high [] ds h k = k
 cells_joined high (c ∷ cs) ds h k = (h.0, cells_joined high cs ds h.1 k)
 
-cell_below : (k : ℕ) (o : Option ℕ) → AllByRecursion (λ (c : Cell). c.0 < k + 1) (cell_at k o)
+pub cell_below : (k : ℕ) (o : Option ℕ) → AllByRecursion (λ (c : Cell). c.0 < k + 1) (cell_at k o)
 cell_below k None = _
 cell_below k (Some v) = (omega arith, _)
 
@@ -166,7 +166,7 @@ pub emitting_column : (n : ℕ) (first : List (Option ℕ)) (from : Run) (rest :
     → Emitting n first from rest sums now → rest ≡ k ∷ ks → k < n
 emitting_column n first from rest sums now k ks m e = (subst (Climbs m.last n) e m.climbing).1
 
-same_run : (from now next : Run) (cs : List Cell) → now ≡ record from { opened = now.opened }
+pub same_run : (from now next : Run) (cs : List Cell) → now ≡ record from { opened = now.opened }
     → next ≡ record now { opened = now.opened ++ cs } → next ≡ record from { opened = next.opened }
 same_run from now next cs m r =
     r ∙ (ap (λ (u : Run). record u { opened = now.opened ++ cs }) m

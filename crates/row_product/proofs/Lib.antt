@@ -2,6 +2,8 @@ pub mod Counting
 pub mod Adding
 pub mod Gathering
 pub mod Waiting
+pub mod Several
 pub mod Emitting
+pub mod EmittingAll
 pub mod Marking
 pub mod Filling

@@ -79,12 +79,12 @@ below_more n [] j h l = (l, _)
 below_more n (k ∷ ks) j h l = (h.0, below_more n ks j h.1 l)
 
 -- a column whose mark isn't set is none of those that are marked
-pub lacks_unmarked : (marks : List Bool) (ks : List ℕ) (j : ℕ) → AreMarked marks ks → slice_index_or marks (j % 1024) false ≡ false
+pub lacks_unmarked : (marks : List Bool) (ks : List ℕ) (j : ℕ) → AreMarked marks ks → slice_index_or marks (j % 16384) false ≡ false
     → Lacks j ks
 lacks_unmarked marks [] j h n = _
 lacks_unmarked marks (k ∷ ks) j h n = (
-  λ e. apart (slice_index_or marks (k % 1024) false) h.0 (ap (λ i. slice_index_or marks (i %
-      1024) false) e ∙ n),
+  λ e. apart (slice_index_or marks (k % 16384) false) h.0 (ap (λ i. slice_index_or marks (i %
+      16384) false) e ∙ n),
   lacks_unmarked marks ks j h.1 n,
 )
   where
@@ -98,10 +98,10 @@ mark_kept marks i j l h = elim (eqb_tells i j) [
   | inr d ↦ get_or-set_other marks j i true false d.1 ∙ h
 ]
 
-pub marked_more : (marks : List Bool) (ks : List ℕ) (j : ℕ) → AreMarked marks ks → j % 1024 < length marks
-    → AreMarked (set marks (j % 1024) true) (ks ++ j ∷ [])
-marked_more marks [] j h l = (get_or-set_same marks (j % 1024) true false l, _)
-marked_more marks (k ∷ ks) j h l = (mark_kept marks (k % 1024) (j % 1024) l h.0, marked_more marks ks j h.1 l)
+pub marked_more : (marks : List Bool) (ks : List ℕ) (j : ℕ) → AreMarked marks ks → j % 16384 < length marks
+    → AreMarked (set marks (j % 16384) true) (ks ++ j ∷ [])
+marked_more marks [] j h l = (get_or-set_same marks (j % 16384) true false l, _)
+marked_more marks (k ∷ ks) j h l = (mark_kept marks (k % 16384) (j % 16384) l h.0, marked_more marks ks j h.1 l)
 
 -- ---- values that are written at columns
 

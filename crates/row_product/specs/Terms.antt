@@ -24,7 +24,8 @@ use Rattle.bpf_insn.specs.declared.operands.Operands.{Operands}
 use Rattle.bpf_insn.specs.declared.operands.Operands.TheVariants.{Binary}
 use Rattle.bpf_verify.specs.Accepted.{Accepted}
 use Rattle.csr_store.specs.Grid.{Cell}
-use Rattle.bpf_run.specs.Calls.{Call, calls_on, values_on}
+use Rattle.bpf_run.specs.Meaning.{value_of}
+use Rattle.bpf_run.specs.Calls.{Call, calls_on, values_on, pairs_with}
 use Rattle.row_product.specs.Sums.{slot, added, added_calls, touch}
 
 -- additions that wait, and the columns of their values
@@ -49,6 +50,16 @@ abbrev pub cells_of : List ℕ → List ℕ → List Cell
 cells_of (k ∷ ks) (v ∷ vs) = (k, v) ∷ cells_of ks vs
 cells_of (k ∷ ks) [] = []
 cells_of [] vs = []
+
+-- the columns of cells
+abbrev pub columns_of : List Cell → List ℕ
+columns_of [] = []
+columns_of (c ∷ cs) = c.0 ∷ columns_of cs
+
+-- the terms that a word and cells of a row of B make, each at its column
+abbrev pub terms_with : Accepted → ℕ → List Cell → List Cell
+terms_with mul x [] = []
+terms_with mul x (c ∷ cs) = (c.0, value_of mul (Binary x c.1)) ∷ terms_with mul x cs
 
 -- sums with values written at columns
 abbrev pub written : List (Option ℕ) → List ℕ → List ℕ → List (Option ℕ)
@@ -92,6 +103,10 @@ calls_then add mul sums p = calls_on mul p.products
 abbrev pub touched_then : Accepted → Accepted → List (Option ℕ) → Pending → List ℕ → List ℕ
 touched_then add mul sums p touched = put_touched add (settled add sums p.waiting) (terms_of mul p) touched
 
+-- products of a word and cells of a row of B wait too
+abbrev pub with_cells : Pending → ℕ → List Cell → Pending
+with_cells p x cs = record p { columns = p.columns ++ columns_of cs; products = p.products ++ pairs_with x cs }
+
 -- all columns are below n
 abbrev pub AreBelow : ℕ → List ℕ → Type 0
 AreBelow n ks = AllByRecursion (λ k. k < n) ks
@@ -117,7 +132,7 @@ pub record HasSpace (p : Pending) : Type 0 where
 
 -- each column has its mark, which others may share
 abbrev pub AreMarked : List Bool → List ℕ → Type 0
-AreMarked marks ks = AllByRecursion (λ k. slice_index_or marks (k % 1024) false ≡ true) ks
+AreMarked marks ks = AllByRecursion (λ k. slice_index_or marks (k % 16384) false ≡ true) ks
 
 -- a term at a column that has no sum is its sum; at another it waits
 abbrev pub placed_sums : Option ℕ → List (Option ℕ) → ℕ → ℕ → List (Option ℕ)

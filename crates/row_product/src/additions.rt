@@ -6,34 +6,35 @@ ghost use Rattle.bpf_run.specs.Calls.{steps_of, calls_on};
 ghost use Rattle.row_product.specs.Sums.{slot, touch, added_calls};
 ghost use Rattle.row_product.specs.Terms.{no_waiting, written, put_term, settled, AreBelow, IsFree, placed_sums, placed};
 
-use bpf_insn::{Kind, Operands};
+use bpf_insn::Kind;
 use bpf_run::{Calls, MOST_CALLS, Prepared};
 use std::alloc::{AllocError, Global};
 use std::marker::Model;
 
 /// Columns with one remainder by this share a mark.
-const MARKS: u64 = 1024;
+const MARKS: u64 = 16_384;
 
 /// Additions that wait, no two of them at one column. A contract sees a `Waiting`.
 #[derive(Drop)]
 pub(crate) struct Additions {
     calls: Calls,
+    /// Room for as many columns as there can be calls: the first are theirs.
     columns: Vec<u64>,
     /// Whether an addition may wait at a column of this remainder.
     marks: Vec<bool>,
 }
 
 impl Model for Additions {
-    ghost use Rattle.std.specs.Prelude.{◌≡◌, ◌≤◌, length, vec_capacity};
+    ghost use Rattle.std.specs.Prelude.{◌≡◌, length, take};
     ghost use Rattle.bpf_insn.specs.declared.operands.Kind.TheVariants as kinds;
     ghost use Rattle.row_product.specs.Terms.{Waiting, AreMarked};
 
     ghost Value = { Waiting };
 
-    ghost view = { λ a. record { columns = a.columns.items; operands = a.calls.operands } };
+    ghost view = { λ a. record { columns = take (length a.calls.operands) a.columns.items; operands = a.calls.operands } };
 
-    ghost invariant = { λ a. (a.calls.kind ≡ kinds.Binary) × (length a.columns.items ≡ length a.calls.operands)
-        × (64 ≤ vec_capacity a.columns) × (length a.marks.items ≡ 1024) × AreMarked a.marks.items a.columns.items };
+    ghost invariant = { λ a. (a.calls.kind ≡ kinds.Binary) × (length a.columns.items ≡ 64) × (length a.marks.items ≡ 16384)
+        × AreMarked a.marks.items (take (length a.calls.operands) a.columns.items) };
 }
 
 impl Additions {
@@ -43,9 +44,11 @@ impl Additions {
         calls.begin(Kind::Binary);
         let mut marks = Vec::new(alloc);
         marks.resize(MARKS as usize, false)?;
+        let mut columns = Vec::new(alloc);
+        columns.resize(MOST_CALLS, 0)?;
         Ok(Additions {
             calls,
-            columns: Vec::with_capacity(alloc, MOST_CALLS)?,
+            columns,
             marks,
         })
     }
@@ -55,7 +58,6 @@ impl Additions {
         ensures { self.new ≡ no_waiting }
     {
         self.calls.begin(Kind::Binary);
-        self.columns.clear();
     }
 
     /// Makes all that wait.
@@ -66,11 +68,11 @@ impl Additions {
         ensures steps { result ≡ steps_of (calls_on add.now self.old.operands) }
         ensures none { self.new ≡ no_waiting }
     {
+        let many = self.calls.len();
         let steps = self.calls.make(add);
-        write(&self.columns, self.calls.values(), sums);
-        unmark(&self.columns, &mut self.marks);
+        write(&self.columns[..many], self.calls.values(), sums);
+        unmark(&self.columns[..many], &mut self.marks);
         self.calls.begin(Kind::Binary);
-        self.columns.clear();
         steps
     }
 
@@ -105,8 +107,8 @@ impl Additions {
           operands = self.old.operands ++ on.Binary x y ∷ [];
         } }
     {
-        self.calls.gather(Operands::Binary { x, y });
-        self.columns.push(column).unwrap();
+        self.columns[self.calls.len()] = column;
+        self.calls.gather_pair(x, y);
         self.marks[(column % MARKS) as usize] = true;
     }
 
@@ -169,7 +171,7 @@ fn write(columns: &[u64], values: &[u64], sums: &mut [Option<u64>])
 
 /// Takes the marks of columns away.
 fn unmark(columns: &[u64], marks: &mut [bool])
-    requires { length marks.old ≡ 1024 }
+    requires { length marks.old ≡ 16384 }
 {
     for column in columns {
         marks[(*column % MARKS) as usize] = false;

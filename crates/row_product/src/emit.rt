@@ -8,6 +8,9 @@ ghost use Rattle.row_product.specs.Sums.{slot, AreTouched};
 use csr_store::Rows;
 use std::alloc::AllocError;
 
+/// From one sum in so many columns on, going over all columns is cheaper than putting those that have one in order.
+const COLUMNS_A_SUM: u64 = 16;
+
 /// Puts the touched columns into ascending order.
 pub(crate) fn put_in_order(touched: &mut Vec<u64>)
     ensures touched { (columns : ℕ) → (sums : List (Option ℕ)) → AreTouched columns sums touched.old.items
@@ -28,6 +31,7 @@ pub(crate) fn emit(
     requires width { rows.old.columns ≤ length sums.old }
     requires none_open { rows.old.opened ≡ [] }
     ensures rows { OnOk result (rows.new ≡ record rows.old { opened = row_by rows.old.columns (λ j. slot sums.old j) }) }
+    ensures gone { OnOk result ((j : ℕ) → slot sums.new j ≡ None) }
     ensures kept { (j v : ℕ) → slot sums.new j ≡ Some v → slot sums.old j ≡ Some v }
 {
     for column in touched {
@@ -42,6 +46,57 @@ pub(crate) fn emit(
         }
     }
     Ok(())
+}
+
+/// Moves the sums of all columns into the open row: for rows where many of them have one.
+pub(crate) fn emit_all(
+    columns: u64,
+    sums: &mut [Option<u64>],
+    rows: &mut Rows,
+) -> Result<(), AllocError>
+    requires columns { rows.old.columns ≡ columns }
+    requires covers { (j v : ℕ) → slot sums.old j ≡ Some v → j < rows.old.columns }
+    requires width { rows.old.columns ≤ length sums.old }
+    requires none_open { rows.old.opened ≡ [] }
+    ensures rows { OnOk result (rows.new ≡ record rows.old { opened = row_by rows.old.columns (λ j. slot sums.old j) }) }
+    ensures gone { OnOk result ((j : ℕ) → slot sums.new j ≡ None) }
+    ensures kept { (j v : ℕ) → slot sums.new j ≡ Some v → slot sums.old j ≡ Some v }
+{
+    for column in 0..columns {
+        let j = column as usize;
+        match sums[j] {
+            Some(sum) => {
+                sums[j] = None;
+                rows.push(column, sum)?;
+            }
+            None => {}
+        }
+    }
+    Ok(())
+}
+
+/// Moves the sums of the touched columns, which are all that there are, into the open row: in the order of the columns that are put
+/// in order, or, where there are many, of all columns.
+pub(crate) fn emit_row(
+    columns: u64,
+    touched: &mut Vec<u64>,
+    sums: &mut [Option<u64>],
+    rows: &mut Rows,
+) -> Result<(), AllocError>
+    requires columns { rows.old.columns ≡ columns }
+    requires touched { AreTouched rows.old.columns sums.old touched.old.items }
+    requires width { rows.old.columns ≤ length sums.old }
+    requires none_open { rows.old.opened ≡ [] }
+    ensures rows { OnOk result (rows.new ≡ record rows.old { opened = row_by rows.old.columns (λ j. slot sums.old j) }) }
+    ensures gone { OnOk result ((j : ℕ) → slot sums.new j ≡ None) }
+    ensures kept { (j v : ℕ) → slot sums.new j ≡ Some v → slot sums.old j ≡ Some v }
+    ensures touched { AreTouched rows.old.columns sums.old touched.new.items }
+{
+    if touched.len() as u64 > columns / COLUMNS_A_SUM {
+        return emit_all(columns, sums, rows);
+    }
+    put_in_order(touched);
+    emit(touched, sums, rows)
 }
 
 /// Empties the sums of the touched columns, which are all that there are.

@@ -7,11 +7,13 @@
 //!
 //! A row of the result is summed in a [`Scratch`], which a caller keeps from call to call: a sum for each column, whether the
 //! mask's row allows it, and the columns that are touched. The rows of B that A's row names are added one after another, and
-//! the touched columns are then put in order, moved into the result and emptied. So the work is linear in the multiplications,
-//! the rows and the entries, but for the order of a row's columns; and the room is taken row by row.
+//! the touched columns are then put in order, moved into the result and emptied. Where at least one column in 16 is touched, all
+//! columns are gone over in place of putting these in order. So the work is linear in the multiplications, the rows and the
+//! entries, but for the order of a row's columns; and the room is taken row by row.
 //!
-//! Calls are made up to 64 together. Products wait until there are so many; an addition waits until there are so many, or one
-//! more falls on its column. What is said of the sums meanwhile is said of what they come to when all that wait is made.
+//! Calls are made up to 64 together. Products wait until there are so many, and a row of B is gathered as many cells at a time as
+//! there is room for; an addition waits until there are so many, or one more falls on its column. What is said of the sums
+//! meanwhile is said of what they come to when all that wait is made.
 //!
 //! Read `product`, `row` (one row), `sums` (rows of B added to the sums), `terms` (products that wait), `additions` (additions
 //! that wait), `emit` (sums into the result), `marks` (the mask's row) and `count`, over `specs/Sums.antt` and `specs/Terms.antt`.
@@ -28,6 +30,3 @@ mod terms;
 
 pub use count::{mult_count, mult_count_in};
 pub use product::{Scratch, product_rows};
-
-#[cfg(test)]
-mod tests;

@@ -8,7 +8,7 @@ ghost use Rattle.row_product.specs.Product.{product_at, product_calls_at, mults_
 ghost use Rattle.row_product.specs.Sums.{slot, flag, AreTouched, HasRoom};
 
 use crate::count::{is_open, mults_in_row};
-use crate::emit::{clear, emit, put_in_order};
+use crate::emit::{clear, emit_row};
 use crate::marks::{allow, forbid};
 use crate::sums::sum_row;
 use crate::terms::Terms;
@@ -107,9 +107,10 @@ pub(crate) fn fill_row(
     let mults = mults_in_row(b, a.row(i)) as usize;
     touched.reserve(mults.min(sums.len()))?;
     *steps += sum_under(add, mul, a, i, b, mask, allowed, terms, sums, touched);
-    put_in_order(touched);
-    let emitted = emit(touched, sums, rows);
-    clear(touched, sums);
+    let emitted = emit_row(b.columns(), touched, sums, rows);
+    if emitted.is_err() {
+        clear(touched, sums);
+    }
     touched.clear();
     emitted?;
     rows.end_row()

@@ -6,20 +6,115 @@ ghost use Rattle.bpf_run.specs.Calls.{steps_of};
 ghost use Rattle.csr_store.specs.Along.{along};
 ghost use Rattle.csr_store.specs.Grid.{limit, row_of};
 ghost use Rattle.row_product.specs.Product.{mults_of};
-ghost use Rattle.row_product.specs.Sums.{slot, takes, seen, after, extra, value_of_rest, calls_of_rest, AreTouched, HasRoom};
+ghost use Rattle.row_product.specs.Sums.{slot, flag, takes, seen, after, extra, value_of_rest, calls_of_rest, AreTouched, HasRoom};
 ghost use Rattle.row_product.specs.Terms.{sums_then, calls_then, touched_then, AreWithin};
 
 use crate::terms::Terms;
 use bpf_run::Prepared;
 use csr_store::Matrix;
 
-/// Whether column `j` takes terms.
-#[inline(always)]
-fn takes_term(masked: bool, allowed: &[bool], j: usize) -> bool
-    requires { j < length allowed.now }
-    ensures { result ≡ takes masked allowed.now j }
+/// Adds the allowed columns of row `k` of B, times a word, to the sums as they are when all terms that wait are made.
+fn add_allowed(
+    add: &Prepared,
+    mul: &Prepared,
+    x: u64,
+    b: &Matrix,
+    k: u64,
+    allowed: &[bool],
+    terms: &mut Terms,
+    sums: &mut [Option<u64>],
+    touched: &mut Vec<u64>,
+) -> u64
+    requires add { add.now.kind ≡ kinds.Binary }
+    requires mul { mul.now.kind ≡ kinds.Binary }
+    requires row { k < b.now.rows }
+    requires width { b.now.columns ≤ length sums.old }
+    requires flags { length sums.old ≤ length allowed.now }
+    requires within { AreWithin (length sums.old) terms.old }
+    requires small { steps_of (calls_then add.now mul.now sums.old terms.old) + 8192 * limit < 2 ^ 64 }
+    requires touched { AreTouched b.now.columns (sums_then add.now mul.now sums.old terms.old)
+        (touched_then add.now mul.now sums.old terms.old touched.old.items) }
+    requires room { HasRoom (length (sums_then add.now mul.now sums.old terms.old)) (vec_capacity touched.old)
+        (length (touched_then add.now mul.now sums.old terms.old touched.old.items)) (length (row_of b.now k)) }
+    ensures sums { (j : ℕ) → slot (sums_then add.now mul.now sums.new terms.new) j
+        ≡ after add.now mul.now x (slot (sums_then add.now mul.now sums.old terms.old) j)
+        (seen (flag allowed.now j) (fin.get b.now.cells (k, j))) }
+    ensures within { AreWithin (length sums.old) terms.new }
+    ensures touched { AreTouched b.now.columns (sums_then add.now mul.now sums.new terms.new)
+        (touched_then add.now mul.now sums.new terms.new touched.new.items) }
+    ensures grows { length (touched_then add.now mul.now sums.new terms.new touched.new.items)
+        ≤ length (touched_then add.now mul.now sums.old terms.old touched.old.items) + length (row_of b.now k) }
+    ensures room { vec_capacity touched.old ≤ vec_capacity touched.new }
+    ensures steps { result + steps_of (calls_then add.now mul.now sums.new terms.new)
+        ≡ steps_of (calls_then add.now mul.now sums.old terms.old)
+        + steps_of (along (λ j. extra add.now mul.now x (slot (sums_then add.now mul.now sums.old terms.old) j)
+        (seen (flag allowed.now j) (fin.get b.now.cells (k, j)))) 0 b.now.columns) }
+    ensures few { result + steps_of (calls_then add.now mul.now sums.new terms.new)
+        ≤ steps_of (calls_then add.now mul.now sums.old terms.old) + 8192 * limit }
 {
-    !masked || allowed[j]
+    let _columns = b.columns();
+    let _add = add.operator().program();
+    let _mul = mul.operator().program();
+    let row = b.row(k);
+    let mut steps = 0;
+    for cell in row {
+        let j = cell.0 as usize;
+        if allowed[j] {
+            steps += terms.add_term(add, mul, x, cell.1, cell.0, sums, touched);
+        }
+    }
+    steps
+}
+
+/// Adds all of row `k` of B, times a word, to the sums as they are when all terms that wait are made.
+fn add_whole(
+    add: &Prepared,
+    mul: &Prepared,
+    x: u64,
+    b: &Matrix,
+    k: u64,
+    terms: &mut Terms,
+    sums: &mut [Option<u64>],
+    touched: &mut Vec<u64>,
+) -> u64
+    requires add { add.now.kind ≡ kinds.Binary }
+    requires mul { mul.now.kind ≡ kinds.Binary }
+    requires row { k < b.now.rows }
+    requires width { b.now.columns ≤ length sums.old }
+    requires within { AreWithin (length sums.old) terms.old }
+    requires small { steps_of (calls_then add.now mul.now sums.old terms.old) + 8192 * limit < 2 ^ 64 }
+    requires touched { AreTouched b.now.columns (sums_then add.now mul.now sums.old terms.old)
+        (touched_then add.now mul.now sums.old terms.old touched.old.items) }
+    requires room { HasRoom (length (sums_then add.now mul.now sums.old terms.old)) (vec_capacity touched.old)
+        (length (touched_then add.now mul.now sums.old terms.old touched.old.items)) (length (row_of b.now k)) }
+    ensures sums { (j : ℕ) → slot (sums_then add.now mul.now sums.new terms.new) j
+        ≡ after add.now mul.now x (slot (sums_then add.now mul.now sums.old terms.old) j)
+        (fin.get b.now.cells (k, j)) }
+    ensures within { AreWithin (length sums.old) terms.new }
+    ensures touched { AreTouched b.now.columns (sums_then add.now mul.now sums.new terms.new)
+        (touched_then add.now mul.now sums.new terms.new touched.new.items) }
+    ensures grows { length (touched_then add.now mul.now sums.new terms.new touched.new.items)
+        ≤ length (touched_then add.now mul.now sums.old terms.old touched.old.items) + length (row_of b.now k) }
+    ensures room { vec_capacity touched.old ≤ vec_capacity touched.new }
+    ensures steps { result + steps_of (calls_then add.now mul.now sums.new terms.new)
+        ≡ steps_of (calls_then add.now mul.now sums.old terms.old)
+        + steps_of (along (λ j. extra add.now mul.now x (slot (sums_then add.now mul.now sums.old terms.old) j)
+        (fin.get b.now.cells (k, j))) 0 b.now.columns) }
+    ensures few { result + steps_of (calls_then add.now mul.now sums.new terms.new)
+        ≤ steps_of (calls_then add.now mul.now sums.old terms.old) + 8192 * limit }
+{
+    let _columns = b.columns();
+    let _add = add.operator().program();
+    let _mul = mul.operator().program();
+    let mut cells = b.row(k);
+    let mut steps = 0;
+    while !cells.is_empty() {
+        steps += terms.make_room(add, mul, sums, touched);
+        let (now, rest) = cells.split_at(cells.len().min(terms.room()));
+        terms.gather_cells(x, now);
+        cells = rest;
+    }
+    steps
 }
 
 /// Adds row `k` of B, times a word, to the sums as they are when all terms that wait are made. Where it is masked, the allowed
@@ -63,18 +158,10 @@ fn add_row(
     ensures few { result + steps_of (calls_then add.now mul.now sums.new terms.new)
         ≤ steps_of (calls_then add.now mul.now sums.old terms.old) + 8192 * limit }
 {
-    let _columns = b.columns();
-    let _add = add.operator().program();
-    let _mul = mul.operator().program();
-    let row = b.row(k);
-    let mut steps = 0;
-    for cell in row {
-        let j = cell.0 as usize;
-        if takes_term(masked, allowed, j) {
-            steps += terms.add_term(add, mul, x, cell.1, cell.0, sums, touched);
-        }
+    if masked {
+        return add_allowed(add, mul, x, b, k, allowed, terms, sums, touched);
     }
-    steps
+    add_whole(add, mul, x, b, k, terms, sums, touched)
 }
 
 /// Adds the rows of B that row `i` of A names, each times the word that names it.

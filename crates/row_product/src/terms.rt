@@ -1,5 +1,5 @@
 //! Terms of a row of the product, gathered until many products are made together.
-ghost use Rattle.std.specs.Prelude.{◌≡◌, ◌≤◌, ◌<◌, ◌+◌, ◌^◌, ◌++◌, ◌∷◌, [], false, Some, length, set, vec_capacity};
+ghost use Rattle.std.specs.Prelude.{◌≡◌, ◌≤◌, ◌<◌, ◌+◌, ◌^◌, ◌++◌, ◌∷◌, [], false, Some, length, set, take, vec_capacity};
 ghost use Rattle.bpf_insn.specs.declared.operands.Kind.TheVariants as kinds;
 ghost use Rattle.bpf_insn.specs.declared.operands.Operands.TheVariants as on;
 ghost use Rattle.bpf_run.specs.Calls.{steps_of, calls_on};
@@ -7,6 +7,7 @@ ghost use Rattle.row_product.specs.Sums.{slot, touch, after, extra};
 ghost use Rattle.row_product.specs.Terms.{
   no_pending,
   cells_of,
+  columns_of,
   put_terms,
   put_calls,
   put_touched,
@@ -14,13 +15,14 @@ ghost use Rattle.row_product.specs.Terms.{
   sums_then,
   calls_then,
   touched_then,
+  with_cells,
   AreBelow,
   AreWithin,
   HasSpace,
 };
 
 use crate::additions::Additions;
-use bpf_insn::{Kind, Operands};
+use bpf_insn::Kind;
 use bpf_run::{Calls, MOST_CALLS, Prepared};
 use std::alloc::{AllocError, Global};
 use std::marker::Model;
@@ -29,21 +31,25 @@ use std::marker::Model;
 #[derive(Drop)]
 pub(crate) struct Terms {
     products: Calls,
+    /// Room for as many columns as there can be products: the first are theirs.
     columns: Vec<u64>,
     additions: Additions,
 }
 
 impl Model for Terms {
-    ghost use Rattle.std.specs.Prelude.{◌≡◌, ◌≤◌, length, vec_capacity};
+    ghost use Rattle.std.specs.Prelude.{◌≡◌, length, take};
     ghost use Rattle.bpf_insn.specs.declared.operands.Kind.TheVariants as kinds;
     ghost use Rattle.row_product.specs.Terms.{Pending};
 
     ghost Value = { Pending };
 
-    ghost view = { λ t. record { columns = t.columns.items; products = t.products.operands; waiting = t.additions } };
+    ghost view = { λ t. record {
+      columns = take (length t.products.operands) t.columns.items;
+      products = t.products.operands;
+      waiting = t.additions;
+    } };
 
-    ghost invariant = { λ t. (t.products.kind ≡ kinds.Binary) × (length t.columns.items ≡ length t.products.operands)
-        × (64 ≤ vec_capacity t.columns) };
+    ghost invariant = { λ t. (t.products.kind ≡ kinds.Binary) × (length t.columns.items ≡ 64) };
 }
 
 impl Terms {
@@ -51,9 +57,11 @@ impl Terms {
     pub(crate) fn new(alloc: Global) -> Result<Self, AllocError> {
         let mut products = Calls::new(alloc)?;
         products.begin(Kind::Binary);
+        let mut columns = Vec::new(alloc);
+        columns.resize(MOST_CALLS, 0)?;
         Ok(Terms {
             products,
-            columns: Vec::with_capacity(alloc, MOST_CALLS)?,
+            columns,
             additions: Additions::new(alloc)?,
         })
     }
@@ -63,7 +71,6 @@ impl Terms {
         ensures { self.new ≡ no_pending }
     {
         self.products.begin(Kind::Binary);
-        self.columns.clear();
         self.additions.clear();
     }
 
@@ -88,18 +95,18 @@ impl Terms {
         ensures within { AreBelow (length sums.old) self.new.waiting.columns }
         ensures room { vec_capacity touched.old ≤ vec_capacity touched.new }
     {
+        let many = self.products.len();
         let made = self.products.make(mul);
         let values = self.products.values();
         let put = put_all(
             add,
-            &self.columns,
+            &self.columns[..many],
             values,
             &mut self.additions,
             sums,
             touched,
         );
         self.products.begin(Kind::Binary);
-        self.columns.clear();
         made + put
     }
 
@@ -110,8 +117,15 @@ impl Terms {
         self.products.len() >= MOST_CALLS
     }
 
+    /// How many products there is room for.
+    pub(crate) fn room(&self) -> usize
+        ensures { result + length self.now.products ≡ 64 }
+    {
+        MOST_CALLS - self.products.len()
+    }
+
     /// Makes room for one product more.
-    fn make_room(
+    pub(crate) fn make_room(
         &mut self,
         add: &Prepared,
         mul: &Prepared,
@@ -147,8 +161,17 @@ impl Terms {
           products = self.old.products ++ on.Binary x y ∷ [];
         } }
     {
-        self.products.gather(Operands::Binary { x, y });
-        self.columns.push(column).unwrap();
+        self.columns[self.products.len()] = column;
+        self.products.gather_pair(x, y);
+    }
+
+    /// Gathers the products of a word and the words of cells, for their columns.
+    pub(crate) fn gather_cells(&mut self, x: u64, cells: &[(u64, u64)])
+        requires room { length self.old.products + length cells.now ≤ 64 }
+        ensures { self.new ≡ with_cells self.old x cells.now }
+    {
+        enter_columns(&mut self.columns, self.products.len(), cells);
+        self.products.gather_with(x, cells);
     }
 
     /// Adds the product of two words to the sum of a column, which then is touched, when all that wait is made.
@@ -204,6 +227,18 @@ impl Terms {
     {
         let steps = self.multiply(add, mul, sums, touched);
         steps + self.additions.settle(add, sums)
+    }
+}
+
+/// Puts the columns of cells at places from one on.
+fn enter_columns(columns: &mut [u64], from: usize, cells: &[(u64, u64)])
+    requires room { from + length cells.now ≤ length columns.old }
+    ensures { take (from + length cells.now) columns.new ≡ take from columns.old ++ columns_of cells.now }
+{
+    let mut place = from;
+    for cell in cells {
+        columns[place] = cell.0;
+        place += 1;
     }
 }
 

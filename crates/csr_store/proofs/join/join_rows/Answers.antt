@@ -1,10 +1,9 @@
-use Rattle.std.proofs.Common.{◌≡◌, ◌≤◌, ◌+◌, ◌++◌, ℕ, List, [], length, take, ap, sym, ◌∙◌, subst, arith, refl}
+use Rattle.std.proofs.Common.{◌≡◌, ◌++◌, ℕ, List, take, ap, sym, ◌∙◌, subst}
 use Rattle.std.proofs.lemmas.List.{take_all}
 use Rattle.std.specs.List.{AllByRecursion}
-use Rattle.csr_store.specs.Grid.{Grid}
 use Rattle.csr_store.specs.ByRows.{grid}
-use Rattle.csr_store.specs.Run.{Run, Row, IsRow, Follow, numbered, all_ended}
-use Rattle.csr_store.proofs.Joining.{follow_each, ended_more, rows_more, joined_entries, joined_grid, joined_starts, nothing_closed, nothing_listed}
+use Rattle.csr_store.specs.Run.{Run, Row, IsRow, all_ended}
+use Rattle.csr_store.proofs.Joining.{follow_each, ended_more, rows_more, joined_entries, joined_grid, joined_starts}
 use Rattle.csr_store.proofs.join.join_rows.Goals as goal
 
 pub append_to-requires-clause-none_open : goal.append_to-requires-clause-none_open

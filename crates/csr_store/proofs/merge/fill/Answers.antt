@@ -1,6 +1,4 @@
-use Rattle.std.proofs.Common.{ap, ◌∙◌, sym, refl, arith}
-use Rattle.std.specs.FinMap.{entries}
-use Rattle.csr_store.specs.Grid.{Grid}
+use Rattle.std.proofs.Common.{◌∙◌, refl}
 use Rattle.csr_store.proofs.Merging.{merged_none, merged_more, merged_less, merged_all}
 use Rattle.csr_store.proofs.merge.fill.Goals as goal
 

@@ -1,6 +1,6 @@
-use Rattle.std.proofs.Common.{◌≡◌, ◌++◌, List, ap, ◌∙◌}
+use Rattle.std.proofs.Common.{◌++◌, List, ap, ◌∙◌}
 use Rattle.std.specs.FinMap.{entries}
-use Rattle.csr_store.specs.Grid.{Grid, Entry}
+use Rattle.csr_store.specs.Grid.{Entry}
 use Rattle.csr_store.specs.ByRows.{grid}
 use Rattle.csr_store.proofs.Merging.{matrix_is, taken_from}
 use Rattle.csr_store.proofs.merge.merged.Goals as goal

@@ -1,27 +1,18 @@
-use Rattle.std.proofs.Common.{◌∙◌, arith, refl}
-use Rattle.entry_ops.proofs.Placing.{placing-at, call-within, keep-within, end-placed, copied-placed, call-placed, keep-placed, called-placed, kept-placed}
+use Rattle.std.proofs.Common.{arith}
+use Rattle.entry_ops.proofs.Placing.{placing-start, place-inside, entry-inside, placing-step, placing-end}
 use Rattle.entry_ops.proofs.emitter.place.Goals as goal
-use Rattle.entry_ops.proofs.emitter.place.Goals.{
-  in-End+in_ok-end_row-in-End,
-  in-Copied+in_ok-push-in-Copied,
-  in-Called+in_ok-push-in-Called,
-  in-Kept+in_ok-push_kept-in-Kept,
-  in-CalledAll+in_ok-push_all-in-CalledAll,
-  in-KeptAll+in_ok-push_where-in-KeptAll,
-}
 
-pub loop-mark-preserved : goal.loop-mark-preserved
-loop-mark-preserved c = elim c.match-mark.branch [
-  | in-End+in_ok-end_row-in-End w ↦ placing-at _ _ _ _ _ _ _ w.next-is
-      (end-placed c.args.marks.now c.args.values.now c.args.rows.now c.loop-mark.mark-index c.loop-mark.next c.loop-mark.rows _ c.loop-mark.invariant c.loop-mark-test.true w.in-End.is c.match-mark.rows (w.rows-is ∙ w.in_ok-end_row-in-End.ensures.ended))
-  | in-Copied+in_ok-push-in-Copied w ↦ placing-at _ _ _ _ _ _ _ w.next-is
-      (copied-placed c.args.marks.now c.args.values.now c.args.rows.now c.loop-mark.mark-index c.loop-mark.next c.loop-mark.rows _ c.loop-mark.invariant c.loop-mark-test.true _ _ w.in-Copied.is c.match-mark.rows (w.rows-is ∙ w.in_ok-push-in-Copied.ensures.pushed))
-  | in-Called+in_ok-push-in-Called w ↦ placing-at _ _ _ _ _ _ _ w.next-is
-      (call-placed c.args.marks.now c.args.values.now c.args.rows.now c.loop-mark.mark-index c.loop-mark.next c.loop-mark.rows _ c.loop-mark.invariant c.loop-mark-test.true (call-within c.args.marks.now c.args.values.now c.args.rows.now c.loop-mark.mark-index c.loop-mark.next c.loop-mark.rows _ c.loop-mark.invariant c.loop-mark-test.true _ w.in-Called.is) _ w.in-Called.is c.match-mark.rows (w.rows-is ∙ w.in_ok-push-in-Called.ensures.pushed))
-  | in-Kept+in_ok-push_kept-in-Kept w ↦ placing-at _ _ _ _ _ _ _ w.next-is
-      (keep-placed c.args.marks.now c.args.values.now c.args.rows.now c.loop-mark.mark-index c.loop-mark.next c.loop-mark.rows _ c.loop-mark.invariant c.loop-mark-test.true (keep-within c.args.marks.now c.args.values.now c.args.rows.now c.loop-mark.mark-index c.loop-mark.next c.loop-mark.rows _ c.loop-mark.invariant c.loop-mark-test.true _ _ w.in-Kept.is) _ _ w.in-Kept.is c.match-mark.rows (w.rows-is ∙ w.in_ok-push_kept-in-Kept.ensures))
-  | in-CalledAll+in_ok-push_all-in-CalledAll w ↦ called-placed c.args.marks.now c.args.values.now c.args.rows.now c.loop-mark.mark-index c.loop-mark.next c.loop-mark.rows _ w.in-CalledAll.cells c.loop-mark.invariant c.loop-mark-test.true
-      w.in-CalledAll.is _ c.match-mark.next refl (let n = w.next-is in omega (arith, n)) c.match-mark.rows (w.rows-is ∙ w.in_ok-push_all-in-CalledAll.ensures.pushed)
-  | in-KeptAll+in_ok-push_where-in-KeptAll w ↦ kept-placed c.args.marks.now c.args.values.now c.args.rows.now c.loop-mark.mark-index c.loop-mark.next c.loop-mark.rows _ w.in-KeptAll.cells c.loop-mark.invariant c.loop-mark-test.true
-      w.in-KeptAll.is _ c.match-mark.next refl (let n = w.next-is in omega (arith, n)) c.match-mark.rows (w.rows-is ∙ w.in_ok-push_where-in-KeptAll.ensures.pushed)
-]
+pub loop-next-init : goal.loop-next-init
+loop-next-init c = placing-start _ _ _ c.requires
+
+pub bounds-places-next : goal.bounds-places-next
+bounds-places-next c = place-inside _ _ _ _ _ c.loop-next.invariant c.loop-next-test.true
+
+pub set_value-requires : goal.set_value-requires
+set_value-requires c = entry-inside _ _ _ _ _ c.loop-next.invariant c.loop-next-test.true
+
+pub loop-next-preserved : goal.loop-next-preserved
+loop-next-preserved c = placing-step _ _ _ _ _ c.loop-next.invariant c.loop-next-test.true _ c.set_value.ensures
+
+pub returns : goal.returns
+returns c = placing-end _ _ _ _ _ c.loop-next.invariant (let t = c.loop-next-test.false in omega (arith, t))

@@ -1,5 +1,5 @@
 use Rattle.csr_store.specs.Mask.{mask_of}
-use Rattle.entry_ops.proofs.Placing.{on_err}
+use Rattle.entry_ops.proofs.Standing.{on_err}
 use Rattle.entry_ops.proofs.Reducing.{reducing-room, reducing-step, reducing-stop}
 use Rattle.entry_ops.proofs.reduce.fill_reduced.Goals as goal
 

@@ -1,50 +1,41 @@
 use Rattle.std.proofs.Common.{arith, ap}
 use Rattle.bpf_run.specs.Calls.{steps_of}
 use Rattle.csr_store.specs.Mask.{mask_of}
-use Rattle.entry_ops.proofs.Filling.{same_cells, same_calls, filling-room, filling-stop, filling-stop_end, filling-step}
-use Rattle.entry_ops.proofs.Placing.{on_err, does-costs}
+use Rattle.entry_ops.proofs.Filling.{filling-start, filling-room, filling-stop, filling-stop_end, filling-step, filling-end}
+use Rattle.entry_ops.proofs.Placing.{does-end}
+use Rattle.entry_ops.proofs.Standing.{on_err, charges-kept}
 use Rattle.entry_ops.proofs.rows.fill.Goals as goal
+
+pub loop-row-init : goal.loop-row-init
+loop-row-init c = (c.requires.holds, filling-start _ _ _ _ _ _ _ _ c.requires.open.none)
 
 pub fill_line-requires-clause-room : goal.fill_line-requires-clause-room
 fill_line-requires-clause-room c =
-    let r = c.read_line.ensures in
-    let room = filling-room _ _ _ _ _ _ _ _ _ _ _ _ c.loop-row.invariant c.loop-row-test.true c.requires.room in
-    let same = ap steps_of (same_calls c.args.form c.args.operator.now c.args.sources.left.now (mask_of c.args.sources.right)
-    (mask_of c.args.sources.mask) c.loop-row.row _ _ _ _ _ r.row r.columns r.left r.right r.mask) in
-    omega arith
+    let room = filling-room c.args.form c.args.operator.now c.args.sources.left.now (mask_of c.args.sources.right) (mask_of c.args.sources.mask) c.args.range.start c.args.range.end _ c.loop-row.row _ c.loop-row.invariant.1 c.loop-row-test.true c.requires.room in
+    let same = ap steps_of (c.read_line.ensures.calls c.args.form c.args.operator.now) in
+    omega (arith, room, same)
 
 pub returns-in_err-fill_line-clause-spent : goal.returns-in_err-fill_line-clause-spent
 returns-in_err-fill_line-clause-spent c =
-    let r = c.read_line.ensures in
-    let same = same_calls c.args.form c.args.operator.now c.args.sources.left.now (mask_of c.args.sources.right)
-    (mask_of c.args.sources.mask) c.loop-row.row _ _ _ _ _ r.row r.columns r.left r.right r.mask in
-    on_err c.from_residual.result (filling-stop _ _ _ _ _ _ _ _ _ _ _ _ c.loop-row.invariant c.loop-row-test.true _ _ same
-    c.in_err-fill_line.ensures.spent)
-
-pub end_row-requires-clause-room : goal.end_row-requires-clause-room
-end_row-requires-clause-room c =
-    let r = c.read_line.ensures in
-    let room = filling-room _ _ _ _ _ _ _ _ _ _ _ _ c.loop-row.invariant c.loop-row-test.true c.requires.room in
-    let same = ap steps_of (same_calls c.args.form c.args.operator.now c.args.sources.left.now (mask_of c.args.sources.right)
-    (mask_of c.args.sources.mask) c.loop-row.row _ _ _ _ _ r.row r.columns r.left r.right r.mask) in
-    let costs = does-costs _ _ _ _ _ _ _ c.in_ok-fill_line.ensures.does in
-    omega arith
+    on_err c.from_residual.result (filling-stop c.args.form c.args.operator.now c.args.sources.left.now (mask_of c.args.sources.right) (mask_of c.args.sources.mask) c.args.range.start c.args.range.end _ c.loop-row.row _ c.loop-row.invariant.1 c.loop-row-test.true _ _
+    (c.read_line.ensures.calls c.args.form c.args.operator.now) c.in_err-fill_line.ensures.spent)
 
 pub returns-in_err-end_row-clause-spent : goal.returns-in_err-end_row-clause-spent
 returns-in_err-end_row-clause-spent c =
-    let r = c.read_line.ensures in
-    let same = same_calls c.args.form c.args.operator.now c.args.sources.left.now (mask_of c.args.sources.right)
-    (mask_of c.args.sources.mask) c.loop-row.row _ _ _ _ _ r.row r.columns r.left r.right r.mask in
-    on_err c.from_residual-in_err-end_row.result (filling-stop_end _ _ _ _ _ _ _ _ _ _ _ _ c.loop-row.invariant c.loop-row-test.true
-    _ _ _ _ _ same c.in_ok-fill_line.ensures.does c.in_err-end_row.ensures.spent)
+    on_err c.from_residual-in_err-end_row.result (filling-stop_end c.args.form c.args.operator.now c.args.sources.left.now (mask_of c.args.sources.right) (mask_of c.args.sources.mask) c.args.range.start c.args.range.end _ c.loop-row.row _ c.loop-row.invariant.1 c.loop-row-test.true
+    _ _ _ _ (c.read_line.ensures.calls c.args.form c.args.operator.now) c.in_ok-fill_line.ensures.does.adds (charges-kept _ _ _ c.in_err-end_row.ensures.kept))
 
 pub loop-row-preserved : goal.loop-row-preserved
 loop-row-preserved c =
-    let r = c.read_line.ensures in
-    filling-step _ _ _ _ _ _ _ _ _ _ _ _ c.loop-row.invariant c.loop-row-test.true c.fill_line.new.emitter c.end_row.new.self
-    c.fill_line.new.calls c.end_row.new.calls _ _
-    (same_calls c.args.form c.args.operator.now c.args.sources.left.now (mask_of c.args.sources.right)
-    (mask_of c.args.sources.mask) c.loop-row.row _ _ _ _ _ r.row r.columns r.left r.right r.mask)
-    (same_cells c.args.form c.args.operator.now c.args.sources.left.now (mask_of c.args.sources.right)
-    (mask_of c.args.sources.mask) c.loop-row.row _ _ _ _ _ r.row r.columns r.left r.right r.mask)
-    c.in_ok-fill_line.ensures.does c.in_ok-end_row.ensures.does
+    let ended = does-end c.args.operator.now c.fill_line.new.emitter c.fill_line.new.calls c.in_ok-fill_line.ensures.does.holds c.end_row.new.self c.in_ok-end_row.ensures.ended in (
+      ended.holds,
+      filling-step c.args.form c.args.operator.now c.args.sources.left.now (mask_of c.args.sources.right) (mask_of c.args.sources.mask) c.args.range.start c.args.range.end _ c.loop-row.row _ c.loop-row.invariant.1 c.loop-row-test.true _ _ _ _
+          (c.read_line.ensures.calls c.args.form c.args.operator.now) (c.read_line.ensures.cells c.args.form c.args.operator.now)
+          c.in_ok-fill_line.ensures.does.adds ended.adds,
+    )
+
+pub returns-clause-does : goal.returns-clause-does
+returns-clause-does c = record {
+  holds = c.loop-row.invariant.0;
+  adds = filling-end c.args.form c.args.operator.now c.args.sources.left.now (mask_of c.args.sources.right) (mask_of c.args.sources.mask) c.args.range.start c.args.range.end _ c.loop-row.row _ c.loop-row.invariant.1 (let t = c.loop-row-test.false in omega (arith, t));
+}

@@ -1,6 +1,6 @@
 use Rattle.std.proofs.Common.{◌+◌, drop, get_or, Some, None, ap, sym, ◌∙◌, append-nil}
 use Rattle.std.proofs.lemmas.List.{drop_more, drop_all}
-use Rattle.row_product.proofs.Emitting.{emitting_start, emitting_above, emitting_step, emitting_end}
+use Rattle.row_product.proofs.Emitting.{emitting_start, emitting_above, emitting_step, emitting_end, all_gone}
 use Rattle.row_product.proofs.emit.emit.Goals as goal
 use Rattle.row_product.proofs.emit.emit.Goals.{in-Some+in_ok-push-in-Some, in-None}
 
@@ -41,3 +41,8 @@ returns-clause-rows c =
     emitting_end c.args.rows.now.columns c.args.sums.now c.args.rows.now (drop c.loop-column.column-index c.args.touched.now)
     c.loop-column.sums
     c.loop-column.rows c.loop-column.invariant (drop_all c.loop-column.column-index c.args.touched.now c.loop-column-test.false)
+
+pub returns-clause-gone : goal.returns-clause-gone
+returns-clause-gone c =
+    all_gone c.loop-column.sums (drop c.loop-column.column-index c.args.touched.now) (drop_all c.loop-column.column-index
+    c.args.touched.now c.loop-column-test.false) c.loop-column.invariant.covers

@@ -47,26 +47,26 @@ mults_in_row-mults-requires-clause-few c =
 pub returns-in_err-reserve-clause-spent : goal.returns-in_err-reserve-clause-spent
 returns-in_err-reserve-clause-spent c = on_err c.from_residual.result (charges-none _ c.args.steps.now)
 
-pub emit-emitted-requires-clause-touched : goal.emit-emitted-requires-clause-touched
-emit-emitted-requires-clause-touched c =
-    subst (λ n. AreTouched n c.sum_under.new.sums c.deref.result.now) (sym c.requires.columns)
-    (subst (AreTouched c.args.b.now.columns c.sum_under.new.sums) (sym c.deref.ensures.value)
-    (c.put_in_order.ensures.touched c.args.b.now.columns c.sum_under.new.sums c.sum_under.ensures.touched))
+pub emit_row-emitted-requires-clause-touched : goal.emit_row-emitted-requires-clause-touched
+emit_row-emitted-requires-clause-touched c =
+    subst (λ n. AreTouched n c.sum_under.new.sums c.sum_under.new.touched.items) (sym c.requires.columns)
+    c.sum_under.ensures.touched
 
 pub clear-requires-clause-covers : goal.clear-requires-clause-covers
 clear-requires-clause-covers c =
-    let t = c.put_in_order.ensures.touched c.args.b.now.columns c.sum_under.new.sums c.sum_under.ensures.touched in
-    λ j v h. subst (λ us. Contains us j) (sym c.deref-2.ensures.value) (t.covers j v (c.emit-emitted.ensures.kept j v h))
+    let t = c.emit_row-emitted.ensures.touched in
+    λ j v h. subst (λ us. Contains us j) (sym c.deref.ensures.value) (t.covers j v (c.emit_row-emitted.ensures.kept j v h))
 
 pub clear-requires-clause-within : goal.clear-requires-clause-within
 clear-requires-clause-within c =
-    let t = c.put_in_order.ensures.touched c.args.b.now.columns c.sum_under.new.sums c.sum_under.ensures.touched in
+    let t = c.emit_row-emitted.ensures.touched in
     let w = c.requires.width in
+    let e = c.requires.columns in
     let a = c.sum_under.auto.sums in
-    let b = c.emit-emitted.auto.sums in
-    All-weaker (λ j. j < c.args.b.now.columns) (λ j. j < length c.emit-emitted.new.sums) (λ x h. omega (arith, h, w, a, b))
-    c.deref-2.result.now
-    (subst (All (λ j. j < c.args.b.now.columns)) (sym c.deref-2.ensures.value) t.within)
+    let b = c.emit_row-emitted.auto.sums in
+    All-weaker (λ j. j < c.args.rows.now.columns) (λ j. j < length c.emit_row-emitted.new.sums) (λ x h. omega (arith, h, w, a, b, e))
+    c.deref.result.now
+    (subst (All (λ j. j < c.args.rows.now.columns)) (sym c.deref.ensures.value) t.within)
 
 pub returns-in_err-emitted-clause-spent : goal.returns-in_err-emitted-clause-spent
 returns-in_err-emitted-clause-spent c =

@@ -1,5 +1,4 @@
-use Rattle.std.proofs.Common.{refl, ap, ◌∙◌}
-use Rattle.csr_store.specs.Grid.{Grid}
+use Rattle.std.proofs.Common.{refl, ◌∙◌}
 use Rattle.csr_store.proofs.Collecting.{collected_none, collected_alone}
 use Rattle.csr_store.proofs.builder.Builder.new.Goals as goal
 

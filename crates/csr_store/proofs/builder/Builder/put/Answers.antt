@@ -1,11 +1,9 @@
-use Rattle.std.proofs.Common.{◌≡◌, ◌<◌, ◌≤◌, ◌+◌, ◌^◌, ℕ, false, List, Option, None, Some, is_some, unwrap_or, length, refl, ap, sym, ◌∙◌, arith}
-use Rattle.std.specs.FinMap as map
-use Rattle.csr_store.specs.declared.error.StoreError.{StoreError}
+use Rattle.std.proofs.Common.{◌≡◌, None, unwrap_or, ap, sym, ◌∙◌, arith}
 use Rattle.csr_store.specs.declared.error.StoreError.TheVariants.{Memory}
-use Rattle.csr_store.specs.Grid.{Grid, Entry, IsInside, pos_cmp, limit}
+use Rattle.csr_store.specs.Grid.{Grid}
 use Rattle.csr_store.specs.Refusal.{put_fault}
-use Rattle.csr_store.proofs.Laws.{Fits, fits-put_fault, is_none}
-use Rattle.csr_store.proofs.Collecting.{value_at, collected, first_twice, second_twice, too_many, fits, first_collected, second_collected, collected_first, collected_second, len-from_entries, with_entry}
+use Rattle.csr_store.proofs.Laws.{fits-put_fault, is_none}
+use Rattle.csr_store.proofs.Collecting.{collected, first_twice, second_twice, too_many, fits, first_collected, second_collected, collected_first, collected_second, len-from_entries, with_entry}
 use Rattle.csr_store.proofs.builder.Builder.put.Goals as goal
 
 pub returns-then-has-clause-refused : goal.returns-then-has-clause-refused

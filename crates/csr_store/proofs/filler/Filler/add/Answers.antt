@@ -1,4 +1,4 @@
-use Rattle.std.proofs.Common.{◌≡◌, ◌++◌, ◌∷◌, [], ◌<◌, ◌≤◌, ◌^◌, ℕ, List, length, ap, refl, sym, ◌∙◌, subst, arith}
+use Rattle.std.proofs.Common.{◌++◌, ◌∷◌, [], ◌<◌, ◌^◌, ℕ, List, length, ap, refl, ◌∙◌, subst, arith}
 use Rattle.std.specs.FinMap.{entries, insert, len}
 use Rattle.csr_store.specs.Grid.{Grid, Cell, limit}
 use Rattle.csr_store.specs.ByRows.{Closes}

@@ -1,4 +1,4 @@
-use Rattle.std.proofs.Common.{ap, sym, ◌∙◌, subst, ℕ, arith}
+use Rattle.std.proofs.Common.{◌∙◌, subst, ℕ}
 use Rattle.csr_store.specs.ByRows.{Closes}
 use Rattle.csr_store.proofs.Filling.{filling_there, same_grid}
 use Rattle.csr_store.proofs.Adding.{started_same, started_grid, started_starts}

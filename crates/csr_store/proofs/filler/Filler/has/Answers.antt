@@ -1,4 +1,4 @@
-use Rattle.std.proofs.Common.{◌≡◌, is_some, sym, ap, ◌∙◌, arith, nat_eq}
+use Rattle.std.proofs.Common.{is_some, sym, ap, ◌∙◌, arith, nat_eq}
 use Rattle.std.specs.FinMap as map
 use Rattle.std.specs.Map.{lookup}
 use Rattle.csr_store.specs.Grid.{Grid}

@@ -1,6 +1,5 @@
 use Rattle.std.proofs.Common.{sym, ap, ◌∙◌}
-use Rattle.std.specs.FinMap.{entries}
-use Rattle.csr_store.specs.Grid.{Grid, row_cells, row_of}
+use Rattle.csr_store.specs.Grid.{Grid, row_of}
 use Rattle.csr_store.proofs.Filling.{filling_rows}
 use Rattle.csr_store.proofs.filler.Filler.row.Goals as goal
 

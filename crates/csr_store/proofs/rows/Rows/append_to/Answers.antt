@@ -1,7 +1,6 @@
-use Rattle.std.proofs.Common.{◌≡◌, ◌<◌, ◌+◌, ◌^◌, ◌++◌, ℕ, List, [], length, map, ap, sym, ◌∙◌, subst, arith}
-use Rattle.std.specs.List.{AllByRecursion}
+use Rattle.std.proofs.Common.{◌≡◌, ◌+◌, ◌++◌, ℕ, List, length, map, ap, ◌∙◌, arith}
 use Rattle.csr_store.specs.ByRows.{ends_of}
-use Rattle.csr_store.specs.Run.{Run, Row, IsRow, ended_rows, open_row}
+use Rattle.csr_store.specs.Run.{Run, Row, ended_rows}
 use Rattle.csr_store.proofs.Joining.{ends_fit, joined_rows, joined_closed_rows}
 use Rattle.csr_store.proofs.rows.Rows.append_to.Goals as goal
 
@@ -14,8 +13,8 @@ push_ends-requires c =
 pub returns-in_err-push_ends-clause-rows : goal.returns-in_err-push_ends-clause-rows
 returns-in_err-push_ends-clause-rows c = rw (← c.self.view_is) c.self.invariant.ended_are
 
-pub returns-in_err-extend_from_slice-clause-rows : goal.returns-in_err-extend_from_slice-clause-rows
-returns-in_err-extend_from_slice-clause-rows c = rw (← c.self.view_is) c.self.invariant.ended_are
+pub returns-in_err-append-clause-rows : goal.returns-in_err-append-clause-rows
+returns-in_err-append-clause-rows c = rw (← c.self.view_is) c.self.invariant.ended_are
 
 pub returns-clause-rows : goal.returns-clause-rows
 returns-clause-rows c = rw (← c.self.view_is) c.self.invariant.ended_are
@@ -25,8 +24,8 @@ returns-clause-closed c =
     let base = c.len.ensures ∙ c.args.cells.now.ok.0 in
     let starts : c.push_ends.new.starts.items ≡ c.args.starts.now.items ++ map (λ e. length c.args.cells.now.items + e) c.self.inside.ends.items =
     c.in_ok-push_ends.ensures ∙ ap (λ (es : List ℕ). c.args.starts.now.items ++ map (λ e. c.len.result + e) es) c.deref.ensures.value ∙ ap (λ n. c.args.starts.now.items ++ map (λ e. n + e) c.self.inside.ends.items) base in
-    let cells : c.extend_from_slice.new.self.items ≡ c.args.cells.now.items ++ c.self.inside.cells.items = c.in_ok-extend_from_slice.ensures.items ∙ ap (λ (cs : Row). c.args.cells.now.items ++ cs) c.deref-2.ensures.value in
-    joined_closed_rows c.args.starts.now.items c.push_ends.new.starts.items c.self.inside.ends.items c.args.cells.now.items c.extend_from_slice.new.self.items c.self.inside.cells.items c.requires.closed
+    let cells : c.append.new.cells.items ≡ c.args.cells.now.items ++ c.self.inside.cells.items = c.in_ok-append.ensures ∙ ap (λ (cs : Row). c.args.cells.now.items ++ cs) c.deref-2.ensures.value in
+    joined_closed_rows c.args.starts.now.items c.push_ends.new.starts.items c.self.inside.ends.items c.args.cells.now.items c.append.new.cells.items c.self.inside.cells.items c.requires.closed
     c.self.invariant.ends_rise (ap (λ (r : Run). r.opened) c.self.view_is ∙ c.requires.none_open) starts cells
 
 pub returns-clause-joined : goal.returns-clause-joined
@@ -34,7 +33,7 @@ returns-clause-joined c =
     let base = c.len.ensures ∙ c.args.cells.now.ok.0 in
     let starts : c.push_ends.new.starts.items ≡ c.args.starts.now.items ++ map (λ e. length c.args.cells.now.items + e) c.self.inside.ends.items =
     c.in_ok-push_ends.ensures ∙ ap (λ (es : List ℕ). c.args.starts.now.items ++ map (λ e. c.len.result + e) es) c.deref.ensures.value ∙ ap (λ n. c.args.starts.now.items ++ map (λ e. n + e) c.self.inside.ends.items) base in
-    let cells : c.extend_from_slice.new.self.items ≡ c.args.cells.now.items ++ c.self.inside.cells.items = c.in_ok-extend_from_slice.ensures.items ∙ ap (λ (cs : Row). c.args.cells.now.items ++ cs) c.deref-2.ensures.value in
-    joined_rows c.args.starts.now.items c.push_ends.new.starts.items c.self.inside.ends.items c.args.cells.now.items c.extend_from_slice.new.self.items c.self.inside.cells.items c.requires.closed
+    let cells : c.append.new.cells.items ≡ c.args.cells.now.items ++ c.self.inside.cells.items = c.in_ok-append.ensures ∙ ap (λ (cs : Row). c.args.cells.now.items ++ cs) c.deref-2.ensures.value in
+    joined_rows c.args.starts.now.items c.push_ends.new.starts.items c.self.inside.ends.items c.args.cells.now.items c.append.new.cells.items c.self.inside.cells.items c.requires.closed
     c.self.invariant.ends_rise (ap (λ (r : Run). r.opened) c.self.view_is ∙ c.requires.none_open) starts cells
     ∙ ap (λ (r : Run). ended_rows 0 (ends_of c.args.starts.now.items) c.args.cells.now.items ++ r.ended) c.self.view_is

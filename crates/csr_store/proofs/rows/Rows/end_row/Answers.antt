@@ -1,4 +1,4 @@
-use Rattle.std.proofs.Common.{◌≡◌, ap, sym, ◌∙◌}
+use Rattle.std.proofs.Common.{◌∙◌}
 use Rattle.csr_store.proofs.Runs.{run_end, rows_more}
 use Rattle.csr_store.proofs.rows.Rows.end_row.Goals as goal
 

@@ -1,4 +1,4 @@
-use Rattle.std.proofs.Common.{◌≡◌, ap, sym, ◌∙◌, length}
+use Rattle.std.proofs.Common.{ap, sym, ◌∙◌, length}
 use Rattle.csr_store.specs.Run.{Run}
 use Rattle.csr_store.proofs.Runs.{length-ended}
 use Rattle.csr_store.proofs.rows.Rows.len.Goals as goal

@@ -1,6 +1,4 @@
-use Rattle.std.proofs.Common.{◌≡◌, ap, sym, ◌∙◌, arith}
-use Rattle.std.specs.List.{AllByRecursion}
-use Rattle.csr_store.specs.Run.{Run}
+use Rattle.std.proofs.Common.{arith}
 use Rattle.csr_store.proofs.Runs.{run_push, rows_push}
 use Rattle.csr_store.proofs.rows.Rows.push.Goals as goal
 

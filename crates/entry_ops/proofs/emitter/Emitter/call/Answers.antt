@@ -1,14 +1,17 @@
-use Rattle.std.proofs.Common.{ap, ◌∙◌, ◌++◌, ◌∷◌, [], refl, if◌then◌else◌}
-use Rattle.std.specs.Result.{is_ok}
-use Rattle.entry_ops.specs.declared.emitter.Mark.TheVariants.{Called}
-use Rattle.entry_ops.proofs.Placing.{does-call, marked}
+use Rattle.entry_ops.proofs.Placing.{called-fits, called, called-spent}
+use Rattle.entry_ops.proofs.Standing.{on_err}
 use Rattle.entry_ops.proofs.emitter.Emitter.call.Goals as goal
+
+pub push-requires-clause-within : goal.push-requires-clause-within
+push-requires-clause-within c = (called-fits c.args.operator.now c.args.self.now c.args.calls.now c.make_room.new.self c.make_room.new.calls c.make_room.ensures.does _ _ _ c.self.view_is c.args.column c.requires.fits).0
+
+pub push-requires-clause-above : goal.push-requires-clause-above
+push-requires-clause-above c = (called-fits c.args.operator.now c.args.self.now c.args.calls.now c.make_room.new.self c.make_room.new.calls c.make_room.ensures.does _ _ _ c.self.view_is c.args.column c.requires.fits).1
 
 pub returns-clause-does : goal.returns-clause-does
 returns-clause-does c =
-    let ms = c.self.inside.marks.items in
-    let pushed = c.push.ensures.items ∙ ap (λ r. if is_ok r then ms ++ Called c.args.column ∷ [] else ms) c.unwrap.ensures in
-    does-call c.args.operator.now c.args.self.now c.make_room.new.self _ c.args.calls.now c.make_room.new.calls _
-    c.in_ok-make_room.ensures.does
-    c.args.column c.args.operands c.requires.fits (marked c.self.inside.rows ms _ c.self.inside.steps c.make_room.new.self
-    (Called c.args.column) c.self.view_is pushed) c.gather.ensures
+    called c.args.operator.now c.args.self.now c.args.calls.now c.make_room.new.self c.make_room.new.calls c.make_room.ensures.does _ _ _ c.self.view_is
+    c.args.column 0 c.args.operands _ _ _ _ c.self.invariant c.make_room.ensures.calls c.in_ok-push.ensures.pushed c.len.ensures.len c.entries.ensures c.gather.ensures
+
+pub returns-in_err-push-clause-spent : goal.returns-in_err-push-clause-spent
+returns-in_err-push-clause-spent c = on_err c.from_residual.result (called-spent c.args.operator.now c.args.self.now c.args.calls.now c.make_room.new.self c.make_room.new.calls c.make_room.ensures.does _ _ _ c.self.view_is)

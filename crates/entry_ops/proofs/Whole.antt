@@ -1,0 +1,215 @@
+-- Copied rows with the values of calls are the rows of apply.
+use Rattle.std.proofs.Common.{◌≡◌, ◌≤◌, ◌<◌, ◌+◌, ◌-◌, ◌^◌, ℕ, zero, suc, true, List, [], ◌∷◌, ◌++◌, length, map, Option, None, Some, Result, Ok, Err, OnErr, refl, sym, ap, ◌∙◌, subst, arith, length-append, append_assoc, append-nil}
+use Rattle.bpf_insn.specs.declared.operands.Operands.{Operands}
+use Rattle.bpf_verify.specs.Accepted.{Accepted, IsAccepted}
+use Rattle.csr_store.specs.Grid.{Grid, IsGrid, Cell, row_of}
+use Rattle.csr_store.specs.Along.{along, cell_at}
+use Rattle.csr_store.specs.Ascending.{Ascends}
+use Rattle.csr_store.specs.Run.{Row, Run}
+use Rattle.csr_store.specs.Added.{with_values}
+use Rattle.csr_store.specs.Valued.{entries_of as entries_in_run, cells_in, all_cells, valued, valued_from, AreAlike}
+use Rattle.csr_store.proofs.Along.{row_of-ascends, along-none}
+use Rattle.csr_store.proofs.Valuing.{alike_then, alike_equal, alike_entries, entries_are}
+use Rattle.bpf_run.specs.Calls.{Call, Gathered, Charges, calls_on, values_on, steps_of, words_of, entries_of}
+use Rattle.bpf_run.proofs.Charging.{values_on-append, calls_on-append, charges-none}
+use Rattle.entry_ops.specs.declared.form.Form.TheVariants.{Apply}
+use Rattle.entry_ops.specs.declared.mapping.Mapping.{Mapping}
+use Rattle.entry_ops.specs.Forms.{apply_kind}
+use Rattle.entry_ops.specs.Mapped.{copied, row_operands, range_operands, settled, HasEntries, IsFurther}
+use Rattle.entry_ops.specs.Walking.{kind_for, form_at, form_calls, row_cells, row_calls, form_row, form_row_calls, form_rows, form_all_calls}
+use Rattle.entry_ops.proofs.Bounds.{few_in_all}
+use Rattle.entry_ops.proofs.Nexts.{next_left, next_first}
+use Rattle.entry_ops.proofs.Merging.{cells_here, calls_here, no_cell, no_call}
+use Rattle.entry_ops.proofs.Mapped.{length_values, length_words, length_entries, words_of-append}
+
+-- ---- values given to all entries
+
+-- an entry behind others
+valued-behind : (pre : Row) (c : Cell) (cs : Row) (v : ℕ) → valued (length pre) v (pre ++ c ∷ cs) ≡ pre ++ (c.0, v) ∷ cs
+valued-behind [] c cs v = refl
+valued-behind (p ∷ pre) c cs v = ap (λ (r : Row). p ∷ r) (valued-behind pre c cs v)
+
+given-behind : (pre : Row) (vs : List ℕ) (cs : Row) (k : ℕ) → k ≡ length pre → length vs ≡ length cs → valued_from k vs (pre ++ cs) ≡ pre ++ with_values cs vs
+given-behind pre [] [] k e n = refl
+given-behind pre [] (c ∷ cs) k e n = absurd (omega arith)
+given-behind pre (v ∷ vs) [] k e n = absurd (omega arith)
+given-behind pre (v ∷ vs) (c ∷ cs) k e n =
+    ap (λ q. valued_from (suc k) vs (valued q v (pre ++ c ∷ cs))) e
+    ∙ (ap (valued_from (suc k) vs) (valued-behind pre c cs v ∙ sym (append_assoc pre ((c.0, v) ∷ []) cs))
+    ∙ (given-behind (pre ++ (c.0, v) ∷ []) vs cs (suc k) (omega (arith, e, length-append pre ((c.0, v) ∷ []))) (omega arith)
+    ∙ append_assoc pre ((c.0, v) ∷ []) (with_values cs vs)))
+
+given-all : (vs : List ℕ) (cs : Row) → length vs ≡ length cs → valued_from 0 vs cs ≡ with_values cs vs
+given-all vs cs n = given-behind [] vs cs 0 refl n
+
+with_values-append : (xs ys : Row) (vs ws : List ℕ) → length vs ≡ length xs → with_values (xs ++ ys) (vs ++ ws) ≡ with_values xs vs ++ with_values ys ws
+with_values-append [] ys [] ws n = refl
+with_values-append [] ys (v ∷ vs) ws n = absurd (omega arith)
+with_values-append (x ∷ xs) ys [] ws n = absurd (omega arith)
+with_values-append (x ∷ xs) ys (v ∷ vs) ws n = ap (λ (r : Row). (x.0, v) ∷ r) (with_values-append xs ys vs ws (omega arith))
+
+length-with_values : (xs : Row) (vs : List ℕ) → length vs ≡ length xs → length (with_values xs vs) ≡ length xs
+length-with_values [] vs n = refl
+length-with_values (x ∷ xs) [] n = absurd (omega arith)
+length-with_values (x ∷ xs) (v ∷ vs) n = ap suc (length-with_values xs vs (omega arith))
+
+-- ---- a row
+
+length-operands : (thunk : Option ℕ) (i : ℕ) (cs : List Cell) → length (row_operands thunk i cs) ≡ length cs
+length-operands None i cs = length_words cs
+length-operands (Some thunk) i cs = length_entries i thunk cs
+
+row-values : (f : Accepted) (thunk : Option ℕ) (i : ℕ) (cs : List Cell) → length (values_on f (row_operands thunk i cs)) ≡ length cs
+row-values f thunk i cs = length_values f (row_operands thunk i cs) ∙ length-operands thunk i cs
+
+-- apply makes of a row the values of calls on its words
+
+module _ (f : Accepted) (thunk : Option ℕ) (i n : ℕ) where
+  first-cell : (t : Option ℕ) (x : Cell) (xs : List Cell) → cell_at x.0 (form_at (Apply t) f (i, x.0) (Some x.1) None) ++ with_values xs (values_on f (row_operands t i xs))
+      ≡ with_values (x ∷ xs) (values_on f (row_operands t i (x ∷ xs)))
+  first-cell None x xs = refl
+  first-cell (Some t) x xs = refl
+
+  first-call : (t : Option ℕ) (x : Cell) (xs : List Cell) → form_calls (Apply t) f (i, x.0) (Some x.1) None ++ calls_on f (row_operands t i xs)
+      ≡ calls_on f (row_operands t i (x ∷ xs))
+  first-call None x xs = refl
+  first-call (Some t) x xs = refl
+
+  alone-cells : (low : ℕ) (xs : List Cell) → Ascends low n xs → row_cells (Apply thunk) f i n xs [] None ≡ with_values xs (values_on f (row_operands thunk i xs))
+  alone-cells low [] h = along-none (λ j. cells_here (Apply thunk) f i true j None None) 0 n (λ j. no_cell (Apply thunk) f i true j)
+  alone-cells low (x ∷ xs) h =
+      next_first (cells_here (Apply thunk) f i) (no_cell (Apply thunk) f i) n low (x ∷ xs) [] None None x.0 (Some x.1) None xs [] (next_left n low x xs [] h tt) (λ j l. refl)
+      ∙ (ap (λ us. cell_at x.0 (form_at (Apply thunk) f (i, x.0) (Some x.1) None) ++ us) (alone-cells (suc x.0) xs h.2) ∙ first-cell thunk x xs)
+
+  no_calls : (t : Option ℕ) → [] ≡ calls_on f (row_operands t i [])
+  no_calls None = refl
+  no_calls (Some t) = refl
+
+  alone-calls : (low : ℕ) (xs : List Cell) → Ascends low n xs → row_calls (Apply thunk) f i n xs [] None ≡ calls_on f (row_operands thunk i xs)
+  alone-calls low [] h = along-none (λ j. calls_here (Apply thunk) f i true j None None) 0 n (λ j. no_call (Apply thunk) f i true j) ∙ no_calls thunk
+  alone-calls low (x ∷ xs) h =
+      next_first (calls_here (Apply thunk) f i) (no_call (Apply thunk) f i) n low (x ∷ xs) [] None None x.0 (Some x.1) None xs [] (next_left n low x xs [] h tt) (λ j l. refl)
+      ∙ (ap (λ us. form_calls (Apply thunk) f (i, x.0) (Some x.1) None ++ us) (alone-calls (suc x.0) xs h.2) ∙ first-call thunk x xs)
+
+-- ---- the entries of a range of rows
+
+module _ (a : Grid) where
+  abbrev cells : ℕ → ℕ → Row
+  cells first n = cells_in (along (λ i. row_of a i ∷ []) first n)
+
+  range-count : (thunk : Option ℕ) (first n : ℕ) → length (range_operands thunk a first n) ≡ length (cells first n)
+  range-count thunk first zero = refl
+  range-count thunk first (suc n) =
+      let l = length-operands thunk first (row_of a first) in let r = range-count thunk (suc first) n in
+      omega (arith, l, r, length-append (row_operands thunk first (row_of a first)) (range_operands thunk a (suc first) n), length-append (row_of a first) (cells (suc first) n))
+
+  pub copied-entries : (thunk : Option ℕ) (first n : ℕ) → length (range_operands thunk a first n) ≡ entries_in_run (copied a first n)
+  copied-entries thunk first n = range-count thunk first n ∙ (ap (λ (cs : Row). length cs) (sym (append-nil (cells first n))) ∙ sym (entries_are (copied a first n)))
+
+module _ (f : Accepted) (a : Grid) (g : IsGrid a) where
+  row-is : (thunk : Option ℕ) (i : ℕ) → form_row (Apply thunk) f a None None i ≡ with_values (row_of a i) (values_on f (row_operands thunk i (row_of a i)))
+  row-is thunk i = alone-cells f thunk i a.columns 0 (row_of a i) (row_of-ascends a i g)
+
+  row-calls : (thunk : Option ℕ) (i : ℕ) → form_row_calls (Apply thunk) f a None None i ≡ calls_on f (row_operands thunk i (row_of a i))
+  row-calls thunk i = alone-calls f thunk i a.columns 0 (row_of a i) (row_of-ascends a i g)
+
+  -- ---- a range of rows
+
+  pub range-calls : (thunk : Option ℕ) (first n : ℕ) → form_all_calls (Apply thunk) f a None None first n ≡ calls_on f (range_operands thunk a first n)
+  range-calls thunk first zero = refl
+  range-calls thunk first (suc n) =
+      ap (λ cs. cs ++ form_all_calls (Apply thunk) f a None None (suc first) n) (row-calls thunk first)
+      ∙ (ap (λ cs. calls_on f (row_operands thunk first (row_of a first)) ++ cs) (range-calls thunk (suc first) n)
+      ∙ sym (calls_on-append f (row_operands thunk first (row_of a first)) (range_operands thunk a (suc first) n)))
+
+  range-lengths : (thunk : Option ℕ) (first n : ℕ)
+      → map (λ (r : Row). length r) (along (λ i. row_of a i ∷ []) first n) ≡ map (λ (r : Row). length r) (form_rows (Apply thunk) f a None None first n)
+  range-lengths thunk first zero = refl
+  range-lengths thunk first (suc n) =
+      ap (λ m. m ∷ map (λ (r : Row). length r) (along (λ i. row_of a i ∷ []) (suc first) n))
+      (sym (ap (λ (r : Row). length r) (row-is thunk first) ∙ length-with_values (row_of a first) _ (row-values f thunk first (row_of a first))))
+      ∙ ap (λ ms. length (form_row (Apply thunk) f a None None first) ∷ ms) (range-lengths thunk (suc first) n)
+
+  range-cells : (thunk : Option ℕ) (first n : ℕ)
+      → cells_in (form_rows (Apply thunk) f a None None first n) ≡ with_values (cells a first n) (values_on f (range_operands thunk a first n))
+  range-cells thunk first zero = refl
+  range-cells thunk first (suc n) =
+      ap (λ (r : Row). r ++ cells_in (form_rows (Apply thunk) f a None None (suc first) n)) (row-is thunk first)
+      ∙ (ap (λ (r : Row). with_values (row_of a first) (values_on f (row_operands thunk first (row_of a first))) ++ r) (range-cells thunk (suc first) n)
+      ∙ (sym (with_values-append (row_of a first) (cells a (suc first) n) (values_on f (row_operands thunk first (row_of a first)))
+      (values_on f (range_operands thunk a (suc first) n)) (row-values f thunk first (row_of a first)))
+      ∙ ap (with_values (cells a first (suc n))) (sym (values_on-append f (row_operands thunk first (row_of a first)) (range_operands thunk a (suc first) n)))))
+
+  -- the copied rows, when all their entries have got their values
+  pub whole-rows : (thunk : Option ℕ) (first n : ℕ) (r : Run) → AreAlike (copied a first n) r
+      → all_cells r ≡ valued_from 0 (values_on f (range_operands thunk a first n)) (all_cells (copied a first n))
+      → r ≡ record { first = first; columns = a.columns; ended = form_rows (Apply thunk) f a None None first n; opened = [] }
+  whole-rows thunk first n r h c =
+      alike_equal r _
+      (alike_then r (copied a first n) _ (record { first = sym h.first; columns = sym h.columns; ended = sym h.ended; opened = sym h.opened })
+      (record { first = refl; columns = refl; ended = range-lengths thunk first n; opened = refl }))
+      (c ∙ (ap (valued_from 0 (values_on f (range_operands thunk a first n))) (append-nil (cells a first n))
+      ∙ (given-all (values_on f (range_operands thunk a first n)) (cells a first n)
+      (length_values f (range_operands thunk a first n) ∙ range-count a thunk first n)
+      ∙ (sym (range-cells thunk first n) ∙ sym (append-nil (cells_in (form_rows (Apply thunk) f a None None first n)))))))
+
+pub copied-words : (a : Grid) (first n : ℕ) → words_of (all_cells (copied a first n)) ≡ range_operands None a first n
+copied-words a first n = ap words_of (append-nil (cells_in (along (λ i. row_of a i ∷ []) first n))) ∙ joined first n
+  where
+    joined : (first n : ℕ) → words_of (cells_in (along (λ i. row_of a i ∷ []) first n)) ≡ range_operands None a first n
+    joined first zero = refl
+    joined first (suc n) = words_of-append (row_of a first) (cells_in (along (λ i. row_of a i ∷ []) (suc first) n))
+        ∙ ap (λ os. words_of (row_of a first) ++ os) (joined (suc first) n)
+
+-- ---- a range of rows, from its copy to its values
+
+module _ (f p : Accepted) (a : Grid) (g : IsGrid a) (thunk : Option ℕ) (first n : ℕ) (kind : f.kind ≡ apply_kind thunk) (is : IsAccepted p) (same : p ≡ f) (l : n ≤ a.rows) where
+  whole-few : steps_of (calls_on f (range_operands thunk a first n)) < 2 ^ 64
+  whole-few =
+      let few = few_in_all f (subst IsAccepted same is) (Apply thunk) a None None first n (kind ∙ sym (kind_is thunk)) g l in
+      let e = ap steps_of (range-calls f a g thunk first n) in
+      omega (arith, few, e)
+    where
+      kind_is : (t : Option ℕ) → kind_for (Apply t) ≡ apply_kind t
+      kind_is None = refl
+      kind_is (Some t) = refl
+
+  pub whole-room : 0 + steps_of (calls_on f (range_operands thunk a first n)) < 2 ^ 64
+  whole-room = let w = whole-few in omega (arith, w)
+
+  module _ (m o : Mapping) (was now : Gathered) (begun : m.rows ≡ copied a first n) (none_done : m.done ≡ 0) (none_made : m.steps ≡ 0) (none : was.operands ≡ [])
+      (added : IsFurther f (range_operands thunk a first n) m was o now) where
+    pub added-entries : HasEntries o now 0
+    added-entries =
+        let e = copied-entries a thunk first n in
+        let r = ap (λ (q : Run). entries_in_run q) begun in
+        let k = alike_entries m.rows o.rows added.alike in
+        let z = ap (λ (os : List Operands). length os) none in
+        let q = added.place in
+        omega (arith, e, r, k, z, q, none_done)
+
+    pub added-room : o.steps + steps_of (calls_on f now.operands) < 2 ^ 64
+    added-room =
+        let w = whole-few in let s = added.steps in let z = ap (λ os. steps_of (calls_on f os)) none in
+        omega (arith, w, s, z, none_made)
+
+    pub made-rows : (r : Run) → AreAlike o.rows r → all_cells r ≡ settled f o now
+        → r ≡ record { first = first; columns = a.columns; ended = form_rows (Apply thunk) f a None None first n; opened = [] }
+    made-rows r h c =
+        let z : m.done + length was.operands ≡ 0 = let e = ap (λ (os : List Operands). length os) none in omega (arith, e, none_done) in
+        whole-rows f a g thunk first n r (subst (λ (q : Run). AreAlike q r) begun (alike_then m.rows o.rows r added.alike h))
+        (c ∙ (added.cells
+        ∙ (ap (λ k. valued_from k (values_on f (range_operands thunk a first n)) (settled f m was)) z
+        ∙ ap (valued_from 0 (values_on f (range_operands thunk a first n)))
+        (ap (λ os. valued_from m.done (values_on f os) (all_cells m.rows)) none ∙ ap all_cells begun))))
+
+    pub made-steps : (steps : ℕ) → steps ≡ o.steps + steps_of (calls_on f now.operands) → steps ≡ steps_of (form_all_calls (Apply thunk) f a None None first n)
+    made-steps steps h =
+        let s = added.steps in let z = ap (λ os. steps_of (calls_on f os)) none in
+        let e = ap steps_of (range-calls f a g thunk first n) in
+        omega (arith, h, s, z, none_made, e)
+
+-- no call was made, so some of the calls were: none
+pub none-spent : {X E : Type 0} (r : Result X E) (cs : List Call) (steps : ℕ) → OnErr r (steps ≡ 0) → OnErr r (Charges cs 0 steps)
+none-spent (Ok x) cs steps h = tt
+none-spent (Err e) cs steps h = subst (Charges cs 0) (sym h) (charges-none cs 0)

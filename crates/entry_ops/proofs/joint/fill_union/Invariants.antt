@@ -1,0 +1,14 @@
+use Rattle.std.proofs.Common.{◌+◌, length}
+use Rattle.entry_ops.specs.declared.form.Form.TheVariants.{Union}
+use Rattle.entry_ops.specs.Placing.{Holds, standing}
+use Rattle.entry_ops.specs.Walking.{cells_along, calls_along}
+use Rattle.entry_ops.proofs.Merging.{IsMerging}
+use Rattle.entry_ops.proofs.joint.fill_union.Given as goal
+
+abbrev pub invariant-loop-x : goal.invariant-loop-x
+invariant-loop-x l = Holds l.operator l.emitter l.calls
+    × IsMerging Union l.operator l.line.row l.line.columns (cells_along Union l.operator l.line) (calls_along Union l.operator l.line)
+    (standing l.operator l.fn.emitter l.fn.calls) l.lefts l.rights (standing l.operator l.emitter l.calls)
+
+abbrev pub decreases-loop-x : goal.decreases-loop-x
+decreases-loop-x l = length l.lefts + length l.rights

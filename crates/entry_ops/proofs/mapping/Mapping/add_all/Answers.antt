@@ -1,0 +1,30 @@
+use Rattle.std.proofs.Common.{◌≡◌, ◌<◌, ◌+◌, ◌-◌, ◌^◌, ℕ, List, length, None, Some, arith, refl, ap, sym, ◌∙◌, subst}
+use Rattle.bpf_insn.specs.declared.operands.Operands.{Operands}
+use Rattle.csr_store.specs.Run.{Run}
+use Rattle.csr_store.specs.Valued.{all_cells, entries_of}
+use Rattle.bpf_run.specs.Calls.{words_of, calls_on, steps_of}
+use Rattle.entry_ops.specs.Mapped.{range_operands, IsFurther}
+use Rattle.entry_ops.proofs.Whole.{copied-words, copied-entries}
+use Rattle.entry_ops.proofs.mapping.Mapping.add_all.Goals as goal
+
+pub add_words-requires-clause-room : goal.add_words-requires-clause-room
+add_words-requires-clause-room c =
+    let w = ap (λ (r : Run). words_of (all_cells r)) c.requires.copied ∙ copied-words c.args.a.now c.args.range.start (c.args.range.end - c.args.range.start)
+    ∙ ap (λ t. range_operands t c.args.a.now c.args.range.start (c.args.range.end - c.args.range.start)) (sym c.in-None.is) in
+    let s = ap (λ os. steps_of (calls_on c.args.operator.now os)) w in
+    let r = c.requires.room in
+    omega (arith, s, r)
+
+pub add_entries-requires-clause-entries : goal.add_entries-requires-clause-entries
+add_entries-requires-clause-entries c =
+    let n = copied-entries c.args.a.now (Some c.in-Some.thunk) c.args.range.start (c.args.range.end - c.args.range.start) in
+    let r = ap (λ (r : Run). entries_of r) c.requires.copied in
+    let z = c.requires.first in
+    let o = ap (λ (os : List Operands). length os) c.requires.none in
+    omega (arith, n, r, z, o)
+
+pub returns-in-None : goal.returns-in-None
+returns-in-None c =
+    let w = ap (λ (r : Run). words_of (all_cells r)) c.requires.copied ∙ copied-words c.args.a.now c.args.range.start (c.args.range.end - c.args.range.start)
+    ∙ ap (λ t. range_operands t c.args.a.now c.args.range.start (c.args.range.end - c.args.range.start)) (sym c.in-None.is) in
+    subst (λ os. IsFurther c.args.operator.now os c.args.self.now c.args.calls.now c.add_words.new.self c.add_words.new.calls) w c.add_words.ensures

@@ -1,0 +1,12 @@
+use Rattle.std.proofs.Common.{◌≡◌, ◌-◌, [], drop}
+use Rattle.csr_store.specs.Valued.{all_cells, entries_of}
+use Rattle.bpf_run.specs.Calls.{words_of}
+use Rattle.entry_ops.proofs.Mapped.{IsMapping}
+use Rattle.entry_ops.proofs.mapping.Mapping.add_words.Given as goal
+
+abbrev pub invariant-loop-self : goal.invariant-loop-self
+invariant-loop-self l = IsMapping l.operator (words_of (all_cells l.fn.self.rows)) l.fn.self l.fn.calls (words_of (drop l.self.done (all_cells l.self.rows))) l.self l.calls
+    × ((l.calls.operands ≡ []) × (entries_of l.self.rows ≡ entries_of l.fn.self.rows))
+
+abbrev pub decreases-loop-self : goal.decreases-loop-self
+decreases-loop-self l = l.entries - l.self.done

@@ -1,0 +1,15 @@
+use Rattle.std.proofs.Common.{length, Some}
+use Rattle.entry_ops.specs.Placing.{Holds, standing}
+use Rattle.entry_ops.specs.Walking.{row_cells, row_calls}
+use Rattle.entry_ops.proofs.Masks.{IsMasking}
+use Rattle.entry_ops.proofs.masked.fill_masked.Given as goal
+
+abbrev pub invariant-loop-shown : goal.invariant-loop-shown
+invariant-loop-shown l = Holds l.operator l.emitter l.calls
+    × IsMasking l.form l.operator l.line.row l.line.columns
+    (row_cells l.form l.operator l.line.row l.line.columns l.line.left.now l.line.right.now (Some l.mask))
+    (row_calls l.form l.operator l.line.row l.line.columns l.line.left.now l.line.right.now (Some l.mask))
+    (standing l.operator l.fn.emitter l.fn.calls) l.lefts l.rights l.masks (standing l.operator l.emitter l.calls)
+
+abbrev pub decreases-loop-shown : goal.decreases-loop-shown
+decreases-loop-shown l = length l.masks

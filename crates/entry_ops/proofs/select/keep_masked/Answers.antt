@@ -1,0 +1,50 @@
+use Rattle.std.proofs.Common.{◌∷◌, [], refl, subst}
+use Rattle.bpf_insn.specs.declared.operands.Operands.{Operands}
+use Rattle.bpf_run.specs.Meaning.{value_of}
+use Rattle.bpf_run.specs.Calls.{call_of}
+use Rattle.csr_store.specs.Ascending.{at}
+use Rattle.entry_ops.specs.Sifting.{standing, with_kept}
+use Rattle.entry_ops.specs.Standing.{Adds}
+use Rattle.entry_ops.proofs.Lines.{adds-kept}
+use Rattle.entry_ops.proofs.Nexts.{none_left}
+use Rattle.entry_ops.proofs.Masks.{masking-fits, masking-step, masking-end}
+use Rattle.entry_ops.proofs.Merging.{adds-none}
+use Rattle.entry_ops.proofs.Standing.{on_err, completes-room, completes-stop}
+use Rattle.entry_ops.proofs.select.keep_masked.Goals as goal
+
+pub keep-requires-clause-fits : goal.keep-requires-clause-fits
+keep-requires-clause-fits c = masking-fits _ _ _ _ _ _ _ _ _ _ _ c.loop-shown.invariant.1 _ _ c.in-Some.ensures.cases.0
+
+pub keep-requires-clause-room : goal.keep-requires-clause-room
+keep-requires-clause-room c = completes-room _ _ _ _ _ _ c.loop-shown.invariant.1.completes c.requires.room
+
+pub returns-in_err-keep-clause-spent : goal.returns-in_err-keep-clause-spent
+returns-in_err-keep-clause-spent c = on_err c.from_residual.result (completes-stop _ _ _ _ _ _ c.loop-shown.invariant.1.completes _ c.in_err-keep.ensures.spent)
+
+pub loop-shown-preserved-in_ok-keep : goal.loop-shown-preserved-in_ok-keep
+loop-shown-preserved-in_ok-keep c =
+    let f = c.args.operator.now in
+    let column = c.in-Some.shown.now.0 in
+    let word = c.in-Some-first_at.word in
+    let d = c.in_ok-keep.ensures.does in
+    let l = c.from_column-cells.ensures c.args.line.columns c.loop-shown.invariant.1.left_row in
+    let added = subst (λ (o : Operands). Adds (call_of f o ∷ []) (with_kept column word (value_of f o)) (standing f c.loop-shown.sieve c.loop-shown.calls)
+    (standing f c.keep.new.self c.keep.new.calls)) c.operands_of-operands.ensures d.adds in (
+      d.holds,
+      masking-step _ _ _ _ _ _ _ _ _ _ _ c.loop-shown.invariant.1 _ _ c.in-Some.ensures.cases.0 _ _ l (c.loop-shown.invariant.1.right_row, λ j b. refl) _ _
+          (c.in-Some-first_at.ensures c.args.line.columns l.0) refl _ (adds-kept _ column word _ _ _ added),
+    )
+
+pub loop-shown-preserved : goal.loop-shown-preserved
+loop-shown-preserved c =
+    let l = c.from_column-cells.ensures c.args.line.columns c.loop-shown.invariant.1.left_row in (
+      c.loop-shown.invariant.0,
+      masking-step _ _ _ _ _ _ _ _ _ _ _ c.loop-shown.invariant.1 _ _ c.in-Some.ensures.cases.0 _ _ l (c.loop-shown.invariant.1.right_row, λ j b. refl) _
+          (at c.args.line.right.now c.in-Some.shown.now.0) (c.in_default-first_at.ensures c.args.line.columns l.0) refl _ (adds-none _),
+    )
+
+pub returns-clause-does : goal.returns-clause-does
+returns-clause-does c = record {
+  holds = c.loop-shown.invariant.0;
+  adds = masking-end _ _ _ _ _ _ _ _ _ _ _ c.loop-shown.invariant.1 (none_left _ c.in_default.ensures.cases);
+}

@@ -1,0 +1,92 @@
+//! The rows of operands and mask that are read for a row of a result.
+ghost use Rattle.std.specs.Prelude.{◌≡◌, ◌<◌};
+ghost use Rattle.bpf_verify.specs.Accepted.{Accepted};
+ghost use Rattle.csr_store.specs.Ascending.{Ascends, AscendsIn};
+ghost use Rattle.csr_store.specs.Mask.{HasShape, mask_of};
+ghost use Rattle.entry_ops.specs.declared.form.Form.{Form};
+ghost use Rattle.entry_ops.specs.Walking.{
+  cells_of,
+  row_or_none,
+  mask_row,
+  IsLine,
+  cells_along,
+  calls_along,
+  form_row,
+  form_row_calls,
+};
+
+use csr_store::Matrix;
+
+/// A column with its value.
+pub type Cell = (u64, u64);
+
+/// A row of each operand, and of the mask if there is one.
+#[derive(Clone, Copy)]
+pub struct Line<'a> {
+    pub row: u64,
+    pub columns: u64,
+    pub left: &'a [Cell],
+    pub right: &'a [Cell],
+    pub mask: Option<&'a [Cell]>,
+}
+
+/// The operands of an operation, of which the second may be missing, and a mask if there is one.
+#[derive(Clone, Copy)]
+pub struct Sources<'a> {
+    pub left: &'a Matrix,
+    pub right: Option<&'a Matrix>,
+    pub mask: Option<&'a Matrix>,
+}
+
+/// Row `row` of a second matrix, if there is one.
+fn second_row<'a>(first: &Matrix, second: Option<&'a Matrix>, row: u64) -> &'a [Cell]
+    requires shape { HasShape first.now.rows first.now.columns (mask_of second) }
+    requires within { row < first.now.rows }
+    ensures cells { result.now ≡ row_or_none (mask_of second.entry) row }
+    ensures ascends { Ascends 0 first.now.columns result.now }
+{
+    match second {
+        None => &[],
+        Some(matrix) => {
+            let _ = matrix.columns();
+            matrix.row(row)
+        }
+    }
+}
+
+/// Row `row` of a mask, if there is one.
+fn row_of_mask<'a>(first: &Matrix, mask: Option<&'a Matrix>, row: u64) -> Option<&'a [Cell]>
+    requires shape { HasShape first.now.rows first.now.columns (mask_of mask) }
+    requires within { row < first.now.rows }
+    ensures cells { cells_of result ≡ mask_row (mask_of mask.entry) row }
+    ensures ascends { AscendsIn first.now.columns (cells_of result) }
+{
+    match mask {
+        None => None,
+        Some(matrix) => {
+            let _ = matrix.columns();
+            Some(matrix.row(row))
+        }
+    }
+}
+
+/// The rows of operands and mask that are read for a row of the result.
+pub fn read_line<'a>(sources: Sources<'a>, row: u64) -> Line<'a>
+    requires right { HasShape sources.left.now.rows sources.left.now.columns (mask_of sources.right) }
+    requires mask { HasShape sources.left.now.rows sources.left.now.columns (mask_of sources.mask) }
+    requires within { row < sources.left.now.rows }
+    ensures columns { result.columns ≡ sources.entry.left.now.columns }
+    ensures ascends { IsLine result }
+    ensures cells { (form : Form) (f : Accepted) → cells_along form f result
+        ≡ form_row form f sources.entry.left.now (mask_of sources.entry.right) (mask_of sources.entry.mask) row }
+    ensures calls { (form : Form) (f : Accepted) → calls_along form f result
+        ≡ form_row_calls form f sources.entry.left.now (mask_of sources.entry.right) (mask_of sources.entry.mask) row }
+{
+    Line {
+        row,
+        columns: sources.left.columns(),
+        left: sources.left.row(row),
+        right: second_row(sources.left, sources.right, row),
+        mask: row_of_mask(sources.left, sources.mask, row),
+    }
+}

@@ -1,0 +1,210 @@
+//! Rows whose last cells wait for the values of gathered calls, and stand where those are not 0.
+ghost use Rattle.std.specs.Prelude.{◌≡◌, ◌<◌, ◌≤◌, ◌+◌, ◌^◌, ◌∷◌, [], length, vec_capacity, OnOk, OnErr, IfOk};
+ghost use Rattle.bpf_insn.specs.Machine.{kind_of};
+ghost use Rattle.bpf_insn.specs.declared.operands.Kind.TheVariants as kinds;
+ghost use Rattle.bpf_run.specs.Meaning.{value_of};
+ghost use Rattle.bpf_run.specs.Calls.{call_of, calls_on, values_on, steps_of, Charges, entries_of};
+ghost use Rattle.csr_store.specs.Added.{kept_where};
+ghost use Rattle.entry_ops.specs.Standing.{CanPush, FollowIn, with_cells, with_end};
+ghost use Rattle.entry_ops.specs.Sifting.{placed, Fits, final, Holds, Does, with_kept};
+
+use crate::line::Cell;
+use bpf_insn::Operands;
+use bpf_run::{Calls, MOST_CALLS, Prepared};
+use csr_store::Rows;
+use std::alloc::{AllocError, Global};
+use std::marker::Model;
+
+/// The most marks that wait.
+const MOST_MARKS: usize = 256;
+
+/// What is still to be added to some rows.
+#[derive(Clone, Copy)]
+pub enum Mark<'m> {
+    /// The end of the open row.
+    End,
+    /// A cell that stands where the value of the next call is not 0.
+    Kept { column: u64, word: u64 },
+    /// Cells that stand where the values of the next calls are not 0.
+    KeptAll { cells: &'m [Cell] },
+}
+
+/// Rows, what is marked behind them while calls wait, and the steps of the calls that were made.
+#[derive(Drop)]
+pub struct Sieve<'m> {
+    rows: Rows,
+    marks: Vec<Mark<'m>>,
+    steps: u64,
+}
+
+impl<'m> Model for Sieve<'m> {
+    ghost use Rattle.std.specs.Prelude.{◌≤◌, length, vec_capacity};
+    ghost use Rattle.entry_ops.specs.Sifting.{Sifting};
+
+    ghost Value = { Sifting };
+
+    ghost view = { λ e. record { rows = e.rows; marks = e.marks.items; steps = e.steps } };
+
+    ghost invariant = { λ e. (256 ≤ vec_capacity e.marks) × (length e.marks.items ≤ 256) };
+}
+
+impl<'m> Sieve<'m> {
+    /// No row yet, of those from `first` on, and no call.
+    pub fn begin(alloc: Global, first: u64, columns: u64) -> Result<Self, AllocError>
+        ensures { IfOk result (λ e. e ≡ record {
+          rows = record { first = first; columns = columns; ended = []; opened = [] };
+          marks = [];
+          steps = 0;
+        }) }
+    {
+        Ok(Sieve {
+            rows: Rows::begin(alloc, first, columns),
+            marks: Vec::with_capacity(alloc, MOST_MARKS)?,
+            steps: 0,
+        })
+    }
+
+    /// The steps of the calls that were made.
+    pub fn steps(&self) -> u64
+        ensures { result ≡ self.now.steps }
+    {
+        self.steps
+    }
+
+    /// The rows.
+    pub fn into_rows(self) -> Rows
+        ensures { result ≡ self.entry.rows }
+    {
+        self.rows
+    }
+
+    /// Makes the calls that were gathered, and adds what is marked.
+    pub fn flush(&mut self, operator: &Prepared, calls: &mut Calls) -> Result<(), AllocError>
+        requires holds { Holds operator.now self.old calls.old }
+        requires room { self.old.steps + steps_of (calls_on operator.now calls.old.operands) < 2 ^ 64 }
+        ensures made { OnOk result (self.new ≡ record {
+          rows = final operator.now self.old calls.old;
+          marks = [];
+          steps = self.old.steps + steps_of (calls_on operator.now calls.old.operands);
+        }) }
+        ensures none { OnOk result (calls.new.operands ≡ []) }
+        ensures kind { OnOk result (calls.new.kind ≡ operator.now.kind) }
+        ensures spent { OnErr result (self.new.steps ≡ self.old.steps + steps_of (calls_on operator.now calls.old.operands)) }
+    {
+        self.steps += calls.make(operator);
+        place(&self.marks, calls.values(), &mut self.rows)?;
+        self.marks.clear();
+        Ok(())
+    }
+
+    /// Flushes where no further mark or call fits in.
+    #[inline(always)]
+    pub fn make_room(&mut self, operator: &Prepared, calls: &mut Calls) -> Result<(), AllocError>
+        requires holds { Holds operator.now self.old calls.old }
+        requires room { self.old.steps + steps_of (calls_on operator.now calls.old.operands) < 2 ^ 64 }
+        ensures does { OnOk result (Does operator.now [] (λ run. run) self.old calls.old self.new calls.new) }
+        ensures marks { OnOk result (length self.new.marks < 256) }
+        ensures calls { OnOk result (length calls.new.operands < 64) }
+        ensures spent { OnErr result (Charges (calls_on operator.now calls.old.operands) self.old.steps self.new.steps) }
+    {
+        if self.marks.len() < MOST_MARKS && calls.len() < MOST_CALLS {
+            return Ok(());
+        }
+        self.flush(operator, calls)?;
+        Ok(())
+    }
+
+    /// Adds a cell with a word where the value of a call is not 0.
+    #[inline(always)]
+    pub fn keep(
+        &mut self,
+        operator: &Prepared,
+        calls: &mut Calls,
+        column: u64,
+        word: u64,
+        operands: Operands,
+    ) -> Result<(), AllocError>
+        requires holds { Holds operator.now self.old calls.old }
+        requires kind { kind_of operands ≡ operator.now.kind }
+        requires fits { CanPush column (final operator.now self.old calls.old) }
+        requires room { self.old.steps + steps_of (calls_on operator.now calls.old.operands) < 2 ^ 64 }
+        ensures does { OnOk result (Does operator.now (call_of operator.now operands ∷ [])
+            (with_kept column word (value_of operator.now operands)) self.old calls.old self.new calls.new) }
+        ensures spent { OnErr result (Charges (calls_on operator.now calls.old.operands) self.old.steps self.new.steps) }
+    {
+        self.make_room(operator, calls)?;
+        self.marks.push(Mark::Kept { column, word }).unwrap();
+        calls.gather(operands);
+        Ok(())
+    }
+
+    /// Adds those cells of a row where the value of a call on the word, its position and a thunk is not 0.
+    pub fn keep_entries(
+        &mut self,
+        calls: &mut Calls,
+        cells: &'m [Cell],
+        row: u64,
+        thunk: u64,
+        operator: &Prepared,
+    )
+        requires holds { Holds operator.now self.old calls.old }
+        requires kind { operator.now.kind ≡ kinds.Index }
+        requires behind { FollowIn cells.now (final operator.now self.old calls.old) }
+        requires marks { length self.old.marks < 256 }
+        requires room { length calls.old.operands + length cells.now ≤ 64 }
+        ensures { Does operator.now (calls_on operator.now (entries_of row thunk cells.now))
+            (with_cells (kept_where cells.now (values_on operator.now (entries_of row thunk cells.now))))
+            self.old calls.old self.new calls.new }
+    {
+        self.marks.push(Mark::KeptAll { cells }).unwrap();
+        calls.gather_entries(cells, row, thunk);
+    }
+
+    /// Ends the open row.
+    pub fn end_row(&mut self, operator: &Prepared, calls: &mut Calls) -> Result<(), AllocError>
+        requires holds { Holds operator.now self.old calls.old }
+        requires room { self.old.steps + steps_of (calls_on operator.now calls.old.operands) < 2 ^ 64 }
+        ensures does { OnOk result (Does operator.now [] with_end self.old calls.old self.new calls.new) }
+        ensures spent { OnErr result (Charges (calls_on operator.now calls.old.operands) self.old.steps self.new.steps) }
+    {
+        self.make_room(operator, calls)?;
+        self.marks.push(Mark::End).unwrap();
+        Ok(())
+    }
+}
+
+/// Adds a cell where an answer is not 0.
+#[inline(always)]
+fn push_kept(rows: &mut Rows, column: u64, word: u64, answer: u64) -> Result<(), AllocError>
+    requires { CanPush column rows.old }
+    ensures { OnOk result (rows.new ≡ with_kept column word answer rows.old) }
+{
+    if answer == 0 {
+        return Ok(());
+    }
+    rows.push(column, word)
+}
+
+/// Adds what is marked to rows, each call with its value.
+fn place(marks: &[Mark], values: &[u64], rows: &mut Rows) -> Result<(), AllocError>
+    requires fits { Fits marks.now values.now rows.old }
+    requires few { length marks.now ≤ 256 }
+    ensures { OnOk result (rows.new ≡ placed marks.now values.now rows.old) }
+{
+    let mut next: usize = 0;
+    for mark in marks {
+        match *mark {
+            Mark::End => rows.end_row()?,
+            Mark::Kept { column, word } => {
+                push_kept(rows, column, word, values[next])?;
+                next += 1;
+            }
+            Mark::KeptAll { cells } => {
+                let end = next + cells.len();
+                rows.push_where(cells, &values[next..end])?;
+                next = end;
+            }
+        }
+    }
+    Ok(())
+}

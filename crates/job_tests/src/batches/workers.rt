@@ -1,0 +1,310 @@
+//! Batches on workers in threads: held and counted by gates, alike for every number of workers, and with memory refused.
+ghost use Rattle.std.specs.Prelude.{◌≡◌, ◌≤◌, [], IfOk, All};
+ghost use Rattle.race_board.specs.Race.{IsSeatOf, MayDrawAt, SeatState};
+ghost use Rattle.job_runner.specs.Worked.{prices_of};
+
+use super::{diagonal, operator, plan_of};
+use crate::operators::{ADD_ONE, EXIT, FIRST, MUL, SUB};
+use bpf_insn::Kind;
+use csr_store::{Builder, Version};
+use job_plan::{Form, Plan};
+use job_runner::{BatchAnswer, BatchFault, Cause, Gate, Open, prices, run_batch, work};
+use race_board::{Board, BoardSeat, Totals};
+use std::alloc::{AllocError, Global};
+use std::process::Abort;
+use std::sync::atomic::Ordering::SeqCst;
+use std::sync::atomic::{AtomicBool, AtomicU64};
+use std::sync::{Arc, Wait};
+use std::test::Fail;
+use std::thread::Threads;
+
+/// How often a gate looks for the call that it waits for.
+const TURNS: u64 = 1_000_000_000;
+
+/// Waits until this is set, and answers whether it was.
+fn is_set(flag: &AtomicBool) -> bool {
+    for _ in 0..TURNS {
+        if flag.load(SeqCst) {
+            return true;
+        }
+    }
+    false
+}
+
+/// Holds each of two chunks until the other was entered.
+#[derive(Drop)]
+struct Meeting {
+    first: AtomicBool,
+    second: AtomicBool,
+    late: AtomicBool,
+}
+
+impl Meeting {
+    fn new() -> Meeting {
+        Meeting {
+            first: AtomicBool::new(false),
+            second: AtomicBool::new(false),
+            late: AtomicBool::new(false),
+        }
+    }
+}
+
+impl Gate for Meeting {
+    fn enter(&self, chunk: u64) {
+        let (own, other) = if chunk == 0 {
+            (&self.first, &self.second)
+        } else {
+            (&self.second, &self.first)
+        };
+        own.store(true, SeqCst);
+        if !is_set(other) {
+            self.late.store(true, SeqCst);
+        }
+    }
+
+    fn leave(&self, _chunk: u64) {}
+}
+
+/// Holds chunk 0 until chunks 1, 2 and 3 were left.
+#[derive(Drop)]
+struct Held {
+    first: AtomicBool,
+    second: AtomicBool,
+    third: AtomicBool,
+    late: AtomicBool,
+}
+
+impl Held {
+    fn new() -> Held {
+        Held {
+            first: AtomicBool::new(false),
+            second: AtomicBool::new(false),
+            third: AtomicBool::new(false),
+            late: AtomicBool::new(false),
+        }
+    }
+}
+
+impl Gate for Held {
+    fn enter(&self, chunk: u64) {
+        if chunk == 0 && !(is_set(&self.first) && is_set(&self.second) && is_set(&self.third)) {
+            self.late.store(true, SeqCst);
+        }
+    }
+
+    fn leave(&self, chunk: u64) {
+        match chunk {
+            1 => self.first.store(true, SeqCst),
+            2 => self.second.store(true, SeqCst),
+            3 => self.third.store(true, SeqCst),
+            _ => {}
+        }
+    }
+}
+
+/// Counts the calls for each chunk.
+#[derive(Drop)]
+struct Counts {
+    entered: Vec<AtomicU64>,
+    left: Vec<AtomicU64>,
+}
+
+/// So many counters, each at 0.
+fn counters(alloc: Global, count: u64) -> Result<Vec<AtomicU64>, AllocError> {
+    let mut counters = Vec::new(alloc);
+    for _ in 0..count {
+        counters.push(AtomicU64::new(0))?;
+    }
+    Ok(counters)
+}
+
+impl Gate for Counts {
+    fn enter(&self, chunk: u64) {
+        if let Some(count) = self.entered.get(chunk as usize) {
+            count.fetch_add(1, SeqCst);
+        }
+    }
+
+    fn leave(&self, chunk: u64) {
+        if let Some(count) = self.left.get(chunk as usize) {
+            count.fetch_add(1, SeqCst);
+        }
+    }
+}
+
+/// The plan of one job that adds one to each entry of a diagonal.
+fn increments(rt: &impl Abort, alloc: Global, rows: u32) -> Result<Plan, AllocError> {
+    let form = Form::Apply {
+        operator: operator(alloc, Kind::Unary, &[FIRST, ADD_ONE, EXIT])?,
+        thunk: None,
+        operand: diagonal(alloc, rows)?,
+    };
+    plan_of(rt, alloc, form)
+}
+
+/// Whether that job gave its matrix and its steps.
+fn is_incremented(answer: &BatchAnswer, rows: u64) -> bool {
+    let Some(result) = answer.results.get(0) else {
+        return false;
+    };
+    for row in 0..rows {
+        if result.version.get(row, row) != Some(row.wrapping_add(2)) {
+            return false;
+        }
+    }
+    answer.results.len() == 1
+        && result.version.entries() == rows
+        && result.steps == rows.wrapping_mul(3)
+}
+
+/// Whether that job runs, on so many workers at this gate.
+fn runs<H: Threads + Wait + Abort, G: Gate + Sync>(
+    rt: &H,
+    alloc: Global,
+    rows: u32,
+    workers: u64,
+    gate: &G,
+) -> Result<bool, AllocError>
+    requires { (1 ≤ workers) × (workers ≤ 64) }
+{
+    let plan = increments(rt, alloc, rows)?;
+    Ok(match run_batch(rt, alloc, &plan, workers, gate) {
+        Ok(answer) => is_incremented(&answer, u64::from(rows)),
+        Err(_) => false,
+    })
+}
+
+#[test]
+fn gate_two_workers(rt: HostRuntime) -> Result<(), Fail> {
+    let gate = Meeting::new();
+    assert!(rt; runs(&rt, rt.alloc(), 512, 2, &gate)?);
+    assert!(rt; gate.first.load(SeqCst) && gate.second.load(SeqCst));
+    assert!(rt; !gate.late.load(SeqCst));
+    Ok(())
+}
+
+#[test]
+fn gate_draws(rt: HostRuntime) -> Result<(), Fail> {
+    let gate = Held::new();
+    assert!(rt; runs(&rt, rt.alloc(), 1024, 2, &gate)?);
+    assert!(rt; gate.first.load(SeqCst) && gate.second.load(SeqCst) && gate.third.load(SeqCst));
+    assert!(rt; !gate.late.load(SeqCst));
+    Ok(())
+}
+
+#[test]
+fn gate_called_once_for_each_chunk(rt: HostRuntime) -> Result<(), Fail> {
+    let gate = Counts {
+        entered: counters(rt.alloc(), 6)?,
+        left: counters(rt.alloc(), 6)?,
+    };
+    assert!(rt; runs(&rt, rt.alloc(), 1300, 3, &gate)?);
+    assert!(rt; gate.entered.iter().all(|count| count.load(SeqCst) == 1));
+    assert!(rt; gate.left.iter().all(|count| count.load(SeqCst) == 1));
+    Ok(())
+}
+
+#[test]
+fn alike_for_one_three_and_sixty_four_workers(rt: HostRuntime) -> Result<(), Fail> {
+    for workers in [1u64, 3, 64] {
+        assert!(rt; runs(&rt, rt.alloc(), 600, workers, &Open)?);
+    }
+    Ok(())
+}
+
+/// The seats after a worker at each, one after another.
+fn work_each(
+    alloc: Global,
+    plan: &Plan,
+    board: &Board,
+    seats: Vec<BoardSeat>,
+) -> Result<Vec<BoardSeat>, AllocError>
+    requires ready { All (MayDrawAt board.now) seats.items }
+    requires prices { board.now.prices ≡ prices_of plan.now }
+    ensures { IfOk result (λ v. All (IsSeatOf board.now) v.items) }
+{
+    let mut ended = Vec::new(alloc);
+    for seat in seats {
+        let mut seat = seat;
+        let _worked = work(alloc, plan, board, &mut seat, &Open);
+        ended.push(seat)?;
+    }
+    Ok(ended)
+}
+
+#[test]
+fn sixty_four_seats_in_turn(rt: HostRuntime) -> Result<(), Fail> {
+    let alloc = rt.alloc();
+    let plan = increments(&rt, alloc, 600)?;
+    let (board, seats) = Board::open(alloc, prices(alloc, &plan)?, 64)?;
+    let seats = work_each(alloc, &plan, &board, seats)?;
+    let want = Totals {
+        draws: 3,
+        spent: 1800,
+        count: 67,
+        recorded: 1800,
+    };
+    assert_eq!(rt; board.close(seats), want);
+    Ok(())
+}
+
+/// The matrix with 1 down its diagonal.
+fn ones(alloc: Global, rows: u32) -> Result<Version, AllocError> {
+    let rows = u64::from(rows) % 4096;
+    let mut builder = Builder::new(alloc, rows, rows);
+    for row in 0..rows {
+        builder.put(row, row, 1).map_err(|_| AllocError)?;
+    }
+    let matrix = builder.finish().map_err(|_| AllocError)?;
+    Ok(Arc::new(alloc, matrix)?)
+}
+
+/// The plan of that matrix times itself.
+fn square(rt: &impl Abort, alloc: Global) -> Result<Plan, AllocError> {
+    let left = ones(alloc, 256)?;
+    let form = Form::Product {
+        add: operator(alloc, Kind::Binary, &[FIRST, SUB, EXIT])?,
+        mul: operator(alloc, Kind::Binary, &[FIRST, MUL, EXIT])?,
+        right: Arc::try_clone(&left)?,
+        left,
+    };
+    plan_of(rt, alloc, form)
+}
+
+/// Whether the square is itself the matrix with 1 down its diagonal, in three steps a call of `mul`.
+fn is_squared(answer: &BatchAnswer) -> bool {
+    let Some(square) = answer.results.get(0) else {
+        return false;
+    };
+    for row in 0..256u64 {
+        if square.version.get(row, row) != Some(1) {
+            return false;
+        }
+    }
+    square.version.entries() == 256 && square.steps == 768
+}
+
+/// Whether the answer is that of the square, or of a square that was refused.
+fn is_squared_or_refused(answer: &Result<BatchAnswer, BatchFault>) -> bool {
+    match answer {
+        Ok(answer) => is_squared(answer),
+        Err(fault) => fault.cause == Cause::Memory && fault.spent % 3 == 0 && fault.spent <= 768,
+    }
+}
+
+// Run this one also with each allocation refused in turn, by `rt try --test --fail-alloc N` for N from 1 on.
+
+#[test]
+fn failing_chunk(rt: HostRuntime) -> Result<(), Fail> {
+    let alloc = rt.alloc();
+    let plan = match square(&rt, alloc) {
+        Ok(plan) => plan,
+        Err(AllocError) => square(&rt, alloc)?,
+    };
+    let first = run_batch(&rt, alloc, &plan, 1, &Open);
+    assert!(rt; is_squared_or_refused(&first));
+    let second = run_batch(&rt, alloc, &plan, 1, &Open);
+    assert!(rt; is_squared_or_refused(&second));
+    assert!(rt; first.is_ok() || second.is_ok());
+    Ok(())
+}

@@ -1,0 +1,333 @@
+//! All forms against a slow reference: a map of positions, and one call at a time by the machine with tags.
+ghost use Rattle.std.specs.Prelude.{◌≡◌, ◌≤◌, ◌-◌, ◌*◌, [], IsTrue, length, IfSome, IfOk};
+ghost use Rattle.csr_store.specs.Mask.{HasShape, mask_of};
+ghost use Rattle.job_tests.specs.Pieces.{IsPiece};
+
+mod sizes;
+mod small;
+
+use crate::operators::{EXIT, operator};
+use bpf_insn::{Kind, Operands, Ran, run_tagged};
+use bpf_run::{Calls, Prepared};
+use csr_store::{Builder, Chunk, Matrix, Rows, join_rows};
+use entry_ops::{apply_rows, both_rows, reduce_rows, select_rows, union_rows};
+use std::alloc::{AllocError, Global};
+use std::ops::Range;
+use std::process::Abort;
+use std::test::Fail;
+
+/// The most rows, columns and entries of a matrix.
+const LIMIT: u64 = 16_777_216;
+
+/// 3 x + 1
+const TRIPLE: [u64; 4] = [
+    0xbf10_0000_0000_0000,
+    0x2700_0000_0300_0000,
+    0x0700_0000_0100_0000,
+    EXIT,
+];
+/// (2 (x + row) xor column) + thunk
+const PLACED: [u64; 6] = [
+    0xbf10_0000_0000_0000,
+    0x0f20_0000_0000_0000,
+    0x6700_0000_0100_0000,
+    0xaf30_0000_0000_0000,
+    0x0f40_0000_0000_0000,
+    EXIT,
+];
+/// 7 where row + thunk is not below column, and else 0, a step sooner
+const BELOW: [u64; 5] = [
+    0xb700_0000_0000_0000,
+    0x0f42_0000_0000_0000,
+    0xad32_0100_0000_0000,
+    0xb700_0000_0700_0000,
+    EXIT,
+];
+/// 2 x - y, and that xor 5 where x is not above y: neither associative nor commutative
+const UNEVEN: [u64; 6] = [
+    0xbf10_0000_0000_0000,
+    0x6700_0000_0100_0000,
+    0x1f20_0000_0000_0000,
+    0x2d21_0100_0000_0000,
+    0xa700_0000_0500_0000,
+    EXIT,
+];
+
+/// What is asked of a matrix, or of two.
+#[derive(Clone, Copy)]
+enum Job {
+    Apply(Option<u64>),
+    Select(u64),
+    Union,
+    Both,
+    Reduce,
+}
+
+/// A row, a column and a value.
+type Triple = (u64, u64, u64);
+
+/// The operator that the tests take for a job.
+fn operator_for(alloc: Global, job: Job) -> Result<Prepared, AllocError> {
+    match job {
+        Job::Apply(None) => operator(alloc, Kind::Unary, &TRIPLE),
+        Job::Apply(Some(_)) => operator(alloc, Kind::Index, &PLACED),
+        Job::Select(_) => operator(alloc, Kind::Index, &BELOW),
+        Job::Union | Job::Both | Job::Reduce => operator(alloc, Kind::Binary, &UNEVEN),
+    }
+}
+
+/// The matrix of these entries.
+fn matrix(alloc: Global, shape: (u64, u64), entries: &[Triple]) -> Result<Matrix, Fail> {
+    if shape.0 > LIMIT || shape.1 > LIMIT {
+        return Err(AllocError.into());
+    }
+    let mut builder = Builder::new(alloc, shape.0, shape.1);
+    for entry in entries {
+        builder.put(entry.0, entry.1, entry.2)?;
+    }
+    builder.finish().map_err(|_| AllocError.into())
+}
+
+/// Whether a matrix has this shape, or there is none.
+fn has_shape(matrix: Option<&Matrix>, rows: u64, columns: u64) -> bool
+    ensures { IsTrue result → HasShape rows columns (mask_of matrix.entry) }
+{
+    match matrix {
+        None => true,
+        Some(matrix) => matrix.rows() == rows && matrix.columns() == columns,
+    }
+}
+
+/// The columns of a job's result.
+fn columns_of(job: Job, a: &Matrix) -> u64 {
+    match job {
+        Job::Reduce => 1,
+        _ => a.columns(),
+    }
+}
+
+/// A range of rows of a job's result of so many columns, where operator, shapes and range fit.
+fn rows_of<'m>(
+    alloc: Global,
+    calls: &mut Calls,
+    job: Job,
+    operator: &Prepared,
+    a: &'m Matrix,
+    b: &'m Matrix,
+    mask: Option<&'m Matrix>,
+    columns: u64,
+    range: Range<u64>,
+) -> Option<Chunk>
+    ensures { IfSome result (λ c. IfOk c.result (λ r. IsPiece range.start columns (range.end - range.start) r)) }
+{
+    if range.start > range.end || range.end > a.rows() || !has_shape(mask, a.rows(), columns) {
+        return None;
+    }
+    if columns == 1 && operator.kind() == Kind::Binary {
+        if let Job::Reduce = job {
+            return Some(reduce_rows(alloc, calls, a, operator, mask, range));
+        }
+    }
+    if columns != a.columns() || b.rows() != a.rows() || b.columns() != columns {
+        return None;
+    }
+    match (job, operator.kind()) {
+        (Job::Apply(None), Kind::Unary) => Some(apply_rows(
+            alloc, calls, a, operator, None, mask, range,
+        )),
+        (Job::Apply(Some(thunk)), Kind::Index) => {
+            Some(apply_rows(alloc, calls, a, operator, Some(thunk), mask, range))
+        }
+        (Job::Select(thunk), Kind::Index) => Some(select_rows(
+            alloc, calls, a, operator, thunk, mask, range,
+        )),
+        (Job::Union, Kind::Binary) => Some(union_rows(alloc, calls, a, b, operator, mask, range)),
+        (Job::Both, Kind::Binary) => Some(both_rows(alloc, calls, a, b, operator, mask, range)),
+        _ => None,
+    }
+}
+
+/// The whole result of a job, done in two chunks, and its steps; or nothing where something doesn't fit.
+fn whole<'m>(
+    alloc: Global,
+    calls: &mut Calls,
+    job: Job,
+    operator: &Prepared,
+    (a, b, mask): (&'m Matrix, &'m Matrix, Option<&'m Matrix>),
+    middle: u64,
+) -> Result<Option<(Matrix, u64)>, Fail> {
+    let (rows, columns) = (a.rows(), columns_of(job, a));
+    if middle > rows || rows > LIMIT || columns > LIMIT || rows.saturating_mul(columns) > LIMIT {
+        return Ok(None);
+    }
+    let Some(first) = rows_of(alloc, calls, job, operator, a, b, mask, columns, 0..middle) else {
+        return Ok(None);
+    };
+    let Some(second) = rows_of(
+        alloc,
+        calls,
+        job,
+        operator,
+        a,
+        b,
+        mask,
+        columns,
+        middle..rows,
+    ) else {
+        return Ok(None);
+    };
+    let steps = first.steps.wrapping_add(second.steps);
+    let result = joined(
+        alloc,
+        (rows, columns),
+        first.result?,
+        second.result?,
+        middle,
+    )?;
+    Ok(Some((result, steps)))
+}
+
+/// The matrix of two runs of rows.
+fn joined(
+    alloc: Global,
+    shape: (u64, u64),
+    first: Rows,
+    second: Rows,
+    middle: u64,
+) -> Result<Matrix, AllocError>
+    requires middle { middle ≤ shape.0 }
+    requires rows { shape.0 ≤ 16777216 }
+    requires columns { shape.1 ≤ 16777216 }
+    requires small { shape.0 * shape.1 ≤ 16777216 }
+    requires first { IsPiece 0 shape.1 middle first }
+    requires second { IsPiece middle shape.1 (shape.0 - middle) second }
+{
+    let pieces: Vec<Rows> = vec![in alloc; first, second]?;
+    join_rows(alloc, shape.0, shape.1, pieces)
+}
+
+/// What a call gives, and the steps so far with its own.
+fn called(operator: &Prepared, operands: Operands, steps: &mut u64) -> Option<u64> {
+    match run_tagged(operator.operator().program(), operands.kind(), &operands) {
+        Ran::Done { value, steps: more } => {
+            *steps = steps.wrapping_add(more);
+            Some(value)
+        }
+        Ran::Stuck(_) => None,
+    }
+}
+
+/// What stands at a position of a job's result.
+fn value_at(
+    job: Job,
+    operator: &Prepared,
+    (a, b): (&Matrix, &Matrix),
+    (row, column): (u64, u64),
+    steps: &mut u64,
+) -> Option<u64> {
+    match job {
+        Job::Apply(None) => called(
+            operator,
+            Operands::Unary {
+                x: a.get(row, column)?,
+            },
+            steps,
+        ),
+        Job::Apply(Some(thunk)) => {
+            let x = a.get(row, column)?;
+            called(
+                operator,
+                Operands::Index {
+                    x,
+                    row,
+                    column,
+                    thunk,
+                },
+                steps,
+            )
+        }
+        Job::Select(thunk) => {
+            let x = a.get(row, column)?;
+            match called(
+                operator,
+                Operands::Index {
+                    x,
+                    row,
+                    column,
+                    thunk,
+                },
+                steps,
+            ) {
+                Some(0) => None,
+                _ => Some(x),
+            }
+        }
+        Job::Union => match (a.get(row, column), b.get(row, column)) {
+            (Some(x), Some(y)) => called(operator, Operands::Binary { x, y }, steps),
+            (Some(x), None) => Some(x),
+            (None, y) => y,
+        },
+        Job::Both => {
+            let (x, y) = (a.get(row, column)?, b.get(row, column)?);
+            called(operator, Operands::Binary { x, y }, steps)
+        }
+        Job::Reduce => {
+            let mut so_far = None;
+            for k in 0..a.columns() {
+                if let Some(y) = a.get(row, k) {
+                    so_far = match so_far {
+                        None => Some(y),
+                        Some(x) => called(operator, Operands::Binary { x, y }, steps),
+                    };
+                }
+            }
+            so_far
+        }
+    }
+}
+
+/// A job's result is that of the slow reference, with its steps, wherever the range is cut in two.
+fn assert_job<'m>(
+    rt: &impl Abort,
+    alloc: Global,
+    job: Job,
+    (a, b, mask): (&'m Matrix, &'m Matrix, Option<&'m Matrix>),
+    middle: u64,
+) -> Result<(), Fail> {
+    let operator = operator_for(alloc, job)?;
+    let mut calls = Calls::new(alloc)?;
+    let Some((result, spent)) = whole(alloc, &mut calls, job, &operator, (a, b, mask), middle)?
+    else {
+        return Err(AllocError.into());
+    };
+    let mut steps = 0;
+    let mut entries: u64 = 0;
+    for row in 0..a.rows() {
+        for column in 0..columns_of(job, a) {
+            let passes = match mask {
+                None => true,
+                Some(mask) => mask.get(row, column).is_some(),
+            };
+            let wanted = match passes {
+                true => value_at(job, &operator, (a, b), (row, column), &mut steps),
+                false => None,
+            };
+            assert_eq!(rt; result.get(row, column), wanted, "at {row}, {column}");
+            entries = entries.wrapping_add(wanted.is_some() as u64);
+        }
+    }
+    assert_eq!(rt; (result.entries(), spent), (entries, steps));
+    Ok(())
+}
+
+/// The jobs of the tests.
+const JOBS: [Job; 8] = [
+    Job::Apply(None),
+    Job::Apply(Some(11)),
+    Job::Select(0),
+    Job::Select(2),
+    Job::Select(u64::MAX),
+    Job::Union,
+    Job::Both,
+    Job::Reduce,
+];
