@@ -269,6 +269,16 @@ emitting_end n first from rest sums now m e =
 
 -- ---- sums that are emptied
 
+-- where one is emptied, what is there was there
+pub still_there : (sums : List (Option ℕ)) (k j v : ℕ) → k < length sums → slot (set sums k None) j ≡ Some v → slot sums j ≡ Some v
+still_there sums k j v l h = elim (eqb_tells j k) [
+  | inl p ↦ absurd (apart v (slot (set sums k None) j) (ap (slot (set sums k None)) p.1 ∙ get_or-set_same sums k None None l) h)
+  | inr p ↦ sym (get_or-set_other sums k j None None p.1) ∙ h
+]
+  where
+    apart : (v : ℕ) (o : Option ℕ) → o ≡ None → o ≡ Some v → ⊥
+    apart v o a b = absurd (cc)
+
 pub clearing_step : (sums : List (Option ℕ)) (rest : List ℕ) (k : ℕ) (ks : List ℕ) → rest ≡ k ∷ ks → k < length sums
     → ((j v : ℕ) → slot sums j ≡ Some v → Contains rest j)
     → (j v : ℕ) → slot (set sums k None) j ≡ Some v → Contains ks j

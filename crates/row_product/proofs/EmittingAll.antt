@@ -7,18 +7,11 @@ use Rattle.csr_store.specs.Run.{Run}
 use Rattle.csr_store.specs.Along.{along, cell_at, row_by}
 use Rattle.csr_store.proofs.Along.{along-next}
 use Rattle.row_product.specs.Sums.{slot}
+use Rattle.row_product.specs.Emitted.{IsEmitted}
 use Rattle.row_product.proofs.Adding.{slot_same, slot_other}
 use Rattle.row_product.proofs.Emitting.{cells_below, cells_joined, cell_below, same_run}
 
--- the columns before k are put, and those from k on are as they were
-pub record EmittingAll (n : ℕ) (first : List (Option ℕ)) (from : Run) (k : ℕ) (sums : List (Option ℕ)) (now : Run) : Type 0 where
-  pub run : now ≡ record from { opened = now.opened }
-  pub listed : now.opened ++ along (λ j. cell_at j (slot first j)) k (n - k) ≡ row_by n (slot first)
-  pub below : AllByRecursion (λ (c : Cell). c.0 < k) now.opened
-  pub gone : (j : ℕ) → j < k → slot sums j ≡ None
-  pub left : (j : ℕ) → k ≤ j → slot sums j ≡ slot first j
-
-pub emitting_all_start : (n : ℕ) (first : List (Option ℕ)) (from : Run) → from.opened ≡ [] → EmittingAll n first from 0 first from
+pub emitting_all_start : (n : ℕ) (first : List (Option ℕ)) (from : Run) → from.opened ≡ [] → IsEmitted n first from 0 first from
 emitting_all_start n first from e =
     let whole : n - 0 ≡ n = omega arith in
     record {
@@ -33,10 +26,10 @@ emitting_all_start n first from e =
 -- one column more, at which nothing is left
 pub emitting_all_step : (n : ℕ) (first : List (Option ℕ)) (from : Run) (k : ℕ) (sums : List (Option ℕ)) (now : Run) (o : Option
     ℕ) (then : List (Option ℕ)) (next : Run)
-    → EmittingAll n first from k sums now → k < n → slot sums k ≡ o → slot then k ≡ None
+    → IsEmitted n first from k sums now → k < n → slot sums k ≡ o → slot then k ≡ None
     → ((j : ℕ) → (j ≡ k → ⊥) → slot then j ≡ slot sums j)
     → next ≡ record now { opened = now.opened ++ cell_at k o }
-    → EmittingAll n first from (k + 1) then next
+    → IsEmitted n first from (k + 1) then next
 emitting_all_step n first from k sums now o then next m l h g s r =
     let f = λ (j : ℕ). cell_at j (slot first j) in
     let o_is : next.opened ≡ now.opened ++ f k = ap (λ (u : Run). u.opened) r
@@ -82,28 +75,29 @@ lt_or (suc a) (suc b) = elim (lt_or a b) [ inl h ↦ inl (omega arith) | inr h �
 
 -- what is left was there
 pub emitting_all_kept : (n : ℕ) (first : List (Option ℕ)) (from : Run) (k : ℕ) (sums : List (Option ℕ)) (now : Run)
-    → EmittingAll n first from k sums now → (j v : ℕ) → slot sums j ≡ Some v → slot first j ≡ Some v
+    → IsEmitted n first from k sums now → (j v : ℕ) → slot sums j ≡ Some v → slot first j ≡ Some v
 emitting_all_kept n first from k sums now m j v h = elim (lt_or j k) [
   | inl l ↦ absurd (some_or_none v (slot sums j) (m.gone j l) h)
   | inr l ↦ sym (m.left j l) ∙ h
 ]
 
-pub emitting_all_lost : (n : ℕ) (first : List (Option ℕ)) (from : Run) (k : ℕ) (sums : List (Option ℕ)) (now : Run)
-    → EmittingAll n first from k sums now → k < length sums → (j v : ℕ) → slot (set sums k None) j ≡ Some v → slot first j ≡ Some v
-emitting_all_lost n first from k sums now m l j v h = elim (eqb_tells j k) [
-  | inl p ↦ absurd (some_or_none v (slot (set sums k None) j) (ap (slot (set sums k None)) p.1 ∙ emptied_at sums k l) h)
-  | inr p ↦ emitting_all_kept n first from k sums now m j v (sym (emptied_other sums k j p.1) ∙ h)
+-- where one column's sum is gone, what is left was there
+pub left_was : (sums then : List (Option ℕ)) (k : ℕ) → slot then k ≡ None → ((j : ℕ) → (j ≡ k → ⊥) → slot then j ≡ slot sums j)
+    → (j v : ℕ) → slot then j ≡ Some v → slot sums j ≡ Some v
+left_was sums then k g s j v h = elim (eqb_tells j k) [
+  | inl p ↦ absurd (some_or_none v (slot then j) (ap (slot then) p.1 ∙ g) h)
+  | inr p ↦ sym (s j p.1) ∙ h
 ]
 
 pub emitting_all_end : (n : ℕ) (first : List (Option ℕ)) (from : Run) (k : ℕ) (sums : List (Option ℕ)) (now : Run)
-    → EmittingAll n first from k sums now → n ≤ k → now ≡ record from { opened = row_by n (slot first) }
+    → IsEmitted n first from k sums now → n ≤ k → now ≡ record from { opened = row_by n (slot first) }
 emitting_all_end n first from k sums now m l =
     let none : n - k ≡ 0 = omega (arith, l) in
     m.run ∙ ap (λ os. record from { opened = os }) (sym (append-nil now.opened)
     ∙ (ap (λ d. now.opened ++ along (λ j. cell_at j (slot first j)) k d) (sym none) ∙ m.listed))
 
 pub emitting_all_gone : (n : ℕ) (first : List (Option ℕ)) (from : Run) (k : ℕ) (sums : List (Option ℕ)) (now : Run)
-    → EmittingAll n first from k sums now → ((i v : ℕ) → slot first i ≡ Some v → i < n) → n ≤ k
+    → IsEmitted n first from k sums now → ((i v : ℕ) → slot first i ≡ Some v → i < n) → n ≤ k
     → (j : ℕ) → slot sums j ≡ None
 emitting_all_gone n first from k sums now m c l j = elim (lt_or j k) [
   | inl b ↦ m.gone j b

@@ -1,6 +1,7 @@
 pub mod Counting
 pub mod Adding
 pub mod Gathering
+pub mod Tagging
 pub mod Waiting
 pub mod Several
 pub mod Emitting

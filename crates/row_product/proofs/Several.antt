@@ -14,6 +14,7 @@ use Rattle.bpf_run.proofs.Gathering.{with_length}
 use Rattle.bpf_run.proofs.Charging.{steps-append, calls_on-append, values_on-append}
 use Rattle.csr_store.specs.Grid.{Grid, IsGrid, Cell, limit, row_of}
 use Rattle.csr_store.proofs.Along.{Ascends, row_of-ascends}
+use Rattle.row_product.specs.declared.tagged.Sum.{Sum}
 use Rattle.row_product.specs.Sums.{slot, added_calls, after, extra, touch, AreTouched, HasRoom}
 use Rattle.row_product.specs.Terms.{
   Waiting,
@@ -152,8 +153,8 @@ terms_are mul x (c ∷ cs) = ap (λ ts. (c.0, value_of mul (Binary x c.1)) ∷ t
 -- ---- the products of a word and cells wait
 
 -- all that is known of cells that were added: the terms that they make come last
-pub record AreAdded (add mul : Accepted) (x : ℕ) (cs : List Cell) (sums : List (Option ℕ)) (p : Pending) (touched : List
-    ℕ) (then : List (Option ℕ)) (q : Pending) (next : List ℕ) (steps : ℕ) : Type 0 where
+pub record AreAdded (add mul : Accepted) (x : ℕ) (cs : List Cell) (sums : List Sum) (p : Pending) (touched : List
+    ℕ) (then : List Sum) (q : Pending) (next : List ℕ) (steps : ℕ) : Type 0 where
   pub sums_are : sums_then add mul then q ≡ put_terms add (sums_then add mul sums p) (terms_with mul x cs)
   pub touched_are : touched_then add mul then q next
       ≡ put_touched add (sums_then add mul sums p) (terms_with mul x cs) (touched_then add mul sums p touched)
@@ -169,8 +170,8 @@ terms_then mul p x cs e =
     ∙ sym (length_values mul p.products))
     ∙ ap (λ ts. terms_of mul p ++ ts) (terms_are mul x cs))
 
-pub are_added : (add mul : Accepted) (x : ℕ) (cs : List Cell) (sums : List (Option ℕ)) (p : Pending) (touched : List
-    ℕ) (mid : List (Option ℕ)) (m : Pending) (q : Pending) (next : List ℕ) (steps : ℕ)
+pub are_added : (add mul : Accepted) (x : ℕ) (cs : List Cell) (sums : List Sum) (p : Pending) (touched : List
+    ℕ) (mid : List Sum) (m : Pending) (q : Pending) (next : List ℕ) (steps : ℕ)
     → length m.columns ≡ length m.products → sums_then add mul mid m ≡ sums_then add mul sums p
     → touched_then add mul mid m next ≡ touched_then add mul sums p touched
     → steps + steps_of (calls_then add mul mid m) ≡ steps_of (calls_then add mul sums p)

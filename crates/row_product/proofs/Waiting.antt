@@ -44,7 +44,9 @@ use Rattle.bpf_run.specs.Meaning.{value_of, cost_of}
 use Rattle.bpf_run.specs.Calls.{call_of, steps_of, calls_on, values_on}
 use Rattle.bpf_run.proofs.Charging.{steps-append, calls_on-append, values_on-append}
 use Rattle.csr_store.specs.Grid.{Cell}
-use Rattle.row_product.specs.Sums.{slot, added, added_calls, after, extra, touch}
+use Rattle.row_product.specs.declared.tagged.Sum.{Sum}
+use Rattle.row_product.specs.declared.tagged.Sum.TheVariants as sum
+use Rattle.row_product.specs.Sums.{slot, sum_of, sums_of, kept, added, added_calls, after, extra, touch}
 use Rattle.row_product.specs.Terms.{
   Waiting,
   Pending,
@@ -61,11 +63,13 @@ use Rattle.row_product.specs.Terms.{
   touched_then,
   AreBelow,
   Lacks,
-  AreMarked,
-  placed_sums,
-  placed,
+  Waits,
+  IsPut,
+  waits,
+  no_waiting,
 }
 use Rattle.row_product.proofs.Adding.{slot_other}
+use Rattle.row_product.proofs.Tagging.{length_sums, slot_sums, sums_set, set_kept, lacks_unmarked, marked_other, marked_more}
 
 -- ---- columns
 
@@ -77,31 +81,6 @@ below_at n (j ∷ ks) (suc k) d h l = below_at n ks k d h.1 (omega (arith, l))
 pub below_more : (n : ℕ) (ks : List ℕ) (j : ℕ) → AreBelow n ks → j < n → AreBelow n (ks ++ j ∷ [])
 below_more n [] j h l = (l, _)
 below_more n (k ∷ ks) j h l = (h.0, below_more n ks j h.1 l)
-
--- a column whose mark isn't set is none of those that are marked
-pub lacks_unmarked : (marks : List Bool) (ks : List ℕ) (j : ℕ) → AreMarked marks ks → slice_index_or marks (j % 16384) false ≡ false
-    → Lacks j ks
-lacks_unmarked marks [] j h n = _
-lacks_unmarked marks (k ∷ ks) j h n = (
-  λ e. apart (slice_index_or marks (k % 16384) false) h.0 (ap (λ i. slice_index_or marks (i %
-      16384) false) e ∙ n),
-  lacks_unmarked marks ks j h.1 n,
-)
-  where
-    apart : (b : Bool) → b ≡ true → b ≡ false → ⊥
-    apart b t f = absurd (cc)
-
-mark_kept : (marks : List Bool) (i j : ℕ) → j < length marks → slice_index_or marks i false ≡ true
-    → slice_index_or (set marks j true) i false ≡ true
-mark_kept marks i j l h = elim (eqb_tells i j) [
-  | inl d ↦ ap (λ k. slice_index_or (set marks j true) k false) d.1 ∙ get_or-set_same marks j true false l
-  | inr d ↦ get_or-set_other marks j i true false d.1 ∙ h
-]
-
-pub marked_more : (marks : List Bool) (ks : List ℕ) (j : ℕ) → AreMarked marks ks → j % 16384 < length marks
-    → AreMarked (set marks (j % 16384) true) (ks ++ j ∷ [])
-marked_more marks [] j h l = (get_or-set_same marks (j % 16384) true false l, _)
-marked_more marks (k ∷ ks) j h l = (mark_kept marks (k % 16384) (j % 16384) l h.0, marked_more marks ks j h.1 l)
 
 -- ---- values that are written at columns
 
@@ -162,76 +141,86 @@ steps_more f os o =
     let b = steps-append (calls_on f os) (call_of f o ∷ []) in
     omega (arith, a, b)
 
--- ---- a term that is placed where no addition waits
+-- ---- a term that is put
 
-slot_settled : (add : Accepted) (sums : List (Option ℕ)) (w : Waiting) (j : ℕ) → Lacks j w.columns
-    → slot (settled add sums w) j ≡ slot sums j
-slot_settled add sums w j h = slot_written sums w.columns (values_on add w.operands) j h
+pub slot_settled : (add : Accepted) (sums : List Sum) (w : Waiting) (j : ℕ) → Lacks j w.columns
+    → slot (settled add sums w) j ≡ slot (sums_of sums) j
+slot_settled add sums w j h = slot_written (sums_of sums) w.columns (values_on add w.operands) j h
 
-placed_go : (add : Accepted) (sums : List (Option ℕ)) (w : Waiting) (j t : ℕ) (o : Option ℕ) → Lacks j w.columns
-    → length w.columns ≡ length w.operands → slot (settled add sums w) j ≡ o
-    → settled add (placed_sums o sums j t) (placed o w j t) ≡ put_term add (settled add sums w) (j, t)
-placed_go add sums w j t None h e s =
-    written_set sums w.columns (values_on add w.operands) j (Some t) h
-    ∙ ap (λ p. set (settled add sums w) j (Some (added add p t))) (sym s)
-placed_go add sums w j t (Some r) h e s =
-    ap (written sums (w.columns ++ j ∷ [])) (values_on-append add w.operands (Binary r t ∷ []))
-    ∙ (written_more sums w.columns (values_on add w.operands) j (value_of add (Binary r t)) (e ∙ sym (length_values add w.operands))
-    ∙ ap (λ p. set (settled add sums w) j (Some (added add p t))) (sym s))
-
-pub placed_settled : (add : Accepted) (sums : List (Option ℕ)) (w : Waiting) (j t : ℕ) → Lacks j w.columns
-    → length w.columns ≡ length w.operands
-    → settled add (placed_sums (slot sums j) sums j t) (placed (slot sums j) w j t) ≡ put_term add (settled add sums w) (j, t)
-placed_settled add sums w j t h e = placed_go add sums w j t (slot sums j) h e (slot_settled add sums w j h)
-
-placed_steps_go : (add : Accepted) (w : Waiting) (j t : ℕ) (o : Option ℕ)
-    → steps_of (calls_on add (placed o w j t).operands) ≡ steps_of (calls_on add w.operands) + steps_of (added_calls add o t)
-placed_steps_go add w j t None = omega arith
-placed_steps_go add w j t (Some r) = let s = steps_more add w.operands (Binary r t) in omega (arith, s)
-
-pub placed_steps : (add : Accepted) (sums : List (Option ℕ)) (w : Waiting) (j t : ℕ) → Lacks j w.columns
-    → steps_of (calls_on add (placed (slot sums j) w j t).operands)
-    ≡ steps_of (calls_on add w.operands) + steps_of (added_calls add (slot (settled add sums w) j) t)
-placed_steps add sums w j t h =
-    placed_steps_go add w j t (slot sums j)
-    ∙ ap (λ o. steps_of (calls_on add w.operands) + steps_of (added_calls add o t)) (sym (slot_settled add sums w j h))
-
-pub placed_below : (n : ℕ) (o : Option ℕ) (w : Waiting) (j t : ℕ) → AreBelow n w.columns → j < n
-    → AreBelow n (placed o w j t).columns
-placed_below n None w j t h l = h
-placed_below n (Some r) w j t h l = below_more n w.columns j h l
-
--- all that is known of a term that was put: no addition waits at its column when it is placed
-pub record IsPut (add : Accepted) (sums : List (Option ℕ)) (w : Waiting) (touched : List ℕ) (j t : ℕ) (then : List (Option ℕ)) (now
-    : Waiting) (next : List ℕ) (steps : ℕ) : Type 0 where
-  pub sums_are : settled add then now ≡ put_term add (settled add sums w) (j, t)
-  pub touched_are : next ≡ touch (slot (settled add sums w) j) j touched
-  pub steps_are : steps + steps_of (calls_on add now.operands)
-      ≡ steps_of (calls_on add w.operands) + steps_of (added_calls add (slot (settled add sums w) j) t)
-
-pub is_put : (add : Accepted) (sums : List (Option ℕ)) (w : Waiting) (touched : List ℕ) (j t : ℕ) (mid : List (Option ℕ)) (way :
-    Waiting) (then : List (Option ℕ)) (now : Waiting) (next : List ℕ) (steps : ℕ) → Lacks j way.columns
-    → length way.columns ≡ length way.operands
-    → settled add mid way ≡ settled add sums w
-    → steps + steps_of (calls_on add way.operands) ≡ steps_of (calls_on add w.operands)
-    → then ≡ placed_sums (slot mid j) mid j t → now ≡ placed (slot mid j) way j t → next ≡ touch (slot mid j) j touched
-    → IsPut add sums w touched j t then now next steps
-is_put add sums w touched j t mid way then now next steps h e s k p q r =
-    let there : slot mid j ≡ slot (settled add sums w) j = sym (slot_settled add mid way j h) ∙ ap (λ us. slot us j) s in
-    let a = placed_steps add mid way j t h in
-    let b = ap (λ v. steps_of (calls_on add v.operands)) q in
-    let c = ap (λ us. steps_of (added_calls add (slot us j) t)) s in
+-- the first at its column
+pub put_first : (add : Accepted) (sums : List Sum) (w : Waiting) (touched : List ℕ) (j t : ℕ) (then : List Sum) (now : Waiting) (next
+    : List ℕ)
+    → Waits sums w → kept sums j ≡ sum.Nothing → then ≡ set sums j (sum.At t) → now ≡ w → next ≡ touched ++ j ∷ []
+    → (steps : ℕ) → IsPut add sums w touched j t then now next steps steps
+put_first add sums w touched j t then now next h k s n u steps =
+    let away : Lacks j w.columns = lacks_unmarked sums w.columns j h.marked (ap waits k) in
+    let none : slot (settled add sums w) j ≡ None = slot_settled add sums w j away ∙ (slot_sums sums j ∙ ap sum_of k) in
+    let a = ap (λ v. steps_of (calls_on add v.operands)) n in
+    let b = ap (λ o. steps_of (added_calls add o t)) none in
+    let l = length-set sums j (sum.At t) in
     record {
-      sums_are = ap (λ us. settled add us now) p
-          ∙ (ap (settled add (placed_sums (slot mid j) mid j t)) q
-          ∙ (placed_settled add mid way j t h e ∙ ap (λ us. put_term add us (j, t)) s));
-      touched_are = r ∙ ap (λ o. touch o j touched) there;
-      steps_are = omega (arith, a, b, c, k);
+      sums_are = ap (settled add then) n
+          ∙ (ap (λ us. settled add us w) s
+          ∙ (ap (λ us. written us w.columns (values_on add w.operands)) (sums_set sums j (sum.At t))
+          ∙ (written_set (sums_of sums) w.columns (values_on add w.operands) j (Some t) away
+          ∙ ap (λ o. set (settled add sums w) j (Some (added add o t))) (sym none))));
+      touched_are = u ∙ ap (λ o. touch o j touched) (sym none);
+      steps_are = omega (arith, a, b);
+      waits_are = subst (Waits then) (sym n) (subst (λ us. Waits us w) (sym s) (record {
+        below = subst (λ m. AreBelow m w.columns) (sym l) h.below;
+        marked = marked_other sums w.columns j (sum.At t) h.marked away;
+      }));
     }
 
-pub slot_way : (add : Accepted) (sums : List (Option ℕ)) (w : Waiting) (j : ℕ) (mid : List (Option ℕ)) (way : Waiting)
-    → Lacks j way.columns → settled add mid way ≡ settled add sums w → slot mid j ≡ slot (settled add sums w) j
-slot_way add sums w j mid way h s = sym (slot_settled add mid way j h) ∙ ap (λ us. slot us j) s
+abbrev pub one_waiting : Waiting → ℕ → ℕ → ℕ → Waiting
+one_waiting w j s t = record { columns = w.columns ++ j ∷ []; operands = w.operands ++ Binary s t ∷ [] }
+
+-- a further one, whose addition waits
+pub put_waiting : (add : Accepted) (sums : List Sum) (w : Waiting) (touched : List ℕ) (j s t : ℕ) (then : List Sum) (now : Waiting)
+    (next : List ℕ)
+    → Waits sums w → Lacks j w.columns → length w.columns ≡ length w.operands → j < length sums
+    → sum_of (kept sums j) ≡ Some s → then ≡ set sums j (sum.Waiting s) → now ≡ one_waiting w j s t → next ≡ touched
+    → (steps : ℕ) → IsPut add sums w touched j t then now next steps steps
+put_waiting add sums w touched j s t then now next h away e l k q n u steps =
+    let there : slot (sums_of sums) j ≡ Some s = slot_sums sums j ∙ k in
+    let some : slot (settled add sums w) j ≡ Some s = slot_settled add sums w j away ∙ there in
+    let same : sums_of then ≡ sums_of sums = ap sums_of q ∙ (sums_set sums j (sum.Waiting s)
+    ∙ set_kept (sums_of sums) j (Some s) there (let m = length_sums sums in omega (arith, l, m))) in
+    let a = ap (λ v. steps_of (calls_on add v.operands)) n in
+    let b = ap (λ o. steps_of (added_calls add o t)) some in
+    let c = steps_more add w.operands (Binary s t) in
+    let m = length-set sums j (sum.Waiting s) in
+    record {
+      sums_are = ap (settled add then) n
+          ∙ (ap (λ us. written us (w.columns ++ j ∷ []) (values_on add (w.operands ++ Binary s t ∷ []))) same
+          ∙ (ap (written (sums_of sums) (w.columns ++ j ∷ [])) (values_on-append add w.operands (Binary s t ∷ []))
+          ∙ (written_more (sums_of sums) w.columns (values_on add w.operands) j (value_of add (Binary s t)) (e
+          ∙ sym (length_values add w.operands))
+          ∙ ap (λ o. set (settled add sums w) j (Some (added add o t))) (sym some))));
+      touched_are = u ∙ ap (λ o. touch o j touched) (sym some);
+      steps_are = omega (arith, a, b, c);
+      waits_are = subst (Waits then) (sym n) (subst (λ us. Waits us (one_waiting w j s t)) (sym q) (record {
+        below = subst (λ i. AreBelow i (w.columns ++ j ∷ [])) (sym m) (below_more (length sums) w.columns j h.below l);
+        marked = marked_more sums w.columns j s h.marked l;
+      }));
+    }
+
+-- after all that waited was made
+pub put_after : (add : Accepted) (sums : List Sum) (w : Waiting) (touched : List ℕ) (j t : ℕ) (mid : List Sum) (way : Waiting) (then
+    : List Sum) (now : Waiting) (next : List ℕ) (steps made : ℕ)
+    → sums_of mid ≡ settled add sums w → way ≡ no_waiting → made ≡ steps_of (calls_on add w.operands)
+    → IsPut add mid way touched j t then now next steps steps → IsPut add sums w touched j t then now next steps (steps + made)
+put_after add sums w touched j t mid way then now next steps made s e k h =
+    let same : settled add mid way ≡ settled add sums w = ap (settled add mid) e ∙ s in
+    let a = ap (λ v. steps_of (calls_on add v.operands)) e in
+    let b = ap (λ us. steps_of (added_calls add (slot us j) t)) same in
+    let c = h.steps_are in
+    record {
+      sums_are = h.sums_are ∙ ap (λ us. put_term add us (j, t)) same;
+      touched_are = h.touched_are ∙ ap (λ us. touch (slot us j) j touched) same;
+      steps_are = omega (arith, a, b, c, k);
+      waits_are = h.waits_are;
+    }
 
 -- ---- terms put one after another
 
@@ -251,10 +240,10 @@ pub length_put : (add : Accepted) (sums : List (Option ℕ)) (ts : List Cell) �
 length_put add sums [] = refl
 length_put add sums (t ∷ ts) = length_put add (put_term add sums t) ts ∙ length-set sums t.0 (Some (added add (slot sums t.0) t.1))
 
-pub length_then : (add mul : Accepted) (sums : List (Option ℕ)) (p : Pending) → length (sums_then add mul sums p) ≡ length sums
+pub length_then : (add mul : Accepted) (sums : List Sum) (p : Pending) → length (sums_then add mul sums p) ≡ length sums
 length_then add mul sums p =
     length_put add (settled add sums p.waiting) (terms_of mul p)
-    ∙ length_written sums p.waiting.columns (values_on add p.waiting.operands)
+    ∙ (length_written (sums_of sums) p.waiting.columns (values_on add p.waiting.operands) ∙ length_sums sums)
 
 pub cells_rest : (ks vs : List ℕ) (k : ℕ) → k < length ks → length vs ≡ length ks
     → cells_of (drop k ks) (drop k vs) ≡ (get_or ks k 0, get_or vs k 0) ∷ cells_of (drop (k + 1) ks) (drop (k + 1) vs)
@@ -281,8 +270,8 @@ pub putting_step : (add : Accepted) (first : List (Option ℕ)) (base : ℕ) (wa
     (Option ℕ)) (after_it : ℕ) (next : List ℕ) (cost : ℕ)
     → Putting add first base was ts now left touched rest steps → rest ≡ t ∷ more → then ≡ put_term add now t
     → next ≡ touch (slot now t.0) t.0 touched
-    → cost + after_it ≡ left + steps_of (added_calls add (slot now t.0) t.1)
-    → Putting add first base was ts then after_it next more (steps + cost)
+    → cost + after_it ≡ steps + left + steps_of (added_calls add (slot now t.0) t.1)
+    → Putting add first base was ts then after_it next more cost
 putting_step add first base was ts now left touched rest steps t more then after_it next cost m e s u k =
     let a = m.steps_are in
     let b = ap (λ us. steps_of (put_calls add now us)) e in
@@ -296,18 +285,6 @@ putting_step add first base was ts now left touched rest steps t more then after
       steps_are = omega (arith, a, b, c, d, k);
     }
 
--- the calls for the next term are no more than all that are left
-pub putting_room : (add : Accepted) (first : List (Option ℕ)) (base : ℕ) (was : List ℕ) (ts : List Cell) (now : List (Option
-    ℕ)) (left : ℕ) (touched : List ℕ) (rest : List Cell) (steps : ℕ) (t : Cell) (more : List Cell) (after_it cost : ℕ)
-    → Putting add first base was ts now left touched rest steps → rest ≡ t ∷ more
-    → cost + after_it ≡ left + steps_of (added_calls add (slot now t.0) t.1)
-    → steps + cost ≤ base + steps_of (put_calls add first ts)
-putting_room add first base was ts now left touched rest steps t more after_it cost m e k =
-    let a = m.steps_are in
-    let b = ap (λ us. steps_of (put_calls add now us)) e in
-    let c = steps-append (added_calls add (slot now t.0) t.1) (put_calls add (put_term add now t) more) in
-    omega (arith, a, b, c, k)
-
 -- a column that is touched for the first time has room
 pub putting_touch : (add : Accepted) (first : List (Option ℕ)) (base : ℕ) (was : List ℕ) (ts : List Cell) (now : List (Option
     ℕ)) (left : ℕ) (touched : List ℕ) (rest : List Cell) (steps : ℕ) (t : Cell) (more : List Cell) (room : ℕ)
@@ -320,6 +297,12 @@ putting_touch add first base was ts now left touched rest steps t more room m e 
     let d = ap (λ o. length (touch o t.0 touched)) n in
     let l = length_push touched t.0 in
     omega (arith, a, b, c, d, l, f)
+
+-- what waits takes no more calls than all that is left
+pub putting_room : (add : Accepted) (first : List (Option ℕ)) (base : ℕ) (was : List ℕ) (ts : List Cell) (now : List (Option
+    ℕ)) (left : ℕ) (touched : List ℕ) (rest : List Cell) (steps : ℕ)
+    → Putting add first base was ts now left touched rest steps → steps + left ≤ base + steps_of (put_calls add first ts)
+putting_room add first base was ts now left touched rest steps m = let a = m.steps_are in omega (arith, a)
 
 pub putting_end : (add : Accepted) (first : List (Option ℕ)) (base : ℕ) (was : List ℕ) (ts : List Cell) (now : List (Option
     ℕ)) (left : ℕ) (touched : List ℕ) (rest : List Cell) (steps : ℕ)
@@ -361,8 +344,7 @@ calls_more add sums (u ∷ ts) t =
     omega (arith, h, a, b)
 
 -- all that is known of a term that waits
-pub record IsAdded (add mul : Accepted) (x y j : ℕ) (sums : List (Option ℕ)) (p : Pending) (touched : List ℕ) (then : List (Option
-    ℕ)) (q : Pending) (next : List ℕ) (steps : ℕ) : Type 0 where
+pub record IsAdded (add mul : Accepted) (x y j : ℕ) (sums : List Sum) (p : Pending) (touched : List ℕ) (then : List Sum) (q : Pending) (next : List ℕ) (steps : ℕ) : Type 0 where
   pub sums_are : sums_then add mul then q ≡ set (sums_then add mul sums p) j (after add mul x (slot (sums_then add mul sums p)
       j) (Some y))
   pub touched_are : touched_then add mul then q next ≡ touch (slot (sums_then add mul sums p) j) j (touched_then add mul sums p
@@ -379,7 +361,7 @@ terms_more mul p j x y e =
     ap (cells_of (p.columns ++ j ∷ [])) (values_on-append mul p.products (Binary x y ∷ []))
     ∙ cells_more p.columns (values_on mul p.products) j (value_of mul (Binary x y)) (e ∙ sym (length_values mul p.products))
 
-steps_then : (add mul : Accepted) (sums : List (Option ℕ)) (p : Pending) → steps_of (calls_then add mul sums p)
+steps_then : (add mul : Accepted) (sums : List Sum) (p : Pending) → steps_of (calls_then add mul sums p)
     ≡ steps_of (calls_on mul p.products)
     + (steps_of (calls_on add p.waiting.operands) + steps_of (put_calls add (settled add sums p.waiting) (terms_of mul p)))
 steps_then add mul sums p =
@@ -388,12 +370,12 @@ steps_then add mul sums p =
     let b = steps-append (calls_on add p.waiting.operands) (put_calls add (settled add sums p.waiting) (terms_of mul p)) in
     omega (arith, a, b)
 
-pub steps_then-are : (add mul : Accepted) (sums : List (Option ℕ)) (p : Pending) → steps_of (calls_then add mul sums p)
+pub steps_then-are : (add mul : Accepted) (sums : List Sum) (p : Pending) → steps_of (calls_then add mul sums p)
     ≡ steps_of (calls_on mul p.products)
     + (steps_of (calls_on add p.waiting.operands) + steps_of (put_calls add (settled add sums p.waiting) (terms_of mul p)))
 steps_then-are add mul sums p = steps_then add mul sums p
 
-then_more : (add mul : Accepted) (x y j : ℕ) (sums : List (Option ℕ)) (p : Pending) (touched : List ℕ)
+then_more : (add mul : Accepted) (x y j : ℕ) (sums : List Sum) (p : Pending) (touched : List ℕ)
     → length p.columns ≡ length p.products → IsAdded add mul x y j sums p touched sums (with_term p j x y) touched 0
 then_more add mul x y j sums p touched e =
     let s = settled add sums p.waiting in
@@ -410,8 +392,7 @@ then_more add mul x y j sums p touched e =
       steps_are = omega (arith, a, b, c, d, f);
     }
 
-pub is_added : (add mul : Accepted) (x y j : ℕ) (sums : List (Option ℕ)) (p : Pending) (touched : List ℕ) (mid : List (Option
-    ℕ)) (m : Pending) (q : Pending) (next : List ℕ) (steps : ℕ)
+pub is_added : (add mul : Accepted) (x y j : ℕ) (sums : List Sum) (p : Pending) (touched : List ℕ) (mid : List Sum) (m : Pending) (q : Pending) (next : List ℕ) (steps : ℕ)
     → length m.columns ≡ length m.products → sums_then add mul mid m ≡ sums_then add mul sums p
     → touched_then add mul mid m next ≡ touched_then add mul sums p touched
     → steps + steps_of (calls_then add mul mid m) ≡ steps_of (calls_then add mul sums p)
@@ -433,16 +414,16 @@ is_added add mul x y j sums p touched mid m q next steps e s u k n =
 
 -- ---- no products wait
 
-pub none_then : (add mul : Accepted) (sums : List (Option ℕ)) (p : Pending) → p.columns ≡ []
+pub none_then : (add mul : Accepted) (sums : List Sum) (p : Pending) → p.columns ≡ []
     → sums_then add mul sums p ≡ settled add sums p.waiting
 none_then add mul sums p e = ap (λ ks. put_terms add (settled add sums p.waiting) (cells_of ks (values_on mul p.products))) e
 
-pub none_touched_then : (add mul : Accepted) (sums : List (Option ℕ)) (p : Pending) (touched : List ℕ) → p.columns ≡ []
+pub none_touched_then : (add mul : Accepted) (sums : List Sum) (p : Pending) (touched : List ℕ) → p.columns ≡ []
     → touched_then add mul sums p touched ≡ touched
 none_touched_then add mul sums p touched e =
     ap (λ ks. put_touched add (settled add sums p.waiting) (cells_of ks (values_on mul p.products)) touched) e
 
-pub none_steps_then : (add mul : Accepted) (sums : List (Option ℕ)) (p : Pending) → p.columns ≡ [] → p.products ≡ []
+pub none_steps_then : (add mul : Accepted) (sums : List Sum) (p : Pending) → p.columns ≡ [] → p.products ≡ []
     → steps_of (calls_then add mul sums p) ≡ steps_of (calls_on add p.waiting.operands)
 none_steps_then add mul sums p e f =
     let a = steps_then add mul sums p in

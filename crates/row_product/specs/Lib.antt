@@ -1,3 +1,4 @@
 pub mod Product
 pub mod Sums
 pub mod Terms
+pub mod Emitted

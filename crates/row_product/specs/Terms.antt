@@ -3,7 +3,7 @@
 use Rattle.std.specs.Prelude.{
   ◌≡◌,
   ◌<◌,
-  ◌%◌,
+  ◌+◌,
   ℕ,
   Bool,
   true,
@@ -17,7 +17,6 @@ use Rattle.std.specs.Prelude.{
   Some,
   length,
   set,
-  slice_index_or,
 }
 use Rattle.std.specs.List.{AllByRecursion}
 use Rattle.bpf_insn.specs.declared.operands.Operands.{Operands}
@@ -25,8 +24,10 @@ use Rattle.bpf_insn.specs.declared.operands.Operands.TheVariants.{Binary}
 use Rattle.bpf_verify.specs.Accepted.{Accepted}
 use Rattle.csr_store.specs.Grid.{Cell}
 use Rattle.bpf_run.specs.Meaning.{value_of}
-use Rattle.bpf_run.specs.Calls.{Call, calls_on, values_on, pairs_with}
-use Rattle.row_product.specs.Sums.{slot, added, added_calls, touch}
+use Rattle.bpf_run.specs.Calls.{Call, steps_of, calls_on, values_on, pairs_with}
+use Rattle.row_product.specs.declared.tagged.Sum.{Sum}
+use Rattle.row_product.specs.declared.tagged.Sum.TheVariants as sum
+use Rattle.row_product.specs.Sums.{slot, sums_of, kept, added, added_calls, touch}
 
 -- additions that wait, and the columns of their values
 pub record Waiting : Type 0 where
@@ -85,22 +86,22 @@ put_touched add sums [] touched = touched
 put_touched add sums (t ∷ ts) touched = put_touched add (put_term add sums t) ts (touch (slot sums t.0) t.0 touched)
 
 -- the sums when the additions that wait are made
-abbrev pub settled : Accepted → List (Option ℕ) → Waiting → List (Option ℕ)
-settled add sums w = written sums w.columns (values_on add w.operands)
+abbrev pub settled : Accepted → List Sum → Waiting → List (Option ℕ)
+settled add sums w = written (sums_of sums) w.columns (values_on add w.operands)
 
 -- the terms that wait, each at its column
 abbrev pub terms_of : Accepted → Pending → List Cell
 terms_of mul p = cells_of p.columns (values_on mul p.products)
 
 -- when all that wait are made: the sums, the calls that it takes, and the columns that are touched
-abbrev pub sums_then : Accepted → Accepted → List (Option ℕ) → Pending → List (Option ℕ)
+abbrev pub sums_then : Accepted → Accepted → List Sum → Pending → List (Option ℕ)
 sums_then add mul sums p = put_terms add (settled add sums p.waiting) (terms_of mul p)
 
-abbrev pub calls_then : Accepted → Accepted → List (Option ℕ) → Pending → List Call
+abbrev pub calls_then : Accepted → Accepted → List Sum → Pending → List Call
 calls_then add mul sums p = calls_on mul p.products
     ++ (calls_on add p.waiting.operands ++ put_calls add (settled add sums p.waiting) (terms_of mul p))
 
-abbrev pub touched_then : Accepted → Accepted → List (Option ℕ) → Pending → List ℕ → List ℕ
+abbrev pub touched_then : Accepted → Accepted → List Sum → Pending → List ℕ → List ℕ
 touched_then add mul sums p touched = put_touched add (settled add sums p.waiting) (terms_of mul p) touched
 
 -- products of a word and cells of a row of B wait too
@@ -111,9 +112,22 @@ with_cells p x cs = record p { columns = p.columns ++ columns_of cs; products = 
 abbrev pub AreBelow : ℕ → List ℕ → Type 0
 AreBelow n ks = AllByRecursion (λ k. k < n) ks
 
-pub record AreWithin (n : ℕ) (p : Pending) : Type 0 where
-  pub columns : AreBelow n p.columns
-  pub waiting : AreBelow n p.waiting.columns
+-- what is kept of each column at which an addition waits says so
+abbrev pub waits : Sum → Bool
+waits sum.Nothing = false
+waits (sum.At s) = false
+waits (sum.Waiting s) = true
+
+abbrev pub AreMarked : List Sum → List ℕ → Type 0
+AreMarked sums ks = AllByRecursion (λ k. waits (kept sums k) ≡ true) ks
+
+pub record Waits (sums : List Sum) (w : Waiting) : Type 0 where
+  pub below : AreBelow (length sums) w.columns
+  pub marked : AreMarked sums w.columns
+
+pub record AreWithin (sums : List Sum) (p : Pending) : Type 0 where
+  pub columns : AreBelow (length sums) p.columns
+  pub waiting : Waits sums p.waiting
 
 -- none of the columns is this one
 abbrev pub Lacks : ℕ → List ℕ → Type 0
@@ -130,15 +144,11 @@ pub record HasSpace (p : Pending) : Type 0 where
   pub paired : length p.columns ≡ length p.products
   pub room : length p.products < 64
 
--- each column has its mark, which others may share
-abbrev pub AreMarked : List Bool → List ℕ → Type 0
-AreMarked marks ks = AllByRecursion (λ k. slice_index_or marks (k % 16384) false ≡ true) ks
-
--- a term at a column that has no sum is its sum; at another it waits
-abbrev pub placed_sums : Option ℕ → List (Option ℕ) → ℕ → ℕ → List (Option ℕ)
-placed_sums None sums j t = set sums j (Some t)
-placed_sums (Some s) sums j t = sums
-
-abbrev pub placed : Option ℕ → Waiting → ℕ → ℕ → Waiting
-placed None w j t = w
-placed (Some s) w j t = record { columns = w.columns ++ j ∷ []; operands = w.operands ++ Binary s t ∷ [] }
+-- all that is known of a term that was put at a column
+pub record IsPut (add : Accepted) (sums : List Sum) (w : Waiting) (touched : List ℕ) (j t : ℕ) (then : List Sum) (now
+    : Waiting) (next : List ℕ) (before after : ℕ) : Type 0 where
+  pub sums_are : settled add then now ≡ put_term add (settled add sums w) (j, t)
+  pub touched_are : next ≡ touch (slot (settled add sums w) j) j touched
+  pub steps_are : after + steps_of (calls_on add now.operands)
+      ≡ before + steps_of (calls_on add w.operands) + steps_of (added_calls add (slot (settled add sums w) j) t)
+  pub waits_are : Waits then now

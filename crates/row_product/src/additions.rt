@@ -1,18 +1,18 @@
 //! Additions to sums that don't wait for one another, gathered until they are made together.
-ghost use Rattle.std.specs.Prelude.{◌≡◌, ◌≤◌, ◌<◌, ◌+◌, ◌++◌, ◌∷◌, [], false, None, length, vec_capacity};
+ghost use Rattle.std.specs.Prelude.{◌≡◌, ◌≤◌, ◌<◌, ◌+◌, ◌^◌, ◌++◌, ◌∷◌, [], ℕ, None, length, set, vec_capacity};
 ghost use Rattle.bpf_insn.specs.declared.operands.Kind.TheVariants as kinds;
 ghost use Rattle.bpf_insn.specs.declared.operands.Operands.TheVariants as on;
+ghost use Rattle.bpf_verify.specs.Accepted.{Accepted};
 ghost use Rattle.bpf_run.specs.Calls.{steps_of, calls_on};
-ghost use Rattle.row_product.specs.Sums.{slot, touch, added_calls};
-ghost use Rattle.row_product.specs.Terms.{no_waiting, written, put_term, settled, AreBelow, IsFree, placed_sums, placed};
+ghost use Rattle.row_product.specs.declared.tagged.Sum.TheVariants as sum;
+ghost use Rattle.row_product.specs.Sums.{slot, sums_of};
+ghost use Rattle.row_product.specs.Terms.{no_waiting, written, settled, AreBelow, Waits, IsFree, IsPut};
 
+use crate::tagged::Sum;
 use bpf_insn::Kind;
 use bpf_run::{Calls, MOST_CALLS, Prepared};
 use std::alloc::{AllocError, Global};
 use std::marker::Model;
-
-/// Columns with one remainder by this share a mark.
-const MARKS: u64 = 16_384;
 
 /// Additions that wait, no two of them at one column. A contract sees a `Waiting`.
 #[derive(Drop)]
@@ -20,21 +20,18 @@ pub(crate) struct Additions {
     calls: Calls,
     /// Room for as many columns as there can be calls: the first are theirs.
     columns: Vec<u64>,
-    /// Whether an addition may wait at a column of this remainder.
-    marks: Vec<bool>,
 }
 
 impl Model for Additions {
     ghost use Rattle.std.specs.Prelude.{◌≡◌, length, take};
     ghost use Rattle.bpf_insn.specs.declared.operands.Kind.TheVariants as kinds;
-    ghost use Rattle.row_product.specs.Terms.{Waiting, AreMarked};
+    ghost use Rattle.row_product.specs.Terms.{Waiting};
 
     ghost Value = { Waiting };
 
     ghost view = { λ a. record { columns = take (length a.calls.operands) a.columns.items; operands = a.calls.operands } };
 
-    ghost invariant = { λ a. (a.calls.kind ≡ kinds.Binary) × (length a.columns.items ≡ 64) × (length a.marks.items ≡ 16384)
-        × AreMarked a.marks.items (take (length a.calls.operands) a.columns.items) };
+    ghost invariant = { λ a. (a.calls.kind ≡ kinds.Binary) × (length a.columns.items ≡ 64) };
 }
 
 impl Additions {
@@ -42,15 +39,9 @@ impl Additions {
     pub(crate) fn new(alloc: Global) -> Result<Self, AllocError> {
         let mut calls = Calls::new(alloc)?;
         calls.begin(Kind::Binary);
-        let mut marks = Vec::new(alloc);
-        marks.resize(MARKS as usize, false)?;
         let mut columns = Vec::new(alloc);
         columns.resize(MOST_CALLS, 0)?;
-        Ok(Additions {
-            calls,
-            columns,
-            marks,
-        })
+        Ok(Additions { calls, columns })
     }
 
     /// Forgets all that wait.
@@ -61,45 +52,23 @@ impl Additions {
     }
 
     /// Makes all that wait.
-    pub(crate) fn settle(&mut self, add: &Prepared, sums: &mut [Option<u64>]) -> u64
+    #[inline(never)]
+    pub(crate) fn settle(&mut self, add: &Prepared, sums: &mut [Sum]) -> u64
         requires add { add.now.kind ≡ kinds.Binary }
         requires within { AreBelow (length sums.old) self.old.columns }
-        ensures sums { sums.new ≡ settled add.now sums.old self.old }
+        ensures sums { sums_of sums.new ≡ settled add.now sums.old self.old }
         ensures steps { result ≡ steps_of (calls_on add.now self.old.operands) }
         ensures none { self.new ≡ no_waiting }
     {
         let many = self.calls.len();
         let steps = self.calls.make(add);
         write(&self.columns[..many], self.calls.values(), sums);
-        unmark(&self.columns[..many], &mut self.marks);
         self.calls.begin(Kind::Binary);
         steps
     }
 
-    /// Whether one more has to wait for those that wait: one may stand at the same column, or there is no room.
-    fn blocks(&self, column: u64) -> bool
-        ensures { result ≡ false → IsFree column self.now }
-    {
-        self.calls.len() >= MOST_CALLS || self.marks[(column % MARKS) as usize]
-    }
-
-    /// Makes those that wait, where one more at a column has to wait for them.
-    fn make_way(&mut self, add: &Prepared, column: u64, sums: &mut [Option<u64>]) -> u64
-        requires add { add.now.kind ≡ kinds.Binary }
-        requires within { AreBelow (length sums.old) self.old.columns }
-        ensures sums { settled add.now sums.new self.new ≡ settled add.now sums.old self.old }
-        ensures steps { result + steps_of (calls_on add.now self.new.operands) ≡ steps_of (calls_on add.now self.old.operands) }
-        ensures free { IsFree column self.new }
-        ensures within { AreBelow (length sums.old) self.new.columns }
-    {
-        if self.blocks(column) {
-            self.settle(add, sums)
-        } else {
-            0
-        }
-    }
-
     /// Gathers the sum of two words, for a column.
+    #[inline(always)]
     fn gather(&mut self, column: u64, x: u64, y: u64)
         requires room { length self.old.operands < 64 }
         ensures { self.new ≡ record {
@@ -107,73 +76,128 @@ impl Additions {
           operands = self.old.operands ++ on.Binary x y ∷ [];
         } }
     {
-        self.columns[self.calls.len()] = column;
+        let place = self.calls.len();
         self.calls.gather_pair(x, y);
-        self.marks[(column % MARKS) as usize] = true;
+        self.columns[place] = column;
+    }
+
+    /// Gathers the addition of a term to the sum of a column, where it waits.
+    #[inline(always)]
+    fn wait(&mut self, column: u64, so_far: u64, term: u64, sums: &mut [Sum])
+        requires within { column < length sums.old }
+        requires room { length self.old.operands < 64 }
+        ensures sums { sums.new ≡ set sums.old column (sum.Waiting so_far) }
+        ensures waiting { self.new ≡ record {
+          columns = self.old.columns ++ column ∷ [];
+          operands = self.old.operands ++ on.Binary so_far term ∷ [];
+        } }
+    {
+        self.gather(column, so_far, term);
+        sums[column as usize] = Sum::Waiting(so_far);
     }
 
     /// Puts a term at a column where no addition waits.
-    fn place(&mut self, column: u64, term: u64, sums: &mut [Option<u64>], touched: &mut Vec<u64>)
+    fn place(&mut self, column: u64, term: u64, sums: &mut [Sum], touched: &mut Vec<u64>)
         requires within { column < length sums.old }
+        requires waits { Waits sums.old self.old }
         requires free { IsFree column self.old }
-        requires room { slot sums.old column ≡ None → length touched.old.items < vec_capacity touched.old }
-        ensures sums { sums.new ≡ placed_sums (slot sums.old column) sums.old column term }
-        ensures waiting { self.new ≡ placed (slot sums.old column) self.old column term }
-        ensures touched { touched.new.items ≡ touch (slot sums.old column) column touched.old.items }
+        requires room { slot (sums_of sums.old) column ≡ None → length touched.old.items < vec_capacity touched.old }
+        ensures put { (add : Accepted) (steps : ℕ) → IsPut add sums.old self.old touched.old.items column term
+            sums.new self.new touched.new.items steps steps }
         ensures room { vec_capacity touched.old ≤ vec_capacity touched.new }
     {
-        match sums[column as usize] {
-            Some(so_far) => self.gather(column, so_far, term),
-            None => {
-                sums[column as usize] = Some(term);
-                touched.push(column).unwrap();
-            }
+        match sums[column as usize].word() {
+            Some(so_far) => self.wait(column, so_far, term, sums),
+            None => begin(column, term, sums, touched),
         }
     }
 
-    /// Puts a term at a column.
+    /// Makes all additions that wait, and then puts a term at a column.
+    #[cold]
+    #[inline(never)]
+    fn put_behind(
+        &mut self,
+        add: &Prepared,
+        column: u64,
+        term: u64,
+        sums: &mut [Sum],
+        touched: &mut Vec<u64>,
+        steps: u64,
+    ) -> u64
+        requires add { add.now.kind ≡ kinds.Binary }
+        requires small { steps + steps_of (calls_on add.now self.old.operands) < 2 ^ 64 }
+        requires column { column < length sums.old }
+        requires within { AreBelow (length sums.old) self.old.columns }
+        requires room { slot (settled add.now sums.old self.old) column ≡ None
+            → length touched.old.items < vec_capacity touched.old }
+        ensures put { IsPut add.now sums.old self.old touched.old.items column term
+            sums.new self.new touched.new.items steps result }
+        ensures room { vec_capacity touched.old ≤ vec_capacity touched.new }
+    {
+        let made = self.settle(add, sums);
+        self.place(column, term, sums, touched);
+        steps + made
+    }
+
+    /// Puts a term at a column: as its sum, or else in an addition that waits. Those that wait are made before, where one of them
+    /// falls on the column or there is no room, and their steps are added.
+    #[inline(always)]
     pub(crate) fn put(
         &mut self,
         add: &Prepared,
         column: u64,
         term: u64,
-        sums: &mut [Option<u64>],
+        sums: &mut [Sum],
         touched: &mut Vec<u64>,
+        steps: u64,
     ) -> u64
         requires add { add.now.kind ≡ kinds.Binary }
+        requires small { steps + steps_of (calls_on add.now self.old.operands) < 2 ^ 64 }
         requires column { column < length sums.old }
-        requires within { AreBelow (length sums.old) self.old.columns }
+        requires waits { Waits sums.old self.old }
         requires room { slot (settled add.now sums.old self.old) column ≡ None
             → length touched.old.items < vec_capacity touched.old }
-        ensures sums { settled add.now sums.new self.new ≡ put_term add.now (settled add.now sums.old self.old) (column, term) }
-        ensures touched { touched.new.items ≡ touch (slot (settled add.now sums.old self.old) column) column touched.old.items }
-        ensures steps { result + steps_of (calls_on add.now self.new.operands) ≡ steps_of (calls_on add.now self.old.operands)
-            + steps_of (added_calls add.now (slot (settled add.now sums.old self.old) column) term) }
-        ensures within { AreBelow (length sums.old) self.new.columns }
+        ensures put { IsPut add.now sums.old self.old touched.old.items column term
+            sums.new self.new touched.new.items steps result }
         ensures room { vec_capacity touched.old ≤ vec_capacity touched.new }
     {
-        let steps = self.make_way(add, column, sums);
-        self.place(column, term, sums, touched);
-        steps
+        match sums[column as usize] {
+            Sum::At(so_far) => {
+                if self.calls.len() < MOST_CALLS {
+                    self.wait(column, so_far, term, sums);
+                    return steps;
+                }
+            }
+            Sum::Nothing => {
+                begin(column, term, sums, touched);
+                return steps;
+            }
+            Sum::Waiting(_) => {}
+        }
+        self.put_behind(add, column, term, sums, touched, steps)
     }
+}
+
+/// Puts the first term at a column, which then is touched.
+#[inline(always)]
+fn begin(column: u64, term: u64, sums: &mut [Sum], touched: &mut Vec<u64>)
+    requires within { column < length sums.old }
+    requires room { length touched.old.items < vec_capacity touched.old }
+    ensures sums { sums.new ≡ set sums.old column (sum.At term) }
+    ensures touched { touched.new.items ≡ touched.old.items ++ column ∷ [] }
+    ensures room { vec_capacity touched.old ≤ vec_capacity touched.new }
+{
+    sums[column as usize] = Sum::At(term);
+    touched.push(column).unwrap();
 }
 
 /// Writes values at columns.
-fn write(columns: &[u64], values: &[u64], sums: &mut [Option<u64>])
+fn write(columns: &[u64], values: &[u64], sums: &mut [Sum])
     requires values { length values.now ≡ length columns.now }
     requires within { AreBelow (length sums.old) columns.now }
-    ensures { sums.new ≡ written sums.old columns.now values.now }
+    ensures { sums_of sums.new ≡ written (sums_of sums.old) columns.now values.now }
 {
     for k in 0..columns.len() {
-        sums[columns[k] as usize] = Some(values[k]);
-    }
-}
-
-/// Takes the marks of columns away.
-fn unmark(columns: &[u64], marks: &mut [bool])
-    requires { length marks.old ≡ 16384 }
-{
-    for column in columns {
-        marks[(*column % MARKS) as usize] = false;
+        sums[columns[k] as usize] = Sum::At(values[k]);
     }
 }

@@ -5,8 +5,8 @@
 //! of its calls, and on want of memory the steps of the calls that were made; [`mult_count`] says how many multiplications a
 //! product takes, before any is made.
 //!
-//! A row of the result is summed in a [`Scratch`], which a caller keeps from call to call: a sum for each column, whether the
-//! mask's row allows it, and the columns that are touched. The rows of B that A's row names are added one after another, and
+//! A row of the result is summed in a [`Scratch`], which a caller keeps from call to call: for each column its sum and whether an
+//! addition to it waits (`tagged`), whether the mask's row allows it, and the columns that are touched. The rows of B that A's row names are added one after another, and
 //! the touched columns are then put in order, moved into the result and emptied. Where at least one column in 16 is touched, all
 //! columns are gone over in place of putting these in order. So the work is linear in the multiplications, the rows and the
 //! entries, but for the order of a row's columns; and the room is taken row by row.
@@ -26,6 +26,7 @@ mod marks;
 mod product;
 mod row;
 mod sums;
+mod tagged;
 mod terms;
 
 pub use count::{mult_count, mult_count_in};

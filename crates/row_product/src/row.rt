@@ -5,12 +5,13 @@ ghost use Rattle.bpf_run.specs.Calls.{steps_of, Charges};
 ghost use Rattle.csr_store.specs.Grid.{limit, row_of};
 ghost use Rattle.csr_store.specs.Mask.{HasShape, mask_of, cut, row_under, listed_under};
 ghost use Rattle.row_product.specs.Product.{product_at, product_calls_at, mults_of};
-ghost use Rattle.row_product.specs.Sums.{slot, flag, AreTouched, HasRoom};
+ghost use Rattle.row_product.specs.Sums.{slot, sums_of, flag, AreTouched, HasRoom};
 
 use crate::count::{is_open, mults_in_row};
 use crate::emit::{clear, emit_row};
 use crate::marks::{allow, forbid};
 use crate::sums::sum_row;
+use crate::tagged::Sum;
 use crate::terms::Terms;
 use bpf_run::Prepared;
 use csr_store::{Matrix, Rows};
@@ -26,7 +27,7 @@ fn sum_under(
     mask: Option<&Matrix>,
     allowed: &mut [bool],
     terms: &mut Terms,
-    sums: &mut [Option<u64>],
+    sums: &mut [Sum],
     touched: &mut Vec<u64>,
 ) -> u64
     requires add { add.now.kind ≡ kinds.Binary }
@@ -37,11 +38,11 @@ fn sum_under(
     requires width { b.now.columns ≤ length sums.old }
     requires flags { length sums.old ≤ length allowed.old }
     requires none { (j : ℕ) → flag allowed.old j ≡ false }
-    requires empty { (j : ℕ) → slot sums.old j ≡ None }
+    requires empty { (j : ℕ) → slot (sums_of sums.old) j ≡ None }
     requires touched { touched.old.items ≡ [] }
     requires room { HasRoom (length sums.old) (vec_capacity touched.old) 0 (mults_of b.now (row_of a.now i)) }
-    ensures sums { (j : ℕ) → slot sums.new j ≡ cut (mask_of mask.entry) (product_at add.now mul.now a.now b.now) (i, j) }
-    ensures touched { AreTouched b.now.columns sums.new touched.new.items }
+    ensures sums { (j : ℕ) → slot (sums_of sums.new) j ≡ cut (mask_of mask.entry) (product_at add.now mul.now a.now b.now) (i, j) }
+    ensures touched { AreTouched b.now.columns (sums_of sums.new) touched.new.items }
     ensures none { (j : ℕ) → flag allowed.new j ≡ false }
     ensures steps { result ≡ steps_of (listed_under (mask_of mask.entry) b.now.columns
         (product_calls_at add.now mul.now a.now b.now) i) }
@@ -69,7 +70,7 @@ pub(crate) fn fill_row(
     mask: Option<&Matrix>,
     allowed: &mut [bool],
     terms: &mut Terms,
-    sums: &mut [Option<u64>],
+    sums: &mut [Sum],
     touched: &mut Vec<u64>,
     rows: &mut Rows,
     steps: &mut u64,
@@ -82,7 +83,7 @@ pub(crate) fn fill_row(
     requires width { b.now.columns ≤ length sums.old }
     requires flags { length sums.old ≤ length allowed.old }
     requires none { (j : ℕ) → flag allowed.old j ≡ false }
-    requires empty { (j : ℕ) → slot sums.old j ≡ None }
+    requires empty { (j : ℕ) → slot (sums_of sums.old) j ≡ None }
     requires touched { touched.old.items ≡ [] }
     requires columns { rows.old.columns ≡ b.now.columns }
     requires none_open { rows.old.opened ≡ [] }
@@ -97,7 +98,7 @@ pub(crate) fn fill_row(
         (product_calls_at add.now mul.now a.now b.now) i) steps.old steps.new) }
     ensures few { steps.new ≤ steps.old + 8192 * limit * length (row_of a.now i) }
     ensures none { (j : ℕ) → flag allowed.new j ≡ false }
-    ensures empty { (j : ℕ) → slot sums.new j ≡ None }
+    ensures empty { (j : ℕ) → slot (sums_of sums.new) j ≡ None }
     ensures touched { touched.new.items ≡ [] }
 {
     if !is_open(mask, i) {

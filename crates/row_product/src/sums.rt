@@ -6,9 +6,10 @@ ghost use Rattle.bpf_run.specs.Calls.{steps_of};
 ghost use Rattle.csr_store.specs.Along.{along};
 ghost use Rattle.csr_store.specs.Grid.{limit, row_of};
 ghost use Rattle.row_product.specs.Product.{mults_of};
-ghost use Rattle.row_product.specs.Sums.{slot, flag, takes, seen, after, extra, value_of_rest, calls_of_rest, AreTouched, HasRoom};
+ghost use Rattle.row_product.specs.Sums.{slot, sums_of, flag, takes, seen, after, extra, value_of_rest, calls_of_rest, AreTouched, HasRoom};
 ghost use Rattle.row_product.specs.Terms.{sums_then, calls_then, touched_then, AreWithin};
 
+use crate::tagged::Sum;
 use crate::terms::Terms;
 use bpf_run::Prepared;
 use csr_store::Matrix;
@@ -22,7 +23,7 @@ fn add_allowed(
     k: u64,
     allowed: &[bool],
     terms: &mut Terms,
-    sums: &mut [Option<u64>],
+    sums: &mut [Sum],
     touched: &mut Vec<u64>,
 ) -> u64
     requires add { add.now.kind ≡ kinds.Binary }
@@ -30,7 +31,7 @@ fn add_allowed(
     requires row { k < b.now.rows }
     requires width { b.now.columns ≤ length sums.old }
     requires flags { length sums.old ≤ length allowed.now }
-    requires within { AreWithin (length sums.old) terms.old }
+    requires within { AreWithin sums.old terms.old }
     requires small { steps_of (calls_then add.now mul.now sums.old terms.old) + 8192 * limit < 2 ^ 64 }
     requires touched { AreTouched b.now.columns (sums_then add.now mul.now sums.old terms.old)
         (touched_then add.now mul.now sums.old terms.old touched.old.items) }
@@ -39,7 +40,7 @@ fn add_allowed(
     ensures sums { (j : ℕ) → slot (sums_then add.now mul.now sums.new terms.new) j
         ≡ after add.now mul.now x (slot (sums_then add.now mul.now sums.old terms.old) j)
         (seen (flag allowed.now j) (fin.get b.now.cells (k, j))) }
-    ensures within { AreWithin (length sums.old) terms.new }
+    ensures within { AreWithin sums.new terms.new }
     ensures touched { AreTouched b.now.columns (sums_then add.now mul.now sums.new terms.new)
         (touched_then add.now mul.now sums.new terms.new touched.new.items) }
     ensures grows { length (touched_then add.now mul.now sums.new terms.new touched.new.items)
@@ -74,14 +75,14 @@ fn add_whole(
     b: &Matrix,
     k: u64,
     terms: &mut Terms,
-    sums: &mut [Option<u64>],
+    sums: &mut [Sum],
     touched: &mut Vec<u64>,
 ) -> u64
     requires add { add.now.kind ≡ kinds.Binary }
     requires mul { mul.now.kind ≡ kinds.Binary }
     requires row { k < b.now.rows }
     requires width { b.now.columns ≤ length sums.old }
-    requires within { AreWithin (length sums.old) terms.old }
+    requires within { AreWithin sums.old terms.old }
     requires small { steps_of (calls_then add.now mul.now sums.old terms.old) + 8192 * limit < 2 ^ 64 }
     requires touched { AreTouched b.now.columns (sums_then add.now mul.now sums.old terms.old)
         (touched_then add.now mul.now sums.old terms.old touched.old.items) }
@@ -90,7 +91,7 @@ fn add_whole(
     ensures sums { (j : ℕ) → slot (sums_then add.now mul.now sums.new terms.new) j
         ≡ after add.now mul.now x (slot (sums_then add.now mul.now sums.old terms.old) j)
         (fin.get b.now.cells (k, j)) }
-    ensures within { AreWithin (length sums.old) terms.new }
+    ensures within { AreWithin sums.new terms.new }
     ensures touched { AreTouched b.now.columns (sums_then add.now mul.now sums.new terms.new)
         (touched_then add.now mul.now sums.new terms.new touched.new.items) }
     ensures grows { length (touched_then add.now mul.now sums.new terms.new touched.new.items)
@@ -128,7 +129,7 @@ fn add_row(
     masked: bool,
     allowed: &[bool],
     terms: &mut Terms,
-    sums: &mut [Option<u64>],
+    sums: &mut [Sum],
     touched: &mut Vec<u64>,
 ) -> u64
     requires add { add.now.kind ≡ kinds.Binary }
@@ -136,7 +137,7 @@ fn add_row(
     requires row { k < b.now.rows }
     requires width { b.now.columns ≤ length sums.old }
     requires flags { length sums.old ≤ length allowed.now }
-    requires within { AreWithin (length sums.old) terms.old }
+    requires within { AreWithin sums.old terms.old }
     requires small { steps_of (calls_then add.now mul.now sums.old terms.old) + 8192 * limit < 2 ^ 64 }
     requires touched { AreTouched b.now.columns (sums_then add.now mul.now sums.old terms.old)
         (touched_then add.now mul.now sums.old terms.old touched.old.items) }
@@ -145,7 +146,7 @@ fn add_row(
     ensures sums { (j : ℕ) → slot (sums_then add.now mul.now sums.new terms.new) j
         ≡ after add.now mul.now x (slot (sums_then add.now mul.now sums.old terms.old) j)
         (seen (takes masked allowed.now j) (fin.get b.now.cells (k, j))) }
-    ensures within { AreWithin (length sums.old) terms.new }
+    ensures within { AreWithin sums.new terms.new }
     ensures touched { AreTouched b.now.columns (sums_then add.now mul.now sums.new terms.new)
         (touched_then add.now mul.now sums.new terms.new touched.new.items) }
     ensures grows { length (touched_then add.now mul.now sums.new terms.new touched.new.items)
@@ -174,7 +175,7 @@ pub(crate) fn sum_row(
     masked: bool,
     allowed: &[bool],
     terms: &mut Terms,
-    sums: &mut [Option<u64>],
+    sums: &mut [Sum],
     touched: &mut Vec<u64>,
 ) -> u64
     requires add { add.now.kind ≡ kinds.Binary }
@@ -183,14 +184,13 @@ pub(crate) fn sum_row(
     requires row { i < a.now.rows }
     requires width { b.now.columns ≤ length sums.old }
     requires flags { length sums.old ≤ length allowed.now }
-    requires touched { AreTouched b.now.columns sums.old touched.old.items }
+    requires touched { AreTouched b.now.columns (sums_of sums.old) touched.old.items }
     requires room { HasRoom (length sums.old) (vec_capacity touched.old) (length touched.old.items) (mults_of b.now (row_of a.now
         i)) }
-    ensures sums { (j : ℕ) → slot sums.new j ≡ value_of_rest add.now mul.now b.now (takes masked allowed.now j) (slot sums.old j)
+    ensures sums { (j : ℕ) → slot (sums_of sums.new) j ≡ value_of_rest add.now mul.now b.now (takes masked allowed.now j) (slot (sums_of sums.old) j)
         (row_of a.now i) j }
-    ensures touched { AreTouched b.now.columns sums.new touched.new.items }
-    ensures steps { result ≡ steps_of (along (λ j. calls_of_rest add.now mul.now b.now (takes masked allowed.now j) (slot sums.old
-        j)
+    ensures touched { AreTouched b.now.columns (sums_of sums.new) touched.new.items }
+    ensures steps { result ≡ steps_of (along (λ j. calls_of_rest add.now mul.now b.now (takes masked allowed.now j) (slot (sums_of sums.old) j)
         (row_of a.now i) j) 0 b.now.columns) }
     ensures few { result ≤ 8192 * limit * length (row_of a.now i) }
 {

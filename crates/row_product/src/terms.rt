@@ -3,7 +3,7 @@ ghost use Rattle.std.specs.Prelude.{◌≡◌, ◌≤◌, ◌<◌, ◌+◌, ◌^
 ghost use Rattle.bpf_insn.specs.declared.operands.Kind.TheVariants as kinds;
 ghost use Rattle.bpf_insn.specs.declared.operands.Operands.TheVariants as on;
 ghost use Rattle.bpf_run.specs.Calls.{steps_of, calls_on};
-ghost use Rattle.row_product.specs.Sums.{slot, touch, after, extra};
+ghost use Rattle.row_product.specs.Sums.{slot, sums_of, touch, after, extra};
 ghost use Rattle.row_product.specs.Terms.{
   no_pending,
   cells_of,
@@ -18,10 +18,12 @@ ghost use Rattle.row_product.specs.Terms.{
   with_cells,
   AreBelow,
   AreWithin,
+  Waits,
   HasSpace,
 };
 
 use crate::additions::Additions;
+use crate::tagged::Sum;
 use bpf_insn::Kind;
 use bpf_run::{Calls, MOST_CALLS, Prepared};
 use std::alloc::{AllocError, Global};
@@ -79,12 +81,12 @@ impl Terms {
         &mut self,
         add: &Prepared,
         mul: &Prepared,
-        sums: &mut [Option<u64>],
+        sums: &mut [Sum],
         touched: &mut Vec<u64>,
     ) -> u64
         requires add { add.now.kind ≡ kinds.Binary }
         requires mul { mul.now.kind ≡ kinds.Binary }
-        requires within { AreWithin (length sums.old) self.old }
+        requires within { AreWithin sums.old self.old }
         requires fits { length (touched_then add.now mul.now sums.old self.old touched.old.items) ≤ vec_capacity touched.old }
         requires small { steps_of (calls_then add.now mul.now sums.old self.old) < 2 ^ 64 }
         ensures none { (self.new.columns ≡ []) × (self.new.products ≡ []) }
@@ -92,7 +94,7 @@ impl Terms {
         ensures touched { touched.new.items ≡ touched_then add.now mul.now sums.old self.old touched.old.items }
         ensures steps { result + steps_of (calls_on add.now self.new.waiting.operands)
             ≡ steps_of (calls_then add.now mul.now sums.old self.old) }
-        ensures within { AreBelow (length sums.old) self.new.waiting.columns }
+        ensures within { Waits sums.new self.new.waiting }
         ensures room { vec_capacity touched.old ≤ vec_capacity touched.new }
     {
         let many = self.products.len();
@@ -129,12 +131,12 @@ impl Terms {
         &mut self,
         add: &Prepared,
         mul: &Prepared,
-        sums: &mut [Option<u64>],
+        sums: &mut [Sum],
         touched: &mut Vec<u64>,
     ) -> u64
         requires add { add.now.kind ≡ kinds.Binary }
         requires mul { mul.now.kind ≡ kinds.Binary }
-        requires within { AreWithin (length sums.old) self.old }
+        requires within { AreWithin sums.old self.old }
         requires fits { length (touched_then add.now mul.now sums.old self.old touched.old.items) ≤ vec_capacity touched.old }
         requires small { steps_of (calls_then add.now mul.now sums.old self.old) < 2 ^ 64 }
         ensures space { HasSpace self.new }
@@ -143,7 +145,7 @@ impl Terms {
             ≡ touched_then add.now mul.now sums.old self.old touched.old.items }
         ensures steps { result + steps_of (calls_then add.now mul.now sums.new self.new)
             ≡ steps_of (calls_then add.now mul.now sums.old self.old) }
-        ensures within { AreWithin (length sums.old) self.new }
+        ensures within { AreWithin sums.new self.new }
         ensures room { vec_capacity touched.old ≤ vec_capacity touched.new }
     {
         if self.is_full() {
@@ -182,13 +184,13 @@ impl Terms {
         x: u64,
         y: u64,
         column: u64,
-        sums: &mut [Option<u64>],
+        sums: &mut [Sum],
         touched: &mut Vec<u64>,
     ) -> u64
         requires add { add.now.kind ≡ kinds.Binary }
         requires mul { mul.now.kind ≡ kinds.Binary }
         requires column { column < length sums.old }
-        requires within { AreWithin (length sums.old) self.old }
+        requires within { AreWithin sums.old self.old }
         requires fits { length (touched_then add.now mul.now sums.old self.old touched.old.items) ≤ vec_capacity touched.old }
         requires small { steps_of (calls_then add.now mul.now sums.old self.old) < 2 ^ 64 }
         ensures sums { sums_then add.now mul.now sums.new self.new ≡ set (sums_then add.now mul.now sums.old self.old) column
@@ -199,7 +201,7 @@ impl Terms {
         ensures steps { result + steps_of (calls_then add.now mul.now sums.new self.new)
             ≡ steps_of (calls_then add.now mul.now sums.old self.old)
             + steps_of (extra add.now mul.now x (slot (sums_then add.now mul.now sums.old self.old) column) (Some y)) }
-        ensures within { AreWithin (length sums.old) self.new }
+        ensures within { AreWithin sums.new self.new }
         ensures room { vec_capacity touched.old ≤ vec_capacity touched.new }
     {
         let steps = self.make_room(add, mul, sums, touched);
@@ -212,15 +214,15 @@ impl Terms {
         &mut self,
         add: &Prepared,
         mul: &Prepared,
-        sums: &mut [Option<u64>],
+        sums: &mut [Sum],
         touched: &mut Vec<u64>,
     ) -> u64
         requires add { add.now.kind ≡ kinds.Binary }
         requires mul { mul.now.kind ≡ kinds.Binary }
-        requires within { AreWithin (length sums.old) self.old }
+        requires within { AreWithin sums.old self.old }
         requires fits { length (touched_then add.now mul.now sums.old self.old touched.old.items) ≤ vec_capacity touched.old }
         requires small { steps_of (calls_then add.now mul.now sums.old self.old) < 2 ^ 64 }
-        ensures sums { sums.new ≡ sums_then add.now mul.now sums.old self.old }
+        ensures sums { sums_of sums.new ≡ sums_then add.now mul.now sums.old self.old }
         ensures touched { touched.new.items ≡ touched_then add.now mul.now sums.old self.old touched.old.items }
         ensures steps { result ≡ steps_of (calls_then add.now mul.now sums.old self.old) }
         ensures room { vec_capacity touched.old ≤ vec_capacity touched.new }
@@ -243,18 +245,19 @@ fn enter_columns(columns: &mut [u64], from: usize, cells: &[(u64, u64)])
 }
 
 /// Puts terms at columns.
+#[inline(never)]
 fn put_all(
     add: &Prepared,
     columns: &[u64],
     terms: &[u64],
     additions: &mut Additions,
-    sums: &mut [Option<u64>],
+    sums: &mut [Sum],
     touched: &mut Vec<u64>,
 ) -> u64
     requires add { add.now.kind ≡ kinds.Binary }
     requires terms { length terms.now ≡ length columns.now }
     requires columns { AreBelow (length sums.old) columns.now }
-    requires within { AreBelow (length sums.old) additions.old.columns }
+    requires within { Waits sums.old additions.old }
     requires fits { length (put_touched add.now (settled add.now sums.old additions.old) (cells_of columns.now terms.now)
         touched.old.items) ≤ vec_capacity touched.old }
     requires small { steps_of (calls_on add.now additions.old.operands)
@@ -265,12 +268,12 @@ fn put_all(
         (cells_of columns.now terms.now) touched.old.items }
     ensures steps { result + steps_of (calls_on add.now additions.new.operands) ≡ steps_of (calls_on add.now additions.old.operands)
         + steps_of (put_calls add.now (settled add.now sums.old additions.old) (cells_of columns.now terms.now)) }
-    ensures within { AreBelow (length sums.old) additions.new.columns }
+    ensures within { Waits sums.new additions.new }
     ensures room { vec_capacity touched.old ≤ vec_capacity touched.new }
 {
     let mut steps = 0;
     for k in 0..columns.len() {
-        steps += additions.put(add, columns[k], terms[k], sums, touched);
+        steps = additions.put(add, columns[k], terms[k], sums, touched, steps);
     }
     steps
 }

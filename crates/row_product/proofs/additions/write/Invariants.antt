@@ -1,6 +1,8 @@
 use Rattle.std.proofs.Common.{◌≡◌, drop}
+use Rattle.row_product.specs.Sums.{sums_of}
 use Rattle.row_product.specs.Terms.{written}
 use Rattle.row_product.proofs.additions.write.Given as goal
 
 abbrev pub invariant-loop-k : goal.invariant-loop-k
-invariant-loop-k l = written l.sums (drop l.k l.columns) (drop l.k l.values) ≡ written l.fn.sums l.columns l.values
+invariant-loop-k l = written (sums_of l.sums) (drop l.k l.columns) (drop l.k l.values)
+    ≡ written (sums_of l.fn.sums) l.columns l.values

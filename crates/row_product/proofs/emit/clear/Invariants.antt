@@ -1,7 +1,7 @@
 use Rattle.std.proofs.Common.{◌≡◌, ℕ, Some, drop}
 use Rattle.std.specs.List.{Contains}
-use Rattle.row_product.specs.Sums.{slot}
+use Rattle.row_product.specs.Sums.{slot, sums_of}
 use Rattle.row_product.proofs.emit.clear.Given as goal
 
 abbrev pub invariant-loop-column : goal.invariant-loop-column
-invariant-loop-column l = (j v : ℕ) → slot l.sums j ≡ Some v → Contains (drop l.column-index l.touched) j
+invariant-loop-column l = (j v : ℕ) → slot (sums_of l.sums) j ≡ Some v → Contains (drop l.column-index l.touched) j

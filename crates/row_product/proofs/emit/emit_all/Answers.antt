@@ -1,80 +1,64 @@
-use Rattle.std.proofs.Common.{Some, None, ap, sym, ◌∙◌, append-nil, arith}
+use Rattle.std.proofs.Common.{◌≡◌, ◌≤◌, ◌+◌, ◌-◌, ◌*◌, ◌/◌, ◌<◌, length, subst, sym, ap, ◌∙◌, arith}
+use Rattle.std.specs.List.{AllByRecursion}
+use Rattle.std.proofs.lemmas.Result.{on_ok_weaker}
+use Rattle.csr_store.specs.Along.{row_by}
+use Rattle.csr_store.specs.Grid.{Cell}
 use Rattle.csr_store.specs.Run.{Run}
-use Rattle.row_product.specs.Sums.{slot}
-use Rattle.row_product.proofs.EmittingAll.{
-  emitting_all_start,
-  emitting_all_step,
-  emptied_at,
-  emptied_other,
-  emitting_all_kept,
-  emitting_all_lost,
-  emitting_all_end,
-  emitting_all_gone,
-}
+use Rattle.row_product.specs.Sums.{slot, sums_of}
+use Rattle.row_product.specs.Emitted.{IsEmitted}
+use Rattle.row_product.proofs.EmittingAll.{emitting_all_end, emitting_all_gone}
 use Rattle.row_product.proofs.emit.emit_all.Goals as goal
-use Rattle.row_product.proofs.emit.emit_all.Goals.{in-Some+in_ok-push-in-Some, in-None}
 
-pub loop-column-init : goal.loop-column-init
-loop-column-init c = emitting_all_start c.args.rows.now.columns c.args.sums.now c.args.rows.now c.requires.none_open
+pub loop-k-preserved : goal.loop-k-preserved
+loop-k-preserved c =
+    let n = c.args.rows.now.columns in
+    let k = c.loop-k.k in
+    let i = c.loop-k.invariant in
+    let same : c.loop-k.rows.columns ≡ n = ap (λ (r : Run). r.columns) i.run in
+    let next : k * 8 + 8 ≡ (k + 1) * 8 = omega arith in
+    subst (λ m. IsEmitted n (sums_of c.args.sums.now) c.args.rows.now m (sums_of c.emit_stretch.new.sums) c.emit_stretch.new.rows)
+    next (subst (λ m. IsEmitted m (sums_of c.args.sums.now) c.args.rows.now (k * 8 + 8) (sums_of c.emit_stretch.new.sums)
+    c.emit_stretch.new.rows) same (c.in_ok-emit_stretch.ensures.emitted (sums_of c.args.sums.now) c.args.rows.now
+    (subst (λ m. IsEmitted m (sums_of c.args.sums.now) c.args.rows.now (k * 8) (sums_of c.loop-k.sums) c.loop-k.rows) (sym same) i)))
 
-pub push-requires-clause-within : goal.push-requires-clause-within
-push-requires-clause-within c =
-    let r = ap (λ (u : Run). u.columns) c.loop-column.invariant.run in
-    let n = c.requires.columns in
-    let t = c.loop-column-test.true in
-    omega (arith, r, n, t)
-
-pub push-requires-clause-above : goal.push-requires-clause-above
-push-requires-clause-above c = c.loop-column.invariant.below
-
-pub returns-in_err-push-in-Some-clause-kept : goal.returns-in_err-push-in-Some-clause-kept
-returns-in_err-push-in-Some-clause-kept c =
-    let n = c.requires.columns in
-    let w = c.requires.width in
-    let t = c.loop-column-test.true in
-    let a = c.loop-column.auto.sums in
-    emitting_all_lost c.args.rows.now.columns c.args.sums.now c.args.rows.now c.loop-column.column c.loop-column.sums
-    c.loop-column.rows c.loop-column.invariant (omega (arith, n, w, t, a))
-
-pub loop-column-preserved : goal.loop-column-preserved
-loop-column-preserved c =
-    let k = c.loop-column.column in
-    let sums = c.loop-column.sums in
-    let n = c.requires.columns in
-    let w = c.requires.width in
-    let t = c.loop-column-test.true in
-    let a = c.loop-column.auto.sums in
-    let step = emitting_all_step c.args.rows.now.columns c.args.sums.now c.args.rows.now k sums c.loop-column.rows in
-    elim c.match-sums-j.branch [
-      | in-Some+in_ok-push-in-Some v ↦
-          step (Some v.in-Some.sum) c.match-sums-j.sums c.match-sums-j.rows c.loop-column.invariant (omega (arith, n, t))
-          v.in-Some.is
-          (ap (λ us. slot us k) v.sums-is ∙ emptied_at sums k (omega (arith, n, w, t, a)))
-          (λ j h. ap (λ us. slot us j) v.sums-is ∙ emptied_other sums k j h)
-          (v.rows-is ∙ v.in_ok-push-in-Some.ensures.pushed)
-      | in-None v ↦
-          step None c.match-sums-j.sums c.match-sums-j.rows c.loop-column.invariant (omega (arith, n, t)) v.in-None.is
-          (ap (λ us. slot us k) v.sums-is ∙ v.in-None.is)
-          (λ j h. ap (λ us. slot us j) v.sums-is)
-          (v.rows-is ∙ ap (λ os. record c.loop-column.rows { opened = os }) (sym (append-nil c.loop-column.rows.opened)))
-    ]
+pub emit_stretch-requires-2-clause-above : goal.emit_stretch-requires-2-clause-above
+emit_stretch-requires-2-clause-above c =
+    let t = c.loop-k-test.false in
+    let a = c.loop-k.auto.k-end in
+    let done : c.loop-k.k * 8 ≡ c.args.columns / 8 * 8 = omega (arith, t, a) in
+    subst (λ m. AllByRecursion (λ (d : Cell). d.0 < m) c.loop-k.rows.opened) done c.loop-k.invariant.below
 
 pub returns-clause-rows : goal.returns-clause-rows
-returns-clause-rows c =
-    emitting_all_end c.args.rows.now.columns c.args.sums.now c.args.rows.now c.loop-column.column c.loop-column.sums
-    c.loop-column.rows c.loop-column.invariant (let n = c.requires.columns in let t = c.loop-column-test.false in omega (
-      arith,
-      n,
-      t,
-    ))
+returns-clause-rows c = on_ok_weaker c.emit_stretch-2.result (λ h.
+    let n = c.args.rows.now.columns in
+    let first = sums_of c.args.sums.now in
+    let t = c.loop-k-test.false in
+    let a = c.loop-k.auto.k-end in
+    let m = c.requires.columns in
+    let i = c.loop-k.invariant in
+    let same : c.loop-k.rows.columns ≡ n = ap (λ (r : Run). r.columns) i.run in
+    let done : c.loop-k.k * 8 ≡ c.args.columns / 8 * 8 = omega (arith, t, a) in
+    emitting_all_end c.loop-k.rows.columns first c.args.rows.now (c.args.columns / 8 * 8 + (c.args.columns - c.args.columns / 8 * 8))
+    (sums_of c.emit_stretch-2.new.sums) c.emit_stretch-2.new.rows
+    (h first c.args.rows.now (subst (λ d. IsEmitted c.loop-k.rows.columns first c.args.rows.now d (sums_of c.loop-k.sums)
+    c.loop-k.rows) done (subst (λ d. IsEmitted d first c.args.rows.now (c.loop-k.k * 8) (sums_of c.loop-k.sums) c.loop-k.rows)
+    (sym same) i))) (omega (arith, m, same))
+    ∙ ap (λ d. record c.args.rows.now { opened = row_by d (slot first) }) same) c.emit_stretch-2.ensures.emitted
 
 pub returns-clause-gone : goal.returns-clause-gone
-returns-clause-gone c =
-    emitting_all_gone c.args.rows.now.columns c.args.sums.now c.args.rows.now c.loop-column.column c.loop-column.sums
-    c.loop-column.rows c.loop-column.invariant c.requires.covers (let n = c.requires.columns in let t =
-    c.loop-column-test.false in omega (arith, n, t))
-
-pub returns-clause-kept : goal.returns-clause-kept
-returns-clause-kept c =
-    emitting_all_kept c.args.rows.now.columns c.args.sums.now c.args.rows.now c.loop-column.column c.loop-column.sums
-    c.loop-column.rows c.loop-column.invariant
+returns-clause-gone c = on_ok_weaker c.emit_stretch-2.result (λ h.
+    let n = c.args.rows.now.columns in
+    let first = sums_of c.args.sums.now in
+    let t = c.loop-k-test.false in
+    let a = c.loop-k.auto.k-end in
+    let m = c.requires.columns in
+    let i = c.loop-k.invariant in
+    let same : c.loop-k.rows.columns ≡ n = ap (λ (r : Run). r.columns) i.run in
+    let done : c.loop-k.k * 8 ≡ c.args.columns / 8 * 8 = omega (arith, t, a) in
+    emitting_all_gone c.loop-k.rows.columns first c.args.rows.now (c.args.columns / 8 * 8 + (c.args.columns - c.args.columns / 8 *
+    8))
+    (sums_of c.emit_stretch-2.new.sums) c.emit_stretch-2.new.rows
+    (h first c.args.rows.now (subst (λ d. IsEmitted c.loop-k.rows.columns first c.args.rows.now d (sums_of c.loop-k.sums)
+    c.loop-k.rows) done (subst (λ d. IsEmitted d first c.args.rows.now (c.loop-k.k * 8) (sums_of c.loop-k.sums) c.loop-k.rows)
+    (sym same) i))) (λ j v q. let b = c.requires.covers j v q in omega (arith, b, same)) (omega (arith, m, same)))
+    c.emit_stretch-2.ensures.emitted

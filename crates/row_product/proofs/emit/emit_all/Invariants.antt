@@ -1,5 +1,7 @@
-use Rattle.row_product.proofs.EmittingAll.{EmittingAll}
+use Rattle.std.proofs.Common.{◌*◌}
+use Rattle.row_product.specs.Sums.{sums_of}
+use Rattle.row_product.specs.Emitted.{IsEmitted}
 use Rattle.row_product.proofs.emit.emit_all.Given as goal
 
-abbrev pub invariant-loop-column : goal.invariant-loop-column
-invariant-loop-column l = EmittingAll l.fn.rows.columns l.fn.sums l.fn.rows l.column l.sums l.rows
+abbrev pub invariant-loop-k : goal.invariant-loop-k
+invariant-loop-k l = IsEmitted l.fn.rows.columns (sums_of l.fn.sums) l.fn.rows (l.k * 8) (sums_of l.sums) l.rows

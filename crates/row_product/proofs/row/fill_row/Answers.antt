@@ -9,7 +9,7 @@ use Rattle.csr_store.specs.Mask.{mask_of}
 use Rattle.csr_store.specs.Run.{Row}
 use Rattle.csr_store.proofs.Filling.{on_err}
 use Rattle.row_product.specs.Product.{product_at, product_calls_at}
-use Rattle.row_product.specs.Sums.{AreTouched}
+use Rattle.row_product.specs.Sums.{sums_of, AreTouched}
 use Rattle.row_product.proofs.Counting.{row_within, row_few}
 use Rattle.row_product.proofs.Filling.{row_closed, calls_closed}
 use Rattle.row_product.proofs.row.fill_row.Goals as goal
@@ -49,7 +49,7 @@ returns-in_err-reserve-clause-spent c = on_err c.from_residual.result (charges-n
 
 pub emit_row-emitted-requires-clause-touched : goal.emit_row-emitted-requires-clause-touched
 emit_row-emitted-requires-clause-touched c =
-    subst (λ n. AreTouched n c.sum_under.new.sums c.sum_under.new.touched.items) (sym c.requires.columns)
+    subst (λ n. AreTouched n (sums_of c.sum_under.new.sums) c.sum_under.new.touched.items) (sym c.requires.columns)
     c.sum_under.ensures.touched
 
 pub clear-requires-clause-covers : goal.clear-requires-clause-covers

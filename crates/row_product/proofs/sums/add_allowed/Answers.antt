@@ -150,8 +150,8 @@ loop-cell-preserved c =
                   (length had) (length now) (length more) left bigger longer);
               grown = omega (arith, longer, grown);
             };
-            within = subst (AreWithin (length c.if-allowed-j.sums)) (sym v.terms-is)
-                (subst (λ l. AreWithin l v.add_term-steps.new.self) (sym c.if-allowed-j.auto.sums) e.within);
+            within = subst (AreWithin c.if-allowed-j.sums) (sym v.terms-is)
+                (subst (λ us. AreWithin us v.add_term-steps.new.self) (sym v.sums-is) e.within);
             room = omega (arith, room, bigger);
           }
       | else-allowed-j v ↦
@@ -186,8 +186,8 @@ loop-cell-preserved c =
                   (length had) (length now) (length more) left (omega (arith, cap)) (omega (arith, listed)));
               grown = omega (arith, listed, grown);
             };
-            within = subst (AreWithin (length c.if-allowed-j.sums)) (sym v.terms-is)
-                (subst (λ us. AreWithin (length us) c.loop-cell.terms) (sym v.sums-is) c.loop-cell.invariant.within);
+            within = subst (AreWithin c.if-allowed-j.sums) (sym v.terms-is)
+                (subst (λ us. AreWithin us c.loop-cell.terms) (sym v.sums-is) c.loop-cell.invariant.within);
             room = omega (arith, room, cap);
           }
     ]

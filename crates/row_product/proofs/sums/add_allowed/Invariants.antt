@@ -13,6 +13,6 @@ invariant-loop-cell l = record {
   touching : Touching l.b.columns (sums_then l.add l.mul l.sums l.terms) (touched_then l.add l.mul l.sums l.terms l.touched.items)
       (vec_capacity l.touched) (length (touched_then l.add l.mul l.fn.sums l.fn.terms l.fn.touched.items)) l.cell-index
       (length (drop l.cell-index l.row));
-  within : AreWithin (length l.sums) l.terms;
+  within : AreWithin l.sums l.terms;
   room : vec_capacity l.fn.touched ≤ vec_capacity l.touched;
 }

@@ -71,13 +71,12 @@ loop-cells-preserved c =
       whole = adding_whole_step add mul c.args.x c.args.b.now c.args.k _ _ _ _ _ _ _ _ _ cs c.split_at.result.1.now _ _ _
           c.make_room-steps.result _ m parts (omega (arith, w, z, y)) accepted_add accepted_mul c.requires.add c.requires.mul
           a.sums_are a.touched_are a.steps_are e.room;
-      within = subst (λ n. AreWithin n c.gather_cells.new.self) (sym c.make_room-steps.auto.sums) (subst (AreWithin (length
-          c.loop-cells.sums)) (sym c.gather_cells.ensures) (record {
-            columns = below_columns (length c.loop-cells.sums) c.args.b.now.columns 0 c.make_room-steps.new.self.columns cs
-                c.split_at.result.1.now e.within.columns (subst (Ascends 0 c.args.b.now.columns) parts m.adding.adding.ascends)
-                (omega (arith, w, z));
-            waiting = e.within.waiting;
-          }));
+      within = subst (AreWithin c.make_room-steps.new.sums) (sym c.gather_cells.ensures) (record {
+        columns = below_columns (length c.make_room-steps.new.sums) c.args.b.now.columns 0 c.make_room-steps.new.self.columns cs
+            c.split_at.result.1.now e.within.columns (subst (Ascends 0 c.args.b.now.columns) parts m.adding.adding.ascends)
+            (let l = c.make_room-steps.auto.sums in omega (arith, w, z, l));
+        waiting = e.within.waiting;
+      });
       room = omega (arith, room, more);
     }
 

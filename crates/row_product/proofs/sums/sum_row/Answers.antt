@@ -4,10 +4,11 @@ use Rattle.bpf_run.specs.Calls.{steps_of}
 use Rattle.csr_store.specs.Grid.{Cell, limit, row_of}
 use Rattle.csr_store.proofs.ByRow.{cell_inside}
 use Rattle.row_product.specs.Product.{mults_of}
-use Rattle.row_product.specs.Sums.{slot, takes, AreTouched, HasRoom}
+use Rattle.row_product.specs.Sums.{slot, sums_of, takes, AreTouched, HasRoom}
 use Rattle.row_product.specs.Terms.{sums_then, calls_then, touched_then, AreWithin}
 use Rattle.row_product.proofs.Adding.{touched_fit}
 use Rattle.row_product.proofs.Gathering.{Gathering, gathering_start, gathering_step, gathering_end, room_first, room_rest}
+use Rattle.row_product.proofs.Tagging.{length_sums}
 use Rattle.row_product.proofs.Waiting.{length_then}
 use Rattle.row_product.proofs.Counting.{row_few}
 use Rattle.row_product.proofs.sums.sum_row.Goals as goal
@@ -22,20 +23,21 @@ loop-k-init c =
     let row = c.row-row.result.now in
     let t = takes c.args.masked c.args.allowed.now in
     subst (λ p. record {
-      gathering : Gathering add mul b b.columns t first row (sums_then add mul first p) row (0 + steps_of (calls_then add mul first
+      gathering : Gathering add mul b b.columns t (sums_of first) row (sums_then add mul first p) row (0 + steps_of (calls_then add mul first
           p));
       touched : AreTouched b.columns (sums_then add mul first p) (touched_then add mul first p places.items);
       left : HasRoom (length (sums_then add mul first p)) (vec_capacity places) (length (touched_then add mul first p
           places.items)) (mults_of b row);
-      within : AreWithin (length first) p;
+      within : AreWithin first p;
       few : 0 + steps_of (calls_then add mul first p) ≤ 8192 * limit * 0;
     }) (sym c.clear.ensures)
     (record {
-      gathering = gathering_start add mul b b.columns t first row;
+      gathering = gathering_start add mul b b.columns t (sums_of first) row;
       touched = c.requires.touched;
-      left = subst (λ (us : List Cell). HasRoom (length first) (vec_capacity places) (length places.items) (mults_of b us)) (sym
-          c.row-row.ensures) c.requires.room;
-      within = record { columns = tt; waiting = tt };
+      left = subst (λ (us : List Cell). HasRoom (length (sums_of first)) (vec_capacity places) (length places.items) (mults_of b us)) (sym
+          c.row-row.ensures) (subst (λ n. HasRoom n (vec_capacity places) (length places.items) (mults_of b (row_of c.args.a.now
+          c.args.i))) (sym (length_sums first)) c.requires.room);
+      within = record { columns = tt; waiting = record { below = tt; marked = tt } };
       few = omega arith;
     })
 
@@ -100,16 +102,16 @@ loop-k-preserved c =
     let s = e.steps in
     record {
       gathering = subst (Gathering add mul c.args.b.now c.args.b.now.columns (takes c.args.masked c.args.allowed.now)
-          c.args.sums.now row then (drop (k + 1) row)) (omega (arith, s))
+          (sums_of c.args.sums.now) row then (drop (k + 1) row)) (omega (arith, s))
           (gathering_step add mul c.args.b.now c.args.b.now.columns (takes c.args.masked c.args.allowed.now)
-          c.args.sums.now row was (drop k row) (c.loop-k.steps + here) (get_or row k (0, 0)) (drop (k + 1) row)
+          (sums_of c.args.sums.now) row was (drop k row) (c.loop-k.steps + here) (get_or row k (0, 0)) (drop (k + 1) row)
           then _ c.loop-k.invariant.gathering d same e.sums refl);
       touched = e.touched;
       left = subst (λ n. HasRoom n (vec_capacity c.add_row-steps.new.touched) (length now) (mults_of c.args.b.now (drop (k + 1)
           row))) (sym same)
           (room_rest _ _ _ _ _ _ _ (subst (λ (cs : List Cell). HasRoom (length was) (vec_capacity c.loop-k.touched)
           (length had) (mults_of c.args.b.now cs)) d c.loop-k.invariant.left) e.room e.grows);
-      within = subst (λ n. AreWithin n c.add_row-steps.new.terms) (sym l) e.within;
+      within = e.within;
       few = omega (arith, f, g);
     }
 
@@ -127,7 +129,7 @@ finish-requires-clause-small c =
 pub returns-clause-sums : goal.returns-clause-sums
 returns-clause-sums c =
     let h = (gathering_end c.args.add.now c.args.mul.now c.args.b.now c.args.b.now.columns (takes c.args.masked c.args.allowed.now)
-    c.args.sums.now
+    (sums_of c.args.sums.now)
     c.row-row.result.now (row_of c.args.a.now c.args.i) _ (drop c.loop-k.k c.row-row.result.now) _
     c.loop-k.invariant.gathering (drop_all c.loop-k.k c.row-row.result.now c.loop-k-test.false) c.row-row.ensures).0 in
     λ j. ap (λ us. slot us j) c.finish.ensures.sums ∙ h j
@@ -141,7 +143,7 @@ returns-clause-touched c =
 pub returns-clause-steps : goal.returns-clause-steps
 returns-clause-steps c =
     let h = (gathering_end c.args.add.now c.args.mul.now c.args.b.now c.args.b.now.columns (takes c.args.masked c.args.allowed.now)
-    c.args.sums.now
+    (sums_of c.args.sums.now)
     c.row-row.result.now (row_of c.args.a.now c.args.i) _ (drop c.loop-k.k c.row-row.result.now) _
     c.loop-k.invariant.gathering (drop_all c.loop-k.k c.row-row.result.now c.loop-k-test.false) c.row-row.ensures).1 in
     let s = c.finish.ensures.steps in

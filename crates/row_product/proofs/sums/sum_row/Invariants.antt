@@ -2,19 +2,19 @@ use Rattle.std.proofs.Common.{◌≤◌, ◌+◌, ◌*◌, drop, length, vec_cap
 use Rattle.bpf_run.specs.Calls.{steps_of}
 use Rattle.csr_store.specs.Grid.{limit}
 use Rattle.row_product.specs.Product.{mults_of}
-use Rattle.row_product.specs.Sums.{takes, AreTouched, HasRoom}
+use Rattle.row_product.specs.Sums.{takes, sums_of, AreTouched, HasRoom}
 use Rattle.row_product.specs.Terms.{sums_then, calls_then, touched_then, AreWithin}
 use Rattle.row_product.proofs.Gathering.{Gathering}
 use Rattle.row_product.proofs.sums.sum_row.Given as goal
 
 abbrev pub invariant-loop-k : goal.invariant-loop-k
 invariant-loop-k l = record {
-  gathering : Gathering l.add l.mul l.b l.b.columns (takes l.masked l.allowed) l.fn.sums l.row
+  gathering : Gathering l.add l.mul l.b l.b.columns (takes l.masked l.allowed) (sums_of l.fn.sums) l.row
       (sums_then l.add l.mul l.sums l.terms) (drop l.k l.row) (l.steps + steps_of (calls_then l.add l.mul l.sums l.terms));
   touched : AreTouched l.b.columns (sums_then l.add l.mul l.sums l.terms) (touched_then l.add l.mul l.sums l.terms
       l.touched.items);
   left : HasRoom (length (sums_then l.add l.mul l.sums l.terms)) (vec_capacity l.touched)
       (length (touched_then l.add l.mul l.sums l.terms l.touched.items)) (mults_of l.b (drop l.k l.row));
-  within : AreWithin (length l.sums) l.terms;
+  within : AreWithin l.sums l.terms;
   few : l.steps + steps_of (calls_then l.add l.mul l.sums l.terms) ≤ 8192 * limit * l.k;
 }

@@ -1,6 +1,6 @@
-use Rattle.std.proofs.Common.{length, subst, sym, arith, vec_capacity}
+use Rattle.std.proofs.Common.{length, arith, vec_capacity}
 use Rattle.bpf_run.specs.Calls.{steps_of, calls_on}
-use Rattle.row_product.specs.Terms.{cells_of, settled, AreBelow}
+use Rattle.row_product.specs.Terms.{cells_of, settled}
 use Rattle.row_product.proofs.Waiting.{
   below_at,
   cells_rest,
@@ -38,11 +38,9 @@ put-steps-requires-clause-room c = λ h.
     let r = c.loop-k.invariant.room in
     omega (arith, l, r)
 
-pub overflow_add-steps : goal.overflow_add-steps
-overflow_add-steps c =
-    let m = c.loop-k.invariant.putting in
-    let l = putting_room _ _ _ _ _ _ _ _ _ _ _ _ _ _ m (cells_rest c.args.columns.now c.args.terms.now c.loop-k.k
-    c.loop-k-test.true c.requires.terms) c.put-steps.ensures.steps in
+pub put-steps-requires-clause-small : goal.put-steps-requires-clause-small
+put-steps-requires-clause-small c =
+    let l = putting_room _ _ _ _ _ _ _ _ _ _ c.loop-k.invariant.putting in
     let s = c.requires.small in
     omega (arith, l, s)
 
@@ -54,8 +52,8 @@ loop-k-preserved c =
     let s = e.room in
     record {
       putting = putting_step _ _ _ _ _ _ _ _ _ _ _ _ _ _ _ _ m (cells_rest c.args.columns.now c.args.terms.now c.loop-k.k
-          c.loop-k-test.true c.requires.terms) e.sums e.touched e.steps;
-      within = subst (λ n. AreBelow n c.put-steps.new.self.columns) (sym c.put-steps.auto.sums) e.within;
+          c.loop-k-test.true c.requires.terms) e.put.sums_are e.put.touched_are e.put.steps_are;
+      within = e.put.waits_are;
       room = omega (arith, r, s);
     }
 

@@ -1,4 +1,4 @@
-use Rattle.std.proofs.Common.{length, subst, sym}
+use Rattle.std.proofs.Common.{◌<◌, length, subst, sym, arith}
 use Rattle.row_product.specs.Terms.{AreWithin}
 use Rattle.row_product.proofs.Waiting.{is_added, below_more}
 use Rattle.row_product.proofs.terms.Terms.add_term.Goals as goal
@@ -26,10 +26,12 @@ returns-clause-steps c =
 
 pub returns-clause-within : goal.returns-clause-within
 returns-clause-within c =
-    let n = length c.args.sums.now in
+    let sums = c.make_room-steps.new.sums in
     let w = c.make_room-steps.ensures.within in
-    subst (AreWithin n) (sym c.gather.ensures)
+    let l = c.make_room-steps.auto.sums in
+    let r = c.requires.column in
+    subst (AreWithin sums) (sym c.gather.ensures)
     (record {
-      columns = below_more n c.make_room-steps.new.self.columns c.args.column w.columns c.requires.column;
+      columns = below_more (length sums) c.make_room-steps.new.self.columns c.args.column w.columns (omega (arith, l, r));
       waiting = w.waiting;
     })

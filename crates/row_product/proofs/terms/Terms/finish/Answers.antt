@@ -1,13 +1,11 @@
-use Rattle.std.proofs.Common.{length, subst, sym, ap, ◌∙◌, arith}
+use Rattle.std.proofs.Common.{subst, sym, ap, ◌∙◌, arith}
 use Rattle.bpf_run.specs.Calls.{steps_of, calls_on}
-use Rattle.row_product.specs.Terms.{Pending, settled, AreBelow}
+use Rattle.row_product.specs.Terms.{Pending, settled, Waits}
 use Rattle.row_product.proofs.terms.Terms.finish.Goals as goal
 
 pub settle-requires-clause-within : goal.settle-requires-clause-within
 settle-requires-clause-within c =
-    subst (λ n. AreBelow n c.self.inside.additions.columns) (sym c.multiply-steps.auto.sums)
-    (subst (λ (p : Pending). AreBelow (length c.args.sums.now) p.waiting.columns) (sym c.self.view_is)
-    c.multiply-steps.ensures.within)
+    (subst (λ (p : Pending). Waits c.multiply-steps.new.sums p.waiting) (sym c.self.view_is) c.multiply-steps.ensures.within).below
 
 pub overflow_add-result : goal.overflow_add-result
 overflow_add-result c =

@@ -29,6 +29,6 @@ returns-then-is_full-clause-steps c =
 pub returns-then-is_full-clause-within : goal.returns-then-is_full-clause-within
 returns-then-is_full-clause-within c =
     record {
-      columns = subst (AreBelow (length c.args.sums.now)) (sym c.multiply.ensures.none.0) tt;
+      columns = subst (AreBelow (length c.multiply.new.sums)) (sym c.multiply.ensures.none.0) tt;
       waiting = c.multiply.ensures.within;
     }

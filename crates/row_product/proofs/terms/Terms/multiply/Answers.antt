@@ -32,7 +32,10 @@ pub put_all-put-requires-clause-columns : goal.put_all-put-requires-clause-colum
 put_all-put-requires-clause-columns c =
     subst (AreBelow (length c.args.sums.now)) (sym (ap (λ k. take k c.deref.result.now) c.len-many.ensures.len
     ∙ ap (take (length c.self.inside.products.operands)) c.deref.ensures.value))
-    (subst (AreWithin (length c.args.sums.now)) (sym c.self.view_is) c.requires.within).columns
+    (subst (AreWithin c.args.sums.now) (sym c.self.view_is) c.requires.within).columns
+
+pub put_all-put-requires-clause-within : goal.put_all-put-requires-clause-within
+put_all-put-requires-clause-within c = (subst (AreWithin c.args.sums.now) (sym c.self.view_is) c.requires.within).waiting
 
 pub put_all-put-requires-clause-fits : goal.put_all-put-requires-clause-fits
 put_all-put-requires-clause-fits c =
