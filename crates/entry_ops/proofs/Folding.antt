@@ -1,82 +1,137 @@
--- A fold, term by term: what is still to come completes it.
-use Rattle.std.proofs.Common.{
-  ◌≡◌,
-  ◌≤◌,
-  ◌<◌,
-  ◌+◌,
-  ◌^◌,
-  ◌*◌,
-  ℕ,
-  zero,
-  suc,
-  List,
-  [],
-  ◌∷◌,
-  ◌++◌,
-  Some,
-  length,
-  drop,
-  get_or,
-  map,
-  refl,
-  sym,
-  ap,
-  ◌∙◌,
-  arith,
-}
-use Rattle.std.proofs.lemmas.List.{drop_more, drop_all}
+-- The reduction of a block of rows: what is still to come completes it.
+use Rattle.std.proofs.Common.{◌≡◌, ◌⊎◌, ◌≤◌, ◌<◌, ◌+◌, ◌-◌, ◌*◌, ℕ, suc, Bool, true, false, if◌then◌else◌, List, [], ◌∷◌, ◌++◌, Option, None, Some, length, get_or, map, inl, inr, refl, sym, ap, ◌∙◌, subst, arith, append-nil}
+use Rattle.std.specs.List.{AllByRecursion}
 use Rattle.bpf_insn.specs.declared.operands.Operands.TheVariants.{Binary}
 use Rattle.bpf_insn.specs.declared.operands.Kind.TheVariants as kinds
 use Rattle.bpf_verify.specs.Accepted.{Accepted, IsAccepted}
-use Rattle.csr_store.specs.Grid.{Cell}
-use Rattle.bpf_run.specs.Meaning.{value_of, cost_of}
+use Rattle.csr_store.specs.Grid.{Grid, Cell, row_of}
+use Rattle.csr_store.specs.Along.{cell_at}
+use Rattle.csr_store.specs.Mask.{passes, cut, cut_list, row_under, rows_under, listed_under, all_listed_under}
+use Rattle.csr_store.proofs.Along.{along-next}
+use Rattle.bpf_run.specs.Meaning.{value_of}
 use Rattle.bpf_run.specs.Calls.{Call, steps_of}
 use Rattle.bpf_run.specs.Fold.{fold, fold_from, fold_calls, fold_calls_from}
-use Rattle.bpf_run.proofs.Charging.{cost-few}
+use Rattle.bpf_run.proofs.Charging.{cost-few, steps-append}
+use Rattle.entry_ops.specs.Forms.{reduce_at, reduce_calls_at}
+use Rattle.entry_ops.specs.Folding.{words, Folding, due, IsAmong, places, Goes, Begins, target_of, IsFolding, AreResults}
+use Rattle.entry_ops.specs.declared.folds.Lane.{Lane}
 
-abbrev pub words : List Cell → List ℕ
-words row = map (λ (c : Cell). c.1) row
+-- ---- a row that the mask may not show
 
-pub record IsFolding (f : Accepted) (row : List Cell) (old so_far : ℕ) (rest : List Cell) (steps : ℕ) : Type 0 where
-  pub value : Some (fold_from f so_far (words rest)) ≡ fold f (words row)
-  pub counted : steps + steps_of (fold_calls_from f so_far (words rest)) ≡ old + steps_of (fold_calls f (words row))
+shown_fold : (f : Accepted) (cells : List Cell) (b : Bool)
+    → (if b then fold f (words cells) else None) ≡ fold f (words (if b then cells else []))
+shown_fold f cells true = refl
+shown_fold f cells false = refl
 
-pub folding-start : (f : Accepted) (row : List Cell) (old : ℕ) (x : Cell) (rest : List Cell) → row ≡ x ∷ rest
-    → IsFolding f row old x.1 rest old
-folding-start f row old x rest e = record {
-  value = ap (λ r. fold f (words r)) (sym e);
-  counted = ap (λ r. old + steps_of (fold_calls f (words r))) (sym e);
-}
+shown_calls : (f : Accepted) (cells : List Cell) (b : Bool)
+    → (if b then fold_calls f (words cells) else []) ≡ fold_calls f (words (if b then cells else []))
+shown_calls f cells true = refl
+shown_calls f cells false = refl
 
-module _ (f : Accepted) (row : List Cell) (old so_far : ℕ) (all : List Cell) (k : ℕ) (steps : ℕ) (d : Cell) (now : IsFolding f
-    row old so_far (drop k all) steps)
-    (l : k < length all) where
-  pub folding-room : (cost : ℕ) → cost ≡ cost_of f (Binary so_far (get_or all k d).1)
-      → old + steps_of (fold_calls f (words row)) < 2 ^ 64
-      → steps + cost < 2 ^ 64
-  folding-room cost e h =
-      let c = now.counted in let b = ap (λ r. steps_of (fold_calls_from f so_far (words r))) (drop_more all k d l) in omega arith
+module _ (f : Accepted) (a : Grid) (mask : Option Grid) where
+  -- the cells of a row that are folded
+  abbrev pub cells_shown : ℕ → List Cell
+  cells_shown i = if passes mask (i, 0) then row_of a i else []
 
-  pub folding-step : (value cost : ℕ) → value ≡ value_of f (Binary so_far (get_or all k d).1)
-      → cost ≡ cost_of f (Binary so_far (get_or all k d).1)
-      → IsFolding f row old value (drop (k + 1) all) (steps + cost)
-  folding-step value cost v e =
-      let more = drop (k + 1) all in
-      let c = now.counted in
-      let b = ap (λ r. steps_of (fold_calls_from f so_far (words r))) (drop_more all k d l) in
-      let vs = ap (λ a. steps_of (fold_calls_from f a (words more))) v in
-      record {
-        value = ap (λ a. Some (fold_from f a (words more))) v
-            ∙ (ap (λ r. Some (fold_from f so_far (words r))) (sym (drop_more all k d l)) ∙ now.value);
-        counted = omega arith;
-      }
+  abbrev calls_here : ℕ → List Call
+  calls_here i = listed_under mask 1 (reduce_calls_at f a) i
 
-pub folding-end : (f : Accepted) (row : List Cell) (old so_far : ℕ) (rest : List Cell) (steps : ℕ)
-    → IsFolding f row old so_far rest steps → rest ≡ []
-    → (Some so_far ≡ fold f (words row)) × (steps ≡ old + steps_of (fold_calls f (words row)))
-folding-end f row old so_far rest steps h e =
-    let s = ap (λ r. steps_of (fold_calls_from f so_far (words r))) e in let n = h.counted in
-    (ap (λ r. Some (fold_from f so_far (words r))) (sym e) ∙ h.value, omega arith)
+  abbrev pub all_calls : ℕ → ℕ → List Call
+  all_calls first n = all_listed_under mask 1 (reduce_calls_at f a) first n
+
+  steps_here : (i : ℕ) → steps_of (calls_here i) ≡ steps_of (fold_calls f (words (cells_shown i)))
+  steps_here i = ap steps_of (append-nil (cut_list mask (reduce_calls_at f a) (i, 0)) ∙ shown_calls f (row_of a i) (passes mask (i, 0)))
+
+  module _ (first many total : ℕ) where
+    pub folding-start : (e : Folding) → e.lanes ≡ [] → e.results ≡ [] → total ≡ e.steps + steps_of (all_calls first many)
+        → IsFolding f a mask first many total e
+    folding-start e ls rs t =
+        let n : length e.results ≡ 0 = ap (λ (xs : List (Option ℕ)). length xs) rs in
+        let z : first + length e.results ≡ first = omega (arith, n) in
+        let m : many - length e.results ≡ many = omega (arith, n) in
+        let d = ap (due f) ls in
+        let s = ap (λ i. steps_of (all_calls i (many - length e.results))) z ∙ ap (λ k. steps_of (all_calls first k)) m in
+        record {
+          leads = record {
+            opened = subst (λ (xs : List Lane). AllByRecursion (λ (l : Lane). Some (fold_from f l.so_far (words l.rest.now))
+                ≡ target_of f a mask first l.place) xs) (sym ls) tt;
+            known = λ k b. absurd (omega (arith, n, b));
+          };
+          costs = omega (arith, t, d, s);
+        }
+
+    pub folding-begin : (e next : Folding) → length e.results < many → IsFolding f a mask first many total e
+        → Begins f (cells_shown (first + length e.results)) e next → IsFolding f a mask first many total next
+    folding-begin e next l h b =
+        let i = first + length e.results in
+        let r = b.rows in
+        let c = h.costs in
+        let d = b.costs in
+        let k = steps_here i in
+        let to = first + many in
+        let rest = many - length e.results in
+        let after = many - length next.results in
+        let last : i < to = omega (arith, l) in
+        let x : to - i ≡ rest = omega (arith, l) in
+        let y : to - (i + 1) ≡ after = omega (arith, l, r) in
+        let z : i + 1 ≡ first + length next.results = omega (arith, r) in
+        let split : all_calls i rest ≡ calls_here i ++ all_calls (first + length next.results) after =
+        ap (all_calls i) (sym x) ∙ along-next calls_here i to last
+        ∙ ap (λ n. calls_here i ++ all_calls (i + 1) n) y ∙ ap (λ j. calls_here i ++ all_calls j after) z in
+        let sum = ap steps_of split ∙ steps-append (calls_here i) (all_calls (first + length next.results) after) in
+        record {
+          leads = b.leads (target_of f a mask first) h.leads (shown_fold f (row_of a i) (passes mask (i, 0)));
+          costs = omega (arith, c, d, k, sum);
+        }
+
+    pub folding-go : (e next : Folding) → IsFolding f a mask first many total e → Goes f e next → IsFolding f a mask first many total next
+    folding-go e next h g =
+        let c = h.costs in
+        let d = g.costs in
+        let s = ap (λ n. steps_of (all_calls (first + n) (many - n))) g.rows in
+        record { leads = g.leads (target_of f a mask first) h.leads; costs = omega (arith, c, d, s) }
+
+    module _ (e : Folding) (h : IsFolding f a mask first many total e) where
+      -- the calls to come in lanes fit in
+      pub folding-room : e.steps + due f e.lanes ≤ total
+      folding-room = let c = h.costs in omega (arith, c)
+
+      module _ (ls : e.lanes ≡ []) (n : length e.results ≡ many) where
+        known_all : (k : ℕ) → (get_or e.results k None ≡ target_of f a mask first k) ⊎ IsAmong k (places e.lanes)
+            → get_or e.results k None ≡ target_of f a mask first k
+        known_all k (inl q) = q
+        known_all k (inr r) = absurd (subst (λ (xs : List Lane). IsAmong k (places xs)) ls r)
+
+        pub folding-results : AreResults f a mask first many e.results
+        folding-results = record { count = n; each = λ k b. known_all k (h.leads.known k (omega (arith, n, b))) }
+
+        pub folding-steps : e.steps ≡ total
+        folding-steps =
+            let c = h.costs in
+            let d = ap (due f) ls in
+            let z : many - length e.results ≡ 0 = omega (arith, n) in
+            let s = ap (λ k. steps_of (all_calls (first + length e.results) k)) z in
+            omega (arith, c, d, s)
+
+  -- ---- the rows of a block
+
+  rows-known : (results : List (Option ℕ)) (first : ℕ)
+      → ((k : ℕ) → k < length results → get_or results k None ≡ cut mask (reduce_at f a) (first + k, 0))
+      → map (cell_at 0) results ≡ rows_under mask 1 (reduce_at f a) first (length results)
+  rows-known [] first h = refl
+  rows-known (r ∷ rs) first h =
+      let z : first + 0 ≡ first = omega arith in
+      let one : r ≡ cut mask (reduce_at f a) (first, 0) = h 0 (omega arith) ∙ ap (λ i. cut mask (reduce_at f a) (i, 0)) z in
+      ap (λ row. row ∷ map (cell_at 0) rs) (ap (cell_at 0) one ∙ sym (append-nil (cell_at 0 (cut mask (reduce_at f a) (first, 0)))))
+      ∙ ap (λ rows. row_under mask 1 (reduce_at f a) first ∷ rows) (rows-known rs (suc first) (λ k b.
+      let s : first + suc k ≡ suc first + k = omega arith in
+      h (suc k) (omega (arith, b)) ∙ ap (λ i. cut mask (reduce_at f a) (i, 0)) s))
+
+  pub rows-are : (first many : ℕ) (results : List (Option ℕ)) → AreResults f a mask first many results
+      → map (cell_at 0) results ≡ rows_under mask 1 (reduce_at f a) first many
+  rows-are first many results h =
+      let n = h.count in
+      rows-known results first (λ k b. h.each k (omega (arith, n, b))) ∙ ap (rows_under mask 1 (reduce_at f a) first) n
 
 -- a fold of words takes at most 4096 steps a word
 fold_from-few : (f : Accepted) (so_far : ℕ) (ts : List ℕ) → IsAccepted f → f.kind ≡ kinds.Binary

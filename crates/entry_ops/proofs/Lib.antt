@@ -11,5 +11,9 @@ pub mod Filling
 pub mod Bounds
 pub mod Chunks
 pub mod Positions
+pub mod Lanes
+pub mod Giving
+pub mod Adding
+pub mod Singly
 pub mod Folding
 pub mod Reducing

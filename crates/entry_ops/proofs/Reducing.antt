@@ -1,54 +1,37 @@
--- The reductions of the rows of a range, row by row.
-use Rattle.std.proofs.Common.{
-  ◌≡◌,
-  ◌≤◌,
-  ◌<◌,
-  ◌+◌,
-  ◌-◌,
-  ◌^◌,
-  ◌*◌,
-  ℕ,
-  Bool,
-  true,
-  false,
-  if◌then◌else◌,
-  List,
-  [],
-  ◌∷◌,
-  ◌++◌,
-  Option,
-  length,
-  map,
-  refl,
-  sym,
-  ap,
-  ◌∙◌,
-  subst,
-  arith,
-  append-nil,
-}
+-- The reductions of the rows of a range, block by block.
+use Rattle.std.proofs.Common.{◌≡◌, ◌≤◌, ◌<◌, ◌+◌, ◌-◌, ◌^◌, ℕ, Bool, true, false, if◌then◌else◌, List, [], ◌∷◌, ◌++◌, Option, map, sym, ap, ◌∙◌, subst, arith, append-nil, append_assoc}
 use Rattle.std.proofs.lemmas.List.{length-map}
 use Rattle.bpf_insn.specs.declared.operands.Kind.TheVariants as kinds
 use Rattle.bpf_verify.specs.Accepted.{Accepted, IsAccepted}
-use Rattle.csr_store.specs.Grid.{Grid, IsGrid, Cell, Position, row_of}
+use Rattle.csr_store.specs.Grid.{Grid, IsGrid, Cell, row_of}
 use Rattle.csr_store.specs.Run.{Row, Run}
 use Rattle.csr_store.specs.Along.{along, cell_at}
-use Rattle.csr_store.specs.Mask.{passes, cut, cut_list, row_under, rows_under, listed_under, all_listed_under}
-use Rattle.csr_store.proofs.Along.{along-next, along-over, length-row_of, Fills, fills-start, fills-step, fills-end}
+use Rattle.csr_store.specs.Mask.{passes, cut_list, row_under, rows_under, listed_under, all_listed_under}
+use Rattle.csr_store.proofs.Along.{along-split, along-over, length-row_of, Fills, fills-start, fills-end}
 use Rattle.bpf_run.specs.Calls.{Call, steps_of, Charges}
-use Rattle.bpf_run.proofs.Charging.{
-  Spends,
-  spends-start,
-  spends-step,
-  spends-stop,
-  spends-none,
-  spends-end,
-  spends-room,
-  steps-append,
-}
+use Rattle.bpf_run.proofs.Charging.{Spends, spends-start, spends-step, spends-none, spends-end, spends-room}
 use Rattle.entry_ops.specs.Forms.{reduce_at, reduce_calls_at, row_words}
+use Rattle.entry_ops.specs.Folding.{AreResults}
 use Rattle.entry_ops.proofs.Bounds.{steps-along}
-use Rattle.entry_ops.proofs.Folding.{fold-few}
+use Rattle.entry_ops.proofs.Folding.{fold-few, rows-are}
+
+-- some of the rows that are still to come are added at once
+fills-block : (row : ℕ → Row) (from to : ℕ) (start : Run) (i n : ℕ) (now later : Run) → Fills row from to start i now → i + n ≤ to
+    → later ≡ record now { ended = now.ended ++ along (λ k. row k ∷ []) i n; opened = [] } → Fills row from to start (i + n) later
+fills-block row from to start i n now later m l t =
+    let rows = along (λ k. row k ∷ []) i n in
+    let o : later.ended ≡ now.ended ++ rows = ap (λ (u : Run). u.ended) t in
+    let was : [] ≡ start.opened = sym m.closed ∙ ap (λ (u : Run). u.opened) m.run in
+    let e : to - i ≡ n + (to - (i + n)) = omega (arith, l) in
+    record {
+      run = t ∙ (ap (λ (u : Run). record u { ended = now.ended ++ rows; opened = [] }) m.run
+          ∙ (ap (λ os. record start { ended = now.ended ++ rows; opened = os }) was ∙ ap (λ es. record start { ended = es }) (sym o)));
+      closed = ap (λ (u : Run). u.opened) t;
+      listed = ap (λ es. es ++ along (λ k. row k ∷ []) (i + n) (to - (i + n))) o
+          ∙ (append_assoc now.ended rows (along (λ k. row k ∷ []) (i + n) (to - (i + n)))
+          ∙ (ap (λ es. now.ended ++ es) (sym (ap (along (λ k. row k ∷ []) i) e ∙ along-split (λ k. row k ∷ []) i n (to - (i + n))))
+          ∙ m.listed));
+    }
 
 module _ (f : Accepted) (a : Grid) (mask : Option Grid) where
   abbrev pub row_here : ℕ → Row
@@ -60,56 +43,63 @@ module _ (f : Accepted) (a : Grid) (mask : Option Grid) where
   abbrev pub all_calls : ℕ → ℕ → List Call
   all_calls first n = all_listed_under mask 1 (reduce_calls_at f a) first n
 
-  row_one : (i : ℕ) → cell_at 0 (cut mask (reduce_at f a) (i, 0)) ≡ row_here i
-  row_one i = sym (append-nil (cell_at 0 (cut mask (reduce_at f a) (i, 0))))
-
   calls_one : (i : ℕ) → cut_list mask (reduce_calls_at f a) (i, 0) ≡ calls_here i
   calls_one i = sym (append-nil (cut_list mask (reduce_calls_at f a) (i, 0)))
 
   module _ (from to : ℕ) (start : Run) where
     pub record IsReducing (i : ℕ) (now : Run) (steps : ℕ) : Type 0 where
+      pub within : i ≤ to
       pub fills : Fills row_here from to start i now
       pub spends : Spends (all_calls from (to - from)) 0 (all_calls i (to - i)) steps
 
-    pub reducing-start : (steps : ℕ) → start.opened ≡ [] → steps ≡ 0 → IsReducing from start steps
-    reducing-start steps o z = record {
+    pub reducing-start : (steps : ℕ) → from ≤ to → start.opened ≡ [] → steps ≡ 0 → IsReducing from start steps
+    reducing-start steps l o z = record {
+      within = l;
       fills = fills-start row_here from to start o;
       spends = subst (Spends (all_calls from (to - from)) 0 (all_calls from (to - from))) (sym z) (spends-start (all_calls from
           (to - from)) 0);
     }
 
     module _ (i : ℕ) (now : Run) (steps : ℕ) (r : IsReducing i now steps) where
+      pub reducing-closed : now.opened ≡ []
+      reducing-closed = r.fills.closed
+
+      pub reducing-columns : now.columns ≡ start.columns
+      reducing-columns = ap (λ (u : Run). u.columns) r.fills.run
+
       pub reducing-end : to ≤ i → (now ≡ record start { ended = start.ended ++ rows_under mask 1 (reduce_at f a) from (to - from) })
           × (steps ≡ steps_of (all_calls from (to - from)))
       reducing-end l =
           let s = spends-end (all_calls from (to - from)) 0 (all_calls i (to - i)) steps r.spends (along-over calls_here i to l) in
           (fills-end row_here from to start i now r.fills l, omega arith)
 
-      module _ (l : i < to) where
-        next_calls : all_calls i (to - i) ≡ cut_list mask (reduce_calls_at f a) (i, 0) ++ all_calls (i + 1) (to - (i + 1))
-        next_calls = along-next calls_here i to l ∙ ap (λ cs. cs ++ all_calls (i + 1) (to - (i + 1))) (sym (calls_one i))
+      module _ (n : ℕ) (l : i + n ≤ to) where
+        next_calls : all_calls i (to - i) ≡ all_calls i n ++ all_calls (i + n) (to - (i + n))
+        next_calls =
+            let e : to - i ≡ n + (to - (i + n)) = omega (arith, l) in
+            ap (along calls_here i) e ∙ along-split calls_here i n (to - (i + n))
 
-        pub reducing-room : steps_of (all_calls from (to - from)) < 2 ^ 64
-            → steps + steps_of (cut_list mask (reduce_calls_at f a) (i, 0)) < 2 ^ 64
+        pub reducing-room : steps_of (all_calls from (to - from)) < 2 ^ 64 → steps + steps_of (all_calls i n) < 2 ^ 64
         reducing-room h =
-            let m = spends-room (all_calls from (to - from)) 0 (all_calls i (to - i)) steps (cut_list mask (reduce_calls_at f a)
-            (i, 0))
-            (all_calls (i + 1) (to - (i + 1))) r.spends next_calls in
+            let m = spends-room (all_calls from (to - from)) 0 (all_calls i (to - i)) steps (all_calls i n)
+            (all_calls (i + n) (to - (i + n))) r.spends next_calls in
             omega arith
 
-        module _ (value : Option ℕ) (more : ℕ) (v : value ≡ cut mask (reduce_at f a) (i, 0))
-            (m : more ≡ steps + steps_of (cut_list mask (reduce_calls_at f a) (i, 0))) where
-          pub reducing-step : (later : Run) → later ≡ record now { ended = now.ended ++ cell_at 0 value ∷ []; opened = [] }
-              → IsReducing (i + 1) later more
-          reducing-step later e = record {
-            fills = fills-step row_here from to start i now later r.fills l
-                (e ∙ ap (λ row. record now { ended = now.ended ++ row ∷ []; opened = [] }) (ap (cell_at 0) v ∙ row_one i));
-            spends = spends-step (all_calls from (to - from)) 0 (all_calls i (to - i)) steps _ _ more r.spends next_calls m;
+        module _ (more : ℕ) (m : more ≡ steps + steps_of (all_calls i n)) where
+          spent : Spends (all_calls from (to - from)) 0 (all_calls (i + n) (to - (i + n))) more
+          spent = spends-step (all_calls from (to - from)) 0 (all_calls i (to - i)) steps _ _ more r.spends next_calls m
+
+          pub reducing-step : (results : List (Option ℕ)) → AreResults f a mask i n results → (later : Run)
+              → later ≡ record now { ended = now.ended ++ map (cell_at 0) results; opened = [] } → IsReducing (i + n) later more
+          reducing-step results h later e = record {
+            within = l;
+            fills = fills-block row_here from to start i n now later r.fills l
+                (e ∙ ap (λ rows. record now { ended = now.ended ++ rows; opened = [] }) (rows-are f a mask i n results h));
+            spends = spent;
           }
 
           pub reducing-stop : Charges (all_calls from (to - from)) 0 more
-          reducing-stop = spends-none (all_calls from (to - from)) 0 _ more
-              (spends-step (all_calls from (to - from)) 0 (all_calls i (to - i)) steps _ _ more r.spends next_calls m)
+          reducing-stop = spends-none (all_calls from (to - from)) 0 _ more spent
 
   few_at : (i : ℕ) → IsAccepted f → f.kind ≡ kinds.Binary → IsGrid a → steps_of (calls_here i) ≤ 68719476736
   few_at i is k g =

@@ -4,3 +4,4 @@ pub mod Placing
 pub mod Sifting
 pub mod Walking
 pub mod Mapped
+pub mod Folding

@@ -13,11 +13,13 @@
 //! a mask, `form` says what a form makes of a position, and `emitter` adds each cell at once and puts the values of
 //! gathered calls in their places, over `specs/Placing.antt`. `select` fills that of a selection, by `sieve`, whose
 //! last cells wait for the answers of gathered calls, over `specs/Sifting.antt`. `specs/Walking.antt` has what a row
-//! is, and `specs/Standing.antt` what is added to rows while calls wait.
+//! is, and `specs/Standing.antt` what is added to rows while calls wait. Apart from these stands `folds`, which folds
+//! rows for a reduction, many at once, over `specs/Folding.antt`.
 #![tactic(auto)]
 
 mod apply;
 mod emitter;
+mod folds;
 mod form;
 mod joint;
 mod line;
