@@ -269,15 +269,17 @@ fn fold_on(operator: &Prepared, so_far: u64, rest: &[Cell], steps: &mut u64) -> 
     ensures steps { steps.new ≡ steps.old + steps_of (fold_calls_from operator.now so_far (words rest.now)) }
 {
     let mut value = so_far;
+    let mut spent = *steps;
     for term in rest {
         let operands = Operands::Binary {
             x: value,
             y: term.1,
         };
         let outcome = call(operator, &operands);
-        *steps += outcome.steps;
+        spent += outcome.steps;
         value = outcome.value;
     }
+    *steps = spent;
     value
 }
 
