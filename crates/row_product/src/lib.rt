@@ -16,7 +16,8 @@
 //! meanwhile is said of what they come to when all that wait is made.
 //!
 //! Read `product`, `row` (one row), `sums` (rows of B added to the sums), `terms` (products that wait), `additions` (additions
-//! that wait), `emit` (sums into the result), `marks` (the mask's row) and `count`, over `specs/Sums.antt` and `specs/Terms.antt`.
+//! that wait), `tagged` (what is kept of a column), `emit` (sums into the result), `marks` (the mask's row) and `count`, over
+//! `specs/Sums.antt`, `specs/Terms.antt` and `specs/Emitted.antt`.
 #![tactic(auto)]
 
 mod additions;
