@@ -199,3 +199,46 @@ fn entries_in_bulk(rt: HostRuntime) -> Result<(), Fail> {
     }
     Ok(())
 }
+
+/// Pairs of two lists are called in their order, and values stay until the next calls are made.
+#[test]
+fn pairs_of_lists(rt: HostRuntime) -> Result<(), Fail> {
+    // mov64 r0, r1; sub64 r0, r2
+    let difference = [MOVE, 0x1f20_0000_0000_0000, EXIT];
+    let operator = prepared(rt.alloc(), &difference, Kind::Binary)?;
+    let mut calls = Calls::new(rt.alloc())?;
+    calls.begin(Kind::Binary);
+    calls.gather_pair(9, 2);
+    calls.gather_pairs(&[10, 20], &[3, 4]);
+    if operator.kind() == Kind::Binary {
+        expect_made(&rt, &mut calls, &operator, 9, &[7, 7, 16]);
+        calls.gather_pairs(&[100], &[1]);
+        assert_eq!(&rt; calls.values(), &[7, 7, 16]);
+        assert_eq!(&rt; calls.len(), 1);
+    }
+    Ok(())
+}
+
+/// Cells of several rows are called with the row of each.
+#[test]
+fn positions_in_bulk(rt: HostRuntime) -> Result<(), Fail> {
+    // mov64 r0, r1, and then each of r2, r3 and r4 behind mul64 r0, 10
+    let digits = [
+        MOVE,
+        0x2700_0000_0a00_0000,
+        0x0f20_0000_0000_0000,
+        0x2700_0000_0a00_0000,
+        0x0f30_0000_0000_0000,
+        0x2700_0000_0a00_0000,
+        0x0f40_0000_0000_0000,
+        EXIT,
+    ];
+    let operator = prepared(rt.alloc(), &digits, Kind::Index)?;
+    let mut calls = Calls::new(rt.alloc())?;
+    calls.begin(Kind::Index);
+    calls.gather_positions(&CELLS, &[2, 2, 3], 5);
+    if operator.kind() == Kind::Index {
+        expect_made(&rt, &mut calls, &operator, 24, &[10215, 40245, 70375]);
+    }
+    Ok(())
+}
