@@ -213,7 +213,7 @@ fn pairs_of_lists(rt: HostRuntime) -> Result<(), Fail> {
     if operator.kind() == Kind::Binary {
         expect_made(&rt, &mut calls, &operator, 9, &[7, 7, 16]);
         calls.gather_pairs(&[100], &[1]);
-        assert_eq!(&rt; calls.values(), &[7, 7, 16]);
+        assert_eq!(&rt; calls.values(), [7, 7, 16].as_slice());
         assert_eq!(&rt; calls.len(), 1);
     }
     Ok(())
