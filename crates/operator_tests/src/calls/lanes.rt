@@ -1,5 +1,5 @@
 //! Calls that are made together, in all counts of lanes that differ in kind.
-ghost use Rattle.std.specs.Prelude.{◌≡◌};
+ghost use Rattle.std.specs.Prelude.{◌≡◌, []};
 
 use super::*;
 
@@ -144,6 +144,8 @@ const CELLS: [(u64, u64); 3] = [(1, 10), (4, 40), (7, 70)];
 /// That the calls that were gathered cost and give this.
 fn expect_made(rt: &impl Abort, calls: &mut Calls, operator: &Prepared, steps: u64, values: &[u64])
     requires { calls.old.kind ≡ operator.now.kind }
+    ensures kind { calls.new.kind ≡ calls.old.kind }
+    ensures none { calls.new.operands ≡ [] }
 {
     assert_eq!(rt; calls.make(operator), steps);
     assert_eq!(rt; calls.values(), values);
