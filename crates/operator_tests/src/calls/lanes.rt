@@ -141,6 +141,9 @@ fn prepared(alloc: Global, slots: &[u64], kind: Kind) -> Result<Prepared, Fail> 
 /// Cells, each a column with a word.
 const CELLS: [(u64, u64); 3] = [(1, 10), (4, 40), (7, 70)];
 
+/// More of them.
+const SIX_CELLS: [(u64, u64); 6] = [(0, 1), (1, 2), (2, 3), (3, 4), (5, 5), (9, 6)];
+
 /// That the calls that were gathered cost and give this.
 fn expect_made(rt: &impl Abort, calls: &mut Calls, operator: &Prepared, steps: u64, values: &[u64])
     requires { calls.old.kind ≡ operator.now.kind }
@@ -181,23 +184,28 @@ fn pairs_in_bulk(rt: HostRuntime) -> Result<(), Fail> {
     Ok(())
 }
 
-/// Cells of a row are called with their positions and a number.
+/// Cells of rows are called with their positions and a number.
 #[test]
 fn entries_in_bulk(rt: HostRuntime) -> Result<(), Fail> {
-    // mov64 r0, r1; add64 r0, r2; add64 r0, r3; add64 r0, r4
-    let sum = [
+    // mov64 r0, r1, and then each of r2, r3 and r4 behind mul64 r0, 10
+    let digits = [
         MOVE,
+        0x2700_0000_0a00_0000,
         0x0f20_0000_0000_0000,
+        0x2700_0000_0a00_0000,
         0x0f30_0000_0000_0000,
+        0x2700_0000_0a00_0000,
         0x0f40_0000_0000_0000,
         EXIT,
     ];
-    let operator = prepared(rt.alloc(), &sum, Kind::Index)?;
+    let operator = prepared(rt.alloc(), &digits, Kind::Index)?;
     let mut calls = Calls::new(rt.alloc())?;
     calls.begin(Kind::Index);
-    calls.gather_entries(&CELLS, 1000, 5000);
+    calls.gather_entries(&CELLS, 2, 5);
+    calls.gather_entries(&SIX_CELLS, 3, 5);
+    let values = [10215, 40245, 70275, 1305, 2315, 3325, 4335, 5355, 6395];
     if operator.kind() == Kind::Index {
-        expect_made(&rt, &mut calls, &operator, 15, &[6011, 6044, 6077]);
+        expect_made(&rt, &mut calls, &operator, 72, &values);
     }
     Ok(())
 }
@@ -217,30 +225,6 @@ fn pairs_of_lists(rt: HostRuntime) -> Result<(), Fail> {
         calls.gather_pairs(&[100], &[1]);
         assert_eq!(&rt; calls.values(), [7, 7, 16].as_slice());
         assert_eq!(&rt; calls.len(), 1);
-    }
-    Ok(())
-}
-
-/// Cells of several rows are called with the row of each.
-#[test]
-fn positions_in_bulk(rt: HostRuntime) -> Result<(), Fail> {
-    // mov64 r0, r1, and then each of r2, r3 and r4 behind mul64 r0, 10
-    let digits = [
-        MOVE,
-        0x2700_0000_0a00_0000,
-        0x0f20_0000_0000_0000,
-        0x2700_0000_0a00_0000,
-        0x0f30_0000_0000_0000,
-        0x2700_0000_0a00_0000,
-        0x0f40_0000_0000_0000,
-        EXIT,
-    ];
-    let operator = prepared(rt.alloc(), &digits, Kind::Index)?;
-    let mut calls = Calls::new(rt.alloc())?;
-    calls.begin(Kind::Index);
-    calls.gather_positions(&CELLS, &[2, 2, 3], 5);
-    if operator.kind() == Kind::Index {
-        expect_made(&rt, &mut calls, &operator, 24, &[10215, 40245, 70375]);
     }
     Ok(())
 }
