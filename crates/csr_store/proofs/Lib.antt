@@ -18,3 +18,4 @@ pub mod Revalued
 pub mod Joining
 pub mod Along
 pub mod Appending
+pub mod Blocks

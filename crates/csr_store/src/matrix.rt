@@ -1,5 +1,5 @@
 //! A finished matrix.
-ghost use Rattle.std.specs.Prelude.{◌≡◌, ◌<◌, ◌≤◌, ◌+◌, ◌-◌, ◌∷◌, [], map, IfOk};
+ghost use Rattle.std.specs.Prelude.{◌≡◌, ◌<◌, ◌≤◌, ◌+◌, ◌-◌, ◌∷◌, ◌++◌, [], length, map, IfOk, OnOk};
 ghost use Rattle.std.specs.List.{range_with_len, AllByRecursion};
 ghost use Rattle.std.specs.FinMap as fin;
 ghost use Rattle.csr_store.specs.Along.{along};
@@ -133,16 +133,49 @@ impl Matrix {
     }
 }
 
+/// So many ends are taken at once.
+const BLOCK: usize = 16;
+
 /// Where rows end behind a place, by where they end.
 fn ends_behind(alloc: Global, ends: &[u64], base: u64) -> Result<Vec<u64>, AllocError>
     requires { AllByRecursion (λ e. base ≤ e) ends.now }
     ensures { IfOk result (λ behind. behind.items ≡ map (λ e. e - base) ends.now) }
 {
     let mut behind = Vec::with_capacity(alloc, ends.len())?;
+    let mut rest = ends;
+    while rest.len() >= BLOCK {
+        let (block, others) = rest.split_at(BLOCK);
+        behind.extend_from_slice(&block_behind(block, base))?;
+        rest = others;
+    }
+    push_behind(&mut behind, rest, base)?;
+    Ok(behind)
+}
+
+/// Adds the same of each.
+#[inline(always)]
+fn push_behind(behind: &mut Vec<u64>, ends: &[u64], base: u64) -> Result<(), AllocError>
+    requires { AllByRecursion (λ e. base ≤ e) ends.now }
+    ensures { OnOk result (behind.new.items ≡ behind.old.items ++ map (λ e. e - base) ends.now) }
+{
     for end in ends {
         behind.push(*end - base)?;
     }
-    Ok(behind)
+    Ok(())
+}
+
+/// The same of a block.
+#[inline(always)]
+fn block_behind(ends: &[u64], base: u64) -> [u64; BLOCK]
+    requires block { length ends.now ≡ 16 }
+    requires base { AllByRecursion (λ e. base ≤ e) ends.now }
+    ensures { result ≡ map (λ e. e - base) ends.now }
+{
+    let mut behind = [0; BLOCK];
+    for place in 0..BLOCK {
+        behind[place] = ends[place] - base;
+    }
+    behind
 }
 
 /// A matrix with several owners. `Arc::try_clone` makes a further one.

@@ -43,7 +43,7 @@ pub fn value_at(row: &[Cell], j: u64) -> Option<u64>
 
 /// The most cells that are copied at once. The C library copies this many in vector registers, and a good many more byte by
 /// byte, by one instruction of which tools count each byte.
-const PART: usize = 128;
+const PART: usize = 240;
 
 /// Adds cells behind others.
 pub fn append(cells: &mut Vec<Cell>, more: &[Cell]) -> Result<(), AllocError>
@@ -59,8 +59,28 @@ pub fn append(cells: &mut Vec<Cell>, more: &[Cell]) -> Result<(), AllocError>
     Ok(())
 }
 
+/// So many values are given to cells by code without a loop.
+const BLOCK: usize = 16;
+
 /// Gives other values to cells from one on, as many as there are values.
 pub fn put_values(cells: &mut [Cell], from: usize, values: &[u64])
+    requires { from + length values.now ≤ length cells.old }
+    ensures { cells.new ≡ valued_from from values.now cells.old }
+{
+    let mut entry = from;
+    let mut rest = values;
+    while rest.len() >= BLOCK {
+        let (block, behind) = rest.split_at(BLOCK);
+        put_each(cells, entry, block);
+        entry += BLOCK;
+        rest = behind;
+    }
+    put_each(cells, entry, rest);
+}
+
+/// The same, one value after the other.
+#[inline(always)]
+fn put_each(cells: &mut [Cell], from: usize, values: &[u64])
     requires { from + length values.now ≤ length cells.old }
     ensures { cells.new ≡ valued_from from values.now cells.old }
 {

@@ -77,6 +77,13 @@ impl Rows {
         Ok(())
     }
 
+    /// Gives back the memory that was taken for entries beyond those it has.
+    pub fn trim(&mut self)
+        ensures { self.new ≡ self.old }
+    {
+        self.cells.shrink_to_fit();
+    }
+
     /// Adds an entry to the open row, behind its others. On a refusal the run is as before.
     pub fn push(&mut self, column: u64, value: u64) -> Result<(), AllocError>
         requires within { column < self.old.columns }
@@ -203,12 +210,30 @@ fn push_if(kept: &mut Vec<Cell>, column: u64, word: u64, answer: u64)
     ensures word { word < 2 ^ 64 }
 {
     if answer != 0 {
-        kept.push((column, word)).unwrap();
+        kept.push_reserved((column, word));
     }
 }
 
+/// So many ends are added at once.
+const BLOCK: usize = 16;
+
 /// Adds ends, counted from `base` on.
 fn push_ends(starts: &mut Vec<u64>, ends: &[u64], base: u64) -> Result<(), AllocError>
+    requires { AllByRecursion (λ e. base + e < 2 ^ 64) ends.now }
+    ensures { OnOk result (starts.new.items ≡ starts.old.items ++ map (λ e. base + e) ends.now) }
+{
+    let mut rest = ends;
+    while rest.len() >= BLOCK {
+        let (block, others) = rest.split_at(BLOCK);
+        starts.extend_from_slice(&block_ahead(block, base))?;
+        rest = others;
+    }
+    push_each(starts, rest, base)
+}
+
+/// The same, one end after the other.
+#[inline(always)]
+fn push_each(starts: &mut Vec<u64>, ends: &[u64], base: u64) -> Result<(), AllocError>
     requires { AllByRecursion (λ e. base + e < 2 ^ 64) ends.now }
     ensures { OnOk result (starts.new.items ≡ starts.old.items ++ map (λ e. base + e) ends.now) }
 {
@@ -216,4 +241,18 @@ fn push_ends(starts: &mut Vec<u64>, ends: &[u64], base: u64) -> Result<(), Alloc
         starts.push(base + *end)?;
     }
     Ok(())
+}
+
+/// The same of a block.
+#[inline(always)]
+fn block_ahead(ends: &[u64], base: u64) -> [u64; BLOCK]
+    requires block { length ends.now ≡ 16 }
+    requires base { AllByRecursion (λ e. base + e < 2 ^ 64) ends.now }
+    ensures { result ≡ map (λ e. base + e) ends.now }
+{
+    let mut ahead = [0; BLOCK];
+    for place in 0..BLOCK {
+        ahead[place] = base + ends[place];
+    }
+    ahead
 }

@@ -1,6 +1,6 @@
 use Rattle.std.proofs.Common.{arith, refl}
 use Rattle.csr_store.proofs.Valuing.{set_none, set_more, set_all, set_is_valued}
-use Rattle.csr_store.proofs.row.put_values.Goals as goal
+use Rattle.csr_store.proofs.row.put_each.Goals as goal
 
 pub loop-value-init : goal.loop-value-init
 loop-value-init c = set_none c.args.from c.args.values.now c.args.cells.now
