@@ -1,33 +1,8 @@
 -- The steps of all calls of a form fit a word: there are at most 2^24 rows of 2^24 columns, and a call takes at most 2^12 steps.
-use Rattle.std.proofs.Common.{
-  ◌≡◌,
-  ◌≤◌,
-  ◌<◌,
-  ◌+◌,
-  ◌*◌,
-  ◌^◌,
-  ℕ,
-  zero,
-  suc,
-  Bool,
-  true,
-  false,
-  if◌then◌else◌,
-  List,
-  [],
-  ◌∷◌,
-  ◌++◌,
-  Option,
-  None,
-  Some,
-  refl,
-  sym,
-  arith,
-}
-use Rattle.bpf_insn.specs.Machine.{kind_of}
+use Rattle.std.proofs.Common.{◌≡◌, ◌≤◌, ◌<◌, ◌*◌, ◌^◌, ℕ, zero, suc, Bool, true, false, if◌then◌else◌, List, [], Option, None, Some, sym, arith}
 use Rattle.bpf_insn.specs.declared.operands.Operands.TheVariants.{Unary, Binary, Index}
 use Rattle.bpf_verify.specs.Accepted.{Accepted, IsAccepted}
-use Rattle.csr_store.specs.Grid.{Grid, IsGrid, Cell, row_of}
+use Rattle.csr_store.specs.Grid.{Grid, IsGrid, row_of}
 use Rattle.csr_store.specs.Along.{along}
 use Rattle.csr_store.specs.Ascending.{at, shows}
 use Rattle.bpf_run.specs.Calls.{Call, steps_of}

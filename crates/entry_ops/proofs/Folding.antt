@@ -13,8 +13,7 @@ use Rattle.bpf_run.specs.Calls.{Call, steps_of}
 use Rattle.bpf_run.specs.Fold.{fold, fold_from, fold_calls, fold_calls_from}
 use Rattle.bpf_run.proofs.Charging.{cost-few, steps-append}
 use Rattle.entry_ops.specs.Forms.{reduce_at, reduce_calls_at}
-use Rattle.entry_ops.specs.Folding.{words, Folding, due, IsAmong, places, Goes, Begins, target_of, IsFolding, AreResults}
-use Rattle.entry_ops.specs.declared.folds.Lane.{Lane}
+use Rattle.entry_ops.specs.Folding.{words, Open, Folding, due, IsAmong, places, Goes, Begins, target_of, IsFolding, AreResults}
 
 -- ---- a row that the mask may not show
 
@@ -53,7 +52,7 @@ module _ (f : Accepted) (a : Grid) (mask : Option Grid) where
         let s = ap (λ i. steps_of (all_calls i (many - length e.results))) z ∙ ap (λ k. steps_of (all_calls first k)) m in
         record {
           leads = record {
-            opened = subst (λ (xs : List Lane). AllByRecursion (λ (l : Lane). Some (fold_from f l.so_far (words l.rest.now))
+            opened = subst (λ (xs : List Open). AllByRecursion (λ (l : Open). Some (fold_from f l.so_far l.terms)
                 ≡ target_of f a mask first l.place) xs) (sym ls) tt;
             known = λ k b. absurd (omega (arith, n, b));
           };
@@ -100,7 +99,7 @@ module _ (f : Accepted) (a : Grid) (mask : Option Grid) where
         known_all : (k : ℕ) → (get_or e.results k None ≡ target_of f a mask first k) ⊎ IsAmong k (places e.lanes)
             → get_or e.results k None ≡ target_of f a mask first k
         known_all k (inl q) = q
-        known_all k (inr r) = absurd (subst (λ (xs : List Lane). IsAmong k (places xs)) ls r)
+        known_all k (inr r) = absurd (subst (λ (xs : List Open). IsAmong k (places xs)) ls r)
 
         pub folding-results : AreResults f a mask first many e.results
         folding-results = record { count = n; each = λ k b. known_all k (h.leads.known k (omega (arith, n, b))) }

@@ -1,274 +1,327 @@
--- The lanes get the values of their calls, from the last one on, and those whose rows are done are given up.
-use Rattle.std.proofs.Common.{◌≡◌, ◌⊎◌, ◌≤◌, ◌<◌, ◌+◌, ◌-◌, ℕ, zero, suc, ◌==◌, Bool, true, false, List, [], ◌∷◌, ◌++◌, Option, Some, length, take, drop, set, get_or, inl, inr, refl, sym, ap, ◌∙◌, subst, arith, append_assoc, append-nil}
+-- The next words of open rows are taken from their cells, from the last row on, and those that have none get their results.
+use Rattle.std.proofs.Common.{◌≡◌, ◌⊎◌, ◌≤◌, ◌<◌, ◌+◌, ◌-◌, ℕ, zero, suc, List, [], ◌∷◌, ◌++◌, Option, Some, length, take, drop, set, get_or, inl, inr, refl, sym, ap, ◌∙◌, subst, arith, append_assoc, append-nil}
 use Rattle.std.specs.List.{AllByRecursion}
 use Rattle.std.proofs.lemmas.Bool.{cases_lt}
-use Rattle.std.proofs.lemmas.Bool.Decides.{nat_tests}
-use Rattle.std.proofs.lemmas.List.{take_more, take_all, take-take, take-set, drop-set, get_or-take, get_or-drop, length-drop, length-set}
+use Rattle.std.proofs.lemmas.List.{take_more, take_all, drop_more, take-set, drop-set, get_or-drop, length-drop, length-set}
 use Rattle.bpf_verify.specs.Accepted.{Accepted}
 use Rattle.csr_store.specs.Grid.{Cell}
-use Rattle.bpf_run.specs.Meaning.{value_of, cost_of}
-use Rattle.bpf_run.specs.Calls.{steps_of, calls_on, values_on}
 use Rattle.bpf_run.specs.Fold.{fold_from, fold_calls_from}
-use Rattle.entry_ops.specs.Folding.{words, IsLane, AreLanes, next_of, next_operands, to_come, due, IsAmong, places, LeadsTo, Gives}
-use Rattle.entry_ops.specs.declared.folds.Lane.{Lane}
-use Rattle.entry_ops.proofs.Lanes.{lane_at, all_gone, among_gone, due_append, costs_on, leads_on, leads_off}
+use Rattle.bpf_run.specs.Calls.{steps_of}
+use Rattle.entry_ops.specs.Folding.{words, Open, in_columns, in_two_columns, ArePlaced, IsAmong, places, LeadsTo, Gives}
+use Rattle.entry_ops.specs.declared.lanes.Lane.{Lane}
+use Rattle.entry_ops.proofs.OpenRows.{all_gone, among_gone, due_append, columns_push, two_columns_push, same_take, leads_found, gives_then}
 
--- a lane at the end is moved before others
-all_turned : (P : Lane → Type 0) (xs : List Lane) (z : Lane) → AllByRecursion P (xs ++ z ∷ []) → AllByRecursion P (z ∷ xs)
+-- ---- a row at the end is moved before others
+
+all_turned : (P : Open → Type 0) (xs : List Open) (z : Open) → AllByRecursion P (xs ++ z ∷ []) → AllByRecursion P (z ∷ xs)
 all_turned P xs z h = let g = all_gone P xs z [] h in (g.0, subst (AllByRecursion P) (append-nil xs) g.1)
 
-all_turned-behind : (P : Lane → Type 0) (ws xs : List Lane) (z : Lane) → AllByRecursion P (ws ++ (xs ++ z ∷ []))
+all_turned-behind : (P : Open → Type 0) (ws xs : List Open) (z : Open) → AllByRecursion P (ws ++ (xs ++ z ∷ []))
     → AllByRecursion P (ws ++ z ∷ xs)
 all_turned-behind P [] xs z h = all_turned P xs z h
 all_turned-behind P (w ∷ ws) xs z h = (h.0, all_turned-behind P ws xs z h.1)
 
-among_turned : (k : ℕ) (ws xs : List Lane) (z : Lane) → IsAmong k (places (ws ++ (xs ++ z ∷ []))) → IsAmong k (places (ws ++ z ∷ xs))
+among_turned : (k : ℕ) (ws xs : List Open) (z : Open) → IsAmong k (places (ws ++ (xs ++ z ∷ []))) → IsAmong k (places (ws ++ z ∷ xs))
 among_turned k [] xs z h = elim (among_gone k xs z [] h) [
   | inl e ↦ inl e
-  | inr r ↦ inr (subst (λ (ls : List Lane). IsAmong k (places ls)) (append-nil xs) r)
+  | inr r ↦ inr (subst (λ (ls : List Open). IsAmong k (places ls)) (append-nil xs) r)
 ]
 among_turned k (w ∷ ws) xs z (inl e) = inl e
 among_turned k (w ∷ ws) xs z (inr h) = inr (among_turned k ws xs z h)
 
-leads_turned : (f : Accepted) (target : ℕ → Option ℕ) (ws xs : List Lane) (z : Lane) (results : List (Option ℕ))
+leads_turned : (f : Accepted) (target : ℕ → Option ℕ) (ws xs : List Open) (z : Open) (results : List (Option ℕ))
     → LeadsTo f target (ws ++ (xs ++ z ∷ [])) results → LeadsTo f target (ws ++ z ∷ xs) results
 leads_turned f target ws xs z results h = record {
-  opened = all_turned-behind (λ (l : Lane). Some (fold_from f l.so_far (words l.rest.now)) ≡ target l.place) ws xs z h.opened;
+  opened = all_turned-behind (λ (l : Open). Some (fold_from f l.so_far l.terms) ≡ target l.place) ws xs z h.opened;
   known = λ k b. elim (h.known k b) [ inl e ↦ inl e | inr a ↦ inr (among_turned k ws xs z a) ];
 }
 
--- the value of a call, and what it costs
-value_at : (f : Accepted) (lanes : List Lane) (i : ℕ) (d : Lane) → i < length lanes
-    → get_or (values_on f (next_operands lanes)) i 0 ≡ value_of f (next_of (get_or lanes i d))
-value_at f [] i d l = absurd (omega arith)
-value_at f (x ∷ xs) zero d l = refl
-value_at f (x ∷ xs) (suc i) d l = value_at f xs i d (omega arith)
+gives_turned : (f : Accepted) (ws xs : List Open) (z : Open) (results : List (Option ℕ))
+    → Gives f 0 (ws ++ (xs ++ z ∷ [])) results (ws ++ z ∷ xs) results
+gives_turned f ws xs z results =
+    let a = due_append f ws (xs ++ z ∷ []) in
+    let b = due_append f xs (z ∷ []) in
+    let c = due_append f ws (z ∷ xs) in
+    record { rows = refl; leads = λ target h. leads_turned f target ws xs z results h; costs = omega (arith, a, b, c) }
 
-next_push : (f : Accepted) (xs : List Lane) (x : Lane)
-    → steps_of (calls_on f (next_operands (xs ++ x ∷ []))) ≡ steps_of (calls_on f (next_operands xs)) + cost_of f (next_of x)
-next_push f [] x = omega arith
-next_push f (y ∷ xs) x = let h = next_push f xs x in omega arith
+-- ---- a row with no word left has its result
 
--- the first lanes wait for their values, and others have theirs
-pub record IsHalfway (f : Accepted) (start : List Lane) (begun : List (Option ℕ)) (waiting given : List Lane)
-    (results : List (Option ℕ)) : Type 0 where
-  pub leads : (target : ℕ → Option ℕ) → LeadsTo f target start begun → LeadsTo f target (waiting ++ given) results
-  pub costs : (due f waiting + due f given) + steps_of (calls_on f (next_operands start))
-      ≡ steps_of (calls_on f (next_operands waiting)) + due f start
+gives_result : (f : Accepted) (xs : List Open) (x : Open) (ys : List Open) (results : List (Option ℕ)) → x.terms ≡ []
+    → x.place < length results → Gives f 0 (xs ++ x ∷ ys) results (xs ++ ys) (set results x.place (Some x.so_far))
+gives_result f xs x ys results e within =
+    let a = due_append f xs (x ∷ ys) in
+    let b = due_append f xs ys in
+    let z : steps_of (fold_calls_from f x.so_far x.terms) ≡ 0 = ap (λ ts. steps_of (fold_calls_from f x.so_far ts)) e in
+    record {
+      rows = length-set results x.place (Some x.so_far);
+      leads = λ target h. leads_found f target xs x ys results h within x.so_far (ap (λ ts. Some (fold_from f x.so_far ts)) (sym e));
+      costs = omega (arith, a, b, z);
+    }
 
-pub record IsGiving (start : List Lane) (values : List ℕ) (begun : List (Option ℕ)) (i left : ℕ) (lanes : List Lane)
+-- ---- parts of columns
+
+same_drop : {X Y : Type 0} (n : ℕ) (xs : List X) (ys : List Y) → length ys ≡ length xs → length (drop n ys) ≡ length (drop n xs)
+same_drop zero xs ys e = e
+same_drop (suc n) [] [] e = refl
+same_drop (suc n) [] (y ∷ ys) e = absurd (omega (arith, e))
+same_drop (suc n) (x ∷ xs) [] e = absurd (omega (arith, e))
+same_drop (suc n) (x ∷ xs) (y ∷ ys) e = same_drop n xs ys (omega (arith, e))
+
+-- from one place up to another
+abbrev part : {X : Type 0} → ℕ → ℕ → List X → List X
+part i j xs = take (j - i) (drop i xs)
+
+same_part : {X Y : Type 0} (i j : ℕ) (xs : List X) (ys : List Y) → length ys ≡ length xs → length (part i j ys) ≡ length (part i j xs)
+same_part i j xs ys e = same_take (j - i) (drop i xs) (drop i ys) (same_drop i xs ys e)
+
+part_none : {X : Type 0} (i j : ℕ) (xs : List X) → j ≤ i → part i j xs ≡ []
+part_none i j xs l = let z : j - i ≡ 0 = omega (arith, l) in ap (λ k. take k (drop i xs)) z
+
+part_more : {X : Type 0} (i j : ℕ) (xs : List X) (d : X) → i < j → i < length xs → part i j xs ≡ get_or xs i d ∷ part (i + 1) j xs
+part_more i j xs d l s =
+    let one : j - i ≡ suc (j - (i + 1)) = omega (arith, l) in
+    ap (λ k. take k (drop i xs)) one ∙ ap (λ ys. take (suc (j - (i + 1))) ys) (drop_more xs i d s)
+
+part_set : {X : Type 0} (i j : ℕ) (xs : List X) (y : X) → i < j → i < length xs → part i j (set xs i y) ≡ y ∷ part (i + 1) j xs
+part_set i j xs y l s =
+    let one : j - i ≡ suc (j - (i + 1)) = omega (arith, l) in
+    ap (λ k. take k (drop i (set xs i y))) one ∙ ap (λ ys. take (suc (j - (i + 1))) ys) (drop-set xs i y s)
+
+part_last : {X : Type 0} (i j : ℕ) (xs : List X) (d : X) → i < j → j ≤ length xs
+    → part i j xs ≡ part i (j - 1) xs ++ get_or xs (j - 1) d ∷ []
+part_last i j xs d l b =
+    let m = (j - 1) - i in
+    let e : j - i ≡ m + 1 = omega (arith, l) in
+    let n = length-drop i xs in
+    let at_end : i + m ≡ j - 1 = omega (arith, l) in
+    ap (λ k. take k (drop i xs)) e ∙ take_more (drop i xs) m d (omega (arith, l, b, n))
+    ∙ ap (λ x. take m (drop i xs) ++ x ∷ []) (get_or-drop i xs m d ∙ ap (λ k. get_or xs k d) at_end)
+
+-- ---- rows that wait for their words, and rows that have theirs
+
+abbrev halfway : ℕ → ℕ → List Lane → List ℕ → List ℕ → List Open
+halfway i left lanes so_far next = in_two_columns (take i lanes) (take i so_far)
+    ++ in_columns (part i left lanes) (part i left so_far) (part i left next)
+
+pub record IsGiving (start : List Open) (begun : List (Option ℕ)) (i left : ℕ) (lanes : List Lane) (so_far next : List ℕ)
     (results : List (Option ℕ)) : Type 0 where
   pub within : i ≤ left
-  pub fits : left ≤ length start
-  pub count : length lanes ≡ length start
+  pub fits : left ≤ length lanes
+  pub folds : length so_far ≡ length lanes
+  pub nexts : length next ≡ length lanes
   pub rows : length results ≡ length begun
-  pub untouched : take i lanes ≡ take i start
-  pub given : AreLanes (length begun) (take (left - i) (drop i lanes))
-  pub halfway : (f : Accepted) → values ≡ values_on f (next_operands start)
-      → IsHalfway f start begun (take i start) (take (left - i) (drop i lanes)) results
+  pub placed : ArePlaced (length begun) (halfway i left lanes so_far next)
+  pub gives : (f : Accepted) → Gives f 0 start begun (halfway i left lanes so_far next) results
 
-module _ (start : List Lane) (values : List ℕ) (begun : List (Option ℕ)) (are : AreLanes (length begun) start) where
-  pub giving-start : IsGiving start values begun (length start) (length start) start begun
-  giving-start =
-      let none : length start - length start ≡ 0 = omega arith in
-      let empty : take (length start - length start) (drop (length start) start) ≡ [] =
-      ap (λ k. take k (drop (length start) start)) none in
-      let whole : take (length start) start ≡ start = take_all (length start) start (omega arith) in
+pub giving-start : (begun : List (Option ℕ)) (lanes : List Lane) (so_far next : List ℕ) → length so_far ≡ length lanes
+    → length next ≡ length lanes → ArePlaced (length begun) (in_two_columns lanes so_far)
+    → IsGiving (in_two_columns lanes so_far) begun (length lanes) (length lanes) lanes so_far next begun
+giving-start begun lanes so_far next p q h =
+    let whole : in_two_columns lanes so_far ≡ halfway (length lanes) (length lanes) lanes so_far next =
+    sym (append-nil (in_two_columns lanes so_far))
+    ∙ ap (λ os. in_two_columns lanes so_far ++ os)
+    (ap (λ (ls : List Lane). in_columns ls (part (length lanes) (length lanes) so_far) (part (length lanes) (length lanes) next))
+    (sym (part_none (length lanes) (length lanes) lanes (omega arith))))
+    ∙ ap (λ os. os ++ in_columns (part (length lanes) (length lanes) lanes) (part (length lanes) (length lanes) so_far) (part (length lanes)
+    (length lanes) next))
+    (ap (λ (ls : List Lane). in_two_columns ls so_far) (sym (take_all (length lanes) lanes (omega arith)))
+    ∙ ap (λ vs. in_two_columns (take (length lanes) lanes) vs) (sym (take_all (length lanes) so_far (omega (arith, p))))) in
+    record {
+      within = omega arith;
+      fits = omega arith;
+      folds = p;
+      nexts = q;
+      rows = refl;
+      placed = subst (ArePlaced (length begun)) whole h;
+      gives = λ f. subst (λ os. Gives f 0 (in_two_columns lanes so_far) begun os begun) whole
+          (record { rows = refl; leads = λ target l. l; costs = omega arith });
+    }
+
+module _ (start : List Open) (begun : List (Option ℕ)) (i left : ℕ) (lanes : List Lane) (so_far next : List ℕ)
+    (results : List (Option ℕ)) (h : IsGiving start begun (i + 1) left lanes so_far next results) (d : Lane) where
+  short : i < length lanes
+  short = let a = h.within in let b = h.fits in omega (arith, a, b)
+
+  abbrev before : List Open
+  before = in_two_columns (take i lanes) (take i so_far)
+
+  abbrev behind : List Open
+  behind = in_columns (part (i + 1) left lanes) (part (i + 1) left so_far) (part (i + 1) left next)
+
+  -- the row whose turn it is
+  abbrev here : Open
+  here = record { place = (get_or lanes i d).place; so_far = get_or so_far i 0; terms = words (get_or lanes i d).rest.now }
+
+  parted : halfway (i + 1) left lanes so_far next ≡ before ++ here ∷ behind
+  parted =
+      let s = short in
+      let p = h.folds in
+      ap (λ os. os ++ behind)
+      (ap (λ (ls : List Lane). in_two_columns ls (take (i + 1) so_far)) (take_more lanes i d s)
+      ∙ ap (λ vs. in_two_columns (take i lanes ++ get_or lanes i d ∷ []) vs) (take_more so_far i 0 (omega (arith, s, p)))
+      ∙ two_columns_push (take i lanes) (take i so_far) (get_or lanes i d) (get_or so_far i 0) (same_take i lanes so_far p))
+      ∙ append_assoc before (here ∷ []) behind
+
+  placed_now : ArePlaced (length begun) (before ++ here ∷ behind)
+  placed_now = subst (ArePlaced (length begun)) parted h.placed
+
+  gives_now : (f : Accepted) → Gives f 0 start begun (before ++ here ∷ behind) results
+  gives_now f = subst (λ os. Gives f 0 start begun os results) parted (h.gives f)
+
+  pub giving-place : (get_or lanes i d).place < length results
+  giving-place =
+      let r = h.rows in
+      let p = (all_gone (λ (o : Open). o.place < length begun) before here behind placed_now).0 in
+      omega (arith, r, p)
+
+  -- it has a next word
+  pub giving-word : (c : Cell) (y : Lane) → y.place ≡ (get_or lanes i d).place → (get_or lanes i d).rest.now ≡ c ∷ y.rest.now
+      → IsGiving start begun i left (set lanes i y) so_far (set next i c.1) results
+  giving-word c y p e =
+      let s = short in
+      let w = h.within in
+      let v = h.folds in
+      let n = h.nexts in
+      let l : i < left = omega (arith, w) in
+      let same : here ≡ record { place = y.place; so_far = get_or so_far i 0; terms = c.1 ∷ words y.rest.now } =
+      ap (λ ts. record { place = (get_or lanes i d).place; so_far = get_or so_far i 0; terms = ts }) (ap words e)
+      ∙ ap (λ k. record { place = k; so_far = get_or so_far i 0; terms = c.1 ∷ words y.rest.now }) (sym p) in
+      let all : halfway i left (set lanes i y) so_far (set next i c.1) ≡ before ++ here ∷ behind =
+      ap (λ (ls : List Lane). in_two_columns ls (take i so_far) ++ in_columns (part i left (set lanes i y)) (part i left so_far)
+      (part i left (set next i c.1))) (take-set lanes i y)
+      ∙ ap (λ os. before ++ os)
+      (ap (λ (ls : List Lane). in_columns ls (part i left so_far) (part i left (set next i c.1))) (part_set i left lanes y l s)
+      ∙ ap (λ vs. in_columns (y ∷ part (i + 1) left lanes) vs (part i left (set next i c.1))) (part_more i left so_far 0 l (omega (arith, s, v)))
+      ∙ ap (λ ws. in_columns (y ∷ part (i + 1) left lanes) (get_or so_far i 0 ∷ part (i + 1) left so_far) ws)
+      (part_set i left next c.1 l (omega (arith, s, n)))
+      ∙ ap (λ o. o ∷ behind) (sym same)) in
+      let a = h.fits in
+      let b = length-set lanes i y in
+      let k = length-set next i c.1 in
       record {
-        within = omega arith;
-        fits = omega arith;
-        count = refl;
-        rows = refl;
-        untouched = refl;
-        given = subst (AreLanes (length begun)) (sym empty) tt;
-        halfway = λ f e. subst (λ (ls : List Lane). IsHalfway f start begun (take (length start) start) ls begun) (sym empty)
-            (subst (λ (ls : List Lane). IsHalfway f start begun ls [] begun) (sym whole) (record {
-              leads = λ target l. subst (λ (ls : List Lane). LeadsTo f target ls begun) (sym (append-nil start)) l;
-              costs = omega arith;
-            }));
+        within = omega (arith, w);
+        fits = omega (arith, a, b);
+        folds = omega (arith, v, b);
+        nexts = omega (arith, n, b, k);
+        rows = h.rows;
+        placed = subst (ArePlaced (length begun)) (sym all) placed_now;
+        gives = λ f. subst (λ os. Gives f 0 start begun os results) (sym all) (gives_now f);
       }
 
-  module _ (i left : ℕ) (lanes : List Lane) (results : List (Option ℕ)) (h : IsGiving start values begun (i + 1) left lanes results) (d : Lane) where
-    short : i < length lanes
-    short = let a = h.within in let b = h.fits in let c = h.count in omega (arith, a, b, c)
+  -- it has none, and the last row stands in its place
+  module _ (none : (get_or lanes i d).rest.now ≡ []) where
+    abbrev then : List Open
+    then = halfway i (left - 1) (set lanes i (get_or lanes (left - 1) d)) (set so_far i (get_or so_far (left - 1) 0))
+        (set next i (get_or next (left - 1) 0))
 
-    short_start : i < length start
-    short_start = let a = h.within in let b = h.fits in omega (arith, a, b)
+    given : (f : Accepted) → Gives f 0 start begun (before ++ behind) (set results (get_or lanes i d).place (Some (get_or so_far i 0)))
+    given f = gives_then f 0 0 start (before ++ here ∷ behind) (before ++ behind) begun results _ (gives_now f)
+        (gives_result f before here behind results (ap words none) giving-place)
 
-    same_lane : get_or lanes i d ≡ get_or start i d
-    same_lane = sym (get_or-take (i + 1) lanes i d (omega arith)) ∙ ap (λ (ls : List Lane). get_or ls i d) h.untouched
-        ∙ get_or-take (i + 1) start i d (omega arith)
+    placed_left : ArePlaced (length begun) (before ++ behind)
+    placed_left = (all_gone (λ (o : Open). o.place < length begun) before here behind placed_now).1
 
-    pub is_lane : IsLane (length begun) (get_or lanes i d)
-    is_lane = subst (λ (x : Lane). IsLane (length begun) x) (sym same_lane) (lane_at (length begun) start i d are short_start)
+    front : then ≡ before ++ in_columns (part i (left - 1) (set lanes i (get_or lanes (left - 1) d)))
+        (part i (left - 1) (set so_far i (get_or so_far (left - 1) 0))) (part i (left - 1) (set next i (get_or next (left - 1) 0)))
+    front = ap (λ (ls : List Lane). in_two_columns ls (take i (set so_far i (get_or so_far (left - 1) 0)))
+        ++ in_columns (part i (left - 1) (set lanes i (get_or lanes (left - 1) d)))
+        (part i (left - 1) (set so_far i (get_or so_far (left - 1) 0))) (part i (left - 1) (set next i (get_or next (left - 1) 0))))
+        (take-set lanes i (get_or lanes (left - 1) d))
+        ∙ ap (λ vs. in_two_columns (take i lanes) vs ++ in_columns (part i (left - 1) (set lanes i (get_or lanes (left - 1) d)))
+        (part i (left - 1) (set so_far i (get_or so_far (left - 1) 0))) (part i (left - 1) (set next i (get_or next (left - 1) 0))))
+        (take-set so_far i (get_or so_far (left - 1) 0))
 
-    -- the waiting ones without the last
-    still : take i lanes ≡ take i start
-    still =
-        sym (take_take lanes) ∙ ap (λ (ls : List Lane). take i ls) h.untouched ∙ take_take start
-      where
-        take_take : (xs : List Lane) → take i (take (i + 1) xs) ≡ take i xs
-        take_take xs = take-take i (i + 1) xs (omega arith)
+    record IsThen (os : List Open) : Type 0 where
+      placed : ArePlaced (length begun) os
+      gives : (f : Accepted) → Gives f 0 start begun os (set results (get_or lanes i d).place (Some (get_or so_far i 0)))
 
-    module _ (y : Lane) (p : y.place ≡ (get_or lanes i d).place) (s : y.so_far ≡ get_or values i 0)
-        (r : y.rest.now ≡ drop 1 (get_or lanes i d).rest.now) where
-      module _ (f : Accepted) (e : values ≡ values_on f (next_operands start)) where
-        value_is : get_or values i 0 ≡ value_of f (next_of (get_or lanes i d))
-        value_is = ap (λ vs. get_or vs i 0) e ∙ value_at f start i d short_start ∙ ap (λ (l : Lane). value_of f (next_of l)) (sym same_lane)
-
-        front : take (i + 1) start ≡ take i start ++ get_or lanes i d ∷ []
-        front = take_more start i d short_start ∙ ap (λ (l : Lane). take i start ++ l ∷ []) (sym same_lane)
-
-        at : IsHalfway f start begun (take i start ++ get_or lanes i d ∷ []) (take (left - (i + 1)) (drop (i + 1) lanes)) results
-        at = subst (λ (ls : List Lane). IsHalfway f start begun ls (take (left - (i + 1)) (drop (i + 1) lanes)) results) front (h.halfway f e)
-
-        -- what the lane's call cost, and what is left of it
-        paid : (due f (take i start) + (steps_of (to_come f y) + due f (take (left - (i + 1)) (drop (i + 1) lanes))))
-            + steps_of (calls_on f (next_operands start)) ≡ steps_of (calls_on f (next_operands (take i start))) + due f start
-        paid =
-            let c = at.costs in
-            let k = costs_on f (take i start) (get_or lanes i d) [] is_lane.1 (get_or values i 0) value_is y.rest.now r in
-            let a = due_append f (take i start) (get_or lanes i d ∷ []) in
-            let n = next_push f (take i start) (get_or lanes i d) in
-            let q : steps_of (to_come f y) ≡ steps_of (fold_calls_from f (get_or values i 0) (words y.rest.now)) =
-            ap (λ a. steps_of (fold_calls_from f a (words y.rest.now))) s in
-            omega (arith, c, k, a, n, q)
-
-        assoc : (z : Lane) → (take i start ++ z ∷ []) ++ take (left - (i + 1)) (drop (i + 1) lanes)
-            ≡ take i start ++ z ∷ take (left - (i + 1)) (drop (i + 1) lanes)
-        assoc z = append_assoc (take i start) (z ∷ []) (take (left - (i + 1)) (drop (i + 1) lanes))
-
-        on : IsHalfway f start begun (take i start) (y ∷ take (left - (i + 1)) (drop (i + 1) lanes)) results
-        on = record {
-          leads = λ target t. subst (λ (ls : List Lane). LeadsTo f target ls results) (assoc y)
-              (leads_on f (take i start) (get_or lanes i d) (take (left - (i + 1)) (drop (i + 1) lanes)) is_lane.1 (get_or values i 0) value_is
-              y.rest.now r target results
-              (subst (λ (ls : List Lane). LeadsTo f target ls results) (assoc (get_or lanes i d)) (at.leads target t)) y p s refl);
-          costs = paid;
+    is_then : (i < left - 1) ⊎ (left - 1 ≤ i) → IsThen then
+    is_then (inl q) =
+        let s = short in
+        let v = h.folds in
+        let n = h.nexts in
+        let b = h.fits in
+        let xs = in_columns (part (i + 1) (left - 1) lanes) (part (i + 1) (left - 1) so_far) (part (i + 1) (left - 1) next) in
+        let z : Open = record {
+          place = (get_or lanes (left - 1) d).place;
+          so_far = get_or so_far (left - 1) 0;
+          terms = get_or next (left - 1) 0 ∷ words (get_or lanes (left - 1) d).rest.now;
+        } in
+        let old : behind ≡ xs ++ z ∷ [] =
+        ap (λ (ls : List Lane). in_columns ls (part (i + 1) left so_far) (part (i + 1) left next))
+        (part_last (i + 1) left lanes d (omega (arith, q)) b)
+        ∙ ap (λ vs. in_columns (part (i + 1) (left - 1) lanes ++ get_or lanes (left - 1) d ∷ []) vs (part (i + 1) left next))
+        (part_last (i + 1) left so_far 0 (omega (arith, q)) (omega (arith, b, v)))
+        ∙ ap (λ ws. in_columns (part (i + 1) (left - 1) lanes ++ get_or lanes (left - 1) d ∷ [])
+        (part (i + 1) (left - 1) so_far ++ get_or so_far (left - 1) 0 ∷ []) ws)
+        (part_last (i + 1) left next 0 (omega (arith, q)) (omega (arith, b, n)))
+        ∙ columns_push (part (i + 1) (left - 1) lanes) (part (i + 1) (left - 1) so_far) (part (i + 1) (left - 1) next)
+        (get_or lanes (left - 1) d) (get_or so_far (left - 1) 0) (get_or next (left - 1) 0)
+        (same_part (i + 1) (left - 1) lanes so_far v) (same_part (i + 1) (left - 1) lanes next n) in
+        let new : then ≡ before ++ z ∷ xs =
+        front ∙ ap (λ os. before ++ os)
+        (ap (λ (ls : List Lane). in_columns ls (part i (left - 1) (set so_far i (get_or so_far (left - 1) 0)))
+        (part i (left - 1) (set next i (get_or next (left - 1) 0)))) (part_set i (left - 1) lanes (get_or lanes (left - 1) d) q s)
+        ∙ ap (λ vs. in_columns (get_or lanes (left - 1) d ∷ part (i + 1) (left - 1) lanes) vs
+        (part i (left - 1) (set next i (get_or next (left - 1) 0))))
+        (part_set i (left - 1) so_far (get_or so_far (left - 1) 0) q (omega (arith, s, v)))
+        ∙ ap (λ ws. in_columns (get_or lanes (left - 1) d ∷ part (i + 1) (left - 1) lanes)
+        (get_or so_far (left - 1) 0 ∷ part (i + 1) (left - 1) so_far) ws)
+        (part_set i (left - 1) next (get_or next (left - 1) 0) q (omega (arith, s, n)))) in
+        record {
+          placed = subst (ArePlaced (length begun)) (sym new) (all_turned-behind (λ (o : Open). o.place < length begun) before xs z
+              (subst (λ os. ArePlaced (length begun) (before ++ os)) old placed_left));
+          gives = λ f. subst (λ os. Gives f 0 start begun os (set results (get_or lanes i d).place (Some (get_or so_far i 0)))) (sym new)
+              (gives_then f 0 0 start (before ++ (xs ++ z ∷ [])) (before ++ z ∷ xs) begun _ _
+              (subst (λ os. Gives f 0 start begun (before ++ os) (set results (get_or lanes i d).place (Some (get_or so_far i 0)))) old (given f))
+              (gives_turned f before xs z _));
+        }
+    is_then (inr q) =
+        let w = h.within in
+        let old : behind ≡ [] =
+        ap (λ (ls : List Lane). in_columns ls (part (i + 1) left so_far) (part (i + 1) left next)) (part_none (i + 1) left lanes (omega (arith, q))) in
+        let new : then ≡ before ++ [] =
+        front ∙ ap (λ (ls : List Lane). before ++ in_columns ls (part i (left - 1) (set so_far i (get_or so_far (left - 1) 0)))
+        (part i (left - 1) (set next i (get_or next (left - 1) 0))))
+        (part_none i (left - 1) (set lanes i (get_or lanes (left - 1) d)) q) in
+        record {
+          placed = subst (ArePlaced (length begun)) (sym new) (subst (λ os. ArePlaced (length begun) (before ++ os)) old placed_left);
+          gives = λ f. subst (λ os. Gives f 0 start begun os (set results (get_or lanes i d).place (Some (get_or so_far i 0)))) (sym new)
+              (subst (λ os. Gives f 0 start begun (before ++ os) (set results (get_or lanes i d).place (Some (get_or so_far i 0)))) old (given f));
         }
 
-        off : y.rest.now ≡ [] → IsHalfway f start begun (take i start) (take (left - (i + 1)) (drop (i + 1) lanes))
-            (set results (get_or lanes i d).place (Some (get_or values i 0)))
-        off none = record {
-          leads = λ target t. leads_off f (take i start) (get_or lanes i d) (take (left - (i + 1)) (drop (i + 1) lanes)) is_lane.1
-              (get_or values i 0) value_is y.rest.now r target results
-              (subst (λ (ls : List Lane). LeadsTo f target ls results) (assoc (get_or lanes i d)) (at.leads target t)) none
-              (subst (λ m. (get_or lanes i d).place < m) (sym h.rows) is_lane.0);
-          costs = let c = paid in let z : steps_of (to_come f y) ≡ 0 =
-              ap (λ (cs : List Cell). steps_of (fold_calls_from f y.so_far (words cs))) none in omega (arith, c, z);
+    pub giving-result : IsGiving start begun i (left - 1) (set lanes i (get_or lanes (left - 1) d)) (set so_far i (get_or so_far (left - 1) 0))
+        (set next i (get_or next (left - 1) 0)) (set results (get_or lanes i d).place (Some (get_or so_far i 0)))
+    giving-result =
+        let w = h.within in
+        let b = h.fits in
+        let v = h.folds in
+        let n = h.nexts in
+        let x = length-set lanes i (get_or lanes (left - 1) d) in
+        let y = length-set so_far i (get_or so_far (left - 1) 0) in
+        let z = length-set next i (get_or next (left - 1) 0) in
+        let t = is_then (cases_lt i (left - 1)) in
+        record {
+          within = omega (arith, w);
+          fits = omega (arith, b, x);
+          folds = omega (arith, v, x, y);
+          nexts = omega (arith, n, x, z);
+          rows = length-set results (get_or lanes i d).place (Some (get_or so_far i 0)) ∙ h.rows;
+          placed = t.placed;
+          gives = t.gives;
         }
 
-      -- the lane goes on
-      giving-on : 0 < length y.rest.now → IsGiving start values begun i left (set lanes i y) results
-      giving-on some =
-          let w = h.within in
-          let one : left - i ≡ suc (left - (i + 1)) = omega (arith, w) in
-          let back : take (left - i) (drop i (set lanes i y)) ≡ y ∷ take (left - (i + 1)) (drop (i + 1) lanes) =
-          ap (λ k. take k (drop i (set lanes i y))) one
-          ∙ ap (λ (ls : List Lane). take (suc (left - (i + 1))) ls) (drop-set lanes i y short) in
-          record {
-            within = omega (arith, w);
-            fits = h.fits;
-            count = length-set lanes i y ∙ h.count;
-            rows = h.rows;
-            untouched = take-set lanes i y ∙ still;
-            given = subst (AreLanes (length begun)) (sym back) ((subst (λ k. k < length begun) (sym p) is_lane.0, some), h.given);
-            halfway = λ f e. subst (λ (ls : List Lane). IsHalfway f start begun (take i start) ls results) (sym back) (on f e);
-          }
-
-      -- the lane's row has its result, and the last lane stands in its place
-      module _ (none : y.rest.now ≡ []) (z d' : Lane) (is : z ≡ get_or lanes (left - 1) d') where
-        moved : ((left - 1) ≡ i) ⊎ (i < left - 1) → (take ((left - 1) - i) (drop i (set lanes i z)) ≡ [])
-            × (take (left - (i + 1)) (drop (i + 1) lanes) ≡ [])
-            ⊎ ((xs : List Lane) × (take ((left - 1) - i) (drop i (set lanes i z)) ≡ z ∷ xs)
-            × (take (left - (i + 1)) (drop (i + 1) lanes) ≡ xs ++ z ∷ []))
-        moved (inl q) =
-            let a : (left - 1) - i ≡ 0 = omega (arith, q) in
-            let b : left - (i + 1) ≡ 0 = omega (arith, q) in
-            inl (ap (λ k. take k (drop i (set lanes i z))) a, ap (λ k. take k (drop (i + 1) lanes)) b)
-        moved (inr q) =
-            let m = (left - 1) - (i + 1) in
-            let a : (left - 1) - i ≡ suc m = omega (arith, q) in
-            let b : left - (i + 1) ≡ m + 1 = omega (arith, q) in
-            let w = h.fits in
-            let c = h.count in
-            let n = length-drop (i + 1) lanes in
-            let lt : m < length (drop (i + 1) lanes) = omega (arith, q, w, c, n) in
-            let at_end : (i + 1) + m ≡ left - 1 = omega (arith, q) in
-            inr (
-              take m (drop (i + 1) lanes),
-              ap (λ k. take k (drop i (set lanes i z))) a ∙ ap (λ (ls : List Lane). take (suc m) ls) (drop-set lanes i z short),
-              ap (λ k. take k (drop (i + 1) lanes)) b ∙ take_more (drop (i + 1) lanes) m d' lt
-                  ∙ ap (λ (l : Lane). take m (drop (i + 1) lanes) ++ l ∷ [])
-                  (get_or-drop (i + 1) lanes m d' ∙ ap (λ k. get_or lanes k d') at_end ∙ sym is),
-            )
-
-        given_then : (take ((left - 1) - i) (drop i (set lanes i z)) ≡ []) × (take (left - (i + 1)) (drop (i + 1) lanes) ≡ [])
-            ⊎ ((xs : List Lane) × (take ((left - 1) - i) (drop i (set lanes i z)) ≡ z ∷ xs)
-            × (take (left - (i + 1)) (drop (i + 1) lanes) ≡ xs ++ z ∷ []))
-            → AreLanes (length begun) (take ((left - 1) - i) (drop i (set lanes i z)))
-        given_then (inl q) = subst (AreLanes (length begun)) (sym q.0) tt
-        given_then (inr q) = subst (AreLanes (length begun)) (sym q.1)
-            (all_turned (λ (l : Lane). IsLane (length begun) l) q.0 z (subst (AreLanes (length begun)) q.2 h.given))
-
-        halfway_then : (take ((left - 1) - i) (drop i (set lanes i z)) ≡ []) × (take (left - (i + 1)) (drop (i + 1) lanes) ≡ [])
-            ⊎ ((xs : List Lane) × (take ((left - 1) - i) (drop i (set lanes i z)) ≡ z ∷ xs)
-            × (take (left - (i + 1)) (drop (i + 1) lanes) ≡ xs ++ z ∷ []))
-            → (f : Accepted) → values ≡ values_on f (next_operands start)
-            → IsHalfway f start begun (take i start) (take ((left - 1) - i) (drop i (set lanes i z)))
-            (set results (get_or lanes i d).place (Some (get_or values i 0)))
-        halfway_then (inl q) f e =
-            subst (λ (ls : List Lane). IsHalfway f start begun (take i start) ls (set results (get_or lanes i d).place (Some (get_or values i 0))))
-            (q.1 ∙ sym q.0) (off f e none)
-        halfway_then (inr q) f e =
-            let o = subst (λ (ls : List Lane). IsHalfway f start begun (take i start) ls
-            (set results (get_or lanes i d).place (Some (get_or values i 0)))) q.2 (off f e none) in
-            subst (λ (ls : List Lane). IsHalfway f start begun (take i start) ls (set results (get_or lanes i d).place (Some (get_or values i 0))))
-            (sym q.1) (record {
-              leads = λ target t. leads_turned f target (take i start) q.0 z (set results (get_or lanes i d).place (Some (get_or values i 0)))
-                  (o.leads target t);
-              costs = let c = o.costs in let a = due_append f q.0 (z ∷ []) in omega (arith, c, a);
-            })
-
-        giving-off : IsGiving start values begun i (left - 1) (set lanes i z) (set results (get_or lanes i d).place (Some (get_or values i 0)))
-        giving-off =
-            let w = h.within in
-            let b = h.fits in
-            let how = moved (either (cases_lt i (left - 1))) in
-            record {
-              within = omega (arith, w);
-              fits = omega (arith, b);
-              count = length-set lanes i z ∙ h.count;
-              rows = length-set results (get_or lanes i d).place (Some (get_or values i 0)) ∙ h.rows;
-              untouched = take-set lanes i z ∙ still;
-              given = given_then how;
-              halfway = halfway_then how;
-            }
-          where
-            either : (i < left - 1) ⊎ (left - 1 ≤ i) → ((left - 1) ≡ i) ⊎ (i < left - 1)
-            either (inl q) = inr q
-            either (inr q) = let w = h.within in inl (omega (arith, q, w))
-
-      pub gives-on : (b : Bool) → b ≡ (length y.rest.now == 0) → b ≡ false → IsGiving start values begun i left (set lanes i y) results
-      gives-on b e q = giving-on (let g = sym e ∙ q in grind (arith, nat_tests, g))
-
-      pub gives-off : (b : Bool) → b ≡ (length y.rest.now == 0) → b ≡ true → (z d' : Lane) → z ≡ get_or lanes (left - 1) d'
-          → IsGiving start values begun i (left - 1) (set lanes i z) (set results y.place (Some y.so_far))
-      gives-off b e q z d' is =
-          let same : set results y.place (Some y.so_far) ≡ set results (get_or lanes i d).place (Some (get_or values i 0)) =
-          ap (λ k. set results k (Some y.so_far)) p ∙ ap (λ w. set results (get_or lanes i d).place (Some w)) s in
-          subst (λ (rs : List (Option ℕ)). IsGiving start values begun i (left - 1) (set lanes i z) rs) (sym same)
-          (giving-off (no_cells y.rest.now (let g = sym e ∙ q in grind (arith, nat_tests, g))) z d' is)
-        where
-          no_cells : (cs : List Cell) → length cs ≡ 0 → cs ≡ []
-          no_cells [] n = refl
-          no_cells (c ∷ cs) n = absurd (omega arith)
-
-  pub giving-end : (i left : ℕ) (lanes : List Lane) (results : List (Option ℕ)) → IsGiving start values begun i left lanes results → i ≡ 0
-      → (f : Accepted) → values ≡ values_on f (next_operands start) → Gives f start begun (take left lanes) results
-  giving-end i left lanes results h z f e =
-      let o = subst (λ k. IsHalfway f start begun (take k start) (take (left - k) (drop k lanes)) results) z (h.halfway f e) in
+module _ (start : List Open) (begun : List (Option ℕ)) (i left : ℕ) (lanes : List Lane) (so_far next : List ℕ)
+    (results : List (Option ℕ)) (h : IsGiving start begun i left lanes so_far next results) (z : i ≡ 0) where
+  done : halfway i left lanes so_far next ≡ in_columns (take left lanes) (take left so_far) (take left next)
+  done =
       let n : left - 0 ≡ left = omega arith in
-      let p = subst (λ k. IsHalfway f start begun [] (take k lanes) results) n o in
-      let c = p.costs in
-      record { leads = λ target t. p.leads target t; costs = omega (arith, c) }
+      ap (λ k. halfway k left lanes so_far next) z
+      ∙ ap (λ k. in_columns (take k lanes) (take k so_far) (take k next)) n
+
+  pub giving-placed : ArePlaced (length results) (in_columns (take left lanes) (take left so_far) (take left next))
+  giving-placed = subst (λ k. ArePlaced k (in_columns (take left lanes) (take left so_far) (take left next))) (sym h.rows)
+      (subst (ArePlaced (length begun)) done h.placed)
+
+  pub giving-end : (f : Accepted) → Gives f 0 start begun (in_columns (take left lanes) (take left so_far) (take left next)) results
+  giving-end f = subst (λ os. Gives f 0 start begun os results) done (h.gives f)

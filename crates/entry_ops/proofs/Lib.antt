@@ -11,9 +11,11 @@ pub mod Filling
 pub mod Bounds
 pub mod Chunks
 pub mod Positions
-pub mod Lanes
+pub mod OpenRows
 pub mod Giving
 pub mod Adding
 pub mod Singly
 pub mod Folding
 pub mod Reducing
+pub mod Heads
+pub mod Passing

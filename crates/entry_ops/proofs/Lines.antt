@@ -1,10 +1,10 @@
--- The words of a row that an operator keeps, some cells at a time: what is still to come completes the row.
-use Rattle.std.proofs.Common.{◌≡◌, ◌<◌, ◌+◌, ℕ, suc, Bool, true, false, nat_eq, if◌then◌else◌, List, [], ◌∷◌, ◌++◌, length, Option, None, Some, refl, sym, ap, ◌∙◌, subst, arith, append_assoc, append-nil}
+-- The words of a row that an operator keeps, some cells at a time.
+use Rattle.std.proofs.Common.{◌≡◌, ◌<◌, ◌+◌, ℕ, suc, Bool, true, false, nat_eq, if◌then◌else◌, List, [], ◌∷◌, ◌++◌, Option, None, Some, refl, sym, ap, ◌∙◌, subst, arith, append_assoc, append-nil}
 use Rattle.std.specs.List.{AllByRecursion}
 use Rattle.bpf_insn.specs.declared.operands.Operands.TheVariants.{Index}
 use Rattle.bpf_verify.specs.Accepted.{Accepted}
 use Rattle.csr_store.specs.Grid.{Cell}
-use Rattle.csr_store.specs.Run.{Row, Run}
+use Rattle.csr_store.specs.Run.{Row}
 use Rattle.csr_store.specs.Added.{ComeBehind, kept_where}
 use Rattle.csr_store.specs.Along.{cell_at}
 use Rattle.csr_store.specs.Ascending.{Ascends}
@@ -12,16 +12,12 @@ use Rattle.csr_store.proofs.Along.{along-none}
 use Rattle.bpf_run.specs.Meaning.{value_of}
 use Rattle.bpf_run.specs.Calls.{Call, call_of, calls_on, values_on, entries_of}
 use Rattle.entry_ops.specs.declared.form.Form.TheVariants.{Select}
-use Rattle.entry_ops.specs.Standing.{FollowIn, Standing, Adds, with_cell, with_cells}
+use Rattle.entry_ops.specs.Standing.{Standing, Adds, with_cell, with_cells}
 use Rattle.entry_ops.specs.Sifting.{with_kept}
-use Rattle.entry_ops.specs.Walking.{row_cells, row_calls, IsOpen}
+use Rattle.entry_ops.specs.Walking.{row_cells, row_calls}
 use Rattle.entry_ops.proofs.Nexts.{next_left, next_first}
 use Rattle.entry_ops.proofs.Merging.{cells_here, calls_here, no_cell, no_call}
-use Rattle.entry_ops.proofs.Standing.{Completes, completes-start, completes-same, completes-step, completes-end, above_all}
-
-pub entries-count : (f : Accepted) (i thunk : ℕ) (cs : List Cell) → length (values_on f (entries_of i thunk cs)) ≡ length cs
-entries-count f i thunk [] = refl
-entries-count f i thunk (c ∷ cs) = ap suc (entries-count f i thunk cs)
+use Rattle.entry_ops.proofs.Standing.{above_all}
 
 pub front_behind : (n : ℕ) (opened now rest : Row) → ComeBehind n opened (now ++ rest) → ComeBehind n opened now
 front_behind n opened now rest h = record { low = h.low; above = h.above; ascend = front h.low now h.ascend }
@@ -49,15 +45,11 @@ module _ (f : Accepted) (i thunk : ℕ) where
   unfolding here
   kept-first c cs = kept-or-not c (kept cs) (nat_eq (value_of f (Index c.1 i c.0 thunk)) 0)
 
-  kept-append : (now rest : Row) → kept (now ++ rest) ≡ kept now ++ kept rest
+  pub kept-append : (now rest : Row) → kept (now ++ rest) ≡ kept now ++ kept rest
   kept-append [] rest = refl
   kept-append (c ∷ cs) rest =
       kept-first c (cs ++ rest) ∙ (ap (λ us. cell_at c.0 (here c) ++ us) (kept-append cs rest)
       ∙ (sym (append_assoc (cell_at c.0 (here c)) (kept cs) (kept rest)) ∙ ap (λ us. us ++ kept rest) (sym (kept-first c cs))))
-
-  asked-append : (now rest : Row) → asked (now ++ rest) ≡ asked now ++ asked rest
-  asked-append [] rest = refl
-  asked-append (c ∷ cs) rest = ap (λ ds. call_of f (Index c.1 i c.0 thunk) ∷ ds) (asked-append cs rest)
 
   -- cells behind those that are kept
   pub rest_behind : (n : ℕ) (opened now rest : Row) → ComeBehind n opened (now ++ rest) → ComeBehind n (opened ++ kept now) rest
@@ -76,67 +68,18 @@ module _ (f : Accepted) (i thunk : ℕ) where
 
   -- ---- the row of the form is what is kept of the operand's cells
 
-  alone-cells : (n low : ℕ) (xs : List Cell) → Ascends low n xs → row_cells (Select thunk) f i n xs [] None ≡ kept xs
+  pub alone-cells : (n low : ℕ) (xs : List Cell) → Ascends low n xs → row_cells (Select thunk) f i n xs [] None ≡ kept xs
   unfolding here
   alone-cells n low [] h = along-none (λ j. cells_here (Select thunk) f i true j None None) 0 n (λ j. no_cell (Select thunk) f i true j)
   alone-cells n low (x ∷ xs) h =
       next_first (cells_here (Select thunk) f i) (no_cell (Select thunk) f i) n low (x ∷ xs) [] None None x.0 (Some x.1) None xs [] (next_left n low x xs [] h tt) (λ j l. refl)
       ∙ (ap (λ us. cell_at x.0 (here x) ++ us) (alone-cells n (suc x.0) xs h.2) ∙ sym (kept-first x xs))
 
-  alone-calls : (n low : ℕ) (xs : List Cell) → Ascends low n xs → row_calls (Select thunk) f i n xs [] None ≡ asked xs
+  pub alone-calls : (n low : ℕ) (xs : List Cell) → Ascends low n xs → row_calls (Select thunk) f i n xs [] None ≡ asked xs
   alone-calls n low [] h = along-none (λ j. calls_here (Select thunk) f i true j None None) 0 n (λ j. no_call (Select thunk) f i true j)
   alone-calls n low (x ∷ xs) h =
       next_first (calls_here (Select thunk) f i) (no_call (Select thunk) f i) n low (x ∷ xs) [] None None x.0 (Some x.1) None xs [] (next_left n low x xs [] h tt) (λ j l. refl)
       ∙ ap (λ us. call_of f (Index x.1 i x.0 thunk) ∷ us) (alone-calls n (suc x.0) xs h.2)
-
-  -- ---- a row under way
-
-  module _ (n : ℕ) (cells : Row) (calls : List Call) (old : Standing) where
-    pub record IsLining (xs : List Cell) (now : Standing) : Type 0 where
-      pub behind : ComeBehind n now.rows.opened xs
-      pub columns : now.rows.columns ≡ n
-      pub completes : Completes cells calls old (kept xs) (asked xs) now
-
-    pub lining-start : (left right : List Cell) (mask : Option (List Cell)) → Ascends 0 n left → mask ≡ None
-        → cells ≡ row_cells (Select thunk) f i n left right mask → calls ≡ row_calls (Select thunk) f i n left right mask
-        → IsOpen n old.rows → IsLining left old
-    lining-start left right mask l none c d o = record {
-      behind = record { low = 0; above = subst (AllByRecursion (λ (d : Cell). d.0 < 0)) (sym o.none) tt; ascend = l };
-      columns = o.columns_are;
-      completes = completes-same cells calls old cells _ calls _ old (completes-start cells calls old)
-          (c ∙ (ap (row_cells (Select thunk) f i n left right) none ∙ alone-cells n 0 left l))
-          (d ∙ (ap (row_calls (Select thunk) f i n left right) none ∙ alone-calls n 0 left l));
-    }
-
-    module _ (xs : List Cell) (now : Standing) (m : IsLining xs now) where
-      -- room was made
-      pub lining-made : (new : Standing) → Adds [] (λ run. run) now new → IsLining xs new
-      lining-made new d = record {
-        behind = subst (λ (r : Run). ComeBehind n r.opened xs) (sym d.rows) m.behind;
-        columns = ap (λ (r : Run). r.columns) d.rows ∙ m.columns;
-        completes = completes-step cells calls old [] (kept xs) [] (asked xs) now new m.completes
-            (record { rows = d.rows ∙ ap (λ cs. record now.rows { opened = cs }) (sym (append-nil now.rows.opened)); spends = d.spends });
-      }
-
-      -- the first of what is left may be added, and is
-      module _ (first rest : List Cell) (parts : first ++ rest ≡ xs) where
-        pub lining-fits : FollowIn first now.rows
-        lining-fits = subst (λ k. ComeBehind k now.rows.opened first) (sym m.columns)
-            (front_behind n now.rows.opened first rest (subst (ComeBehind n now.rows.opened) (sym parts) m.behind))
-
-        pub lining-step : (new : Standing) → Adds (asked first) (with_cells (kept first)) now new → IsLining rest new
-        lining-step new d = record {
-          behind = subst (λ (r : Run). ComeBehind n r.opened rest) (sym d.rows)
-              (rest_behind n now.rows.opened first rest (subst (ComeBehind n now.rows.opened) (sym parts) m.behind));
-          columns = ap (λ (r : Run). r.columns) d.rows ∙ m.columns;
-          completes = completes-step cells calls old (kept first) (kept rest) (asked first) (asked rest) now new
-              (completes-same cells calls old _ _ _ _ now m.completes (ap kept (sym parts) ∙ kept-append first rest)
-              (ap asked (sym parts) ∙ asked-append first rest)) d;
-        }
-
-      -- nothing is left
-      pub lining-end : xs ≡ [] → Adds calls (with_cells cells) old now
-      lining-end e = completes-end cells calls old now (completes-same cells calls old _ _ _ _ now m.completes (ap kept e) (ap asked e))
 
 -- a cell that is kept or not, as the form has it
 pub adds-kept : (cs : List Call) (c w v : ℕ) (s t : Standing) → Adds cs (with_kept c w v) s t

@@ -1,11 +1,11 @@
 -- Entries that get the values of calls in their order: what is still to come completes them.
-use Rattle.std.proofs.Common.{◌≡◌, ◌≤◌, ◌<◌, ◌+◌, ◌-◌, ◌^◌, ℕ, zero, suc, List, [], ◌∷◌, ◌++◌, length, take, drop, refl, sym, ap, ◌∙◌, subst, arith, length-append, length-drop, append_assoc, append-nil}
+use Rattle.std.proofs.Common.{◌≡◌, ◌≤◌, ◌<◌, ◌+◌, ◌-◌, ◌^◌, ℕ, suc, List, [], ◌∷◌, ◌++◌, length, take, drop, refl, sym, ap, ◌∙◌, subst, arith, length-append, length-drop}
 use Rattle.bpf_insn.specs.declared.operands.Operands.{Operands}
 use Rattle.bpf_insn.specs.declared.operands.Operands.TheVariants.{Unary, Index}
 use Rattle.std.proofs.lemmas.List.{take-append-drop, length-take-le, drop-drop}
 use Rattle.bpf_verify.specs.Accepted.{Accepted}
 use Rattle.csr_store.specs.Grid.{Cell}
-use Rattle.csr_store.specs.Run.{Row, Run}
+use Rattle.csr_store.specs.Run.{Row}
 use Rattle.csr_store.specs.Valued.{entries_of as entries_in_run, all_cells, valued, valued_from, AreAlike}
 use Rattle.csr_store.proofs.Valuing.{alike_entries, alike_same, alike_then, entries_are, valued_behind}
 use Rattle.bpf_run.specs.Calls.{Gathered, calls_on, values_on, steps_of, words_of, entries_of}

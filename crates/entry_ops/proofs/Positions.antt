@@ -1,9 +1,9 @@
 -- The rows of a form are those that have at each position what the form has there.
-use Rattle.std.proofs.Common.{◌≡◌, ℕ, Bool, if◌then◌else◌, List, [], ◌∷◌, Option, None, Some, refl, ap, ◌∙◌, is_some}
+use Rattle.std.proofs.Common.{◌≡◌, ℕ, if◌then◌else◌, List, [], ◌∷◌, Option, None, Some, refl, ap, ◌∙◌, is_some}
 use Rattle.std.specs.FinMap.{get}
 use Rattle.bpf_verify.specs.Accepted.{Accepted}
-use Rattle.csr_store.specs.Grid.{Grid, Position, Cell, row_of}
-use Rattle.csr_store.specs.Along.{along, cell_at}
+use Rattle.csr_store.specs.Grid.{Grid, Position, row_of}
+use Rattle.csr_store.specs.Along.{cell_at}
 use Rattle.csr_store.specs.Ascending.{at, shows}
 use Rattle.csr_store.specs.Mask.{passes, cut, cut_list, row_under, rows_under, listed_under, all_listed_under}
 use Rattle.csr_store.proofs.ByRow.{lookup-row_of}

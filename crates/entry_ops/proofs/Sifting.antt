@@ -1,17 +1,15 @@
 -- What is marked is added mark by mark, and calls wait until they are made: cells that stand where a value is not 0.
-use Rattle.std.proofs.Common.{◌≡◌, ◌≤◌, ◌<◌, ◌+◌, ◌-◌, ℕ, nat_eq, if◌then◌else◌, List, [], ◌∷◌, ◌++◌, length, length-append, length-drop, take, drop, get_or, refl, sym, ap, ◌∙◌, subst, arith, append-nil}
-use Rattle.std.proofs.lemmas.List.{drop-append-le, drop_all, drop_more, drop-drop}
+use Rattle.std.proofs.Common.{◌≡◌, ◌≤◌, ◌<◌, ◌+◌, ℕ, List, [], ◌∷◌, ◌++◌, length, length-drop, drop, get_or, refl, sym, ap, ◌∙◌, subst, arith, append-nil}
+use Rattle.std.proofs.lemmas.List.{drop_more}
 use Rattle.bpf_insn.specs.declared.operands.Operands.{Operands}
-use denote.Ref.{Bor}
 use Rattle.bpf_verify.specs.Accepted.{Accepted}
-use Rattle.csr_store.specs.Run.{Row, Run}
-use Rattle.csr_store.specs.Added.{kept_where}
+use Rattle.csr_store.specs.Run.{Run}
 use Rattle.bpf_run.specs.Meaning.{value_of}
 use Rattle.bpf_run.specs.Calls.{Call, Gathered, call_of, calls_on, values_on, steps_of}
 use Rattle.bpf_run.proofs.Charging.{Spends, spends-start, spends-step, calls_on-append, values_on-append}
 use Rattle.entry_ops.specs.declared.sieve.Mark.{Mark}
-use Rattle.entry_ops.specs.declared.sieve.Mark.TheVariants.{End, Kept, KeptAll}
-use Rattle.entry_ops.specs.Standing.{CanPush, FollowIn, with_cells, with_end}
+use Rattle.entry_ops.specs.declared.sieve.Mark.TheVariants.{End, Kept}
+use Rattle.entry_ops.specs.Standing.{CanPush, with_end}
 use Rattle.entry_ops.specs.Sifting.{placed, Fits, with_kept, Sifting, final, Holds, standing, Does}
 use Rattle.entry_ops.proofs.Standing.{adds-nothing, adds-then, adds-waiting}
 
@@ -21,18 +19,6 @@ pub record IsSifting (marks : List Mark) (values : List ℕ) (start : Run) (i ne
   pub same : placed (drop i marks) (drop next values) now ≡ placed marks values start
   pub few : next ≤ length values
 
--- ---- cells with values, and kept by values: values behind those that are needed say nothing
-
-kept-enough : (cells : Row) (vs ws : List ℕ) → length cells ≤ length vs → kept_where cells (vs ++ ws) ≡ kept_where cells vs
-kept-enough [] vs ws l = refl
-kept-enough (c ∷ cells) [] ws l = absurd (omega arith)
-kept-enough (c ∷ cells) (v ∷ vs) ws l = ap (λ cs. if nat_eq v 0 then cs else c ∷ cs) (kept-enough cells vs ws (omega arith))
-
-kept-first : (cells : Row) (vs : List ℕ) → kept_where cells (take (length cells) vs) ≡ kept_where cells vs
-kept-first [] vs = refl
-kept-first (c ∷ cells) [] = refl
-kept-first (c ∷ cells) (v ∷ vs) = ap (λ cs. if nat_eq v 0 then cs else c ∷ cs) (kept-first cells vs)
-
 -- marks behind marks
 
 placed-append : (ms ns : List Mark) (vs ws : List ℕ) (run : Run) → Fits ms vs run
@@ -41,10 +27,6 @@ placed-append [] ns vs ws run h = ap (λ us. placed ns (us ++ ws) run) h
 placed-append (End ∷ ms) ns vs ws run h = placed-append ms ns vs ws (with_end run) h
 placed-append (Kept c w ∷ ms) ns [] ws run h = absurd h
 placed-append (Kept c w ∷ ms) ns (v ∷ vs) ws run h = placed-append ms ns vs ws (with_kept c w v run) h.1
-placed-append (KeptAll cs ∷ ms) ns vs ws run h =
-    ap (λ us. placed (ms ++ ns) us (with_cells (kept_where cs.now (vs ++ ws)) run)) (drop-append-le (length cs.now) vs ws h.1)
-    ∙ ap (λ (us : Row). placed (ms ++ ns) (drop (length cs.now) vs ++ ws) (with_cells us run)) (kept-enough cs.now vs ws h.1)
-    ∙ placed-append ms ns (drop (length cs.now) vs) ws (with_cells (kept_where cs.now vs) run) h.2
 
 fits-append : (ms ns : List Mark) (vs ws : List ℕ) (run : Run) → Fits ms vs run → Fits ns ws (placed ms vs run)
     → Fits (ms ++ ns) (vs ++ ws) run
@@ -52,13 +34,6 @@ fits-append [] ns vs ws run h k = subst (λ us. Fits ns (us ++ ws) run) (sym h) 
 fits-append (End ∷ ms) ns vs ws run h k = fits-append ms ns vs ws (with_end run) h k
 fits-append (Kept c w ∷ ms) ns [] ws run h k = absurd h
 fits-append (Kept c w ∷ ms) ns (v ∷ vs) ws run h k = (h.0, fits-append ms ns vs ws (with_kept c w v run) h.1 k)
-fits-append (KeptAll cs ∷ ms) ns vs ws run h k = (
-  h.0,
-  let l = length-append vs ws in let e = h.1 in omega arith,
-  subst (λ us. Fits (ms ++ ns) us (with_cells (kept_where cs.now (vs ++ ws)) run)) (sym (drop-append-le (length cs.now) vs ws h.1))
-      (subst (λ (us : Row). Fits (ms ++ ns) (drop (length cs.now) vs ++ ws) (with_cells us run)) (sym (kept-enough cs.now vs ws h.1))
-      (fits-append ms ns (drop (length cs.now) vs) ws (with_cells (kept_where cs.now vs) run) h.2 k)),
-)
 
 pub placing-at : (marks : List Mark) (values : List ℕ) (start : Run) (i next now_next : ℕ) (now : Run) → now_next ≡ next
     → IsSifting marks values start i next now → IsSifting marks values start i now_next now
@@ -102,61 +77,6 @@ module _ (marks : List Mark) (values : List ℕ) (start : Run) (i next : ℕ) (n
           ∙ ap (λ ms. placed ms (drop next values) now) (sym (left_marks (Kept c w) here)) ∙ h.same;
       few = omega arith;
     }
-
--- ---- many cells are placed at once
-
-module _ (mark : Bor Row → Mark) (made : Row → List ℕ → Row)
-    (fitting : (c : Bor Row) (ms : List Mark) (vs : List ℕ) (run : Run) → Fits (mark c ∷ ms) vs run
-    → FollowIn c.now run × (length c.now ≤ length vs) × Fits ms (drop (length c.now) vs) (with_cells (made c.now vs) run))
-    (placing : (c : Bor Row) (ms : List Mark) (vs : List ℕ) (run : Run)
-    → placed (mark c ∷ ms) vs run ≡ placed ms (drop (length c.now) vs) (with_cells (made c.now vs) run))
-    (first : (cells : Row) (vs : List ℕ) → made cells (take (length cells) vs) ≡ made cells vs)
-    (marks : List Mark) (values : List ℕ) (start : Run) (i next : ℕ) (now : Run) (d : Mark) (c : Bor Row)
-    (h : IsSifting marks values start i next now) (l : i < length marks) (here : get_or marks i d ≡ mark c) where
-  these : drop i marks ≡ mark c ∷ drop (i + 1) marks
-  these = drop_more marks i d l ∙ ap (λ m. m ∷ drop (i + 1) marks) here
-
-  fits_here : FollowIn c.now now × (length c.now ≤ length (drop next values))
-      × Fits (drop (i + 1) marks) (drop (length c.now) (drop next values)) (with_cells (made c.now (drop next values)) now)
-  fits_here = fitting c (drop (i + 1) marks) (drop next values) now (subst (λ ms. Fits ms (drop next values) now) these h.fits)
-
-  all-enough : next + length c.now ≤ length values
-  all-enough = let f = h.few in let e = fits_here.1 in let n = length-drop next values in omega arith
-
-  module _ (stop end : ℕ) (stops : stop ≡ next + length c.now) (ends : end ≡ next + length c.now) (new : Run)
-      (is : new ≡ with_cells (made c.now (take (stop - next) (drop next values))) now) where
-    count : stop - next ≡ length c.now
-    count = omega arith
-
-    further : drop (length c.now) (drop next values) ≡ drop end values
-    further = drop-drop (length c.now) next values ∙ ap (λ n. drop n values) (sym ends)
-
-    is_here : with_cells (made c.now (drop next values)) now ≡ new
-    is_here = sym (is ∙ ap (λ (us : Row). with_cells us now)
-        (ap (λ n. made c.now (take n (drop next values))) count ∙ first c.now (drop next values)))
-
-    all-placed : IsSifting marks values start (i + 1) end new
-    all-placed = record {
-      fits = subst (Fits (drop (i + 1) marks) (drop end values)) is_here
-          (subst (λ vs. Fits (drop (i + 1) marks) vs (with_cells (made c.now (drop next values)) now)) further fits_here.2);
-      same = ap (placed (drop (i + 1) marks) (drop end values)) (sym is_here)
-          ∙ ap (λ vs. placed (drop (i + 1) marks) vs (with_cells (made c.now (drop next values)) now)) (sym further)
-          ∙ sym (placing c (drop (i + 1) marks) (drop next values) now) ∙ ap (λ ms. placed ms (drop next values) now) (sym these) ∙ h.same;
-      few = let e = all-enough in omega arith;
-    }
-
-module _ (marks : List Mark) (values : List ℕ) (start : Run) (i next : ℕ) (now : Run) (d : Mark) (c : Bor Row)
-    (h : IsSifting marks values start i next now) (l : i < length marks) where
-  module _ (here : get_or marks i d ≡ KeptAll c) where
-    pub kept-fit : FollowIn c.now now × (next + length c.now ≤ length values)
-    kept-fit = (
-      (fits_here KeptAll kept_where (λ b ms vs run f. f) (λ b ms vs run. refl) kept-first marks values start i next now d c h l here).0,
-      all-enough KeptAll kept_where (λ b ms vs run f. f) (λ b ms vs run. refl) kept-first marks values start i next now d c h l here,
-    )
-
-    pub kept-placed : (stop end : ℕ) → stop ≡ next + length c.now → end ≡ next + length c.now → (new : Run)
-        → new ≡ with_cells (kept_where c.now (take (stop - next) (drop next values))) now → IsSifting marks values start (i + 1) end new
-    kept-placed = all-placed KeptAll kept_where (λ b ms vs run f. f) (λ b ms vs run. refl) kept-first marks values start i next now d c h l here
 
 -- ---- what is done
 
@@ -211,18 +131,7 @@ module _ (f : Accepted) where
             calls (ap (λ (x : Sifting). x.steps) is);
       }
 
-  -- cells are marked, with the operands of their calls
-  module _ (e n : Sifting) (g k : Gathered) (cells : Bor Row) (os : List Operands) (h : Holds f e g) (follow : FollowIn cells.now (final f e g))
-      (each : length (values_on f os) ≡ length cells.now) (kind : k.kind ≡ g.kind) (more : k.operands ≡ g.operands ++ os) where
-    none_left : drop (length cells.now) (values_on f os) ≡ []
-    none_left = drop_all (length cells.now) (values_on f os) (omega arith)
-
-    pub does-keep-all : n ≡ record e { marks = e.marks ++ KeptAll cells ∷ [] }
-        → Does f (calls_on f os) (with_cells (kept_where cells.now (values_on f os))) e g n k
-    does-keep-all is = does-mark e n g k (KeptAll cells) os (with_cells (kept_where cells.now (values_on f os))) h
-        (follow, (omega arith), none_left) refl is kind more
-
-  -- the same after room was made
+  -- a mark after room was made
   module _ (e m n : Sifting) (g h k : Gathered) (room : Does f [] (λ run. run) e g m h) where
     pub does-keep : (c w : ℕ) (o : Operands) → CanPush c (final f e g) → n ≡ record m { marks = m.marks ++ Kept c w ∷ [] }
         → k ≡ record h { operands = h.operands ++ o ∷ [] } → Does f (call_of f o ∷ []) (with_kept c w (value_of f o)) e g n k

@@ -1,6 +1,6 @@
 -- A fold by one call after the other: what is still to come completes it.
-use Rattle.std.proofs.Common.{◌≡◌, ◌≤◌, ◌<◌, ◌+◌, ◌^◌, ℕ, List, [], ◌∷◌, ◌++◌, Option, Some, length, take, drop, set, get_or, refl, sym, ap, ◌∙◌, subst, arith, append-nil}
-use Rattle.std.proofs.lemmas.List.{drop_more, drop_all, take_all, take_more, length-set}
+use Rattle.std.proofs.Common.{◌≡◌, ◌≤◌, ◌<◌, ◌+◌, ◌^◌, ℕ, List, [], ◌∷◌, ◌++◌, Option, Some, length, drop, set, get_or, refl, sym, ap, ◌∙◌, subst, arith, append-nil}
+use Rattle.std.proofs.lemmas.List.{drop_more, drop_all, length-set}
 use Rattle.bpf_insn.specs.declared.operands.Operands.TheVariants.{Binary}
 use Rattle.bpf_insn.specs.declared.operands.Kind.TheVariants as kinds
 use Rattle.bpf_verify.specs.Accepted.{Accepted, IsAccepted}
@@ -8,9 +8,9 @@ use Rattle.csr_store.specs.Grid.{Cell}
 use Rattle.bpf_run.specs.Meaning.{value_of, cost_of}
 use Rattle.bpf_run.specs.Calls.{steps_of}
 use Rattle.bpf_run.specs.Fold.{fold_from, fold_calls_from}
-use Rattle.entry_ops.specs.Folding.{words, Folding, IsLane, AreLanes, next_of, to_come, due, LeadsTo, Goes}
-use Rattle.entry_ops.specs.declared.folds.Lane.{Lane}
-use Rattle.entry_ops.proofs.Lanes.{lane_at, due_append, leads_found, costs_on, next_some}
+use Rattle.entry_ops.specs.Folding.{words, Open, open_of, Folding, ArePlaced, due, LeadsTo, Goes}
+use Rattle.entry_ops.specs.declared.lanes.OpenRow.{OpenRow}
+use Rattle.entry_ops.proofs.OpenRows.{all_gone, due_append, leads_found, next_some}
 
 pub record IsOn (f : Accepted) (start : ℕ) (all : List Cell) (old : ℕ) (so_far : ℕ) (rest : List Cell) (steps : ℕ) : Type 0 where
   pub value : fold_from f so_far (words rest) ≡ fold_from f start (words all)
@@ -47,47 +47,44 @@ on-end f start all old so_far k steps h l =
     let s = ap (λ r. steps_of (fold_calls_from f so_far (words r))) e in let n = h.counted in
     (ap (λ r. fold_from f so_far (words r)) (sym e) ∙ h.value, omega (arith, s, n))
 
--- ---- the last lane
+-- ---- the last open row
 
-module _ (f : Accepted) (lanes : List Lane) (results : List (Option ℕ)) (steps : ℕ) (old : Folding)
-    (is : record { lanes = lanes; results = results; steps = steps } ≡ old) (h : AreLanes (length results) lanes)
-    (last : ℕ) (x : Lane) (here : x ≡ get_or lanes last x) (n : last + 1 ≡ length lanes) where
-  split : lanes ≡ take last lanes ++ x ∷ []
-  split = sym (take_all (last + 1) lanes (omega (arith, n))) ∙ take_more lanes last x (omega (arith, n))
-      ∙ ap (λ (y : Lane). take last lanes ++ y ∷ []) (sym here)
+module _ (f : Accepted) (lanes left : List Open) (results : List (Option ℕ)) (steps : ℕ) (old : Folding)
+    (is : record { lanes = lanes; results = results; steps = steps } ≡ old) (row : OpenRow) (split : lanes ≡ left ++ open_of row ∷ []) where
+  pub last_placed : ArePlaced (length results) lanes → (row.place < length results) × ArePlaced (length results) left
+  last_placed h =
+      let g = all_gone (λ (o : Open). o.place < length results) left (open_of row) [] (subst (ArePlaced (length results)) split h) in
+      (g.0, subst (ArePlaced (length results)) (append-nil left) g.1)
 
-  is_lane : IsLane (length results) x
-  is_lane = subst (λ (y : Lane). IsLane (length results) y) (sym here) (lane_at (length results) lanes last x h (omega (arith, n)))
+  module _ (cost value : ℕ) (c : cost ≡ cost_of f (Binary row.so_far row.next)) (v : value ≡ value_of f (Binary row.so_far row.next)) where
+    dues : due f lanes ≡ due f left + (cost + steps_of (fold_calls_from f value (words row.rest.now)))
+    dues =
+        let a = ap (due f) split in
+        let b = due_append f left (open_of row ∷ []) in
+        let e = ap (λ k. steps_of (fold_calls_from f k (words row.rest.now))) v in
+        omega (arith, a, b, c, e)
 
-  pub last_within : x.place < length results
-  last_within = is_lane.0
+    pub last_room : old.steps + due f old.lanes < 2 ^ 64 → (steps + cost) + steps_of (fold_calls_from f value (words row.rest.now)) < 2 ^ 64
+    last_room r = let e = ap (λ (o : Folding). o.steps + due f o.lanes) is in let q = dues in omega (arith, r, e, q)
 
-  dues : due f lanes ≡ due f (take last lanes) + steps_of (to_come f x)
-  dues = let a = ap (due f) split in let b = due_append f (take last lanes) (x ∷ []) in omega (arith, a, b)
+    module _ (more result : ℕ) (found : List (Option ℕ)) (w : result ≡ fold_from f value (words row.rest.now))
+        (m : more ≡ (steps + cost) + steps_of (fold_calls_from f value (words row.rest.now)))
+        (r : found ≡ set results row.place (Some result)) where
+      pub last_goes : ArePlaced (length results) lanes → Goes f old (record { lanes = left; results = found; steps = more })
+      last_goes h =
+          let q = dues in
+          subst (λ (o : Folding). Goes f o (record { lanes = left; results = found; steps = more })) is (record {
+            rows = ap (λ (os : List (Option ℕ)). length os) r ∙ length-set results row.place (Some result);
+            leads = λ target l. subst (λ (xs : List Open). LeadsTo f target xs found) (append-nil left)
+                (subst (λ (os : List (Option ℕ)). LeadsTo f target (left ++ []) os) (sym r)
+                (leads_found f target left (open_of row) [] results
+                (subst (λ (xs : List Open). LeadsTo f target xs results) split l) (last_placed h).0 result
+                (ap Some (w ∙ ap (λ k. fold_from f k (words row.rest.now)) v))));
+            costs = omega (arith, q, m);
+          })
 
-  pub last_room : old.steps + due f old.lanes < 2 ^ 64 → steps + steps_of (to_come f x) < 2 ^ 64
-  last_room r = let e = ap (λ (o : Folding). o.steps + due f o.lanes) is in let q = dues in omega (arith, r, e, q)
-
-  module _ (more value : ℕ) (found : List (Option ℕ)) (left : List Lane) (v : value ≡ fold_from f x.so_far (words x.rest.now))
-      (m : more ≡ steps + steps_of (to_come f x))
-      (r : found ≡ set results x.place (Some value)) (t : left ≡ take last lanes) where
-    pub last_goes : Goes f old (record { lanes = left; results = found; steps = more })
-    last_goes =
-        let q = dues in
-        let k = ap (due f) t in
-        subst (λ (o : Folding). Goes f o (record { lanes = left; results = found; steps = more })) is (record {
-          rows = ap (λ (os : List (Option ℕ)). length os) r ∙ length-set results x.place (Some value);
-          leads = λ target w. subst (λ (xs : List Lane). LeadsTo f target xs found) (append-nil (take last lanes) ∙ sym t)
-              (subst (λ (os : List (Option ℕ)). LeadsTo f target (take last lanes ++ []) os) (sym r)
-              (leads_found f target (take last lanes) x [] results
-              (subst (λ (xs : List Lane). LeadsTo f target xs results) split w) last_within value (ap Some v)));
-          costs = omega (arith, q, k, m);
-        })
-
-    pub last_more : IsAccepted f → f.kind ≡ kinds.Binary → old.steps < more
-    last_more a k =
-        let some = is_lane.1 in
-        let c = costs_on f [] x [] some (value_of f (next_of x)) refl (drop 1 x.rest.now) refl in
-        let p = next_some f x a k in
-        let e = ap (λ (o : Folding). o.steps) is in
-        omega (arith, c, p, e, m)
+      pub last_more : IsAccepted f → f.kind ≡ kinds.Binary → old.steps < more
+      last_more a k =
+          let p = next_some f row.so_far row.next a k in
+          let e = ap (λ (o : Folding). o.steps) is in
+          omega (arith, c, p, e, m)

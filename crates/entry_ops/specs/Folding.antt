@@ -1,69 +1,81 @@
 -- Rows that are folded many at once: those that are open, each with a lane, and what the others come to. This project's own.
 use Rattle.std.specs.Prelude.{◌≡◌, ◌⊎◌, ◌<◌, ◌+◌, ◌-◌, ℕ, List, [], ◌∷◌, length, map, slice_index_or, Option, None, Some}
 use Rattle.std.specs.List.{AllByRecursion}
-use Rattle.bpf_insn.specs.declared.operands.Operands.{Operands}
-use Rattle.bpf_insn.specs.declared.operands.Operands.TheVariants.{Binary}
 use Rattle.bpf_verify.specs.Accepted.{Accepted}
 use Rattle.csr_store.specs.Grid.{Grid, Cell}
 use Rattle.csr_store.specs.Mask.{cut, all_listed_under}
-use Rattle.bpf_run.specs.Calls.{Call, steps_of, calls_on}
+use Rattle.bpf_run.specs.Calls.{Call, steps_of}
 use Rattle.bpf_run.specs.Fold.{fold, fold_from, fold_calls, fold_calls_from}
 use Rattle.entry_ops.specs.Forms.{reduce_at, reduce_calls_at}
-use Rattle.entry_ops.specs.declared.folds.Lane.{Lane}
+use Rattle.entry_ops.specs.declared.lanes.Lane.{Lane}
+use Rattle.entry_ops.specs.declared.lanes.OpenRow.{OpenRow}
 
 -- the words of cells
 abbrev pub words : List Cell → List ℕ
 words cells = map (λ (c : Cell). c.1) cells
 
--- the lanes of the open rows, what each row that was begun comes to unless it has a lane, by its number in the block, and the
--- steps of the calls that were made
+-- an open row: its number in the block, its fold so far, and the words still to come
+pub record Open : Type 0 where
+  pub place : ℕ
+  pub so_far : ℕ
+  pub terms : List ℕ
+
+abbrev pub open_of : OpenRow → Open
+open_of r = record { place = r.place; so_far = r.so_far; terms = r.next ∷ words r.rest.now }
+
+-- open rows by columns: their cells, their folds so far, and their next words, which come before the cells
+abbrev pub in_columns : List Lane → List ℕ → List ℕ → List Open
+in_columns [] vs ws = []
+in_columns (l ∷ ls) [] ws = []
+in_columns (l ∷ ls) (v ∷ vs) [] = []
+in_columns (l ∷ ls) (v ∷ vs) (w ∷ ws) = record { place = l.place; so_far = v; terms = w ∷ words l.rest.now } ∷ in_columns ls vs ws
+
+-- the same before their next words are taken from their cells
+abbrev pub in_two_columns : List Lane → List ℕ → List Open
+in_two_columns [] vs = []
+in_two_columns (l ∷ ls) [] = []
+in_two_columns (l ∷ ls) (v ∷ vs) = record { place = l.place; so_far = v; terms = words l.rest.now } ∷ in_two_columns ls vs
+
+-- the open rows, what each row that was begun comes to unless it is open, by its number in the block, and the steps of the
+-- calls that were made
 pub record Folding : Type 0 where
-  pub lanes : List Lane
+  pub lanes : List Open
   pub results : List (Option ℕ)
   pub steps : ℕ
 
--- a lane is of one of so many rows, and has cells left
-abbrev pub IsLane : ℕ → Lane → Type 0
-IsLane n l = (l.place < n) × (0 < length l.rest.now)
+-- each is of one of so many rows
+abbrev pub ArePlaced : ℕ → List Open → Type 0
+ArePlaced n lanes = AllByRecursion (λ (l : Open). l.place < n) lanes
 
-abbrev pub AreLanes : ℕ → List Lane → Type 0
-AreLanes n lanes = AllByRecursion (λ (l : Lane). IsLane n l) lanes
+-- all the calls of an open row that are still to come, and the steps of those of all of them
+abbrev pub to_come : Accepted → Open → List Call
+to_come f l = fold_calls_from f l.so_far l.terms
 
--- the next call of a lane, and those of all lanes
-abbrev pub next_of : Lane → Operands
-next_of l = Binary l.so_far (slice_index_or l.rest.now 0 (0, 0)).1
-
-abbrev pub next_operands : List Lane → List Operands
-next_operands lanes = map next_of lanes
-
--- all the calls of a lane that are still to come, and the steps of those of all lanes
-abbrev pub to_come : Accepted → Lane → List Call
-to_come f l = fold_calls_from f l.so_far (words l.rest.now)
-
-abbrev pub due : Accepted → List Lane → ℕ
+abbrev pub due : Accepted → List Open → ℕ
 due f [] = 0
 due f (l ∷ ls) = steps_of (to_come f l) + due f ls
 
--- a row is among some rows, as those with a lane
+-- a row is among some rows, as those that are open
 abbrev pub IsAmong : ℕ → List ℕ → Type 0
 IsAmong k [] = ⊥
 IsAmong k (p ∷ ps) = (k ≡ p) ⊎ IsAmong k ps
 
-abbrev pub places : List Lane → List ℕ
-places lanes = map (λ (l : Lane). l.place) lanes
+abbrev pub places : List Open → List ℕ
+places lanes = map (λ (l : Open). l.place) lanes
 
 -- each row that was begun comes to what it should, the open ones when all that is to come is folded
-pub record LeadsTo (f : Accepted) (target : ℕ → Option ℕ) (lanes : List Lane) (results : List (Option ℕ)) : Type 0 where
-  pub opened : AllByRecursion (λ (l : Lane). Some (fold_from f l.so_far (words l.rest.now)) ≡ target l.place) lanes
+pub record LeadsTo (f : Accepted) (target : ℕ → Option ℕ) (lanes : List Open) (results : List (Option ℕ)) : Type 0 where
+  pub opened : AllByRecursion (λ (l : Open). Some (fold_from f l.so_far l.terms) ≡ target l.place) lanes
   pub known : (k : ℕ) → k < length results → (slice_index_or results k None ≡ target k) ⊎ IsAmong k (places lanes)
 
--- the lanes have the values of their next calls, and some rows now have their results
-pub record Gives (f : Accepted) (lanes : List Lane) (results : List (Option ℕ)) (left : List Lane)
+-- some of the calls to come were made, by so many steps, and some rows now have their results
+pub record Gives (f : Accepted) (steps : ℕ) (lanes : List Open) (results : List (Option ℕ)) (left : List Open)
     (found : List (Option ℕ)) : Type 0 where
+  pub rows : length found ≡ length results
   pub leads : (target : ℕ → Option ℕ) → LeadsTo f target lanes results → LeadsTo f target left found
-  pub costs : steps_of (calls_on f (next_operands lanes)) + due f left ≡ due f lanes
+  pub costs : steps + due f left ≡ due f lanes
 
--- some of the calls to come were made: the next of each lane, or all of the last one
+-- the same with the steps so far: the next call of each open row was made, or all of the last one
 pub record Goes (f : Accepted) (old new : Folding) : Type 0 where
   pub rows : length new.results ≡ length old.results
   pub leads : (target : ℕ → Option ℕ) → LeadsTo f target old.lanes old.results → LeadsTo f target new.lanes new.results

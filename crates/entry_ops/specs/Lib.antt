@@ -4,4 +4,6 @@ pub mod Placing
 pub mod Sifting
 pub mod Walking
 pub mod Mapped
+pub mod Keeping
 pub mod Folding
+pub mod Heads

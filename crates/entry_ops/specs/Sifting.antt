@@ -1,12 +1,11 @@
 -- Rows whose last cells wait for the values of calls that are gathered and not yet made. This project's own.
-use Rattle.std.specs.Prelude.{◌≡◌, ◌≤◌, ℕ, if◌then◌else◌, nat_eq, List, [], ◌∷◌, length, drop}
+use Rattle.std.specs.Prelude.{◌≡◌, ℕ, if◌then◌else◌, nat_eq, List, [], ◌∷◌}
 use Rattle.bpf_verify.specs.Accepted.{Accepted}
 use Rattle.csr_store.specs.Run.{Run}
-use Rattle.csr_store.specs.Added.{kept_where}
 use Rattle.bpf_run.specs.Calls.{Call, Gathered, calls_on, values_on}
-use Rattle.entry_ops.specs.Standing.{Standing, Adds, CanPush, FollowIn, with_cell, with_cells, with_end}
+use Rattle.entry_ops.specs.Standing.{Standing, Adds, CanPush, with_cell, with_end}
 use Rattle.entry_ops.specs.declared.sieve.Mark.{Mark}
-use Rattle.entry_ops.specs.declared.sieve.Mark.TheVariants.{End, Kept, KeptAll}
+use Rattle.entry_ops.specs.declared.sieve.Mark.TheVariants.{End, Kept}
 
 -- a run with a cell more if an answer is not 0
 abbrev pub with_kept : ℕ → ℕ → ℕ → Run → Run
@@ -18,8 +17,6 @@ placed [] values run = run
 placed (End ∷ marks) values run = placed marks values (with_end run)
 placed (Kept column word ∷ marks) [] run = run
 placed (Kept column word ∷ marks) (v ∷ values) run = placed marks values (with_kept column word v run)
-placed (KeptAll cells ∷ marks) values run =
-    placed marks (drop (length cells.now) values) (with_cells (kept_where cells.now values) run)
 
 -- all that is marked may be added, and there are as many values as calls
 abbrev pub Fits : List Mark → List ℕ → Run → Type 0
@@ -27,8 +24,6 @@ Fits [] values run = values ≡ []
 Fits (End ∷ marks) values run = Fits marks values (with_end run)
 Fits (Kept column word ∷ marks) [] run = ⊥
 Fits (Kept column word ∷ marks) (v ∷ values) run = CanPush column run × Fits marks values (with_kept column word v run)
-Fits (KeptAll cells ∷ marks) values run = FollowIn cells.now run × (length cells.now ≤ length values)
-    × Fits marks (drop (length cells.now) values) (with_cells (kept_where cells.now values) run)
 
 -- the rows so far, what is marked behind them, and the steps of the calls that were made
 pub record Sifting : Type 0 where

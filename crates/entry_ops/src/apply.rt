@@ -6,6 +6,7 @@ ghost use Rattle.bpf_run.specs.Calls.{steps_of, Charges};
 ghost use Rattle.entry_ops.specs.Forms.{apply_kind, apply_at, apply_calls_at, select_at, select_calls_at};
 
 use crate::form::Form;
+use crate::keeping::keep_chunk;
 use crate::line::Sources;
 use crate::mapping::map_chunk;
 use crate::rows::fill_chunk;
@@ -87,10 +88,8 @@ pub fn select_rows<'m>(
     ensures spent { OnErr result.result (Charges (all_listed_under (mask_of mask.entry) a.now.columns
         (select_calls_at operator.now thunk a.now) range.start (range.end - range.start)) 0 result.steps) }
 {
-    let sources = Sources {
-        left: a,
-        right: None,
-        mask,
+    let Some(shown) = mask else {
+        return keep_chunk(alloc, calls, a, operator, thunk, range);
     };
-    select_chunk(alloc, calls, thunk, operator, sources, range)
+    select_chunk(alloc, calls, a, operator, thunk, shown, range)
 }

@@ -61,10 +61,11 @@ impl Emitter {
         self.steps
     }
 
-    /// The rows.
-    pub fn into_rows(self) -> Rows
+    /// The rows. What is left of the room that was made is given back.
+    pub fn into_rows(mut self) -> Rows
         ensures { result ≡ self.rows }
     {
+        self.rows.trim();
         self.rows
     }
 

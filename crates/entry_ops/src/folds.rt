@@ -1,26 +1,16 @@
-//! Rows folded many at once: each row that is open has a lane, and one call is made for each lane together with the others'.
-ghost use Rattle.std.specs.Prelude.{◌≡◌, ◌<◌, ◌≤◌, ◌+◌, ◌-◌, ◌^◌, ◌++◌, ◌∷◌, [], ℕ, if◌then◌else◌, length, map, take, drop, IfOk, OnOk};
-ghost use Rattle.std.specs.List.{AllByRecursion};
+//! Rows folded many at once: each row that is open has a lane, and a call is made of each together with the others'.
+ghost use Rattle.std.specs.Prelude.{◌≡◌, ◌<◌, ◌≤◌, ◌+◌, ◌-◌, ◌^◌, ◌++◌, ◌∷◌, [], ℕ, if◌then◌else◌, length, map, IfOk, OnOk};
 ghost use Rattle.bpf_insn.specs.declared.operands.Kind.TheVariants as kinds;
 ghost use Rattle.bpf_verify.specs.Accepted.{Accepted, IsAccepted};
 ghost use Rattle.csr_store.specs.Along.{cell_at};
 ghost use Rattle.csr_store.specs.Grid.{row_of};
 ghost use Rattle.csr_store.specs.Mask.{all_listed_under, mask_of, passes};
-ghost use Rattle.bpf_run.specs.Calls.{steps_of, values_on};
+ghost use Rattle.bpf_run.specs.Calls.{steps_of};
 ghost use Rattle.bpf_run.specs.Fold.{fold_from, fold_calls_from};
 ghost use Rattle.entry_ops.specs.Forms.{reduce_calls_at};
-ghost use Rattle.entry_ops.specs.Folding.{
-  words,
-  AreLanes,
-  next_operands,
-  due,
-  Gives,
-  Goes,
-  Begins,
-  IsFolding,
-  AreResults,
-};
+ghost use Rattle.entry_ops.specs.Folding.{words, due, Goes, Begins, IsFolding, AreResults};
 
+use crate::lanes::{Lanes, OpenRow};
 use crate::line::Cell;
 use bpf_insn::{Kind, Operands};
 use bpf_run::{Calls, MOST_CALLS, Prepared, call};
@@ -34,33 +24,25 @@ pub const BLOCK_ROWS: usize = 256;
 /// Fewer lanes are called one by one. There are so few only where no row is left to begin.
 const FEW_LANES: usize = 12;
 
-/// A row that is open: its number in the block, its fold so far, and the cells still to come, of which there are some.
-#[derive(Clone, Copy)]
-pub struct Lane<'m> {
-    place: usize,
-    so_far: u64,
-    rest: &'m [Cell],
-}
-
 /// The folds of a block of rows, up to 64 of them at once, and the steps of the calls that were made.
 #[derive(Drop)]
 pub struct Folds<'m> {
-    lanes: Vec<Lane<'m>>,
-    /// What each row that was begun comes to. Of a row with a lane it isn't known yet.
+    lanes: Lanes<'m>,
+    /// What each row that was begun comes to. Of an open row it isn't known yet.
     results: Vec<Option<u64>>,
     steps: u64,
 }
 
 impl<'m> Model for Folds<'m> {
     ghost use Rattle.std.specs.Prelude.{◌≤◌, length, vec_capacity};
-    ghost use Rattle.entry_ops.specs.Folding.{Folding, AreLanes};
+    ghost use Rattle.entry_ops.specs.Folding.{Folding, ArePlaced};
 
     ghost Value = { Folding };
 
-    ghost view = { λ e. record { lanes = e.lanes.items; results = e.results.items; steps = e.steps } };
+    ghost view = { λ e. record { lanes = e.lanes; results = e.results.items; steps = e.steps } };
 
-    ghost invariant = { λ e. (64 ≤ vec_capacity e.lanes) × (length e.lanes.items ≤ 64) × (256 ≤ vec_capacity e.results)
-        × (length e.results.items ≤ 256) × AreLanes (length e.results.items) e.lanes.items };
+    ghost invariant = { λ e. (256 ≤ vec_capacity e.results) × (length e.results.items ≤ 256)
+        × ArePlaced (length e.results.items) e.lanes };
 }
 
 impl<'m> Folds<'m> {
@@ -69,7 +51,7 @@ impl<'m> Folds<'m> {
         ensures { IfOk result (λ e. e ≡ record { lanes = []; results = []; steps = 0 }) }
     {
         Ok(Folds {
-            lanes: Vec::with_capacity(alloc, MOST_CALLS)?,
+            lanes: Lanes::new(alloc)?,
             results: Vec::with_capacity(alloc, BLOCK_ROWS)?,
             steps: 0,
         })
@@ -91,19 +73,18 @@ impl<'m> Folds<'m> {
         ensures folds { (f : Accepted) → Begins f cells.entry.now self.old self.new }
     {
         let place = self.results.len();
-        let Some((first, rest)) = cells.split_first() else {
+        let Some((first, behind)) = cells.split_first() else {
             self.results.push(None).unwrap();
             return;
         };
         self.results.push(Some(first.1)).unwrap();
-        if !rest.is_empty() {
-            self.lanes
-                .push(Lane {
-                    place,
-                    so_far: first.1,
-                    rest,
-                })
-                .unwrap();
+        if let Some((next, rest)) = behind.split_first() {
+            self.lanes.push(OpenRow {
+                place,
+                so_far: first.1,
+                next: next.1,
+                rest,
+            });
         }
     }
 
@@ -137,10 +118,7 @@ impl<'m> Folds<'m> {
         ensures begun { calls.new.kind ≡ kinds.Binary }
         ensures none { calls.new.operands ≡ [] }
     {
-        gather(&self.lanes, calls);
-        self.steps += calls.make(operator);
-        let left = give(&mut self.lanes, calls.values(), &mut self.results);
-        self.lanes.truncate(left);
+        self.steps += self.lanes.call(operator, calls, &mut self.results);
     }
 
     /// Makes all the calls of the last lane, one after the other.
@@ -152,11 +130,15 @@ impl<'m> Folds<'m> {
         ensures goes { Goes operator.now self.old self.new }
         ensures more { self.old.steps < self.new.steps }
     {
-        let last = self.lanes.len() - 1;
-        let lane = self.lanes[last];
-        self.lanes.truncate(last);
-        let value = fold_on(operator, lane.so_far, lane.rest, &mut self.steps);
-        self.results[lane.place] = Some(value);
+        let row = self.lanes.pop();
+        let operands = Operands::Binary {
+            x: row.so_far,
+            y: row.next,
+        };
+        let outcome = call(operator, &operands);
+        self.steps += outcome.steps;
+        let value = fold_on(operator, outcome.value, row.rest, &mut self.steps);
+        self.results[row.place] = Some(value);
     }
 
     /// Makes the next calls: those of the lanes together, unless they are few.
@@ -204,7 +186,7 @@ impl<'m> Folds<'m> {
         self.results.clear();
         calls.begin(Kind::Binary);
         self.fill(a, mask, first, many);
-        while !self.lanes.is_empty() {
+        while self.lanes.len() > 0 {
             self.go(operator, calls);
             self.fill(a, mask, first, many);
         }
@@ -281,56 +263,4 @@ fn fold_on(operator: &Prepared, so_far: u64, rest: &[Cell], steps: &mut u64) -> 
     }
     *steps = spent;
     value
-}
-
-/// Gathers the operands of the next call of each lane.
-fn gather(lanes: &[Lane], calls: &mut Calls)
-    requires lanes { (n : ℕ) × AreLanes n lanes.now }
-    requires few { length lanes.now ≤ 64 }
-    requires begun { calls.old.kind ≡ kinds.Binary }
-    requires none { calls.old.operands ≡ [] }
-    ensures { calls.new ≡ record calls.old { operands = next_operands lanes.now } }
-{
-    for lane in lanes {
-        calls.gather_pair(lane.so_far, lane.rest[0].1);
-    }
-}
-
-/// A lane with the value of its call: one cell less is to come.
-#[inline(always)]
-fn further<'m>(lane: Lane<'m>, value: u64) -> Lane<'m>
-    requires { 0 < length lane.rest.now }
-    ensures place { result.place ≡ lane.entry.place }
-    ensures so_far { result.so_far ≡ value }
-    ensures rest { result.rest.now ≡ drop 1 lane.entry.rest.now }
-{
-    Lane {
-        place: lane.place,
-        so_far: value,
-        rest: &lane.rest[1..],
-    }
-}
-
-/// Gives each lane the value of its call. The rows of those with no cell left have their results, and the others, which
-/// come first then, are counted.
-fn give<'m>(lanes: &mut [Lane<'m>], values: &[u64], results: &mut [Option<u64>]) -> usize
-    requires lanes { AreLanes (length results.old) lanes.old }
-    requires values { length values.now ≡ length lanes.old }
-    ensures within { result ≤ length lanes.new }
-    ensures lanes { AreLanes (length results.new) (take result lanes.new) }
-    ensures gives { (f : Accepted) → values.now ≡ values_on f (next_operands lanes.old)
-        → Gives f lanes.old results.old (take result lanes.new) results.new }
-{
-    let mut left = lanes.len();
-    for i in (0..lanes.len()).rev() {
-        let lane = further(lanes[i], values[i]);
-        if lane.rest.is_empty() {
-            results[lane.place] = Some(lane.so_far);
-            left -= 1;
-            lanes[i] = lanes[left];
-        } else {
-            lanes[i] = lane;
-        }
-    }
-    left
 }

@@ -90,3 +90,15 @@ pub fn read_line<'a>(sources: Sources<'a>, row: u64) -> Line<'a>
         mask: row_of_mask(sources.left, sources.mask, row),
     }
 }
+
+/// The most cells for which room is made before it is known that they come. More is made as they come.
+pub const MOST_ROOM: usize = 65_536;
+
+/// How many entries the rows of a matrix have from one on up to another.
+pub fn entries_between(matrix: &Matrix, first: u64, end: u64) -> usize {
+    let starts = matrix.starts();
+    match (starts.get(first as usize), starts.get(end as usize)) {
+        (Some(from), Some(to)) => to.saturating_sub(*from) as usize,
+        _ => 0,
+    }
+}

@@ -6,6 +6,7 @@ ghost use Rattle.entry_ops.specs.Standing.{with_cells};
 ghost use Rattle.entry_ops.specs.Placing.{final, Holds, Does};
 ghost use Rattle.entry_ops.specs.Walking.{kind_for, of_values, row_cells, row_calls, IsLine, IsOpen};
 
+use crate::ahead::{begin_walk, second_for, value_here, walk_to};
 use crate::emitter::Emitter;
 use crate::form::{Form, Place, emit};
 use crate::line::{Cell, Line};
@@ -68,18 +69,18 @@ pub fn fill_masked(
         ++ (row_calls form operator.now line.entry.row line.entry.columns line.entry.left.now line.entry.right.now
         (Some mask.entry.now) ++ rest)) emitter.old.steps emitter.new.steps) }
 {
-    let mut lefts = line.left;
-    let mut rights = line.right;
+    let mut lefts = begin_walk(line.left);
+    let mut rights = begin_walk(second_for(form, line.right));
     let mut masks = mask;
     while let Some((shown, rest)) = masks.split_first() {
         let column = shown.0;
-        lefts = from_column(lefts, column);
-        rights = from_column(rights, column);
+        lefts = walk_to(lefts, column);
+        rights = walk_to(rights, column);
         let place = Place {
             row: line.row,
             column,
-            left: first_at(lefts, column),
-            right: first_at(rights, column),
+            left: value_here(lefts, column),
+            right: value_here(rights, column),
         };
         emit(form, operator, calls, emitter, place)?;
         masks = rest;

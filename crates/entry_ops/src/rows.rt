@@ -19,10 +19,10 @@ ghost use Rattle.entry_ops.specs.Walking.{
 use crate::emitter::Emitter;
 use crate::form::Form;
 use crate::joint::{fill_both, fill_union};
-use crate::line::{Cell, Line, Sources, read_line};
+use crate::line::{Cell, Line, MOST_ROOM, Sources, entries_between, read_line};
 use crate::masked::fill_masked;
 use bpf_run::{Calls, Prepared};
-use csr_store::{Chunk, Matrix};
+use csr_store::Chunk;
 use std::alloc::{AllocError, Global};
 use std::ops::Range;
 
@@ -107,25 +107,23 @@ fn fill(
     Ok(())
 }
 
-/// For how many cells room is made at once. A union without a mask has at least half as many as its operands together; the rows
-/// of another form may have far fewer, and grow as they are filled.
+/// For how many cells room is made at once: for all that there may be, where these are not very many. A union without a mask has at
+/// least half of them.
 fn room_for(form: Form, sources: Sources, first: u64, end: u64) -> usize {
-    match (form, sources.right, sources.mask) {
-        (Form::Union, Some(right), None) => {
-            entries_between(sources.left, first, end).saturating_add(entries_between(
-                right, first, end,
-            ))
-        }
-        _ => 0,
-    }
-}
-
-/// How many entries some rows of a matrix have.
-fn entries_between(matrix: &Matrix, first: u64, end: u64) -> usize {
-    let starts = matrix.starts();
-    match (starts.get(first as usize), starts.get(end as usize)) {
-        (Some(from), Some(to)) => to.saturating_sub(*from) as usize,
-        _ => 0,
+    let left = entries_between(sources.left, first, end);
+    let right = match sources.right {
+        None => 0,
+        Some(right) => entries_between(right, first, end),
+    };
+    let most = match form {
+        Form::Apply(_) | Form::Select(_) => left,
+        Form::Union => left.saturating_add(right),
+        Form::Both => left.min(right),
+    };
+    match (form, sources.mask) {
+        (Form::Union, None) => most,
+        (_, None) => most.min(MOST_ROOM),
+        (_, Some(mask)) => most.min(MOST_ROOM).min(entries_between(mask, first, end)),
     }
 }
 

@@ -1,14 +1,11 @@
 //! Rows whose last cells wait for the values of gathered calls, and stand where those are not 0.
 ghost use Rattle.std.specs.Prelude.{◌≡◌, ◌<◌, ◌≤◌, ◌+◌, ◌^◌, ◌∷◌, [], length, vec_capacity, OnOk, OnErr, IfOk};
 ghost use Rattle.bpf_insn.specs.Machine.{kind_of};
-ghost use Rattle.bpf_insn.specs.declared.operands.Kind.TheVariants as kinds;
 ghost use Rattle.bpf_run.specs.Meaning.{value_of};
-ghost use Rattle.bpf_run.specs.Calls.{call_of, calls_on, values_on, steps_of, Charges, entries_of};
-ghost use Rattle.csr_store.specs.Added.{kept_where};
-ghost use Rattle.entry_ops.specs.Standing.{CanPush, FollowIn, with_cells, with_end};
+ghost use Rattle.bpf_run.specs.Calls.{call_of, calls_on, steps_of, Charges};
+ghost use Rattle.entry_ops.specs.Standing.{CanPush, with_end};
 ghost use Rattle.entry_ops.specs.Sifting.{placed, Fits, final, Holds, Does, with_kept};
 
-use crate::line::Cell;
 use bpf_insn::Operands;
 use bpf_run::{Calls, MOST_CALLS, Prepared};
 use csr_store::Rows;
@@ -20,24 +17,22 @@ const MOST_MARKS: usize = 256;
 
 /// What is still to be added to some rows.
 #[derive(Clone, Copy)]
-pub enum Mark<'m> {
+pub enum Mark {
     /// The end of the open row.
     End,
     /// A cell that stands where the value of the next call is not 0.
     Kept { column: u64, word: u64 },
-    /// Cells that stand where the values of the next calls are not 0.
-    KeptAll { cells: &'m [Cell] },
 }
 
 /// Rows, what is marked behind them while calls wait, and the steps of the calls that were made.
 #[derive(Drop)]
-pub struct Sieve<'m> {
+pub struct Sieve {
     rows: Rows,
-    marks: Vec<Mark<'m>>,
+    marks: Vec<Mark>,
     steps: u64,
 }
 
-impl<'m> Model for Sieve<'m> {
+impl Model for Sieve {
     ghost use Rattle.std.specs.Prelude.{◌≤◌, length, vec_capacity};
     ghost use Rattle.entry_ops.specs.Sifting.{Sifting};
 
@@ -48,7 +43,7 @@ impl<'m> Model for Sieve<'m> {
     ghost invariant = { λ e. (256 ≤ vec_capacity e.marks) × (length e.marks.items ≤ 256) };
 }
 
-impl<'m> Sieve<'m> {
+impl Sieve {
     /// No row yet, of those from `first` on, and no call.
     pub fn begin(alloc: Global, first: u64, columns: u64) -> Result<Self, AllocError>
         ensures { IfOk result (λ e. e ≡ record {
@@ -73,7 +68,7 @@ impl<'m> Sieve<'m> {
 
     /// The rows.
     pub fn into_rows(self) -> Rows
-        ensures { result ≡ self.entry.rows }
+        ensures { result ≡ self.rows }
     {
         self.rows
     }
@@ -138,28 +133,6 @@ impl<'m> Sieve<'m> {
         Ok(())
     }
 
-    /// Adds those cells of a row where the value of a call on the word, its position and a thunk is not 0.
-    pub fn keep_entries(
-        &mut self,
-        calls: &mut Calls,
-        cells: &'m [Cell],
-        row: u64,
-        thunk: u64,
-        operator: &Prepared,
-    )
-        requires holds { Holds operator.now self.old calls.old }
-        requires kind { operator.now.kind ≡ kinds.Index }
-        requires behind { FollowIn cells.now (final operator.now self.old calls.old) }
-        requires marks { length self.old.marks < 256 }
-        requires room { length calls.old.operands + length cells.now ≤ 64 }
-        ensures { Does operator.now (calls_on operator.now (entries_of row thunk cells.now))
-            (with_cells (kept_where cells.now (values_on operator.now (entries_of row thunk cells.now))))
-            self.old calls.old self.new calls.new }
-    {
-        self.marks.push(Mark::KeptAll { cells }).unwrap();
-        calls.gather_entries(cells, row, thunk);
-    }
-
     /// Ends the open row.
     pub fn end_row(&mut self, operator: &Prepared, calls: &mut Calls) -> Result<(), AllocError>
         requires holds { Holds operator.now self.old calls.old }
@@ -198,11 +171,6 @@ fn place(marks: &[Mark], values: &[u64], rows: &mut Rows) -> Result<(), AllocErr
             Mark::Kept { column, word } => {
                 push_kept(rows, column, word, values[next])?;
                 next += 1;
-            }
-            Mark::KeptAll { cells } => {
-                let end = next + cells.len();
-                rows.push_where(cells, &values[next..end])?;
-                next = end;
             }
         }
     }

@@ -1,4 +1,4 @@
-use Rattle.std.proofs.Common.{◌≡◌, ◌<◌, ◌+◌, ◌-◌, ℕ, arith, refl}
+use Rattle.std.proofs.Common.{◌-◌, arith, refl}
 use Rattle.entry_ops.proofs.Whole.{whole-room, added-entries, added-room, made-rows, made-steps}
 use Rattle.entry_ops.proofs.mapping.map_chunk.Goals as goal
 

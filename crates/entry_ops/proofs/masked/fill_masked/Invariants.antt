@@ -1,4 +1,5 @@
-use Rattle.std.proofs.Common.{length, Some}
+use Rattle.std.proofs.Common.{◌≡◌, length, Some}
+use Rattle.entry_ops.specs.Heads.{head_column}
 use Rattle.entry_ops.specs.Placing.{Holds, standing}
 use Rattle.entry_ops.specs.Walking.{row_cells, row_calls}
 use Rattle.entry_ops.proofs.Masks.{IsMasking}
@@ -9,7 +10,8 @@ invariant-loop-shown l = Holds l.operator l.emitter l.calls
     × IsMasking l.form l.operator l.line.row l.line.columns
     (row_cells l.form l.operator l.line.row l.line.columns l.line.left.now l.line.right.now (Some l.mask))
     (row_calls l.form l.operator l.line.row l.line.columns l.line.left.now l.line.right.now (Some l.mask))
-    (standing l.operator l.fn.emitter l.fn.calls) l.lefts l.rights l.masks (standing l.operator l.emitter l.calls)
+    (standing l.operator l.fn.emitter l.fn.calls) l.lefts.cells.now l.rights.cells.now l.masks (standing l.operator l.emitter l.calls)
+    × ((l.lefts.next ≡ head_column l.lefts.cells.now) × (l.rights.next ≡ head_column l.rights.cells.now))
 
 abbrev pub decreases-loop-shown : goal.decreases-loop-shown
 decreases-loop-shown l = length l.masks

@@ -1,4 +1,4 @@
-use Rattle.csr_store.specs.Mask.{mask_of}
+use Rattle.std.proofs.Common.{None, Some}
 use Rattle.entry_ops.specs.Sifting.{Holds, standing}
 use Rattle.entry_ops.proofs.Filling.{IsFilling}
 use Rattle.entry_ops.proofs.select.keep_rows.Given as goal
@@ -6,5 +6,5 @@ use Rattle.entry_ops.specs.declared.form.Form.TheVariants.{Select}
 
 abbrev pub invariant-loop-row : goal.invariant-loop-row
 invariant-loop-row l = Holds l.operator l.sieve l.calls
-    × IsFilling (Select l.thunk) l.operator l.sources.left.now (mask_of l.sources.right) (mask_of l.sources.mask) l.fn.range.start l.fn.range.end
+    × IsFilling (Select l.thunk) l.operator l.a None (Some l.mask) l.fn.range.start l.fn.range.end
     (standing l.operator l.fn.sieve l.fn.calls) l.row (standing l.operator l.sieve l.calls)

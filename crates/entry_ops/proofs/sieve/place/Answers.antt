@@ -1,10 +1,9 @@
-use Rattle.std.proofs.Common.{◌∙◌, arith, refl}
-use Rattle.entry_ops.proofs.Sifting.{placing-at, keep-within, end-placed, keep-placed, kept-placed}
+use Rattle.std.proofs.Common.{◌∙◌}
+use Rattle.entry_ops.proofs.Sifting.{placing-at, keep-within, end-placed, keep-placed}
 use Rattle.entry_ops.proofs.sieve.place.Goals as goal
 use Rattle.entry_ops.proofs.sieve.place.Goals.{
   in-End+in_ok-end_row-in-End,
   in-Kept+in_ok-push_kept-in-Kept,
-  in-KeptAll+in_ok-push_where-in-KeptAll,
 }
 
 pub loop-mark-preserved : goal.loop-mark-preserved
@@ -13,6 +12,4 @@ loop-mark-preserved c = elim c.match-mark.branch [
       (end-placed c.args.marks.now c.args.values.now c.args.rows.now c.loop-mark.mark-index c.loop-mark.next c.loop-mark.rows _ c.loop-mark.invariant c.loop-mark-test.true w.in-End.is c.match-mark.rows (w.rows-is ∙ w.in_ok-end_row-in-End.ensures.ended))
   | in-Kept+in_ok-push_kept-in-Kept w ↦ placing-at _ _ _ _ _ _ _ w.next-is
       (keep-placed c.args.marks.now c.args.values.now c.args.rows.now c.loop-mark.mark-index c.loop-mark.next c.loop-mark.rows _ c.loop-mark.invariant c.loop-mark-test.true (keep-within c.args.marks.now c.args.values.now c.args.rows.now c.loop-mark.mark-index c.loop-mark.next c.loop-mark.rows _ c.loop-mark.invariant c.loop-mark-test.true _ _ w.in-Kept.is) _ _ w.in-Kept.is c.match-mark.rows (w.rows-is ∙ w.in_ok-push_kept-in-Kept.ensures))
-  | in-KeptAll+in_ok-push_where-in-KeptAll w ↦ kept-placed c.args.marks.now c.args.values.now c.args.rows.now c.loop-mark.mark-index c.loop-mark.next c.loop-mark.rows _ w.in-KeptAll.cells c.loop-mark.invariant c.loop-mark-test.true
-      w.in-KeptAll.is _ c.match-mark.next refl (let n = w.next-is in omega (arith, n)) c.match-mark.rows (w.rows-is ∙ w.in_ok-push_where-in-KeptAll.ensures.pushed)
 ]

@@ -1,35 +1,40 @@
-use Rattle.std.proofs.Common.{◌≡◌, ◌+◌, ◌-◌, length, refl, ap, arith}
-use Rattle.entry_ops.specs.Folding.{Folding}
-use Rattle.entry_ops.proofs.Singly.{last_room, last_goes, last_more}
+use Rattle.std.proofs.Common.{Some, refl, sym, subst, arith}
+use Rattle.std.proofs.lemmas.List.{length-set}
+use Rattle.entry_ops.specs.Folding.{ArePlaced}
+use Rattle.entry_ops.proofs.Singly.{last_placed, last_room, last_goes}
 use Rattle.entry_ops.proofs.folds.Folds.finish_last.Goals as goal
+
+pub overflow_add-self : goal.overflow_add-self
+overflow_add-self c =
+    let r = last_room c.args.operator.now c.self.inside.lanes c.pop-row.new.self c.self.inside.results.items c.self.inside.steps c.args.self.now
+    c.self.view_is c.pop-row.result c.pop-row.ensures c.call-outcome.result.steps c.call-outcome.result.value
+    c.call-outcome.ensures.steps c.call-outcome.ensures.value c.requires.room in
+    omega (arith, r)
 
 pub fold_on-value-requires-clause-room : goal.fold_on-value-requires-clause-room
 fold_on-value-requires-clause-room c =
-    let v : length c.self.inside.lanes.items ≡ length c.args.self.now.lanes = ap (λ (e : Folding). length e.lanes) c.self.view_is in
-    let l = c.len-last.ensures in
-    let o = c.self.inside.lanes.ok.0 in
-    let some = c.requires.some in
-    let n : (c.len-last.result - 1) + 1 ≡ length c.self.inside.lanes.items = omega (arith, v, l, o, some) in
-    last_room c.args.operator.now c.self.inside.lanes.items c.self.inside.results.items c.self.inside.steps c.args.self.now c.self.view_is c.self.invariant.4
-    (c.len-last.result - 1) c.index-lane.result.now c.index-lane.ensures n c.requires.room
+    last_room c.args.operator.now c.self.inside.lanes c.pop-row.new.self c.self.inside.results.items c.self.inside.steps c.args.self.now
+    c.self.view_is c.pop-row.result c.pop-row.ensures c.call-outcome.result.steps c.call-outcome.result.value
+    c.call-outcome.ensures.steps c.call-outcome.ensures.value c.requires.room
+
+pub index_mut-requires : goal.index_mut-requires
+index_mut-requires c =
+    let p = (last_placed c.args.operator.now c.self.inside.lanes c.pop-row.new.self c.self.inside.results.items c.self.inside.steps c.args.self.now
+    c.self.view_is c.pop-row.result c.pop-row.ensures c.self.invariant.2).0 in
+    let o = c.self.inside.results.ok.0 in
+    omega (arith, p, o)
+
+pub invariant_of-self : goal.invariant_of-self
+invariant_of-self c =
+    let p = (last_placed c.args.operator.now c.self.inside.lanes c.pop-row.new.self c.self.inside.results.items c.self.inside.steps c.args.self.now
+    c.self.view_is c.pop-row.result c.pop-row.ensures c.self.invariant.2).1 in
+    let n = length-set c.self.inside.results.items c.pop-row.result.place (Some c.fold_on-value.result) in
+    let l = c.self.invariant.1 in
+    (c.self.invariant.0, omega (arith, n, l), subst (λ k. ArePlaced k c.pop-row.new.self) (sym n) p)
 
 pub returns-clause-goes : goal.returns-clause-goes
 returns-clause-goes c =
-    let v : length c.self.inside.lanes.items ≡ length c.args.self.now.lanes = ap (λ (e : Folding). length e.lanes) c.self.view_is in
-    let l = c.len-last.ensures in
-    let o = c.self.inside.lanes.ok.0 in
-    let some = c.requires.some in
-    let n : (c.len-last.result - 1) + 1 ≡ length c.self.inside.lanes.items = omega (arith, v, l, o, some) in
-    last_goes c.args.operator.now c.self.inside.lanes.items c.self.inside.results.items c.self.inside.steps c.args.self.now c.self.view_is c.self.invariant.4
-    (c.len-last.result - 1) c.index-lane.result.now c.index-lane.ensures n _ _ _ _ c.fold_on-value.ensures.value c.fold_on-value.ensures.steps refl c.truncate.ensures.items
-
-pub returns-clause-more : goal.returns-clause-more
-returns-clause-more c =
-    let v : length c.self.inside.lanes.items ≡ length c.args.self.now.lanes = ap (λ (e : Folding). length e.lanes) c.self.view_is in
-    let l = c.len-last.ensures in
-    let o = c.self.inside.lanes.ok.0 in
-    let some = c.requires.some in
-    let n : (c.len-last.result - 1) + 1 ≡ length c.self.inside.lanes.items = omega (arith, v, l, o, some) in
-    last_more c.args.operator.now c.self.inside.lanes.items c.self.inside.results.items c.self.inside.steps c.args.self.now c.self.view_is c.self.invariant.4
-    (c.len-last.result - 1) c.index-lane.result.now c.index-lane.ensures n _ _ _ _ c.fold_on-value.ensures.value c.fold_on-value.ensures.steps refl c.truncate.ensures.items
-    c.requires.accepted c.requires.kind
+    last_goes c.args.operator.now c.self.inside.lanes c.pop-row.new.self c.self.inside.results.items c.self.inside.steps c.args.self.now
+    c.self.view_is c.pop-row.result c.pop-row.ensures c.call-outcome.result.steps c.call-outcome.result.value
+    c.call-outcome.ensures.steps c.call-outcome.ensures.value _ c.fold_on-value.result _ c.fold_on-value.ensures.value c.fold_on-value.ensures.steps refl
+    c.self.invariant.2

@@ -1,9 +1,8 @@
-use Rattle.std.proofs.Common.{◌≡◌, ◌+◌, length, List, ap, sym, ◌∙◌, arith}
+use Rattle.std.proofs.Common.{◌≡◌, ◌+◌, length, ap, sym, arith}
 use Rattle.csr_store.specs.Mask.{mask_of}
 use Rattle.bpf_run.specs.Calls.{steps_of}
 use Rattle.entry_ops.specs.Folding.{Folding}
-use Rattle.entry_ops.specs.declared.folds.Lane.{Lane}
-use Rattle.entry_ops.proofs.Lanes.{no_lanes, some_lanes}
+use Rattle.entry_ops.proofs.OpenRows.{no_lanes}
 use Rattle.entry_ops.proofs.Folding.{all_calls, folding-start, folding-go, folding-room, folding-results, folding-steps}
 use Rattle.entry_ops.proofs.folds.Folds.fold.Goals as goal
 
@@ -19,7 +18,7 @@ loop-self-init c =
       few = c.fill.ensures.few;
       all = c.fill.ensures.all;
       folding = c.fill.ensures.folding f (c.args.self.now.steps + steps_of (all_calls f a mask c.args.first c.args.many))
-          (folding-start f a mask c.args.first c.args.many _ _ c.clear.ensures.items c.clear-2.ensures.items
+          (folding-start f a mask c.args.first c.args.many _ _ c.clear.ensures c.clear-2.ensures.items
           (ap (λ n. n + steps_of (all_calls f a mask c.args.first c.args.many)) (sym s)));
     }
 
@@ -31,11 +30,11 @@ go-requires-clause-room c =
 
 pub go-requires-clause-some : goal.go-requires-clause-some
 go-requires-clause-some c =
-    let l : length c.self-in-loop-self.inside.lanes.items ≡ length c.loop-self.self.lanes =
+    let l : length c.self-in-loop-self.inside.lanes ≡ length c.loop-self.self.lanes =
     ap (λ (e : Folding). length e.lanes) c.self-in-loop-self.view_is in
-    let o = c.self-in-loop-self.inside.lanes.ok.0 in
-    let some = some_lanes _ c.is_empty.result c.is_empty.ensures c.loop-self-test.true in
-    omega (arith, l, o, some)
+    let o = c.len.ensures.len in
+    let t = c.loop-self-test.true in
+    omega (arith, l, o, t)
 
 pub loop-self-smaller : goal.loop-self-smaller
 loop-self-smaller c =
@@ -64,10 +63,12 @@ returns c =
     let f = c.args.operator.now in
     let a = c.args.a.now in
     let mask = mask_of c.args.mask in
-    let l : length c.self-in-loop-self.inside.lanes.items ≡ length c.loop-self.self.lanes =
+    let l : length c.self-in-loop-self.inside.lanes ≡ length c.loop-self.self.lanes =
     ap (λ (e : Folding). length e.lanes) c.self-in-loop-self.view_is in
-    let none = no_lanes _ c.loop-self.self.lanes c.is_empty.result c.is_empty.ensures c.loop-self-test.false (c.self-in-loop-self.inside.lanes.ok.0 ∙ l) in
-    let z = ap (λ (xs : List Lane). length xs) none in
+    let o = c.len.ensures.len in
+    let t = c.loop-self-test.false in
+    let z : length c.loop-self.self.lanes ≡ 0 = omega (arith, l, o, t) in
+    let none = no_lanes c.loop-self.self.lanes z in
     let all = c.loop-self.invariant.all (omega (arith, z)) in
     record {
       results = folding-results f a mask c.args.first c.args.many _ c.loop-self.self c.loop-self.invariant.folding none all;

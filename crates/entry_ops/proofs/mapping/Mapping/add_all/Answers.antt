@@ -1,4 +1,4 @@
-use Rattle.std.proofs.Common.{◌≡◌, ◌<◌, ◌+◌, ◌-◌, ◌^◌, ℕ, List, length, None, Some, arith, refl, ap, sym, ◌∙◌, subst}
+use Rattle.std.proofs.Common.{◌-◌, List, length, Some, arith, ap, sym, ◌∙◌, subst}
 use Rattle.bpf_insn.specs.declared.operands.Operands.{Operands}
 use Rattle.csr_store.specs.Run.{Run}
 use Rattle.csr_store.specs.Valued.{all_cells, entries_of}

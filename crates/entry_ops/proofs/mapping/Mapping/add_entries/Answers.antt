@@ -1,10 +1,8 @@
-use Rattle.std.proofs.Common.{◌<◌, ◌+◌, ◌-◌, ◌^◌, ◌++◌, [], List, ℕ, length, refl, ap, sym, ◌∙◌, subst, arith}
-use Rattle.bpf_insn.specs.declared.operands.Operands.{Operands}
-use Rattle.csr_store.specs.Along.{along}
+use Rattle.std.proofs.Common.{arith}
 use Rattle.csr_store.specs.Grid.{row_of}
 use Rattle.csr_store.proofs.Along.{along-next, along-over}
-use Rattle.bpf_run.specs.Calls.{entries_of, calls_on, steps_of}
-use Rattle.entry_ops.proofs.Mapped.{mapping-start, mapping-step, mapping-end, mapping-entries, mapping-room, length_entries}
+use Rattle.bpf_run.specs.Calls.{entries_of}
+use Rattle.entry_ops.proofs.Mapped.{mapping-step, mapping-end, mapping-entries, mapping-room, length_entries}
 use Rattle.entry_ops.proofs.mapping.Mapping.add_entries.Goals as goal
 
 pub add_row-requires-clause-entries : goal.add_row-requires-clause-entries

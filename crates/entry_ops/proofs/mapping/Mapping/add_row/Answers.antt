@@ -1,4 +1,4 @@
-use Rattle.std.proofs.Common.{◌<◌, ◌+◌, ◌^◌, ◌++◌, [], List, ℕ, length, refl, ap, sym, ◌∙◌, subst, arith}
+use Rattle.std.proofs.Common.{[], refl, ap, ◌∙◌, arith}
 use Rattle.std.proofs.lemmas.Bool.Decides.{nat_tests}
 use Rattle.bpf_run.specs.Calls.{entries_of}
 use Rattle.entry_ops.proofs.Mapped.{mapping-start, mapping-step, mapping-end, adds-gathered, length_entries, entries_of-append, parts, no_operands}

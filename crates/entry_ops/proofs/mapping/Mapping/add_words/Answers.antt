@@ -1,11 +1,11 @@
-use Rattle.std.proofs.Common.{◌≡◌, ◌<◌, ◌≤◌, ◌+◌, ◌-◌, ◌^◌, ◌++◌, [], List, ℕ, length, take, drop, refl, ap, sym, ◌∙◌, subst, arith}
+use Rattle.std.proofs.Common.{◌+◌, ◌-◌, List, length, take, drop, refl, ap, sym, ◌∙◌, subst, arith}
 use Rattle.bpf_insn.specs.declared.operands.Operands.{Operands}
 use Rattle.std.proofs.lemmas.List.{drop_all}
 use Rattle.csr_store.specs.Grid.{Cell}
-use Rattle.csr_store.specs.Valued.{all_cells, entries_of}
+use Rattle.csr_store.specs.Valued.{all_cells}
 use Rattle.csr_store.proofs.Valuing.{entries_are, alike_entries}
 use Rattle.bpf_run.specs.Calls.{words_of, calls_on, steps_of}
-use Rattle.entry_ops.proofs.Mapped.{mapping-start, mapping-step, mapping-end, mapping-entries, mapping-room, IsMapping, words-gathered, words-made, words-count, adds-gathered, adds-made, adds-further, words_of-append, length_words}
+use Rattle.entry_ops.proofs.Mapped.{mapping-start, mapping-end, IsMapping, words-gathered, words-made, words-count, length_words}
 use Rattle.entry_ops.proofs.mapping.Mapping.add_words.Goals as goal
 
 pub loop-self-init : goal.loop-self-init

@@ -1,4 +1,4 @@
-use Rattle.std.proofs.Common.{◌∙◌, ap, sym, length, arith, ℕ, List}
+use Rattle.std.proofs.Common.{◌∙◌, ap, length, arith, ℕ, List}
 use Rattle.bpf_run.specs.Calls.{Gathered}
 use Rattle.entry_ops.proofs.Mapped.{length_values}
 use Rattle.entry_ops.proofs.mapping.Mapping.make.Goals as goal

@@ -1,16 +1,31 @@
-use Rattle.std.proofs.Common.{◌∷◌, [], refl, subst}
+use Rattle.std.proofs.Common.{◌∷◌, [], None, Some, refl, sym, ap, subst}
 use Rattle.bpf_insn.specs.declared.operands.Operands.{Operands}
 use Rattle.bpf_run.specs.Meaning.{value_of}
 use Rattle.bpf_run.specs.Calls.{call_of}
-use Rattle.csr_store.specs.Ascending.{at}
+use Rattle.entry_ops.specs.declared.form.Form.TheVariants.{Select}
 use Rattle.entry_ops.specs.Sifting.{standing, with_kept}
 use Rattle.entry_ops.specs.Standing.{Adds}
+use Rattle.entry_ops.proofs.Filling.{row_ascends, same_cells, same_calls}
 use Rattle.entry_ops.proofs.Lines.{adds-kept}
 use Rattle.entry_ops.proofs.Nexts.{none_left}
-use Rattle.entry_ops.proofs.Masks.{masking-fits, masking-step, masking-end}
+use Rattle.entry_ops.proofs.Masks.{masking-start, masking-fits, masking-step, masking-end}
 use Rattle.entry_ops.proofs.Merging.{adds-none}
 use Rattle.entry_ops.proofs.Standing.{on_err, completes-room, completes-stop}
-use Rattle.entry_ops.proofs.select.keep_masked.Goals as goal
+use Rattle.entry_ops.proofs.select.keep_row.Goals as goal
+
+pub loop-shown-init : goal.loop-shown-init
+loop-shown-init c =
+    let a = c.args.a.now in
+    let mask = c.args.mask.now in
+    let left = c.row-cells.result.now in
+    let masks = c.row-masks.result.now in (
+      c.requires.holds,
+      masking-start _ _ _ _ _ _ _ left [] masks (row_ascends a c.args.row a.columns left c.columns.ensures.is_grid refl c.row-cells.ensures) tt
+          (row_ascends mask c.args.row a.columns masks c.columns-2.ensures.is_grid c.requires.shape.1 c.row-masks.ensures)
+          (sym (same_cells (Select c.args.thunk) c.args.operator.now a None (Some mask) c.args.row _ _ left [] (Some masks) refl refl c.row-cells.ensures refl (ap Some c.row-masks.ensures)))
+          (sym (same_calls (Select c.args.thunk) c.args.operator.now a None (Some mask) c.args.row _ _ left [] (Some masks) refl refl c.row-cells.ensures refl (ap Some c.row-masks.ensures)))
+          c.requires.open,
+    )
 
 pub keep-requires-clause-fits : goal.keep-requires-clause-fits
 keep-requires-clause-fits c = masking-fits _ _ _ _ _ _ _ _ _ _ _ c.loop-shown.invariant.1 _ _ c.in-Some.ensures.cases.0
@@ -27,20 +42,20 @@ loop-shown-preserved-in_ok-keep c =
     let column = c.in-Some.shown.now.0 in
     let word = c.in-Some-first_at.word in
     let d = c.in_ok-keep.ensures.does in
-    let l = c.from_column-cells.ensures c.args.line.columns c.loop-shown.invariant.1.left_row in
+    let l = c.from_column-cells.ensures c.args.a.now.columns c.loop-shown.invariant.1.left_row in
     let added = subst (λ (o : Operands). Adds (call_of f o ∷ []) (with_kept column word (value_of f o)) (standing f c.loop-shown.sieve c.loop-shown.calls)
     (standing f c.keep.new.self c.keep.new.calls)) c.operands_of-operands.ensures d.adds in (
       d.holds,
       masking-step _ _ _ _ _ _ _ _ _ _ _ c.loop-shown.invariant.1 _ _ c.in-Some.ensures.cases.0 _ _ l (c.loop-shown.invariant.1.right_row, λ j b. refl) _ _
-          (c.in-Some-first_at.ensures c.args.line.columns l.0) refl _ (adds-kept _ column word _ _ _ added),
+          (c.in-Some-first_at.ensures c.args.a.now.columns l.0) refl _ (adds-kept _ column word _ _ _ added),
     )
 
 pub loop-shown-preserved : goal.loop-shown-preserved
 loop-shown-preserved c =
-    let l = c.from_column-cells.ensures c.args.line.columns c.loop-shown.invariant.1.left_row in (
+    let l = c.from_column-cells.ensures c.args.a.now.columns c.loop-shown.invariant.1.left_row in (
       c.loop-shown.invariant.0,
       masking-step _ _ _ _ _ _ _ _ _ _ _ c.loop-shown.invariant.1 _ _ c.in-Some.ensures.cases.0 _ _ l (c.loop-shown.invariant.1.right_row, λ j b. refl) _
-          (at c.args.line.right.now c.in-Some.shown.now.0) (c.in_default-first_at.ensures c.args.line.columns l.0) refl _ (adds-none _),
+          None (c.in_default-first_at.ensures c.args.a.now.columns l.0) refl _ (adds-none _),
     )
 
 pub returns-clause-does : goal.returns-clause-does

@@ -1,0 +1,89 @@
+//! Rows that are walked along by ascending columns.
+ghost use Rattle.std.specs.Prelude.{◌≡◌, ℕ, ◌≤◌, List, Some};
+ghost use Rattle.csr_store.specs.Ascending.{Ascends, at};
+ghost use Rattle.bpf_verify.specs.Accepted.{Accepted};
+ghost use Rattle.entry_ops.specs.Heads.{head_column};
+ghost use Rattle.entry_ops.specs.Walking.{row_cells, row_calls};
+
+use crate::form::Form;
+use crate::line::Cell;
+
+/// What is left of a row, and the column of the first cell of it: the greatest number where none is left.
+#[derive(Clone, Copy)]
+pub struct Remaining<'a> {
+    pub cells: &'a [Cell],
+    pub next: u64,
+}
+
+/// A whole row.
+#[inline(always)]
+pub fn begin_walk<'a>(cells: &'a [Cell]) -> Remaining<'a>
+    ensures cells { result.cells.now ≡ cells.now }
+    ensures next { result.next ≡ head_column cells.now }
+{
+    Remaining {
+        cells,
+        next: first_column(cells),
+    }
+}
+
+/// The column of the first of some cells.
+#[inline(always)]
+fn first_column(cells: &[Cell]) -> u64
+    ensures { result ≡ head_column cells.now }
+{
+    match cells.first() {
+        Some(cell) => cell.0,
+        None => u64::MAX,
+    }
+}
+
+/// What is left from a column on.
+#[inline(always)]
+pub fn walk_to<'a>(from: Remaining<'a>, column: u64) -> Remaining<'a>
+    requires { from.next ≡ head_column from.cells.now }
+    ensures next { result.next ≡ head_column result.cells.now }
+    ensures left { (n : ℕ) → Ascends 0 n from.entry.cells.now → Ascends column n result.cells.now
+        × ((j : ℕ) → column ≤ j → at from.entry.cells.now j ≡ at result.cells.now j) }
+{
+    let mut cells = from.cells;
+    let mut next = from.next;
+    while next < column {
+        let Some((_, more)) = cells.split_first() else {
+            break;
+        };
+        cells = more;
+        next = first_column(cells);
+    }
+    Remaining { cells, next }
+}
+
+/// The value at a column, where what is left begins there or later.
+#[inline(always)]
+pub fn value_here(row: Remaining, column: u64) -> Option<u64>
+    requires { row.next ≡ head_column row.cells.now }
+    ensures { (n : ℕ) → Ascends column n row.entry.cells.now → result ≡ at row.entry.cells.now column }
+{
+    if row.next != column {
+        return None;
+    }
+    match row.cells.first() {
+        Some(cell) => Some(cell.1),
+        None => None,
+    }
+}
+
+/// The row of the second operand, where a form has one.
+#[inline(always)]
+pub fn second_for<'a>(form: Form, right: &'a [Cell]) -> &'a [Cell]
+    ensures ascends { (n : ℕ) → Ascends 0 n right.now → Ascends 0 n result.now }
+    ensures cells { (f : Accepted) (i n : ℕ) (left mask : List (ℕ × ℕ)) → row_cells form f i n left right.now (Some mask)
+        ≡ row_cells form f i n left result.now (Some mask) }
+    ensures calls { (f : Accepted) (i n : ℕ) (left mask : List (ℕ × ℕ)) → row_calls form f i n left right.now (Some mask)
+        ≡ row_calls form f i n left result.now (Some mask) }
+{
+    match form {
+        Form::Apply(_) => &[],
+        _ => right,
+    }
+}

@@ -1,0 +1,182 @@
+//! The open rows of a block of a reduction, up to 64 of them, in columns: a fold and a next word stand beside those of the others,
+//! so that a call of each is gathered at once.
+ghost use Rattle.std.specs.Prelude.{◌≡◌, ◌<◌, ◌≤◌, ◌++◌, ◌∷◌, [], length, take, IfOk};
+ghost use Rattle.bpf_insn.specs.declared.operands.Kind.TheVariants as kinds;
+ghost use Rattle.bpf_verify.specs.Accepted.{Accepted, IsAccepted};
+ghost use Rattle.entry_ops.specs.Folding.{open_of, in_columns, in_two_columns, ArePlaced, Gives};
+
+use crate::line::Cell;
+use bpf_run::{Calls, MOST_CALLS, Prepared};
+use std::alloc::{AllocError, Global};
+use std::marker::Model;
+
+/// A row that is open: its number in the block, its fold so far, its next word, and the cells behind that.
+#[derive(Clone, Copy)]
+pub struct OpenRow<'m> {
+    pub place: usize,
+    pub so_far: u64,
+    pub next: u64,
+    pub rest: &'m [Cell],
+}
+
+/// What is not read for a call: the row's number in the block, and the cells behind its next word.
+#[derive(Clone, Copy)]
+pub struct Lane<'m> {
+    place: usize,
+    rest: &'m [Cell],
+}
+
+/// Open rows, each with a lane. A contract sees their list.
+#[derive(Drop)]
+pub struct Lanes<'m> {
+    lanes: Vec<Lane<'m>>,
+    so_far: Vec<u64>,
+    next: Vec<u64>,
+}
+
+impl<'m> Model for Lanes<'m> {
+    ghost use Rattle.std.specs.Prelude.{◌≡◌, ◌≤◌, List, length, vec_capacity};
+    ghost use Rattle.entry_ops.specs.Folding.{Open, in_columns};
+
+    ghost Value = { List Open };
+
+    ghost view = { λ e. in_columns e.lanes.items e.so_far.items e.next.items };
+
+    ghost invariant = { λ e. (64 ≤ vec_capacity e.lanes) × (64 ≤ vec_capacity e.so_far) × (64 ≤ vec_capacity e.next)
+        × (length e.lanes.items ≤ 64) × (length e.so_far.items ≡ length e.lanes.items)
+        × (length e.next.items ≡ length e.lanes.items) };
+}
+
+impl<'m> Lanes<'m> {
+    /// None yet, with the memory for all.
+    pub fn new(alloc: Global) -> Result<Self, AllocError>
+        ensures { IfOk result (λ e. e ≡ []) }
+    {
+        Ok(Lanes {
+            lanes: Vec::with_capacity(alloc, MOST_CALLS)?,
+            so_far: Vec::with_capacity(alloc, MOST_CALLS)?,
+            next: Vec::with_capacity(alloc, MOST_CALLS)?,
+        })
+    }
+
+    /// How many rows are open.
+    pub fn len(&self) -> usize
+        ensures len { result ≡ length self.now }
+        ensures few { result ≤ 64 }
+    {
+        self.lanes.len()
+    }
+
+    /// Gives all of them up.
+    pub fn clear(&mut self)
+        ensures { self.new ≡ [] }
+    {
+        self.lanes.clear();
+        self.so_far.clear();
+        self.next.clear();
+    }
+
+    /// Opens one more.
+    pub fn push(&mut self, row: OpenRow<'m>)
+        requires room { length self.old < 64 }
+        ensures { self.new ≡ self.old ++ open_of row.entry ∷ [] }
+    {
+        let lane = Lane {
+            place: row.place,
+            rest: row.rest,
+        };
+        self.lanes.push(lane).unwrap();
+        self.so_far.push(row.so_far).unwrap();
+        self.next.push(row.next).unwrap();
+    }
+
+    /// Gives the last one up.
+    pub fn pop(&mut self) -> OpenRow<'m>
+        requires some { 0 < length self.old }
+        ensures { self.old ≡ self.new ++ open_of result ∷ [] }
+    {
+        let last = self.lanes.len() - 1;
+        let lane = self.lanes[last];
+        let row = OpenRow {
+            place: lane.place,
+            so_far: self.so_far[last],
+            next: self.next[last],
+            rest: lane.rest,
+        };
+        self.truncate(last);
+        row
+    }
+
+    /// Gives up all but the first lanes.
+    fn truncate(&mut self, left: usize)
+        requires { left ≤ length self.old }
+        ensures { self.new ≡ take left self.old }
+    {
+        self.lanes.truncate(left);
+        self.so_far.truncate(left);
+        self.next.truncate(left);
+    }
+
+    /// Makes the next call of each row, all of them together. Rows that end have their results then, and no lane.
+    pub fn call(
+        &mut self,
+        operator: &Prepared,
+        calls: &mut Calls,
+        results: &mut [Option<u64>],
+    ) -> u64
+        requires kind { operator.now.kind ≡ kinds.Binary }
+        requires accepted { IsAccepted operator.now }
+        requires few { length results.old ≤ 256 }
+        requires lanes { ArePlaced (length results.old) self.old }
+        requires begun { calls.old.kind ≡ kinds.Binary }
+        requires none { calls.old.operands ≡ [] }
+        ensures lanes { ArePlaced (length results.new) self.new }
+        ensures gives { Gives operator.now result self.old results.old self.new results.new }
+        ensures more { 0 < length self.old → 0 < result }
+        ensures begun { calls.new.kind ≡ kinds.Binary }
+        ensures none { calls.new.operands ≡ [] }
+    {
+        calls.gather_pairs(&self.so_far, &self.next);
+        let steps = calls.make(operator);
+        self.so_far.copy_from_slice(calls.values());
+        let left = take_next(&mut self.lanes, &mut self.so_far, &mut self.next, results);
+        self.lanes.truncate(left);
+        self.so_far.truncate(left);
+        self.next.truncate(left);
+        steps
+    }
+}
+
+/// Takes the next word of each row that has one. The others have their results, and the rows that are left come first then, and are
+/// counted.
+fn take_next<'m>(
+    lanes: &mut [Lane<'m>],
+    so_far: &mut [u64],
+    next: &mut [u64],
+    results: &mut [Option<u64>],
+) -> usize
+    requires few { length results.old ≤ 256 }
+    requires folds { length so_far.old ≡ length lanes.old }
+    requires words { length next.old ≡ length lanes.old }
+    requires lanes { ArePlaced (length results.old) (in_two_columns lanes.old so_far.old) }
+    ensures within { result ≤ length lanes.new }
+    ensures lanes { ArePlaced (length results.new)
+        (in_columns (take result lanes.new) (take result so_far.new) (take result next.new)) }
+    ensures gives { (f : Accepted) → Gives f 0 (in_two_columns lanes.old so_far.old) results.old
+        (in_columns (take result lanes.new) (take result so_far.new) (take result next.new)) results.new }
+{
+    let mut left = lanes.len();
+    for i in (0..lanes.len()).rev() {
+        if let Some((first, rest)) = lanes[i].rest.split_first() {
+            next[i] = first.1;
+            lanes[i].rest = rest;
+        } else {
+            results[lanes[i].place] = Some(so_far[i]);
+            left -= 1;
+            lanes[i] = lanes[left];
+            so_far[i] = so_far[left];
+            next[i] = next[left];
+        }
+    }
+    left
+}
