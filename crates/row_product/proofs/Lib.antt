@@ -8,3 +8,4 @@ pub mod Emitting
 pub mod EmittingAll
 pub mod Marking
 pub mod Filling
+pub mod Meeting

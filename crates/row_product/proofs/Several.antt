@@ -146,7 +146,7 @@ cells_append [] (v ∷ vs) js ws e = absurd (omega (arith, e))
 cells_append (k ∷ ks) [] js ws e = absurd (omega (arith, e))
 cells_append (k ∷ ks) (v ∷ vs) js ws e = ap (λ cs. (k, v) ∷ cs) (cells_append ks vs js ws (omega (arith, e)))
 
-terms_are : (mul : Accepted) (x : ℕ) (cs : List Cell) → cells_of (columns_of cs) (values_on mul (pairs_with x cs)) ≡ terms_with mul x cs
+pub terms_are : (mul : Accepted) (x : ℕ) (cs : List Cell) → cells_of (columns_of cs) (values_on mul (pairs_with x cs)) ≡ terms_with mul x cs
 terms_are mul x [] = refl
 terms_are mul x (c ∷ cs) = ap (λ ts. (c.0, value_of mul (Binary x c.1)) ∷ ts) (terms_are mul x cs)
 
@@ -336,3 +336,22 @@ adding_whole_few add mul x b i first sums rest base left touched room len steps 
     let c = m.count in
     let r = row_few b i g in
     omega (arith, a, f, c, r)
+
+-- the first of cells that ascend
+pub ascends_first : (low n m : ℕ) (cs more : List Cell) → Ascends low n (cs ++ more) → n ≤ m → Ascends low m cs
+ascends_first low n m [] more h l = _
+ascends_first low n m (c ∷ cs) more h l =
+    (h.0, let b = h.1 in omega (arith, b, l), ascends_first (suc c.0) n m cs more h.2 l)
+
+-- what it comes to when some cells more are added
+pub adding_whole_then : (add mul : Accepted) (x : ℕ) (b : Grid) (i : ℕ) (first sums : List (Option ℕ)) (rest : List
+    Cell) (base left : ℕ) (touched : List ℕ) (room len steps : ℕ) (cs more : List Cell)
+    → AddingWhole add mul x b i first sums rest base left touched room len steps → rest ≡ cs ++ more → b.columns ≤ length sums
+    → IsAccepted add → IsAccepted mul → add.kind ≡ kinds.Binary → mul.kind ≡ kinds.Binary
+    → AddingWhole add mul x b i first (put_terms add sums (terms_with mul x cs)) more base (left
+    + (steps_of (calls_on mul (pairs_with x cs)) + steps_of (put_calls add sums (terms_with mul x cs))))
+    (put_touched add sums (terms_with mul x cs) touched) room len (steps + 0)
+adding_whole_then add mul x b i first sums rest base left touched room len steps cs more m e w p q r s =
+    adding_whole_step add mul x b i first sums rest base left touched room len steps cs more (put_terms add sums (terms_with mul x
+    cs)) (put_touched add sums (terms_with mul x cs) touched) (left + (steps_of (calls_on mul (pairs_with x cs))
+    + steps_of (put_calls add sums (terms_with mul x cs)))) 0 room m e w p q r s refl refl (omega arith) (omega arith)

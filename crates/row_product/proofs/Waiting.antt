@@ -102,7 +102,7 @@ slot_written sums (k ∷ ks) [] j h = refl
 slot_written sums (k ∷ ks) (v ∷ vs) j h =
     slot_written (set sums k (Some v)) ks vs j h.1 ∙ slot_other sums k j (Some v) (λ q. h.0 (sym q))
 
-written_set : (sums : List (Option ℕ)) (ks vs : List ℕ) (j : ℕ) (u : Option ℕ) → Lacks j ks
+pub written_set : (sums : List (Option ℕ)) (ks vs : List ℕ) (j : ℕ) (u : Option ℕ) → Lacks j ks
     → written (set sums j u) ks vs ≡ set (written sums ks vs) j u
 written_set sums [] vs j u h = refl
 written_set sums (k ∷ ks) [] j u h = refl
@@ -110,7 +110,7 @@ written_set sums (k ∷ ks) (v ∷ vs) j u h =
     ap (λ us. written us ks vs) (set_apart sums j k u (Some v) (λ q. h.0 (sym q)))
     ∙ written_set (set sums k (Some v)) ks vs j u h.1
 
-written_more : (sums : List (Option ℕ)) (ks vs : List ℕ) (k v : ℕ) → length ks ≡ length vs
+pub written_more : (sums : List (Option ℕ)) (ks vs : List ℕ) (k v : ℕ) → length ks ≡ length vs
     → written sums (ks ++ k ∷ []) (vs ++ v ∷ []) ≡ set (written sums ks vs) k (Some v)
 written_more sums [] [] k v e = refl
 written_more sums [] (w ∷ vs) k v e = absurd (omega (arith, e))
@@ -134,7 +134,7 @@ pub length_values : (f : Accepted) (os : List Operands) → length (values_on f 
 length_values f [] = refl
 length_values f (o ∷ os) = ap suc (length_values f os)
 
-steps_more : (f : Accepted) (os : List Operands) (o : Operands) → steps_of (calls_on f (os ++ o ∷ [])) ≡ steps_of (calls_on f os) +
+pub steps_more : (f : Accepted) (os : List Operands) (o : Operands) → steps_of (calls_on f (os ++ o ∷ [])) ≡ steps_of (calls_on f os) +
     cost_of f o
 steps_more f os o =
     let a = ap steps_of (calls_on-append f os (o ∷ [])) in

@@ -17,6 +17,7 @@ use Rattle.std.specs.Prelude.{
   Some,
   length,
   set,
+  take,
 }
 use Rattle.std.specs.List.{AllByRecursion}
 use Rattle.bpf_insn.specs.declared.operands.Operands.{Operands}
@@ -24,7 +25,7 @@ use Rattle.bpf_insn.specs.declared.operands.Operands.TheVariants.{Binary}
 use Rattle.bpf_verify.specs.Accepted.{Accepted}
 use Rattle.csr_store.specs.Grid.{Cell}
 use Rattle.bpf_run.specs.Meaning.{value_of}
-use Rattle.bpf_run.specs.Calls.{Call, steps_of, calls_on, values_on, pairs_with}
+use Rattle.bpf_run.specs.Calls.{Call, steps_of, calls_on, values_on, pairs_with, pairs_of}
 use Rattle.row_product.specs.declared.tagged.Sum.{Sum}
 use Rattle.row_product.specs.declared.tagged.Sum.TheVariants as sum
 use Rattle.row_product.specs.Sums.{slot, sums_of, kept, added, added_calls, touch}
@@ -107,6 +108,17 @@ touched_then add mul sums p touched = put_touched add (settled add sums p.waitin
 -- products of a word and cells of a row of B wait too
 abbrev pub with_cells : Pending → ℕ → List Cell → Pending
 with_cells p x cs = record p { columns = p.columns ++ columns_of cs; products = p.products ++ pairs_with x cs }
+
+-- additions of words to others, each pair with its column, so many of them
+abbrev pub met : ℕ → List ℕ → List ℕ → List ℕ → Waiting
+met n ks xs ys = record { columns = take n ks; operands = pairs_of (take n xs) (take n ys) }
+
+-- terms that are put at their columns, where the sums that met one are still to be added to
+pub record AreMet (add : Accepted) (sums : List Sum) (cs : List Cell) (touched : List ℕ) (then : List Sum) (w : Waiting) (next
+    : List ℕ) : Type 0 where
+  pub sums_are : settled add then w ≡ put_terms add (sums_of sums) cs
+  pub touched_are : next ≡ put_touched add (sums_of sums) cs touched
+  pub steps_are : steps_of (calls_on add w.operands) ≡ steps_of (put_calls add (sums_of sums) cs)
 
 -- all columns are below n
 abbrev pub AreBelow : ℕ → List ℕ → Type 0

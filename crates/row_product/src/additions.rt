@@ -1,12 +1,28 @@
 //! Additions to sums that don't wait for one another, gathered until they are made together.
-ghost use Rattle.std.specs.Prelude.{◌≡◌, ◌≤◌, ◌<◌, ◌+◌, ◌^◌, ◌++◌, ◌∷◌, [], ℕ, None, length, set, vec_capacity};
+ghost use Rattle.std.specs.Prelude.{◌≡◌, ◌≤◌, ◌<◌, ◌+◌, ◌^◌, ◌++◌, ◌∷◌, [], ℕ, None, length, set, take, vec_capacity};
 ghost use Rattle.bpf_insn.specs.declared.operands.Kind.TheVariants as kinds;
 ghost use Rattle.bpf_insn.specs.declared.operands.Operands.TheVariants as on;
 ghost use Rattle.bpf_verify.specs.Accepted.{Accepted};
 ghost use Rattle.bpf_run.specs.Calls.{steps_of, calls_on};
 ghost use Rattle.row_product.specs.declared.tagged.Sum.TheVariants as sum;
 ghost use Rattle.row_product.specs.Sums.{slot, sums_of};
-ghost use Rattle.row_product.specs.Terms.{no_waiting, written, settled, AreBelow, Waits, IsFree, IsPut};
+ghost use Rattle.csr_store.specs.Ascending.{Ascends};
+ghost use Rattle.row_product.specs.Terms.{
+  no_waiting,
+  cells_of,
+  columns_of,
+  put_terms,
+  put_calls,
+  put_touched,
+  written,
+  settled,
+  met,
+  AreMet,
+  AreBelow,
+  Waits,
+  IsFree,
+  IsPut,
+};
 
 use crate::tagged::Sum;
 use bpf_insn::Kind;
@@ -20,6 +36,10 @@ pub(crate) struct Additions {
     calls: Calls,
     /// Room for as many columns as there can be calls: the first are theirs.
     columns: Vec<u64>,
+    /// Columns that met a term, what is kept of each, and the term: used within `add_apart` alone.
+    places: [u64; MOST_CALLS],
+    xs: [u64; MOST_CALLS],
+    ys: [u64; MOST_CALLS],
 }
 
 impl Model for Additions {
@@ -41,7 +61,13 @@ impl Additions {
         calls.begin(Kind::Binary);
         let mut columns = Vec::new(alloc);
         columns.resize(MOST_CALLS, 0)?;
-        Ok(Additions { calls, columns })
+        Ok(Additions {
+            calls,
+            columns,
+            places: [0; MOST_CALLS],
+            xs: [0; MOST_CALLS],
+            ys: [0; MOST_CALLS],
+        })
     }
 
     /// Forgets all that wait.
@@ -63,6 +89,47 @@ impl Additions {
         let many = self.calls.len();
         let steps = self.calls.make(add);
         write(&self.columns[..many], self.calls.values(), sums);
+        self.calls.begin(Kind::Binary);
+        steps
+    }
+
+    /// Adds terms to the sums of cells' columns, which ascend, where no addition waits.
+    pub(crate) fn add_apart(
+        &mut self,
+        add: &Prepared,
+        cells: &[(u64, u64)],
+        terms: &[u64],
+        sums: &mut [Sum],
+        touched: &mut Vec<u64>,
+    ) -> u64
+        requires add { add.now.kind ≡ kinds.Binary }
+        requires none { self.old ≡ no_waiting }
+        requires few { length cells.now ≤ 64 }
+        requires terms { length terms.now ≡ length cells.now }
+        requires apart { Ascends 0 (length sums.old) cells.now }
+        requires fits { length (put_touched add.now (sums_of sums.old) (cells_of (columns_of cells.now) terms.now)
+            touched.old.items) ≤ vec_capacity touched.old }
+        ensures none { self.new ≡ no_waiting }
+        ensures sums { sums_of sums.new ≡ put_terms add.now (sums_of sums.old) (cells_of (columns_of cells.now) terms.now) }
+        ensures touched { touched.new.items
+            ≡ put_touched add.now (sums_of sums.old) (cells_of (columns_of cells.now) terms.now) touched.old.items }
+        ensures steps { result ≡ steps_of (put_calls add.now (sums_of sums.old) (cells_of (columns_of cells.now) terms.now)) }
+        ensures room { vec_capacity touched.old ≤ vec_capacity touched.new }
+    {
+        let many = meet(
+            add,
+            cells,
+            terms,
+            &mut self.places,
+            &mut self.xs,
+            &mut self.ys,
+            sums,
+            touched,
+        );
+        self.calls.begin(Kind::Binary);
+        self.calls.gather_pairs(&self.xs[..many], &self.ys[..many]);
+        let steps = self.calls.make(add);
+        write(&self.places[..many], self.calls.values(), sums);
         self.calls.begin(Kind::Binary);
         steps
     }
@@ -189,6 +256,48 @@ fn begin(column: u64, term: u64, sums: &mut [Sum], touched: &mut Vec<u64>)
 {
     sums[column as usize] = Sum::At(term);
     touched.push(column).unwrap();
+}
+
+/// Puts terms at the columns of cells, which ascend: the first at its column is its sum, and of each further one the column,
+/// the sum so far and the term are listed. Answers how many these are.
+#[inline(never)]
+fn meet(
+    _add: &Prepared,
+    cells: &[(u64, u64)],
+    terms: &[u64],
+    places: &mut [u64],
+    xs: &mut [u64],
+    ys: &mut [u64],
+    sums: &mut [Sum],
+    touched: &mut Vec<u64>,
+) -> usize
+    requires terms { length terms.now ≡ length cells.now }
+    requires apart { Ascends 0 (length sums.old) cells.now }
+    requires places { length cells.now ≤ length places.old }
+    requires xs { length cells.now ≤ length xs.old }
+    requires ys { length cells.now ≤ length ys.old }
+    requires fits { length (put_touched _add.now (sums_of sums.old) (cells_of (columns_of cells.now) terms.now)
+        touched.old.items) ≤ vec_capacity touched.old }
+    ensures met { AreMet _add.now sums.old (cells_of (columns_of cells.now) terms.now) touched.old.items
+        sums.new (met result places.new xs.new ys.new) touched.new.items }
+    ensures below { AreBelow (length sums.new) (take result places.new) }
+    ensures few { result ≤ length cells.now }
+    ensures room { vec_capacity touched.old ≤ vec_capacity touched.new }
+{
+    let mut many = 0;
+    for k in 0..cells.len() {
+        let column = cells[k].0;
+        match sums[column as usize].word() {
+            Some(so_far) => {
+                places[many] = column;
+                xs[many] = so_far;
+                ys[many] = terms[k];
+                many += 1;
+            }
+            None => begin(column, terms[k], sums, touched),
+        }
+    }
+    many
 }
 
 /// Writes values at columns.

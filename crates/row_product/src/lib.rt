@@ -12,8 +12,9 @@
 //! multiplications, the rows and the entries, but for the order of a row's columns; and the room is taken row by row.
 //!
 //! Calls are made up to 64 together. Products wait until there are so many, and a row of B is gathered as many cells at a time as
-//! there is room for; an addition waits until there are so many, or one more falls on its column. What is said of the sums
-//! meanwhile is said of what they come to when all that wait is made.
+//! there is room for; an addition waits until there are so many, or one more falls on its column. Many cells of one row of B are
+//! multiplied and added by themselves, since no two of them have one column. What is said of the sums meanwhile is said of what
+//! they come to when all that wait is made.
 //!
 //! Read `product`, `row` (one row), `sums` (rows of B added to the sums), `terms` (products that wait), `additions` (additions
 //! that wait), `tagged` (what is kept of a column), `emit` (sums into the result), `marks` (the mask's row) and `count`, over

@@ -11,8 +11,12 @@ ghost use Rattle.row_product.specs.Terms.{sums_then, calls_then, touched_then, A
 
 use crate::tagged::Sum;
 use crate::terms::Terms;
-use bpf_run::Prepared;
+use bpf_run::{MOST_CALLS, Prepared};
 use csr_store::Matrix;
+
+/// From so many cells of a row of B on, their products are made and added by themselves: the columns of one row are all
+/// different, so that none of their additions waits for another.
+const CELLS_AT_ONCE: usize = 32;
 
 /// Adds the allowed columns of row `k` of B, times a word, to the sums as they are when all terms that wait are made.
 fn add_allowed(
@@ -110,10 +114,16 @@ fn add_whole(
     let mut cells = b.row(k);
     let mut steps = 0;
     while !cells.is_empty() {
-        steps += terms.make_room(add, mul, sums, touched);
-        let (now, rest) = cells.split_at(cells.len().min(terms.room()));
-        terms.gather_cells(x, now);
-        cells = rest;
+        if cells.len() >= CELLS_AT_ONCE {
+            let (now, rest) = cells.split_at(cells.len().min(MOST_CALLS));
+            steps += terms.add_cells(add, mul, x, now, sums, touched);
+            cells = rest;
+        } else {
+            steps += terms.make_room(add, mul, sums, touched);
+            let (now, rest) = cells.split_at(cells.len().min(terms.room()));
+            terms.gather_cells(x, now);
+            cells = rest;
+        }
     }
     steps
 }

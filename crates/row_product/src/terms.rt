@@ -2,7 +2,8 @@
 ghost use Rattle.std.specs.Prelude.{◌≡◌, ◌≤◌, ◌<◌, ◌+◌, ◌^◌, ◌++◌, ◌∷◌, [], false, Some, length, set, take, vec_capacity};
 ghost use Rattle.bpf_insn.specs.declared.operands.Kind.TheVariants as kinds;
 ghost use Rattle.bpf_insn.specs.declared.operands.Operands.TheVariants as on;
-ghost use Rattle.bpf_run.specs.Calls.{steps_of, calls_on};
+ghost use Rattle.bpf_run.specs.Calls.{steps_of, calls_on, pairs_with};
+ghost use Rattle.csr_store.specs.Ascending.{Ascends};
 ghost use Rattle.row_product.specs.Sums.{slot, sums_of, touch, after, extra};
 ghost use Rattle.row_product.specs.Terms.{
   no_pending,
@@ -11,6 +12,7 @@ ghost use Rattle.row_product.specs.Terms.{
   put_terms,
   put_calls,
   put_touched,
+  terms_with,
   settled,
   sums_then,
   calls_then,
@@ -176,6 +178,47 @@ impl Terms {
         self.products.gather_with(x, cells);
     }
 
+    /// Adds the products of a word and the words of cells, whose columns ascend, to the sums: all that waits is made before, and
+    /// nothing waits then.
+    pub(crate) fn add_cells(
+        &mut self,
+        add: &Prepared,
+        mul: &Prepared,
+        x: u64,
+        cells: &[(u64, u64)],
+        sums: &mut [Sum],
+        touched: &mut Vec<u64>,
+    ) -> u64
+        requires add { add.now.kind ≡ kinds.Binary }
+        requires mul { mul.now.kind ≡ kinds.Binary }
+        requires within { AreWithin sums.old self.old }
+        requires few { length cells.now ≤ 64 }
+        requires apart { Ascends 0 (length sums.old) cells.now }
+        requires fits { length (put_touched add.now (sums_then add.now mul.now sums.old self.old) (terms_with mul.now x cells.now)
+            (touched_then add.now mul.now sums.old self.old touched.old.items)) ≤ vec_capacity touched.old }
+        requires small { steps_of (calls_then add.now mul.now sums.old self.old) + (steps_of (calls_on mul.now (pairs_with x cells.now))
+            + steps_of (put_calls add.now (sums_then add.now mul.now sums.old self.old) (terms_with mul.now x cells.now))) < 2 ^ 64 }
+        ensures none { self.new ≡ no_pending }
+        ensures sums { sums_of sums.new
+            ≡ put_terms add.now (sums_then add.now mul.now sums.old self.old) (terms_with mul.now x cells.now) }
+        ensures touched { touched.new.items ≡ put_touched add.now (sums_then add.now mul.now sums.old self.old)
+            (terms_with mul.now x cells.now) (touched_then add.now mul.now sums.old self.old touched.old.items) }
+        ensures steps { result ≡ steps_of (calls_then add.now mul.now sums.old self.old)
+            + (steps_of (calls_on mul.now (pairs_with x cells.now))
+            + steps_of (put_calls add.now (sums_then add.now mul.now sums.old self.old) (terms_with mul.now x cells.now))) }
+        ensures room { vec_capacity touched.old ≤ vec_capacity touched.new }
+    {
+        let before = self.finish(add, mul, sums, touched);
+        self.products.begin(Kind::Binary);
+        self.products.gather_with(x, cells);
+        let made = self.products.make(mul);
+        let put = self
+            .additions
+            .add_apart(add, cells, self.products.values(), sums, touched);
+        self.products.begin(Kind::Binary);
+        before + (made + put)
+    }
+
     /// Adds the product of two words to the sum of a column, which then is touched, when all that wait is made.
     pub(crate) fn add_term(
         &mut self,
@@ -222,6 +265,7 @@ impl Terms {
         requires within { AreWithin sums.old self.old }
         requires fits { length (touched_then add.now mul.now sums.old self.old touched.old.items) ≤ vec_capacity touched.old }
         requires small { steps_of (calls_then add.now mul.now sums.old self.old) < 2 ^ 64 }
+        ensures none { self.new ≡ no_pending }
         ensures sums { sums_of sums.new ≡ sums_then add.now mul.now sums.old self.old }
         ensures touched { touched.new.items ≡ touched_then add.now mul.now sums.old self.old touched.old.items }
         ensures steps { result ≡ steps_of (calls_then add.now mul.now sums.old self.old) }
