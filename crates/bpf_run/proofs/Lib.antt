@@ -5,7 +5,9 @@ pub mod Standing
 pub mod Flat
 pub mod Running
 pub mod Preparing
+pub mod Folds
 pub mod Columns
+pub mod Strides
 pub mod Rows
 pub mod Waiting
 pub mod Turns

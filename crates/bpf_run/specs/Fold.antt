@@ -1,6 +1,6 @@
 -- A fold of words by a binary operator, as GrB_reduce of the GraphBLAS C API Specification 2.0 makes, in a fixed order: it starts
 -- with the first term, and goes on in the order of the list. That no identity and no associativity is asked is this project's own.
-use Rattle.std.specs.Prelude.{ℕ, List, [], ◌∷◌, Option, None, Some}
+use Rattle.std.specs.Prelude.{ℕ, List, [], ◌∷◌, map, Option, None, Some}
 use Rattle.bpf_insn.specs.declared.operands.Operands.TheVariants.{Binary}
 use Rattle.bpf_verify.specs.Accepted.{Accepted}
 use Rattle.bpf_run.specs.Meaning.{value_of}
@@ -23,3 +23,7 @@ fold_calls_from f so_far (t ∷ ts) = call_of f (Binary so_far t) ∷ fold_calls
 abbrev pub fold_calls : Accepted → List ℕ → List Call
 fold_calls f [] = []
 fold_calls f (t ∷ ts) = fold_calls_from f t ts
+
+-- the words of cells, each a column with a word
+abbrev pub terms_of : List (ℕ × ℕ) → List ℕ
+terms_of cells = map (λ (c : ℕ × ℕ). c.1) cells

@@ -4,6 +4,7 @@
 mod calls;
 mod cursor;
 mod flatten;
+mod folding;
 mod go;
 mod lanes;
 mod memory;
@@ -16,4 +17,5 @@ mod step;
 mod words;
 
 pub use calls::{Calls, MOST_CALLS};
+pub use folding::fold;
 pub use single::{Outcome, Prepared, call};

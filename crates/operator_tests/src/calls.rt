@@ -1,4 +1,5 @@
 //! Calls of flat code against the machine that knows of each register what stands in it: values and steps.
+mod folds;
 mod forms;
 mod lanes;
 mod sizes;

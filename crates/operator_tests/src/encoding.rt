@@ -1,12 +1,14 @@
 //! Code as bytes: what no clause shows, on values from outside.
+mod accesses;
 mod sizes;
 
 use crate::programs::{EXIT, code_of};
 use bpf_insn::{
-    AluOp, CodeRule, DecodeError, Fault, Insn, InsnsError, Operand, Program, Reads, Reg, Width,
-    decode, encode, is_outside_stack,
+    AluOp, CodeRule, DecodeError, Fault, Insn, InsnsError, Operand, Program, Reg, Width, decode,
+    encode,
 };
 use std::alloc::Global;
+use std::process::Abort;
 use std::test::Fail;
 
 /// A slot with each opcode of the profile but the wide load's.
@@ -139,30 +141,40 @@ fn fault_of(alloc: Global, code: &[u8]) -> Option<Fault> {
     }
 }
 
+/// That a program is encoded to this code.
+fn expect_code(rt: &impl Abort, alloc: Global, program: &Program, code: &[u8]) -> Result<(), Fail> {
+    let encoded = encode(alloc, program)?;
+    assert_eq!(rt; encoded.as_slice(), code);
+    Ok(())
+}
+
+/// That a code is a program of so many instructions and slots, and that it is what the program is encoded to.
+fn expect_program(
+    rt: &impl Abort,
+    alloc: Global,
+    code: &[u8],
+    len: u64,
+    slots: u64,
+) -> Result<(), Fail> {
+    let program = decode(alloc, code)?;
+    assert_eq!(rt; (program.len(), program.slots()), (len, slots), "{code:?}");
+    expect_code(rt, alloc, &program, code)
+}
+
 #[test]
 fn each_opcode_is_decoded_and_encoded(rt: HostRuntime) -> Result<(), Fail> {
     for slot in &SLOTS {
-        let code = code_of(rt.alloc(), &[*slot])?;
-        let program = decode(rt.alloc(), &code)?;
-        assert_eq!(rt; program.len(), 1, "at {slot:x}");
-        assert_eq!(rt;
-            encode(rt.alloc(), &program)?.as_slice(),
-            code.as_slice(),
-            "at {slot:x}"
-        );
+        expect_program(&rt, rt.alloc(), &slot.to_be_bytes(), 1, 1)?;
     }
     Ok(())
 }
 
 #[test]
 fn all_opcodes_are_one_program(rt: HostRuntime) -> Result<(), Fail> {
-    let mut code = code_of(rt.alloc(), &SLOTS)?;
+    let slots: &[u64] = &SLOTS;
+    let mut code = code_of(rt.alloc(), slots)?;
     code.extend_from_slice(&code_of(rt.alloc(), &[0x1807_0000_0100_0000, 0x0000_0000_0200_0000])?)?;
-    let program = decode(rt.alloc(), &code)?;
-    assert_eq!(rt; program.len(), 116);
-    assert_eq!(rt; program.slots(), 117);
-    assert_eq!(rt; encode(rt.alloc(), &program)?.as_slice(), code.as_slice());
-    Ok(())
+    expect_program(&rt, rt.alloc(), &code, 116, 117)
 }
 
 #[test]
@@ -182,44 +194,63 @@ fn the_table_has_116_opcodes(rt: HostRuntime) -> Result<(), Fail> {
     Ok(())
 }
 
+/// Slots with the rule that each breaks.
+const BROKEN: [(u64, CodeRule); 16] = [
+    (0xff00_0000_0000_0000, CodeRule::UnknownOpcode),
+    (0x8f00_0000_0000_0000, CodeRule::UnknownOpcode),
+    (0x8500_0000_0100_0000, CodeRule::OutsideProfile),
+    (0x1810_0000_0000_0000, CodeRule::OutsideProfile),
+    (0xbfb0_0000_0000_0000, CodeRule::RegisterAboveTen),
+    (0xbfb0_0100_0000_0000, CodeRule::RegisterAboveTen),
+    (0x3700_0200_0100_0000, CodeRule::UnusedField),
+    (0x9500_0000_0100_0000, CodeRule::UnusedField),
+    (0xd400_0000_1800_0000, CodeRule::UnusedField),
+    (0xbc10_2000_0000_0000, CodeRule::UnusedField),
+    (0x05b0_0000_0000_0000, CodeRule::UnusedField),
+    (0x1800_0000_0100_0000, CodeRule::BrokenWideLoad),
+    (0x180b_0000_0100_0000, CodeRule::RegisterAboveTen),
+    (0x181b_0000_0100_0000, CodeRule::OutsideProfile),
+    (0x8400_0000_0100_0000, CodeRule::UnusedField),
+    (0x8410_0000_0000_0000, CodeRule::UnusedField),
+];
+
+/// That the code of these slots is refused at a slot for a rule.
+fn expect_fault(
+    rt: &impl Abort,
+    alloc: Global,
+    slots: &[u64],
+    slot: u64,
+    rule: CodeRule,
+) -> Result<(), Fail> {
+    let code = code_of(alloc, slots)?;
+    let found = fault_of(alloc, &code);
+    assert_eq!(rt; found, Some(Fault { slot, rule }), "{slots:?}");
+    Ok(())
+}
+
 #[test]
 fn a_broken_slot_is_refused(rt: HostRuntime) -> Result<(), Fail> {
-    let rows = [
-        (0xff00_0000_0000_0000, CodeRule::UnknownOpcode),
-        (0x8f00_0000_0000_0000, CodeRule::UnknownOpcode),
-        (0x8500_0000_0100_0000, CodeRule::OutsideProfile),
-        (0x1810_0000_0000_0000, CodeRule::OutsideProfile),
-        (0xbfb0_0000_0000_0000, CodeRule::RegisterAboveTen),
-        (0xbfb0_0100_0000_0000, CodeRule::RegisterAboveTen),
-        (0x3700_0200_0100_0000, CodeRule::UnusedField),
-        (0x9500_0000_0100_0000, CodeRule::UnusedField),
-        (0xd400_0000_1800_0000, CodeRule::UnusedField),
-        (0xbc10_2000_0000_0000, CodeRule::UnusedField),
-        (0x05b0_0000_0000_0000, CodeRule::UnusedField),
-        (0x1800_0000_0100_0000, CodeRule::BrokenWideLoad),
-        (0x180b_0000_0100_0000, CodeRule::RegisterAboveTen),
-        (0x181b_0000_0100_0000, CodeRule::OutsideProfile),
-        (0x8400_0000_0100_0000, CodeRule::UnusedField),
-        (0x8410_0000_0000_0000, CodeRule::UnusedField),
-    ];
-    for (slot, rule) in rows {
-        let alone = code_of(rt.alloc(), &[slot])?;
-        assert_eq!(rt;
-            fault_of(rt.alloc(), &alone),
-            Some(Fault { slot: 0, rule }),
-            "at {slot:x}"
-        );
-        let third = code_of(rt.alloc(), &[0x1800_0000_0100_0000, 0, slot])?;
-        assert_eq!(rt;
-            fault_of(rt.alloc(), &third),
-            Some(Fault { slot: 2, rule }),
-            "at {slot:x}"
-        );
+    for (slot, rule) in &BROKEN {
+        expect_fault(&rt, rt.alloc(), &[*slot], 0, *rule)?;
+        expect_fault(
+            &rt,
+            rt.alloc(),
+            &[0x1800_0000_0100_0000, 0, *slot],
+            2,
+            *rule,
+        )?;
     }
-    let twice = code_of(rt.alloc(), &[0x1800_0000_0100_0000, 0x1800_0000_0000_0000])?;
-    let rule = CodeRule::BrokenWideLoad;
-    assert_eq!(rt; fault_of(rt.alloc(), &twice), Some(Fault { slot: 0, rule }));
-    Ok(())
+    let twice = [0x1800_0000_0100_0000, 0x1800_0000_0000_0000];
+    expect_fault(&rt, rt.alloc(), &twice, 0, CodeRule::BrokenWideLoad)
+}
+
+/// The code of so many slots, each an `exit`.
+fn exits(alloc: Global, count: u64) -> Result<Vec<u8>, Fail> {
+    let mut code = Vec::new(alloc);
+    for _ in 0..count {
+        code.extend_from_slice(&EXIT.to_be_bytes())?;
+    }
+    Ok(code)
 }
 
 #[test]
@@ -228,71 +259,82 @@ fn a_bad_length_is_refused(rt: HostRuntime) -> Result<(), Fail> {
     let mut code = code_of(rt.alloc(), &[0xbf10_0000_0000_0000, 0x0700_0000_0100_0000])?;
     code.pop();
     assert_eq!(rt; fault_of(rt.alloc(), &code), Some(Fault { slot: 1, rule }));
-    assert_eq!(rt; fault_of(rt.alloc(), &[]), Some(Fault { slot: 0, rule }));
-    let mut longest = Vec::new(rt.alloc());
-    for _ in 0..4096 {
-        longest.extend_from_slice(&EXIT.to_be_bytes())?;
-    }
-    assert_eq!(rt; decode(rt.alloc(), &longest)?.slots(), 4096);
-    longest.extend_from_slice(&EXIT.to_be_bytes())?;
+    expect_fault(&rt, rt.alloc(), &[], 0, rule)
+}
+
+#[test]
+fn the_longest_code_has_4096_slots(rt: HostRuntime) -> Result<(), Fail> {
+    let longest = exits(rt.alloc(), 4096)?;
+    expect_program(&rt, rt.alloc(), &longest, 4096, 4096)?;
+    let longer = exits(rt.alloc(), 4097)?;
+    let rule = CodeRule::BadLength;
     assert_eq!(rt;
-        fault_of(rt.alloc(), &longest),
+        fault_of(rt.alloc(), &longer),
         Some(Fault { slot: 4096, rule })
     );
     Ok(())
 }
 
-#[test]
-fn a_wide_load_is_one_instruction_in_two_slots(rt: HostRuntime) -> Result<(), Fail> {
-    let slots = [0x1800_0000_0100_0000, 0x0000_0000_0100_0000, EXIT];
-    let program = decode(rt.alloc(), &code_of(rt.alloc(), &slots)?)?;
-    assert_eq!(rt; program.len(), 2);
-    assert_eq!(rt; program.slots(), 3);
-    let value = match program.insn_at(0) {
+/// The value of a wide load, and 0 of any other instruction.
+fn loaded(insn: Option<&Insn>) -> u64 {
+    match insn {
         Some(Insn::Wide { value, .. }) => *value,
         _ => 0,
-    };
-    assert_eq!(rt; value, 4_294_967_297);
-    assert!(rt; program.insn_at(1).is_none());
-    assert!(rt; matches!(program.insn_at(2), Some(Insn::Exit)));
-    assert!(rt; program.insn_at(3).is_none());
-    assert!(rt; program.insn_at(0x1_0000_0000).is_none());
-    Ok(())
+    }
 }
 
 #[test]
+fn a_wide_load_is_one_instruction_in_two_slots(rt: HostRuntime) -> Result<(), Fail> {
+    let slots = [0x1800_0000_0100_0000, 0x0000_0000_0100_0000, EXIT];
+    let code = code_of(rt.alloc(), &slots)?;
+    expect_program(&rt, rt.alloc(), &code, 2, 3)?;
+    let program = decode(rt.alloc(), &code)?;
+    assert_eq!(rt; loaded(program.insn_at(0)), 4_294_967_297);
+    assert!(rt; matches!(program.insn_at(2), Some(Insn::Exit)));
+    for slot in [1, 3, 0x1_0000_0000] {
+        assert!(rt; program.insn_at(slot).is_none());
+    }
+    Ok(())
+}
+
+/// `mov64 r0, r1`, `add64 r0, 1`, `exit`
+const INSNS: [Insn; 3] = [
+    Insn::Alu {
+        width: Width::W64,
+        op: AluOp::Mov,
+        dst: Reg::R0,
+        src: Operand::Register(Reg::R1),
+    },
+    Insn::Alu {
+        width: Width::W64,
+        op: AluOp::Add,
+        dst: Reg::R0,
+        src: Operand::Imm(1),
+    },
+    Insn::Exit,
+];
+
+#[test]
 fn instructions_are_made_a_program_and_encoded(rt: HostRuntime) -> Result<(), Fail> {
-    let insns = [
-        Insn::Alu {
-            width: Width::W64,
-            op: AluOp::Mov,
-            dst: Reg::R0,
-            src: Operand::Register(Reg::R1),
-        },
-        Insn::Alu {
-            width: Width::W64,
-            op: AluOp::Add,
-            dst: Reg::R0,
-            src: Operand::Imm(1),
-        },
-        Insn::Exit,
-    ];
+    let insns: &[Insn] = &INSNS;
     let program = Program::from_insns(rt.alloc(), insns.to_vec(rt.alloc())?)?;
     let slots = [0xbf10_0000_0000_0000, 0x0700_0000_0100_0000, EXIT];
-    let code = encode(rt.alloc(), &program)?;
-    assert_eq!(rt; code.as_slice(), code_of(rt.alloc(), &slots)?.as_slice());
-    Ok(())
+    expect_code(&rt, rt.alloc(), &program, &code_of(rt.alloc(), &slots)?)
+}
+
+/// Where a program of these instructions has a fault.
+fn fault_of_insns(alloc: Global, insns: Vec<Insn>) -> Option<Fault> {
+    match Program::from_insns(alloc, insns) {
+        Err(InsnsError::Fault(fault)) => Some(fault),
+        _ => None,
+    }
 }
 
 #[test]
 fn a_bad_number_of_instructions_is_refused(rt: HostRuntime) -> Result<(), Fail> {
-    let fault_of = |insns: Vec<Insn>| match Program::from_insns(rt.alloc(), insns) {
-        Err(InsnsError::Fault(fault)) => Some(fault),
-        _ => None,
-    };
     let rule = CodeRule::BadLength;
     assert_eq!(rt;
-        fault_of(Vec::new(rt.alloc())),
+        fault_of_insns(rt.alloc(), Vec::new(rt.alloc())),
         Some(Fault { slot: 0, rule })
     );
     let wide = Insn::Wide {
@@ -302,55 +344,40 @@ fn a_bad_number_of_instructions_is_refused(rt: HostRuntime) -> Result<(), Fail> 
     let half = vec![in rt.alloc(); wide; 2048]?;
     assert_eq!(rt; Program::from_insns(rt.alloc(), half)?.slots(), 4096);
     let more = vec![in rt.alloc(); wide; 2049]?;
-    assert_eq!(rt; fault_of(more), Some(Fault { slot: 4096, rule }));
+    assert_eq!(rt;
+        fault_of_insns(rt.alloc(), more),
+        Some(Fault { slot: 4096, rule })
+    );
+    Ok(())
+}
+
+/// That an error of decoding is shown as this text, and so is the same one of making a program of instructions.
+fn expect_shown(
+    rt: &impl Abort,
+    alloc: Global,
+    code: &DecodeError,
+    insns: &InsnsError,
+    text: &str,
+) -> Result<(), Fail> {
+    assert_eq!(rt; format!(in alloc; "{code}")?.as_str(), text);
+    assert_eq!(rt; format!(in alloc; "{insns}")?.as_str(), text);
     Ok(())
 }
 
 #[test]
 fn errors_name_the_slot_and_the_rule(rt: HostRuntime) -> Result<(), Fail> {
-    let alloc = rt.alloc();
     let fault = Fault {
         slot: 4094,
         rule: CodeRule::BrokenWideLoad,
     };
-    let code = DecodeError::Fault(fault);
-    assert_eq!(rt; format!(in alloc; "{code}")?.as_str(), "slot 4094: V6");
-    let insns = InsnsError::Fault(fault);
-    assert_eq!(rt; format!(in alloc; "{insns}")?.as_str(), "slot 4094: V6");
-    let code = DecodeError::Memory;
-    assert_eq!(rt;
-        format!(in alloc; "{code}")?.as_str(),
-        "out of memory for the program"
-    );
-    let insns = InsnsError::Memory;
-    assert_eq!(rt;
-        format!(in alloc; "{insns}")?.as_str(),
-        "out of memory for the program"
-    );
-    Ok(())
-}
-
-#[test]
-fn an_instruction_tells_what_it_touches(rt: HostRuntime) -> Result<(), Fail> {
-    let code = code_of(
+    let (code, insns) = (DecodeError::Fault(fault), InsnsError::Fault(fault));
+    expect_shown(&rt, rt.alloc(), &code, &insns, "slot 4094: V6")?;
+    let (code, insns) = (DecodeError::Memory, InsnsError::Memory);
+    expect_shown(
+        &rt,
         rt.alloc(),
-        &[0x739a_f0ff_0000_0000, 0x89a0_f8ff_0000_0000, EXIT],
-    )?;
-    let program = decode(rt.alloc(), &code)?;
-    let insns = [program.insn_at(0), program.insn_at(1), program.insn_at(2)];
-    let [Some(store), Some(load), Some(exit)] = insns else {
-        panic!(rt; "no instruction");
-    };
-    assert!(rt; matches!(store.reads(), Reads::AsPlaceAndNumber(Reg::R10, Reg::R9)));
-    assert!(rt; matches!(load.reads(), Reads::AsPlace(Reg::R10)));
-    assert!(rt; matches!(exit.reads(), Reads::AsNumber(Reg::R0)));
-    assert_eq!(rt; load.written_reg(), Some(Reg::R0));
-    assert_eq!(rt; store.written_reg(), None);
-    assert_eq!(rt;
-        load.access().map(|access| (access.offset, access.bytes)),
-        Some((-8, 2))
-    );
-    assert!(rt; exit.access().is_none());
-    assert!(rt; is_outside_stack(-513, 1) && is_outside_stack(-1, 2) && !is_outside_stack(-512, 8));
-    Ok(())
+        &code,
+        &insns,
+        "out of memory for the program",
+    )
 }

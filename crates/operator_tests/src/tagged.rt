@@ -47,161 +47,195 @@ fn expect_end(
     Ok(())
 }
 
+/// Programs, each behind its name, with the operands, the value and the steps.
+const GIVEN: [(&str, &[u64], Operands, (u64, u64)); 16] = [
+    (
+        "add 1",
+        &[MOVE, 0x0700_0000_0100_0000, EXIT],
+        Operands::Unary { x: 41 },
+        (42, 3),
+    ),
+    (
+        "add 1, wrapping",
+        &[MOVE, 0x0700_0000_0100_0000, EXIT],
+        Operands::Unary {
+            x: 0x7fff_ffff_ffff_ffff,
+        },
+        (0x8000_0000_0000_0000, 3),
+    ),
+    (
+        "wide load",
+        &[0x1800_0000_0100_0000, 0x0000_0000_0100_0000, EXIT],
+        Operands::Unary { x: 5 },
+        (0x1_0000_0001, 2),
+    ),
+    (
+        "jump to the next slot",
+        &[0xb700_0000_0000_0000, 0x0500_0000_0000_0000, EXIT],
+        Operands::Unary { x: 5 },
+        (0, 3),
+    ),
+    (
+        "jump by offset",
+        &[
+            0xb700_0000_0500_0000,
+            0x0500_0100_0000_0000,
+            0xb700_0000_0600_0000,
+            EXIT,
+        ],
+        Operands::Unary { x: 5 },
+        (5, 3),
+    ),
+    (
+        "jump by imm",
+        &[
+            0xb700_0000_0500_0000,
+            0x0600_0000_0100_0000,
+            0xb700_0000_0600_0000,
+            EXIT,
+        ],
+        Operands::Unary { x: 5 },
+        (5, 3),
+    ),
+    (
+        "the stack's first bytes",
+        &[0x7b1a_00fe_0000_0000, 0x79a0_00fe_0000_0000, EXIT],
+        Operands::Unary {
+            x: 0x1234_5678_9abc_def0,
+        },
+        (0x1234_5678_9abc_def0, 3),
+    ),
+    (
+        "two halves stored",
+        &[
+            0x631a_fcff_0000_0000,
+            0x631a_f8ff_0000_0000,
+            0x79a0_f8ff_0000_0000,
+            EXIT,
+        ],
+        Operands::Unary { x: 1 },
+        (0x1_0000_0001, 4),
+    ),
+    (
+        "a moved place",
+        &[
+            0xbfa2_0000_0000_0000,
+            0x0702_0000_f8ff_ffff,
+            0x7b12_0000_0000_0000,
+            0x79a0_f8ff_0000_0000,
+            EXIT,
+        ],
+        Operands::Unary { x: 77 },
+        (77, 5),
+    ),
+    (
+        "jump not taken",
+        &[0x1501_0100_0000_0000, 0xb700_0000_0100_0000, EXIT],
+        Operands::Unary { x: 5 },
+        (1, 3),
+    ),
+    (
+        "two ways",
+        &[
+            0x1501_0200_0000_0000,
+            0xbfa3_0000_0000_0000,
+            0x0500_0100_0000_0000,
+            0xbf23_0000_0000_0000,
+            0xbf30_0000_0000_0000,
+            EXIT,
+        ],
+        Operands::Binary { x: 0, y: 9 },
+        (9, 4),
+    ),
+    (
+        "diagonal",
+        &[
+            0xb700_0000_0100_0000,
+            0x1d32_0100_0000_0000,
+            0xb700_0000_0000_0000,
+            EXIT,
+        ],
+        Operands::Index {
+            x: 7,
+            row: 3,
+            column: 3,
+            thunk: 0,
+        },
+        (1, 3),
+    ),
+    (
+        "diagonal",
+        &[
+            0xb700_0000_0100_0000,
+            0x1d32_0100_0000_0000,
+            0xb700_0000_0000_0000,
+            EXIT,
+        ],
+        Operands::Index {
+            x: 7,
+            row: 3,
+            column: 4,
+            thunk: 0,
+        },
+        (0, 4),
+    ),
+    (
+        "row",
+        &[0xbf20_0000_0000_0000, EXIT],
+        Operands::Index {
+            x: 1,
+            row: 2,
+            column: 3,
+            thunk: 4,
+        },
+        (2, 2),
+    ),
+    (
+        "column",
+        &[0xbf30_0000_0000_0000, EXIT],
+        Operands::Index {
+            x: 1,
+            row: 2,
+            column: 3,
+            thunk: 4,
+        },
+        (3, 2),
+    ),
+    (
+        "thunk",
+        &[0xbf40_0000_0000_0000, EXIT],
+        Operands::Index {
+            x: 1,
+            row: 2,
+            column: 3,
+            thunk: 4,
+        },
+        (4, 2),
+    ),
+];
+
 #[test]
 fn programs_give_values(rt: HostRuntime) -> Result<(), Fail> {
-    let rows: [(&str, &[u64], Operands, Ran); 16] = [
-        (
-            "add 1",
-            &[MOVE, 0x0700_0000_0100_0000, EXIT],
-            unary(41),
-            done(42, 3),
-        ),
-        (
-            "add 1, wrapping",
-            &[MOVE, 0x0700_0000_0100_0000, EXIT],
-            unary(0x7fff_ffff_ffff_ffff),
-            done(0x8000_0000_0000_0000, 3),
-        ),
-        (
-            "wide load",
-            &[0x1800_0000_0100_0000, 0x0000_0000_0100_0000, EXIT],
-            unary(5),
-            done(0x1_0000_0001, 2),
-        ),
-        (
-            "jump to the next slot",
-            &[0xb700_0000_0000_0000, 0x0500_0000_0000_0000, EXIT],
-            unary(5),
-            done(0, 3),
-        ),
-        (
-            "jump by offset",
-            &[
-                0xb700_0000_0500_0000,
-                0x0500_0100_0000_0000,
-                0xb700_0000_0600_0000,
-                EXIT,
-            ],
-            unary(5),
-            done(5, 3),
-        ),
-        (
-            "jump by imm",
-            &[
-                0xb700_0000_0500_0000,
-                0x0600_0000_0100_0000,
-                0xb700_0000_0600_0000,
-                EXIT,
-            ],
-            unary(5),
-            done(5, 3),
-        ),
-        (
-            "the stack's first bytes",
-            &[0x7b1a_00fe_0000_0000, 0x79a0_00fe_0000_0000, EXIT],
-            unary(0x1234_5678_9abc_def0),
-            done(0x1234_5678_9abc_def0, 3),
-        ),
-        (
-            "two halves stored",
-            &[
-                0x631a_fcff_0000_0000,
-                0x631a_f8ff_0000_0000,
-                0x79a0_f8ff_0000_0000,
-                EXIT,
-            ],
-            unary(1),
-            done(0x1_0000_0001, 4),
-        ),
-        (
-            "a moved place",
-            &[
-                0xbfa2_0000_0000_0000,
-                0x0702_0000_f8ff_ffff,
-                0x7b12_0000_0000_0000,
-                0x79a0_f8ff_0000_0000,
-                EXIT,
-            ],
-            unary(77),
-            done(77, 5),
-        ),
-        (
-            "jump not taken",
-            &[0x1501_0100_0000_0000, 0xb700_0000_0100_0000, EXIT],
-            unary(5),
-            done(1, 3),
-        ),
-        (
-            "two ways",
-            &[
-                0x1501_0200_0000_0000,
-                0xbfa3_0000_0000_0000,
-                0x0500_0100_0000_0000,
-                0xbf23_0000_0000_0000,
-                0xbf30_0000_0000_0000,
-                EXIT,
-            ],
-            binary(0, 9),
-            done(9, 4),
-        ),
-        (
-            "diagonal",
-            &[
-                0xb700_0000_0100_0000,
-                0x1d32_0100_0000_0000,
-                0xb700_0000_0000_0000,
-                EXIT,
-            ],
-            index(7, 3, 3, 0),
-            done(1, 3),
-        ),
-        (
-            "diagonal",
-            &[
-                0xb700_0000_0100_0000,
-                0x1d32_0100_0000_0000,
-                0xb700_0000_0000_0000,
-                EXIT,
-            ],
-            index(7, 3, 4, 0),
-            done(0, 4),
-        ),
-        (
-            "row",
-            &[0xbf20_0000_0000_0000, EXIT],
-            index(1, 2, 3, 4),
-            done(2, 2),
-        ),
-        (
-            "column",
-            &[0xbf30_0000_0000_0000, EXIT],
-            index(1, 2, 3, 4),
-            done(3, 2),
-        ),
-        (
-            "thunk",
-            &[0xbf40_0000_0000_0000, EXIT],
-            index(1, 2, 3, 4),
-            done(4, 2),
-        ),
-    ];
-    for row in rows {
-        expect_end(&rt, rt.alloc(), row)?;
+    for (name, slots, operands, (value, steps)) in &GIVEN {
+        let end = done(*value, *steps);
+        expect_end(&rt, rt.alloc(), (name, slots, *operands, end))?;
     }
     Ok(())
 }
 
-/// A machine that is stepped by hand tells its slot, and stays where it is stuck.
+/// `mov64 r0, 1`, a jump over one slot where R1 is not 5, `exit`, a read of R5, which is unset, `exit`.
+const BY_HAND: [u64; 5] = [
+    0xb700_0000_0100_0000,
+    0x5501_0100_0500_0000,
+    EXIT,
+    0xbf50_0000_0000_0000,
+    EXIT,
+];
+
+/// A machine that is stepped by hand tells its slot, and at the end of the program none.
 #[test]
 fn steps_by_hand(rt: HostRuntime) -> Result<(), Fail> {
-    let slots = [
-        0xb700_0000_0100_0000,
-        0x5501_0100_0500_0000,
-        EXIT,
-        0xbf50_0000_0000_0000,
-        EXIT,
-    ];
-    let program = program(rt.alloc(), &slots)?;
+    let program = program(rt.alloc(), &BY_HAND)?;
     assert!(rt; program.insn_at(0).is_some());
     let mut tagged = Tagged::enter(Kind::Unary, &Operands::Unary { x: 5 });
     assert_eq!(rt; tagged.slot(), Some(0));
@@ -211,7 +245,14 @@ fn steps_by_hand(rt: HostRuntime) -> Result<(), Fail> {
     assert_eq!(rt; tagged.slot(), Some(2));
     assert!(rt; matches!(tagged.step(&program), Stepped::Done(1)));
     assert_eq!(rt; tagged.slot(), None);
+    Ok(())
+}
 
+/// And it stays where it is stuck.
+#[test]
+fn stuck_by_hand(rt: HostRuntime) -> Result<(), Fail> {
+    let program = program(rt.alloc(), &BY_HAND)?;
+    assert!(rt; program.insn_at(0).is_some());
     let mut tagged = Tagged::enter(Kind::Unary, &Operands::Unary { x: 6 });
     assert!(rt; matches!(tagged.step(&program), Stepped::Went));
     assert!(rt; matches!(tagged.step(&program), Stepped::Went));

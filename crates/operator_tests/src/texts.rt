@@ -1,7 +1,10 @@
 //! Worked texts, and every opcode there and back.
+mod opcodes;
+
 use bpf_insn::encode;
 use bpf_text::{AsmError, AsmFault, AsmRule, assemble, disassemble};
 use std::alloc::{AllocError, Global};
+use std::process::Abort;
 use std::test::Fail;
 
 /// What a text is assembled to: the number of slots of its program, or the error as it is shown.
@@ -43,18 +46,21 @@ de21ffff00000000 jsle32 r1, r2, -1
 6a0afeff01020000 st16 r10, -2, 513
 9500000000000000 exit";
 
+/// That a line stands for a slot, and is the line that is written for it.
+fn expect_slot(rt: &impl Abort, alloc: Global, line: &str, slot: u64) -> Result<(), Fail> {
+    let program = assemble(alloc, line.as_bytes())?;
+    let code = encode(alloc, &program)?;
+    assert_eq!(rt; code.as_slice(), slot.to_be_bytes().as_slice(), "{line:?}");
+    let written = disassemble(alloc, &program)?;
+    assert_eq!(rt; written.as_str().trim_end(), line);
+    Ok(())
+}
+
 #[test]
 fn lines_stand_for_slots(rt: HostRuntime) -> Result<(), Fail> {
     for case in SLOTS.lines() {
         let (slot, line) = case.split_once(' ').ok_or("a case of one word")?;
-        let program = assemble(rt.alloc(), line.as_bytes())?;
-        let code = encode(rt.alloc(), &program)?;
-        let wanted = u64::from_str_radix(slot, 16)?.to_be_bytes();
-        assert_eq!(rt; code.as_slice(), wanted.as_slice(), "{line:?}");
-
-        // and it is the line that is written
-        let written = disassemble(rt.alloc(), &program)?;
-        assert_eq!(rt; written.as_str().trim_end(), line);
+        expect_slot(&rt, rt.alloc(), line, u64::from_str_radix(slot, 16)?)?;
     }
     Ok(())
 }
@@ -68,23 +74,28 @@ fn wide_loads_have_two_slots(rt: HostRuntime) -> Result<(), Fail> {
     Ok(())
 }
 
+/// That a text is written again as this.
+fn expect_written(rt: &impl Abort, alloc: Global, text: &str, wanted: &str) -> Result<(), Fail> {
+    let program = assemble(alloc, text.as_bytes())?;
+    let written = disassemble(alloc, &program)?;
+    assert_eq!(rt; written.as_str(), wanted, "{text:?}");
+    Ok(())
+}
+
+/// Texts of one line that is written in many ways.
+const WAYS: [&str; 4] = [
+    "add64 r0,1",
+    "  \t add64 \t r0  ,   +1  ; a comment; another",
+    "add64 r0, 0000000000000000000000000000000000000000000000001# a comment",
+    "\r\n \n; no\r\nadd64 r0, 1\r\n\n",
+];
+
 #[test]
 fn a_line_is_written_in_many_ways(rt: HostRuntime) -> Result<(), Fail> {
-    let ways = [
-        "add64 r0,1",
-        "  \t add64 \t r0  ,   +1  ; a comment; another",
-        "add64 r0, 0000000000000000000000000000000000000000000000001# a comment",
-        "\r\n \n; no\r\nadd64 r0, 1\r\n\n",
-    ];
-    for way in ways {
-        let program = assemble(rt.alloc(), way.as_bytes())?;
-        let written = disassemble(rt.alloc(), &program)?;
-        assert_eq!(rt; written.as_str(), "add64 r0, 1\n", "{way:?}");
+    for way in &WAYS {
+        expect_written(&rt, rt.alloc(), way, "add64 r0, 1\n")?;
     }
-    let program = assemble(rt.alloc(), b"ja -0")?;
-    let written = disassemble(rt.alloc(), &program)?;
-    assert_eq!(rt; written.as_str(), "ja 0\n");
-    Ok(())
+    expect_written(&rt, rt.alloc(), "ja -0", "ja 0\n")
 }
 
 /// Lines, each behind the rule that it breaks.
@@ -146,14 +157,33 @@ A5 wide r0, 9223372036854775808
 A5 wide r0, -9223372036854775809
 A5 wide r0, 99999999999999999999999999999999999999999999";
 
+/// What a text comes to.
+fn expect_outcome(rt: &impl Abort, alloc: Global, text: &str, wanted: &str) -> Result<(), Fail> {
+    let found = outcome(alloc, text.as_bytes())?;
+    assert_eq!(rt; found.as_str(), wanted);
+    Ok(())
+}
+
+/// That a text is refused for one of its lines, by a rule.
+fn expect_rule(
+    rt: &impl Abort,
+    alloc: Global,
+    text: &str,
+    (number, line): (u64, &str),
+    rule: &str,
+) -> Result<(), Fail> {
+    let found = outcome(alloc, text.as_bytes())?;
+    let wanted = format!(in alloc; "line {number}: {rule}")?;
+    assert_eq!(rt; found.as_str(), wanted.as_str(), "{line:?}");
+    Ok(())
+}
+
 #[test]
 fn faults_are_named_with_their_line(rt: HostRuntime) -> Result<(), Fail> {
     for case in FAULTS.lines() {
         let (rule, line) = case.split_once(' ').ok_or("a case of one word")?;
         let text = format!(in rt.alloc(); "exit\n\n; three\n{line}\nx")?;
-        let found = outcome(rt.alloc(), text.as_bytes())?;
-        let wanted = format!(in rt.alloc(); "line 4: {rule}")?;
-        assert_eq!(rt; found.as_str(), wanted.as_str(), "{line:?}");
+        expect_rule(&rt, rt.alloc(), text.as_str(), (4, line), rule)?;
     }
     Ok(())
 }
@@ -174,61 +204,76 @@ A4 mov64 r11, 2147483648
 A5 mov64 r1, 2147483648
 A6 mov64 r1, 214748364";
 
+/// That a line breaks a rule, where 4,096 slots stand before it.
+fn expect_last(
+    rt: &impl Abort,
+    alloc: Global,
+    full: &str,
+    line: &str,
+    rule: &str,
+) -> Result<(), Fail> {
+    let text = format!(in alloc; "{full}{line}\n")?;
+    expect_rule(rt, alloc, text.as_str(), (4097, line), rule)
+}
+
 #[test]
 fn the_lowest_rule_is_named(rt: HostRuntime) -> Result<(), Fail> {
     let full = repeated(rt.alloc(), "exit\n", 4096)?;
     for case in LOWEST.lines() {
         let (rule, line) = case.split_once(' ').ok_or("a case of one word")?;
-        let text = format!(in rt.alloc(); "{full}{line}\n")?;
-        let found = outcome(rt.alloc(), text.as_bytes())?;
-        let wanted = format!(in rt.alloc(); "line 4097: {rule}")?;
-        assert_eq!(rt; found.as_str(), wanted.as_str(), "{line:?}");
+        expect_last(&rt, rt.alloc(), full.as_str(), line, rule)?;
     }
     let long = repeated(rt.alloc(), "x", 1025)?;
-    let text = format!(in rt.alloc(); "{full}{long}\n")?;
-    let found = outcome(rt.alloc(), text.as_bytes())?;
-    assert_eq!(rt; found.as_str(), "line 4097: A1");
-    Ok(())
+    expect_last(&rt, rt.alloc(), full.as_str(), long.as_str(), "A1")
 }
+
+/// What a line of 1,020 blanks comes to with each of these behind them.
+const ENDS: [(&str, &str); 4] = [
+    ("exit", "1"),
+    ("exit\r\n", "1"),
+    ("exit;", "line 1: A1"),
+    ("exit\r", "line 1: A1"),
+];
 
 #[test]
 fn lines_have_1024_bytes_at_most(rt: HostRuntime) -> Result<(), Fail> {
     let blanks = repeated(rt.alloc(), " ", 1020)?;
-    for (end, wanted) in [
-        ("exit", "1"),
-        ("exit\r\n", "1"),
-        ("exit;", "line 1: A1"),
-        ("exit\r", "line 1: A1"),
-    ] {
+    for (end, wanted) in &ENDS {
         let text = format!(in rt.alloc(); "{blanks}{end}")?;
-        let found = outcome(rt.alloc(), text.as_bytes())?;
-        assert_eq!(rt; found.as_str(), wanted, "{end:?}");
+        expect_outcome(&rt, rt.alloc(), text.as_str(), wanted)?;
     }
     Ok(())
 }
 
+/// Texts with no instruction, with what each comes to.
+const EMPTY: [(&str, &str); 4] = [
+    ("", "line 1: A6"),
+    ("\n", "line 2: A6"),
+    ("; no", "line 2: A6"),
+    ("\n\r\n\t\n# no", "line 5: A6"),
+];
+
 #[test]
-fn programs_have_1_to_4096_slots(rt: HostRuntime) -> Result<(), Fail> {
-    let cases = [
-        ("", "line 1: A6"),
-        ("\n", "line 2: A6"),
-        ("; no", "line 2: A6"),
-        ("\n\r\n\t\n# no", "line 5: A6"),
-    ];
-    for (text, wanted) in cases {
-        let found = outcome(rt.alloc(), text.as_bytes())?;
-        assert_eq!(rt; found.as_str(), wanted, "{text:?}");
+fn programs_have_a_slot(rt: HostRuntime) -> Result<(), Fail> {
+    for (text, wanted) in &EMPTY {
+        expect_outcome(&rt, rt.alloc(), text, wanted)?;
     }
+    Ok(())
+}
+
+/// What a text of 4,094 slots comes to with each of these behind them.
+const NEARLY: [(&str, &str); 3] = [
+    ("exit\nexit\n", "4096"),
+    ("wide r0, 1", "4096"),
+    ("exit\n\nwide r0, 1\nx", "line 4097: A6"),
+];
+
+#[test]
+fn programs_have_4096_slots_at_most(rt: HostRuntime) -> Result<(), Fail> {
     let nearly = repeated(rt.alloc(), "exit\n", 4094)?;
-    let cases = [
-        ("exit\nexit\n", "4096"),
-        ("wide r0, 1", "4096"),
-        ("exit\n\nwide r0, 1\nx", "line 4097: A6"),
-    ];
-    for (end, wanted) in cases {
+    for (end, wanted) in &NEARLY {
         let text = format!(in rt.alloc(); "{nearly}{end}")?;
-        let found = outcome(rt.alloc(), text.as_bytes())?;
-        assert_eq!(rt; found.as_str(), wanted, "{end:?}");
+        expect_outcome(&rt, rt.alloc(), text.as_str(), wanted)?;
     }
     Ok(())
 }
@@ -244,112 +289,20 @@ fn a_text_of_262144_bytes(rt: HostRuntime) -> Result<(), Fail> {
     Ok(())
 }
 
+/// That a prefix of a text of four instructions in seven lines is assembled or refused within it.
+fn expect_prefix(rt: &impl Abort, alloc: Global, prefix: &[u8]) {
+    match assemble(alloc, prefix) {
+        Ok(program) => assert!(rt; program.len() <= 4),
+        Err(AsmError::Fault(found)) => assert!(rt; 1 <= found.line && found.line <= 7),
+        Err(AsmError::Memory) => assert!(rt; false, "no memory"),
+    }
+}
+
 #[test]
 fn prefixes_are_assembled_or_refused(rt: HostRuntime) -> Result<(), Fail> {
     let text = b"; twice\n\tmov64 r0, r1 # x\r\n\nwide r2, -5\nadd64 r0, +7;\nexit";
     for length in 0..=text.len() {
-        let prefix = &text[..length];
-        match assemble(rt.alloc(), prefix) {
-            Ok(program) => assert!(rt; program.len() <= 4),
-            Err(AsmError::Fault(found)) => assert!(rt; 1 <= found.line && found.line <= 7),
-            Err(AsmError::Memory) => assert!(rt; false, "no memory"),
-        }
+        expect_prefix(&rt, rt.alloc(), &text[..length]);
     }
-    Ok(())
-}
-
-/// Appends a line for each mnemonic with each of the operands.
-fn push_lines(text: &mut String, mnemonics: &str, operands: &[&str]) -> Result<(), AllocError> {
-    for mnemonic in mnemonics.split(' ') {
-        for operands in operands {
-            text.push_str(mnemonic)?;
-            text.push_str(operands)?;
-            text.push_str("\n")?;
-        }
-    }
-    Ok(())
-}
-
-const OPERATIONS: &str =
-    "add32 sub32 mul32 div32 sdiv32 or32 and32 lsh32 rsh32 mod32 smod32 xor32 mov32 arsh32 add64 sub64 mul64 div64 sdiv64 or64 and64 lsh64 rsh64 mod64 smod64 xor64 mov64 arsh64";
-
-const CONDITIONS: &str =
-    "jeq32 jgt32 jge32 jset32 jne32 jsgt32 jsge32 jlt32 jle32 jslt32 jsle32 jeq64 jgt64 jge64 jset64 jne64 jsgt64 jsge64 jlt64 jle64 jslt64 jsle64";
-
-const MOVES: &str = "movs8_32 movs16_32 movs8_64 movs16_64 movs32_64";
-
-const SINGLE: &str = "neg32 neg64 le16 le32 le64 be16 be32 be64 swap16 swap32 swap64";
-
-/// Each opcode with the least and the greatest of each of its fields.
-fn all_lines(alloc: Global) -> Result<String, AllocError> {
-    let mut text = String::new(alloc);
-    push_lines(
-        &mut text,
-        OPERATIONS,
-        &[
-            " r0, r10",
-            " r10, r0",
-            " r9, -2147483648",
-            " r9, 2147483647",
-        ],
-    )?;
-    push_lines(
-        &mut text,
-        CONDITIONS,
-        &[
-            " r0, r10, -32768",
-            " r10, -2147483648, 32767",
-            " r0, 2147483647, 0",
-        ],
-    )?;
-    push_lines(&mut text, MOVES, &[" r0, r10", " r10, r0"])?;
-    push_lines(&mut text, SINGLE, &[" r0", " r10"])?;
-    push_lines(&mut text, "ja", &[" -32768", " 32767"])?;
-    push_lines(&mut text, "ja32", &[" -2147483648", " 2147483647"])?;
-    push_lines(
-        &mut text,
-        "ldx8 ldx16 ldx32 ldx64 ldsx8 ldsx16 ldsx32",
-        &[" r0, r10, -32768", " r10, r0, 32767"],
-    )?;
-    push_lines(
-        &mut text,
-        "stx8 stx16 stx32 stx64",
-        &[" r0, -32768, r10", " r10, 32767, r0"],
-    )?;
-    push_lines(
-        &mut text,
-        "st8 st16 st32 st64",
-        &[" r0, -32768, 2147483647", " r10, 32767, -2147483648"],
-    )?;
-    push_lines(
-        &mut text,
-        "wide",
-        &[" r0, -9223372036854775808", " r10, 9223372036854775807"],
-    )?;
-    text.push_str("exit\n")?;
-    Ok(text)
-}
-
-/// The number of different bytes at the fronts of slots.
-fn count_of_opcodes(code: &[u8]) -> u64 {
-    let mut seen = [false; 256];
-    for (i, byte) in code.iter().enumerate() {
-        if i % 8 == 0 {
-            seen[usize::from(*byte)] = true;
-        }
-    }
-    seen.iter().filter(|seen| **seen).count() as u64
-}
-
-#[test]
-fn every_opcode_there_and_back(rt: HostRuntime) -> Result<(), Fail> {
-    let text = all_lines(rt.alloc())?;
-    let program = assemble(rt.alloc(), text.as_bytes())?;
-    let written = disassemble(rt.alloc(), &program)?;
-    assert_eq!(rt; written.as_str(), text.as_str());
-
-    // 116 opcodes, and the 0 of the second slot of a wide load
-    let code = encode(rt.alloc(), &program)?;
-    assert_eq!(rt; count_of_opcodes(code.as_slice()), 117);
     Ok(())
 }

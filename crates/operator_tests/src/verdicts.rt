@@ -40,3 +40,11 @@ fn verdict(
         }
     }
 }
+
+/// The operator of these slots, which is not refused.
+fn accepted(rt: &impl Abort, alloc: Global, slots: &[u64], kind: Kind) -> Result<Operator, Fail> {
+    match verdict(rt, alloc, slots, kind)? {
+        Ok(operator) => Ok(operator),
+        Err(_) => panic!(rt; "refused"),
+    }
+}

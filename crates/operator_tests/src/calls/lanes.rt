@@ -131,7 +131,7 @@ pub(super) fn expect_as_single(
 }
 
 /// An operator of these slots.
-fn prepared(alloc: Global, slots: &[u64], kind: Kind) -> Result<Prepared, Fail> {
+pub(super) fn prepared(alloc: Global, slots: &[u64], kind: Kind) -> Result<Prepared, Fail> {
     let Ok(operator) = verify(alloc, program(alloc, slots)?, kind) else {
         return Err(AllocError.into());
     };

@@ -9,74 +9,116 @@ fn tag(operator: &Operator, slot: u64, reg: usize) -> Option<Tag> {
     }
 }
 
+/// R3 is the top of the stack where R1 is not 0, and else R2; R0 is written where both meet.
+const JOINING: [u64; 6] = [
+    0x1501_0200_0000_0000,
+    0xbfa3_0000_0000_0000,
+    0x0500_0100_0000_0000,
+    0xbf23_0000_0000_0000,
+    0xbf10_0000_0000_0000,
+    EXIT,
+];
+
+/// The tags at the entry of a binary operator.
+const AT_ENTRY: [Tag; 11] = [
+    Tag::Unset,
+    Tag::Number,
+    Tag::Number,
+    Tag::Unset,
+    Tag::Unset,
+    Tag::Unset,
+    Tag::Unset,
+    Tag::Unset,
+    Tag::Unset,
+    Tag::Unset,
+    Tag::Place(0),
+];
+
+/// That registers have these tags at a slot, where a path leads.
+fn expect_tags(rt: &impl Abort, operator: &Operator, slot: u64, tags: [Tag; 11]) {
+    assert_eq!(rt; operator.typing(slot), Some(tags));
+}
+
 #[test]
 fn branches_join(rt: HostRuntime) -> Result<(), Fail> {
-    let slots = [
-        0x1501_0200_0000_0000,
-        0xbfa3_0000_0000_0000,
-        0x0500_0100_0000_0000,
-        0xbf23_0000_0000_0000,
-        0xbf10_0000_0000_0000,
-        EXIT,
-    ];
-    let Ok(operator) = verdict(&rt, rt.alloc(), &slots, Kind::Binary)? else {
-        panic!(rt; "refused");
-    };
-    let mut tags = [Tag::Unset; 11];
-    tags[1] = Tag::Number;
-    tags[2] = Tag::Number;
-    tags[10] = Tag::Place(0);
-    assert_eq!(rt; operator.typing(0), Some(tags));
-    assert_eq!(rt; tag(&operator, 2, 3), Some(Tag::Place(0)));
+    let operator = accepted(&rt, rt.alloc(), &JOINING, Kind::Binary)?;
+    let mut tags = AT_ENTRY;
+    expect_tags(&rt, &operator, 0, tags);
     tags[3] = Tag::Mixed;
-    assert_eq!(rt; operator.typing(4), Some(tags));
+    expect_tags(&rt, &operator, 4, tags);
     tags[0] = Tag::Number;
-    assert_eq!(rt; operator.typing(5), Some(tags));
+    expect_tags(&rt, &operator, 5, tags);
+    Ok(())
+}
+
+#[test]
+fn one_branch_is_typed(rt: HostRuntime) -> Result<(), Fail> {
+    let operator = accepted(&rt, rt.alloc(), &JOINING, Kind::Binary)?;
+    assert_eq!(rt; tag(&operator, 2, 3), Some(Tag::Place(0)));
     assert_eq!(rt; operator.typing(6), None);
     Ok(())
 }
 
+/// A wide load, a jump over a slot to `exit`.
+const UNREACHED: [u64; 5] = [
+    0x1800_0000_0100_0000,
+    0,
+    0x0500_0100_0000_0000,
+    0xbf50_0000_0000_0000,
+    EXIT,
+];
+
 #[test]
 fn what_no_path_reaches_is_not_typed(rt: HostRuntime) -> Result<(), Fail> {
-    let slots = [
-        0x1800_0000_0100_0000,
-        0,
-        0x0500_0100_0000_0000,
-        0xbf50_0000_0000_0000,
-        EXIT,
-    ];
-    let Ok(operator) = verdict(&rt, rt.alloc(), &slots, Kind::Unary)? else {
-        panic!(rt; "refused");
-    };
-    assert_eq!(rt; operator.typing(1), None);
+    let operator = accepted(&rt, rt.alloc(), &UNREACHED, Kind::Unary)?;
+    for slot in [1, 3] {
+        assert_eq!(rt; operator.typing(slot), None);
+    }
     assert_eq!(rt; operator.stored(1, -1), None);
-    assert_eq!(rt; operator.typing(3), None);
     assert_eq!(rt; tag(&operator, 4, 0), Some(Tag::Number));
     Ok(())
 }
 
+/// A store, a jump over another, and a third.
+const STORING: [u64; 6] = [
+    0x631a_f8ff_0000_0000,
+    0x1501_0100_0000_0000,
+    0x6b1a_00fe_0000_0000,
+    0x731a_ffff_0000_0000,
+    ZERO,
+    EXIT,
+];
+
+/// Slots and offsets, with whether the byte there is stored.
+const MARKS: [(u64, i16, bool); 10] = [
+    (0, -8, false),
+    (2, -9, false),
+    (2, -8, true),
+    (2, -5, true),
+    (2, -4, false),
+    (3, -512, false),
+    (3, -511, false),
+    (3, -5, true),
+    (4, -2, false),
+    (4, -1, true),
+];
+
+/// Whether a byte of the stack is stored at a slot.
+fn expect_mark(rt: &impl Abort, operator: &Operator, slot: u64, place: i16, stored: bool) {
+    assert!(rt; -512 <= place);
+    assert!(rt; place < 0);
+    assert_eq!(rt;
+        operator.stored(slot, place),
+        Some(stored),
+        "{place} at {slot}"
+    );
+}
+
 #[test]
 fn bytes_stored_on_all_paths_are_marked(rt: HostRuntime) -> Result<(), Fail> {
-    let slots = [
-        0x631a_f8ff_0000_0000,
-        0x1501_0100_0000_0000,
-        0x6b1a_00fe_0000_0000,
-        0x731a_ffff_0000_0000,
-        ZERO,
-        EXIT,
-    ];
-    let Ok(operator) = verdict(&rt, rt.alloc(), &slots, Kind::Unary)? else {
-        panic!(rt; "refused");
-    };
-    assert_eq!(rt; operator.stored(0, -8), Some(false));
-    assert_eq!(rt; operator.stored(2, -9), Some(false));
-    assert_eq!(rt; operator.stored(2, -8), Some(true));
-    assert_eq!(rt; operator.stored(2, -5), Some(true));
-    assert_eq!(rt; operator.stored(2, -4), Some(false));
-    assert_eq!(rt; operator.stored(3, -512), Some(false));
-    assert_eq!(rt; operator.stored(3, -511), Some(false));
-    assert_eq!(rt; operator.stored(3, -5), Some(true));
-    assert_eq!(rt; operator.stored(4, -2), Some(false));
-    assert_eq!(rt; operator.stored(4, -1), Some(true));
+    let operator = accepted(&rt, rt.alloc(), &STORING, Kind::Unary)?;
+    for (slot, place, stored) in &MARKS {
+        expect_mark(&rt, &operator, *slot, *place, *stored);
+    }
     Ok(())
 }
