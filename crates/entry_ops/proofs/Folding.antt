@@ -1,17 +1,16 @@
 -- The reduction of a block of rows: what is still to come completes it.
 use Rattle.std.proofs.Common.{◌≡◌, ◌⊎◌, ◌≤◌, ◌<◌, ◌+◌, ◌-◌, ◌*◌, ℕ, suc, Bool, true, false, if◌then◌else◌, List, [], ◌∷◌, ◌++◌, Option, None, Some, length, get_or, map, inl, inr, refl, sym, ap, ◌∙◌, subst, arith, append-nil}
 use Rattle.std.specs.List.{AllByRecursion}
-use Rattle.bpf_insn.specs.declared.operands.Operands.TheVariants.{Binary}
 use Rattle.bpf_insn.specs.declared.operands.Kind.TheVariants as kinds
 use Rattle.bpf_verify.specs.Accepted.{Accepted, IsAccepted}
 use Rattle.csr_store.specs.Grid.{Grid, Cell, row_of}
 use Rattle.csr_store.specs.Along.{cell_at}
 use Rattle.csr_store.specs.Mask.{passes, cut, cut_list, row_under, rows_under, listed_under, all_listed_under}
 use Rattle.csr_store.proofs.Along.{along-next}
-use Rattle.bpf_run.specs.Meaning.{value_of}
 use Rattle.bpf_run.specs.Calls.{Call, steps_of}
-use Rattle.bpf_run.specs.Fold.{fold, fold_from, fold_calls, fold_calls_from}
-use Rattle.bpf_run.proofs.Charging.{cost-few, steps-append}
+use Rattle.bpf_run.specs.Fold.{fold, fold_from, fold_calls}
+use Rattle.bpf_run.proofs.Charging.{steps-append}
+use Rattle.bpf_run.proofs.Folds.{fold_from-few}
 use Rattle.entry_ops.specs.Forms.{reduce_at, reduce_calls_at}
 use Rattle.entry_ops.specs.Folding.{words, Open, Folding, due, IsAmong, places, Goes, Begins, target_of, IsFolding, AreResults}
 
@@ -133,14 +132,6 @@ module _ (f : Accepted) (a : Grid) (mask : Option Grid) where
       rows-known results first (λ k b. h.each k (omega (arith, n, b))) ∙ ap (rows_under mask 1 (reduce_at f a) first) n
 
 -- a fold of words takes at most 4096 steps a word
-fold_from-few : (f : Accepted) (so_far : ℕ) (ts : List ℕ) → IsAccepted f → f.kind ≡ kinds.Binary
-    → steps_of (fold_calls_from f so_far ts) ≤ 4096 * length ts
-fold_from-few f so_far [] is k = omega arith
-fold_from-few f so_far (t ∷ ts) is k =
-    let c = cost-few f (Binary so_far t) is (sym k) in
-    let r = fold_from-few f (value_of f (Binary so_far t)) ts is k in
-    omega arith
-
 pub fold-few : (f : Accepted) (ts : List ℕ) → IsAccepted f → f.kind ≡ kinds.Binary → steps_of (fold_calls f ts) ≤ 4096 * length ts
 fold-few f [] is k = omega arith
 fold-few f (t ∷ ts) is k = let r = fold_from-few f t ts is k in omega arith

@@ -1,5 +1,6 @@
 pub mod Standing
 pub mod Placing
+pub mod Following
 pub mod Sifting
 pub mod Nexts
 pub mod Masks

@@ -1,6 +1,6 @@
 -- Rows whose cells are added at once, each called one with a word for the time being, and whose values are put in place when the
 -- gathered calls are made. This project's own.
-use Rattle.std.specs.Prelude.{◌≡◌, ◌<◌, ℕ, List, [], ◌∷◌}
+use Rattle.std.specs.Prelude.{◌≡◌, ◌<◌, ◌≤◌, ℕ, suc, List, [], ◌∷◌}
 use Rattle.bpf_verify.specs.Accepted.{Accepted}
 use Rattle.csr_store.specs.Run.{Run}
 use Rattle.csr_store.specs.Valued.{entries_of, with_value}
@@ -25,6 +25,12 @@ HavePlaces places [] entries = Unit {0}
 HavePlaces [] (v ∷ values) entries = ⊥
 HavePlaces (p ∷ places) (v ∷ values) entries = (p < entries) × HavePlaces places values entries
 
+-- the places of values ascend, from one on
+abbrev pub Rise : ℕ → List ℕ → List ℕ → Type 0
+Rise from places [] = Unit {0}
+Rise from [] (v ∷ values) = ⊥
+Rise from (p ∷ places) (v ∷ values) = (from ≤ p) × Rise (suc p) places values
+
 -- the rows as if the gathered calls were made
 abbrev pub final : Accepted → Emission → Gathered → Run
 final f e g = placed e.places (values_on f g.operands) e.rows
@@ -33,6 +39,7 @@ final f e g = placed e.places (values_on f g.operands) e.rows
 pub record Holds (f : Accepted) (e : Emission) (g : Gathered) : Type 0 where
   pub kind : g.kind ≡ f.kind
   pub places : HavePlaces e.places (values_on f g.operands) (entries_of e.rows)
+  pub rise : Rise 0 e.places (values_on f g.operands)
 
 abbrev pub standing : Accepted → Emission → Gathered → Standing
 standing f e g = record { rows = final f e g; waiting = calls_on f g.operands; steps = e.steps }

@@ -5,7 +5,7 @@ ghost use Rattle.bpf_run.specs.Meaning.{value_of};
 ghost use Rattle.bpf_run.specs.Calls.{call_of, calls_on, steps_of, Charges};
 ghost use Rattle.csr_store.specs.Valued.{entries_of};
 ghost use Rattle.entry_ops.specs.Standing.{CanPush, FollowIn, with_cell, with_cells, with_end};
-ghost use Rattle.entry_ops.specs.Placing.{placed, HavePlaces, final, Holds, Does};
+ghost use Rattle.entry_ops.specs.Placing.{placed, HavePlaces, Rise, final, Holds, Does};
 
 use crate::line::Cell;
 use bpf_insn::Operands;
@@ -114,8 +114,8 @@ impl Emitter {
     {
         self.make_room(operator, calls);
         self.places[calls.len()] = self.rows.entries();
-        self.rows.push(column, 0)?;
         calls.gather(operands);
+        self.rows.push(column, 0)?;
         Ok(())
     }
 
@@ -147,12 +147,18 @@ impl Emitter {
     }
 }
 
-/// Puts values in their places.
+/// Puts values in their places: all at once where these follow one another.
 fn place(places: &[usize], values: &[u64], rows: &mut Rows)
-    requires { HavePlaces places.now values.now (entries_of rows.old) }
+    requires have { HavePlaces places.now values.now (entries_of rows.old) }
+    requires rise { Rise 0 places.now values.now }
     ensures { rows.new ≡ placed places.now values.now rows.old }
 {
-    for next in 0..values.len() {
+    let many = values.len();
+    if many > 0 && places[many - 1] - places[0] == many - 1 {
+        rows.set_values(places[0], values);
+        return;
+    }
+    for next in 0..many {
         rows.set_value(places[next], values[next]);
     }
 }

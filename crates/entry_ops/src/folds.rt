@@ -6,14 +6,13 @@ ghost use Rattle.csr_store.specs.Along.{cell_at};
 ghost use Rattle.csr_store.specs.Grid.{row_of};
 ghost use Rattle.csr_store.specs.Mask.{all_listed_under, mask_of, passes};
 ghost use Rattle.bpf_run.specs.Calls.{steps_of};
-ghost use Rattle.bpf_run.specs.Fold.{fold_from, fold_calls_from};
 ghost use Rattle.entry_ops.specs.Forms.{reduce_calls_at};
-ghost use Rattle.entry_ops.specs.Folding.{words, due, Goes, Begins, IsFolding, AreResults};
+ghost use Rattle.entry_ops.specs.Folding.{due, Goes, Begins, IsFolding, AreResults};
 
 use crate::lanes::{Lanes, OpenRow};
 use crate::line::Cell;
-use bpf_insn::{Kind, Operands};
-use bpf_run::{Calls, MOST_CALLS, Prepared, call};
+use bpf_insn::Kind;
+use bpf_run::{Calls, MOST_CALLS, Prepared, fold};
 use csr_store::{Matrix, Rows};
 use std::alloc::{AllocError, Global};
 use std::marker::Model;
@@ -21,8 +20,8 @@ use std::marker::Model;
 /// How many rows follow one another in a block. Its results are all known before the first is added.
 pub const BLOCK_ROWS: usize = 256;
 
-/// Fewer lanes are called one by one. There are so few only where no row is left to begin.
-const FEW_LANES: usize = 12;
+/// Fewer lanes are folded to their ends, one after the other. There are so few only where no row is left to begin.
+const FEW_LANES: usize = 20;
 
 /// The folds of a block of rows, up to 64 of them at once, and the steps of the calls that were made.
 #[derive(Drop)]
@@ -121,7 +120,7 @@ impl<'m> Folds<'m> {
         self.steps += self.lanes.call(operator, calls, &mut self.results);
     }
 
-    /// Makes all the calls of the last lane, one after the other.
+    /// Makes all the calls of the last lane, in one run.
     fn finish_last(&mut self, operator: &Prepared)
         requires kind { operator.now.kind ≡ kinds.Binary }
         requires accepted { IsAccepted operator.now }
@@ -131,14 +130,9 @@ impl<'m> Folds<'m> {
         ensures more { self.old.steps < self.new.steps }
     {
         let row = self.lanes.pop();
-        let operands = Operands::Binary {
-            x: row.so_far,
-            y: row.next,
-        };
-        let outcome = call(operator, &operands);
-        self.steps += outcome.steps;
-        let value = fold_on(operator, outcome.value, row.rest, &mut self.steps);
-        self.results[row.place] = Some(value);
+        let folded = fold(operator, row.so_far, row.next, row.rest);
+        self.steps += folded.steps;
+        self.results[row.place] = Some(folded.value);
     }
 
     /// Makes the next calls: those of the lanes together, unless they are few.
@@ -241,26 +235,4 @@ fn shown_cells<'m>(a: &'m Matrix, mask: Option<&'m Matrix>, row: u64) -> &'m [Ce
     } else {
         &[]
     }
-}
-
-/// What a fold so far and further cells come to, by one call after the other.
-fn fold_on(operator: &Prepared, so_far: u64, rest: &[Cell], steps: &mut u64) -> u64
-    requires kind { operator.now.kind ≡ kinds.Binary }
-    requires room { steps.old + steps_of (fold_calls_from operator.now so_far (words rest.now)) < 2 ^ 64 }
-    ensures value { result ≡ fold_from operator.now so_far (words rest.now) }
-    ensures steps { steps.new ≡ steps.old + steps_of (fold_calls_from operator.now so_far (words rest.now)) }
-{
-    let mut value = so_far;
-    let mut spent = *steps;
-    for term in rest {
-        let operands = Operands::Binary {
-            x: value,
-            y: term.1,
-        };
-        let outcome = call(operator, &operands);
-        spent += outcome.steps;
-        value = outcome.value;
-    }
-    *steps = spent;
-    value
 }

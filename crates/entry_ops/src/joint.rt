@@ -38,15 +38,15 @@ pub fn fill_union(
         let Some((y, ys)) = rights.split_first() else {
             return emitter.copy_all(lefts);
         };
-        if x.0 < y.0 {
-            emitter.copy(x.0, x.1)?;
-            lefts = xs;
-        } else if y.0 < x.0 {
-            emitter.copy(y.0, y.1)?;
-            rights = ys;
-        } else {
+        if x.0 == y.0 {
             emitter.call(operator, calls, x.0, Operands::Binary { x: x.1, y: y.1 })?;
             lefts = xs;
+            rights = ys;
+        } else if x.0 < y.0 {
+            emitter.copy(x.0, x.1)?;
+            lefts = xs;
+        } else {
+            emitter.copy(y.0, y.1)?;
             rights = ys;
         }
     }
@@ -78,13 +78,13 @@ pub fn fill_both(
         let Some((y, ys)) = rights.split_first() else {
             return Ok(());
         };
-        if x.0 < y.0 {
-            lefts = xs;
-        } else if y.0 < x.0 {
-            rights = ys;
-        } else {
+        if x.0 == y.0 {
             emitter.call(operator, calls, x.0, Operands::Binary { x: x.1, y: y.1 })?;
             lefts = xs;
+            rights = ys;
+        } else if x.0 < y.0 {
+            lefts = xs;
+        } else {
             rights = ys;
         }
     }

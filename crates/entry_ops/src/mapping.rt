@@ -79,7 +79,34 @@ impl Mapping {
     }
 
     /// Adds the calls on cells of a row, with their positions and a thunk.
+    #[inline(always)]
     fn add_row(
+        &mut self,
+        operator: &Prepared,
+        calls: &mut Calls,
+        row: u64,
+        cells: &[Cell],
+        thunk: u64,
+    )
+        requires kind { operator.now.kind ≡ kinds.Index }
+        requires begun { calls.old.kind ≡ kinds.Index }
+        requires entries { HasEntries self.old calls.old (length cells.now) }
+        requires room { self.old.steps + (steps_of (calls_on operator.now calls.old.operands)
+            + steps_of (calls_on operator.now (entries_of row thunk cells.now))) < 2 ^ 64 }
+        ensures { IsFurther operator.now (entries_of row thunk cells.now) self.old calls.old self.new calls.new }
+    {
+        if cells.is_empty() {
+            return;
+        }
+        if cells.len() <= MOST_CALLS - calls.len() {
+            calls.gather_entries(cells, row, thunk);
+            return;
+        }
+        self.add_parts(operator, calls, row, cells, thunk);
+    }
+
+    /// The same of cells that don't fit in: those that do, and then those that are left.
+    fn add_parts(
         &mut self,
         operator: &Prepared,
         calls: &mut Calls,

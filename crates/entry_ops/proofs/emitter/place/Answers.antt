@@ -1,9 +1,44 @@
-use Rattle.std.proofs.Common.{arith}
+use Rattle.std.proofs.Common.{◌-◌, length, arith}
+use Rattle.entry_ops.proofs.Following.{have-count, have-inside, first-to-last, in_a_row}
 use Rattle.entry_ops.proofs.Placing.{placing-start, place-inside, entry-inside, placing-step, placing-end}
 use Rattle.entry_ops.proofs.emitter.place.Goals as goal
 
+pub bounds-places-many : goal.bounds-places-many
+bounds-places-many c =
+    let n = have-count _ _ _ c.requires.have in let some = c.if-many-gt0.true in omega (arith, n, some)
+
+pub bounds-places-0 : goal.bounds-places-0
+bounds-places-0 c =
+    let n = have-count _ _ _ c.requires.have in let some = c.if-many-gt0.true in omega (arith, n, some)
+
+pub overflow_sub-places : goal.overflow_sub-places
+overflow_sub-places c =
+    let some = c.if-many-gt0.true in
+    let far = first-to-last c.args.places.now c.args.values.now c.args.rows.now c.requires.rise (omega (arith, some)) in
+    omega (arith, far)
+
+pub bounds-places-0-then-places-many : goal.bounds-places-0-then-places-many
+bounds-places-0-then-places-many c =
+    let n = have-count _ _ _ c.requires.have in let some = c.if-many-gt0.true in omega (arith, n, some)
+
+pub set_values-requires : goal.set_values-requires
+set_values-requires c =
+    let some = c.if-many-gt0.true in
+    let last = have-inside _ _ _ (length c.args.values.now - 1) c.requires.have (omega (arith, some)) in
+    let far = first-to-last c.args.places.now c.args.values.now c.args.rows.now c.requires.rise (omega (arith, some)) in
+    let row = c.if-places-many.true in
+    omega (arith, last, far, row, some)
+
+pub returns-then-places-many : goal.returns-then-places-many
+returns-then-places-many c =
+    let some = c.if-many-gt0.true in
+    let far = first-to-last c.args.places.now c.args.values.now c.args.rows.now c.requires.rise (omega (arith, some)) in
+    let row = c.if-places-many.true in
+    in_a_row c.args.places.now c.args.values.now c.args.rows.now c.requires.rise (omega (arith, some)) c.set_values.new.self
+    (omega (arith, far, row)) c.set_values.ensures.alike c.set_values.ensures.values
+
 pub loop-next-init : goal.loop-next-init
-loop-next-init c = placing-start _ _ _ c.requires
+loop-next-init c = placing-start _ _ _ c.requires.have
 
 pub bounds-places-next : goal.bounds-places-next
 bounds-places-next c = place-inside _ _ _ _ _ c.loop-next.invariant c.loop-next-test.true

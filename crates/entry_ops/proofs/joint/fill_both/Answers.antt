@@ -16,14 +16,14 @@ returns-in_default-split_first-clause-does c = record {
   adds = both-end-left _ _ _ _ _ _ _ _ _ c.loop-x.invariant.1 (none_left _ c.in_default-split_first.ensures.cases);
 }
 
-pub loop-x-preserved-then-x-y : goal.loop-x-preserved-then-x-y
-loop-x-preserved-then-x-y c = (c.loop-x.invariant.0, merging-step _ _ _ _ _ _ _ _ _ _ c.loop-x.invariant.1 _ _ _ _ _ (first_left c.args.line.columns c.loop-x.invariant.1.low _ _ c.loop-x.invariant.1.left_row c.loop-x.invariant.1.right_row _ _ _ _ c.in-Some.ensures.cases.0 c.in-Some-split_first.ensures.cases.0 c.if-x-y.true) _ (adds-none _))
+pub loop-x-preserved-then-x-y-2 : goal.loop-x-preserved-then-x-y-2
+loop-x-preserved-then-x-y-2 c = (c.loop-x.invariant.0, merging-step _ _ _ _ _ _ _ _ _ _ c.loop-x.invariant.1 _ _ _ _ _ (first_left c.args.line.columns c.loop-x.invariant.1.low _ _ c.loop-x.invariant.1.left_row c.loop-x.invariant.1.right_row _ _ _ _ c.in-Some.ensures.cases.0 c.in-Some-split_first.ensures.cases.0 c.if-x-y-2.true) _ (adds-none _))
 
-pub loop-x-preserved-then-y-x : goal.loop-x-preserved-then-y-x
-loop-x-preserved-then-y-x c = (c.loop-x.invariant.0, merging-step _ _ _ _ _ _ _ _ _ _ c.loop-x.invariant.1 _ _ _ _ _ (first_right c.args.line.columns c.loop-x.invariant.1.low _ _ c.loop-x.invariant.1.left_row c.loop-x.invariant.1.right_row _ _ _ _ c.in-Some.ensures.cases.0 c.in-Some-split_first.ensures.cases.0 c.if-y-x.true) _ (adds-none _))
+pub loop-x-preserved : goal.loop-x-preserved
+loop-x-preserved c = (c.loop-x.invariant.0, merging-step _ _ _ _ _ _ _ _ _ _ c.loop-x.invariant.1 _ _ _ _ _ (first_right c.args.line.columns c.loop-x.invariant.1.low _ _ c.loop-x.invariant.1.left_row c.loop-x.invariant.1.right_row _ _ _ _ c.in-Some.ensures.cases.0 c.in-Some-split_first.ensures.cases.0 (let a = c.if-x-y.false in let b = c.if-x-y-2.false in omega (arith, a, b))) _ (adds-none _))
 
 pub call-requires-clause-fits : goal.call-requires-clause-fits
-call-requires-clause-fits c = merging-fits _ _ _ _ _ _ _ _ _ _ c.loop-x.invariant.1 _ _ _ _ _ (together c.args.line.columns c.loop-x.invariant.1.low _ _ c.loop-x.invariant.1.left_row c.loop-x.invariant.1.right_row _ _ _ _ c.in-Some.ensures.cases.0 c.in-Some-split_first.ensures.cases.0 (let a = c.if-x-y.false in let b = c.if-y-x.false in omega arith))
+call-requires-clause-fits c = merging-fits _ _ _ _ _ _ _ _ _ _ c.loop-x.invariant.1 _ _ _ _ _ (together c.args.line.columns c.loop-x.invariant.1.low _ _ c.loop-x.invariant.1.left_row c.loop-x.invariant.1.right_row _ _ _ _ c.in-Some.ensures.cases.0 c.in-Some-split_first.ensures.cases.0 c.if-x-y.true)
 
 pub call-requires-clause-room : goal.call-requires-clause-room
 call-requires-clause-room c = completes-room _ _ _ _ _ _ c.loop-x.invariant.1.completes c.requires.room
@@ -31,10 +31,10 @@ call-requires-clause-room c = completes-room _ _ _ _ _ _ c.loop-x.invariant.1.co
 pub returns-in_err-call-clause-spent : goal.returns-in_err-call-clause-spent
 returns-in_err-call-clause-spent c = on_err c.from_residual.result (completes-stop _ _ _ _ _ _ c.loop-x.invariant.1.completes _ c.in_err-call.ensures.spent)
 
-pub loop-x-preserved : goal.loop-x-preserved
-loop-x-preserved c =
+pub loop-x-preserved-then-x-y : goal.loop-x-preserved-then-x-y
+loop-x-preserved-then-x-y c =
     let d = c.in_ok-call.ensures.does in
-    (d.holds, merging-step _ _ _ _ _ _ _ _ _ _ c.loop-x.invariant.1 _ _ _ _ _ (together c.args.line.columns c.loop-x.invariant.1.low _ _ c.loop-x.invariant.1.left_row c.loop-x.invariant.1.right_row _ _ _ _ c.in-Some.ensures.cases.0 c.in-Some-split_first.ensures.cases.0 (let a = c.if-x-y.false in let b = c.if-y-x.false in omega arith)) _ d.adds)
+    (d.holds, merging-step _ _ _ _ _ _ _ _ _ _ c.loop-x.invariant.1 _ _ _ _ _ (together c.args.line.columns c.loop-x.invariant.1.low _ _ c.loop-x.invariant.1.left_row c.loop-x.invariant.1.right_row _ _ _ _ c.in-Some.ensures.cases.0 c.in-Some-split_first.ensures.cases.0 c.if-x-y.true) _ d.adds)
 
 pub returns-clause-does : goal.returns-clause-does
 returns-clause-does c = record {

@@ -25,42 +25,42 @@ returns-in_default-split_first-clause-spent c =
     on_err_then c.copy_all.result (λ same. completes-stop _ _ _ _ _ _ c.loop-x.invariant.1.completes _ (charges-kept _ _ _ same)) c.copy_all.ensures.kept
 
 pub copy-requires : goal.copy-requires
-copy-requires c = can-push c.args.operator.now c.loop-x.emitter c.loop-x.calls c.loop-x.invariant.0 _ (merging-fits _ _ _ _ _ _ _ _ _ _ c.loop-x.invariant.1 _ _ _ _ _ (first_left c.args.line.columns c.loop-x.invariant.1.low _ _ c.loop-x.invariant.1.left_row c.loop-x.invariant.1.right_row _ _ _ _ c.in-Some.ensures.cases.0 c.in-Some-split_first.ensures.cases.0 c.if-x-y.true))
+copy-requires c = can-push c.args.operator.now c.loop-x.emitter c.loop-x.calls c.loop-x.invariant.0 _ (merging-fits _ _ _ _ _ _ _ _ _ _ c.loop-x.invariant.1 _ _ _ _ _ (first_left c.args.line.columns c.loop-x.invariant.1.low _ _ c.loop-x.invariant.1.left_row c.loop-x.invariant.1.right_row _ _ _ _ c.in-Some.ensures.cases.0 c.in-Some-split_first.ensures.cases.0 c.if-x-y-2.true))
 
 pub returns-in_err-copy-clause-spent : goal.returns-in_err-copy-clause-spent
 returns-in_err-copy-clause-spent c =
-    on_err c.from_residual.result (completes-stop _ _ _ _ _ _ c.loop-x.invariant.1.completes _ (charges-kept _ _ _ c.in_err-copy.ensures.kept))
+    on_err c.from_residual-in_err-copy.result (completes-stop _ _ _ _ _ _ c.loop-x.invariant.1.completes _ (charges-kept _ _ _ c.in_err-copy.ensures.kept))
 
-pub loop-x-preserved-then-x-y : goal.loop-x-preserved-then-x-y
-loop-x-preserved-then-x-y c =
+pub loop-x-preserved-then-x-y-2 : goal.loop-x-preserved-then-x-y-2
+loop-x-preserved-then-x-y-2 c =
     let d = does-copy c.args.operator.now c.loop-x.emitter c.loop-x.calls c.loop-x.invariant.0 _ _ c.copy.new.self c.in_ok-copy.ensures.copied in
-    (d.holds, merging-step _ _ _ _ _ _ _ _ _ _ c.loop-x.invariant.1 _ _ _ _ _ (first_left c.args.line.columns c.loop-x.invariant.1.low _ _ c.loop-x.invariant.1.left_row c.loop-x.invariant.1.right_row _ _ _ _ c.in-Some.ensures.cases.0 c.in-Some-split_first.ensures.cases.0 c.if-x-y.true) _ d.adds)
+    (d.holds, merging-step _ _ _ _ _ _ _ _ _ _ c.loop-x.invariant.1 _ _ _ _ _ (first_left c.args.line.columns c.loop-x.invariant.1.low _ _ c.loop-x.invariant.1.left_row c.loop-x.invariant.1.right_row _ _ _ _ c.in-Some.ensures.cases.0 c.in-Some-split_first.ensures.cases.0 c.if-x-y-2.true) _ d.adds)
 
-pub copy-requires-then-y-x : goal.copy-requires-then-y-x
-copy-requires-then-y-x c = can-push c.args.operator.now c.loop-x.emitter c.loop-x.calls c.loop-x.invariant.0 _ (merging-fits _ _ _ _ _ _ _ _ _ _ c.loop-x.invariant.1 _ _ _ _ _ (first_right c.args.line.columns c.loop-x.invariant.1.low _ _ c.loop-x.invariant.1.left_row c.loop-x.invariant.1.right_row _ _ _ _ c.in-Some.ensures.cases.0 c.in-Some-split_first.ensures.cases.0 c.if-y-x.true))
+pub copy-requires-else-x-y-2 : goal.copy-requires-else-x-y-2
+copy-requires-else-x-y-2 c = can-push c.args.operator.now c.loop-x.emitter c.loop-x.calls c.loop-x.invariant.0 _ (merging-fits _ _ _ _ _ _ _ _ _ _ c.loop-x.invariant.1 _ _ _ _ _ (first_right c.args.line.columns c.loop-x.invariant.1.low _ _ c.loop-x.invariant.1.left_row c.loop-x.invariant.1.right_row _ _ _ _ c.in-Some.ensures.cases.0 c.in-Some-split_first.ensures.cases.0 (let a = c.if-x-y.false in let b = c.if-x-y-2.false in omega (arith, a, b))))
 
 pub returns-in_err-copy-2-clause-spent : goal.returns-in_err-copy-2-clause-spent
 returns-in_err-copy-2-clause-spent c =
     on_err c.from_residual-in_err-copy-2.result (completes-stop _ _ _ _ _ _ c.loop-x.invariant.1.completes _ (charges-kept _ _ _ c.in_err-copy-2.ensures.kept))
 
-pub loop-x-preserved-then-y-x : goal.loop-x-preserved-then-y-x
-loop-x-preserved-then-y-x c =
-    let d = does-copy c.args.operator.now c.loop-x.emitter c.loop-x.calls c.loop-x.invariant.0 _ _ c.copy-then-y-x.new.self c.in_ok-copy-2.ensures.copied in
-    (d.holds, merging-step _ _ _ _ _ _ _ _ _ _ c.loop-x.invariant.1 _ _ _ _ _ (first_right c.args.line.columns c.loop-x.invariant.1.low _ _ c.loop-x.invariant.1.left_row c.loop-x.invariant.1.right_row _ _ _ _ c.in-Some.ensures.cases.0 c.in-Some-split_first.ensures.cases.0 c.if-y-x.true) _ d.adds)
+pub loop-x-preserved : goal.loop-x-preserved
+loop-x-preserved c =
+    let d = does-copy c.args.operator.now c.loop-x.emitter c.loop-x.calls c.loop-x.invariant.0 _ _ c.copy-else-x-y-2.new.self c.in_ok-copy-2.ensures.copied in
+    (d.holds, merging-step _ _ _ _ _ _ _ _ _ _ c.loop-x.invariant.1 _ _ _ _ _ (first_right c.args.line.columns c.loop-x.invariant.1.low _ _ c.loop-x.invariant.1.left_row c.loop-x.invariant.1.right_row _ _ _ _ c.in-Some.ensures.cases.0 c.in-Some-split_first.ensures.cases.0 (let a = c.if-x-y.false in let b = c.if-x-y-2.false in omega (arith, a, b))) _ d.adds)
 
 pub call-requires-clause-fits : goal.call-requires-clause-fits
-call-requires-clause-fits c = merging-fits _ _ _ _ _ _ _ _ _ _ c.loop-x.invariant.1 _ _ _ _ _ (together c.args.line.columns c.loop-x.invariant.1.low _ _ c.loop-x.invariant.1.left_row c.loop-x.invariant.1.right_row _ _ _ _ c.in-Some.ensures.cases.0 c.in-Some-split_first.ensures.cases.0 (let a = c.if-x-y.false in let b = c.if-y-x.false in omega arith))
+call-requires-clause-fits c = merging-fits _ _ _ _ _ _ _ _ _ _ c.loop-x.invariant.1 _ _ _ _ _ (together c.args.line.columns c.loop-x.invariant.1.low _ _ c.loop-x.invariant.1.left_row c.loop-x.invariant.1.right_row _ _ _ _ c.in-Some.ensures.cases.0 c.in-Some-split_first.ensures.cases.0 c.if-x-y.true)
 
 pub call-requires-clause-room : goal.call-requires-clause-room
 call-requires-clause-room c = completes-room _ _ _ _ _ _ c.loop-x.invariant.1.completes c.requires.room
 
 pub returns-in_err-call-clause-spent : goal.returns-in_err-call-clause-spent
-returns-in_err-call-clause-spent c = on_err c.from_residual-in_err-call.result (completes-stop _ _ _ _ _ _ c.loop-x.invariant.1.completes _ c.in_err-call.ensures.spent)
+returns-in_err-call-clause-spent c = on_err c.from_residual.result (completes-stop _ _ _ _ _ _ c.loop-x.invariant.1.completes _ c.in_err-call.ensures.spent)
 
-pub loop-x-preserved : goal.loop-x-preserved
-loop-x-preserved c =
+pub loop-x-preserved-then-x-y : goal.loop-x-preserved-then-x-y
+loop-x-preserved-then-x-y c =
     let d = c.in_ok-call.ensures.does in
-    (d.holds, merging-step _ _ _ _ _ _ _ _ _ _ c.loop-x.invariant.1 _ _ _ _ _ (together c.args.line.columns c.loop-x.invariant.1.low _ _ c.loop-x.invariant.1.left_row c.loop-x.invariant.1.right_row _ _ _ _ c.in-Some.ensures.cases.0 c.in-Some-split_first.ensures.cases.0 (let a = c.if-x-y.false in let b = c.if-y-x.false in omega arith)) _ d.adds)
+    (d.holds, merging-step _ _ _ _ _ _ _ _ _ _ c.loop-x.invariant.1 _ _ _ _ _ (together c.args.line.columns c.loop-x.invariant.1.low _ _ c.loop-x.invariant.1.left_row c.loop-x.invariant.1.right_row _ _ _ _ c.in-Some.ensures.cases.0 c.in-Some-split_first.ensures.cases.0 c.if-x-y.true) _ d.adds)
 
 pub copy_all-requires-2 : goal.copy_all-requires-2
 copy_all-requires-2 c = can-follow c.args.operator.now c.loop-x.emitter c.loop-x.calls c.loop-x.invariant.0 _ (merging-follow-right _ _ _ _ _ _ _ _ _ c.loop-x.invariant.1)
