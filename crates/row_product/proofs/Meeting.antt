@@ -39,7 +39,7 @@ use Rattle.csr_store.specs.Ascending.{Ascends}
 use Rattle.row_product.specs.declared.tagged.Sum.{Sum}
 use Rattle.row_product.specs.declared.tagged.Sum.TheVariants as sum
 use Rattle.row_product.specs.Sums.{slot, sum_of, sums_of, kept, added, added_calls, touch}
-use Rattle.row_product.specs.Terms.{Waiting, cells_of, columns_of, written, put_term, put_touched, settled, met, AreMet, AreBelow, Lacks}
+use Rattle.row_product.specs.Terms.{Waiting, cells_of, columns_of, written, put_term, put_touched, settled, met, AreMet, IsMetNext, AreBelow, Lacks}
 use Rattle.row_product.proofs.Tagging.{slot_sums, sums_set}
 use Rattle.row_product.proofs.Several.{length_columns}
 use Rattle.row_product.proofs.Waiting.{
@@ -279,3 +279,23 @@ meeting_as add first was cells terms k sums w touched then v later m s n u =
     subst (λ us. Meeting add first was cells terms k us v later) (sym s)
     (subst (λ us. Meeting add first was cells terms k sums us later) (sym n)
     (subst (λ us. Meeting add first was cells terms k sums w us) (sym u) m))
+
+-- ---- one cell more, of which it is known what became of the lists
+
+pub meeting_next : (add : Accepted) (first : List (Option ℕ)) (was : List ℕ) (cells : List Cell) (terms : List ℕ) (k : ℕ) (sums
+    : List Sum) (w : Waiting) (touched : List ℕ) (then : List Sum) (v : Waiting) (later : List ℕ)
+    → Meeting add first was cells terms k sums w touched → k < length cells → length terms ≡ length cells
+    → IsMetNext sums w touched (get_or cells k (0, 0)).0 (get_or terms k 0) then v later
+    → Meeting add first was cells terms (k + 1) then v later
+meeting_next add first was cells terms k sums w touched then v later m l e d =
+    by_sum (sum_of (kept sums (get_or cells k (0, 0)).0)) refl
+  where
+    by_sum : (o : Option ℕ) → sum_of (kept sums (get_or cells k (0, 0)).0) ≡ o → Meeting add first was cells terms (k + 1) then v later
+    by_sum None h =
+        let r = d.begun h in
+        meeting_as add first was cells terms (k + 1) then w later then v later
+        (meeting_first add first was cells terms k sums w touched then later m l e h r.0 r.2) refl r.1 refl
+    by_sum (Some s) h =
+        let r = d.listed s h in
+        meeting_as add first was cells terms (k + 1) sums v touched then v later
+        (meeting_more add first was cells terms k sums w touched s v m l e h r.1) r.0 refl r.2

@@ -124,6 +124,13 @@ written_rest sums ks vs k l e =
     ap (λ us. written sums us (drop k vs)) (drop_more ks k 0 l)
     ∙ ap (written sums (get_or ks k 0 ∷ drop (k + 1) ks)) (drop_more vs k 0 (omega (arith, l, e)))
 
+pub written_at : (sums : List Sum) (ks vs : List ℕ) (k : ℕ) → k < length ks → length vs ≡ length ks
+    → written (sums_of (set sums (get_or ks k 0) (sum.At (get_or vs k 0)))) (drop (k + 1) ks) (drop (k + 1) vs)
+    ≡ written (sums_of sums) (drop k ks) (drop k vs)
+written_at sums ks vs k l e =
+    ap (λ us. written us (drop (k + 1) ks) (drop (k + 1) vs)) (sums_set sums (get_or ks k 0) (sum.At (get_or vs k 0)))
+    ∙ sym (written_rest (sums_of sums) ks vs k l e)
+
 pub written_none : (sums : List (Option ℕ)) (ks vs : List ℕ) (k : ℕ) → length ks ≤ k
     → written sums (drop k ks) (drop k vs) ≡ sums
 written_none sums ks vs k l = ap (λ us. written sums us (drop k vs)) (drop_all k ks l)

@@ -28,7 +28,7 @@ use Rattle.bpf_run.specs.Meaning.{value_of}
 use Rattle.bpf_run.specs.Calls.{Call, steps_of, calls_on, values_on, pairs_with, pairs_of}
 use Rattle.row_product.specs.declared.tagged.Sum.{Sum}
 use Rattle.row_product.specs.declared.tagged.Sum.TheVariants as sum
-use Rattle.row_product.specs.Sums.{slot, sums_of, kept, added, added_calls, touch}
+use Rattle.row_product.specs.Sums.{slot, sum_of, sums_of, kept, added, added_calls, touch}
 
 -- additions that wait, and the columns of their values
 pub record Waiting : Type 0 where
@@ -119,6 +119,13 @@ pub record AreMet (add : Accepted) (sums : List Sum) (cs : List Cell) (touched :
   pub sums_are : settled add then w ≡ put_terms add (sums_of sums) cs
   pub touched_are : next ≡ put_touched add (sums_of sums) cs touched
   pub steps_are : steps_of (calls_on add w.operands) ≡ steps_of (put_calls add (sums_of sums) cs)
+
+-- the next of terms that are put at their columns: listed where its column has a sum, and else the first there
+pub record IsMetNext (sums : List Sum) (w : Waiting) (touched : List ℕ) (j t : ℕ) (then : List Sum) (v : Waiting) (next
+    : List ℕ) : Type 0 where
+  pub listed : (s : ℕ) → sum_of (kept sums j) ≡ Some s → (then ≡ sums)
+      × (v ≡ record { columns = w.columns ++ j ∷ []; operands = w.operands ++ Binary s t ∷ [] }) × (next ≡ touched)
+  pub begun : sum_of (kept sums j) ≡ None → (then ≡ set sums j (sum.At t)) × (v ≡ w) × (next ≡ touched ++ j ∷ [])
 
 -- all columns are below n
 abbrev pub AreBelow : ℕ → List ℕ → Type 0

@@ -1,5 +1,5 @@
 //! Additions to sums that don't wait for one another, gathered until they are made together.
-ghost use Rattle.std.specs.Prelude.{◌≡◌, ◌≤◌, ◌<◌, ◌+◌, ◌^◌, ◌++◌, ◌∷◌, [], ℕ, None, length, set, take, vec_capacity};
+ghost use Rattle.std.specs.Prelude.{◌≡◌, ◌≤◌, ◌<◌, ◌+◌, ◌^◌, ◌++◌, ◌∷◌, [], ℕ, true, None, length, set, take, vec_capacity};
 ghost use Rattle.bpf_insn.specs.declared.operands.Kind.TheVariants as kinds;
 ghost use Rattle.bpf_insn.specs.declared.operands.Operands.TheVariants as on;
 ghost use Rattle.bpf_verify.specs.Accepted.{Accepted};
@@ -18,6 +18,7 @@ ghost use Rattle.row_product.specs.Terms.{
   settled,
   met,
   AreMet,
+  IsMetNext,
   AreBelow,
   Waits,
   IsFree,
@@ -75,6 +76,13 @@ impl Additions {
         ensures { self.new ≡ no_waiting }
     {
         self.calls.begin(Kind::Binary);
+    }
+
+    /// Whether none waits.
+    pub(crate) fn is_settled(&self) -> bool
+        ensures { result ≡ true → self.now ≡ no_waiting }
+    {
+        self.calls.len() == 0
     }
 
     /// Makes all that wait.
@@ -255,8 +263,11 @@ fn begin(column: u64, term: u64, sums: &mut [Sum], touched: &mut Vec<u64>)
     ensures room { vec_capacity touched.old ≤ vec_capacity touched.new }
 {
     sums[column as usize] = Sum::At(term);
-    touched.push(column).unwrap();
+    touched.push_reserved(column);
 }
+
+/// So many cells are met, and so many values are written, by code without a loop.
+const BLOCK: usize = 8;
 
 /// Puts terms at the columns of cells, which ascend: the first at its column is its sum, and of each further one the column,
 /// the sum so far and the term are listed. Answers how many these are.
@@ -285,19 +296,53 @@ fn meet(
     ensures room { vec_capacity touched.old ≤ vec_capacity touched.new }
 {
     let mut many = 0;
-    for k in 0..cells.len() {
-        let column = cells[k].0;
-        match sums[column as usize].word() {
-            Some(so_far) => {
-                places[many] = column;
-                xs[many] = so_far;
-                ys[many] = terms[k];
-                many += 1;
-            }
-            None => begin(column, terms[k], sums, touched),
+    let blocks = cells.len() / BLOCK;
+    for block in 0..blocks {
+        for place in 0..BLOCK {
+            let k = block * BLOCK + place;
+            many = meet_next(cells[k].0, terms[k], many, places, xs, ys, sums, touched);
         }
     }
+    for k in blocks * BLOCK..cells.len() {
+        many = meet_next(cells[k].0, terms[k], many, places, xs, ys, sums, touched);
+    }
     many
+}
+
+/// Puts a term at a column: as its sum, or else both are listed. Answers how many then are.
+#[inline(always)]
+fn meet_next(
+    column: u64,
+    term: u64,
+    many: usize,
+    places: &mut [u64],
+    xs: &mut [u64],
+    ys: &mut [u64],
+    sums: &mut [Sum],
+    touched: &mut Vec<u64>,
+) -> usize
+    requires within { column < length sums.old }
+    requires places { many < length places.old }
+    requires xs { many < length xs.old }
+    requires ys { many < length ys.old }
+    requires room { slot (sums_of sums.old) column ≡ None → length touched.old.items < vec_capacity touched.old }
+    ensures met { IsMetNext sums.old (met many places.old xs.old ys.old) touched.old.items column term
+        sums.new (met result places.new xs.new ys.new) touched.new.items }
+    ensures few { result ≤ many + 1 }
+    ensures room { vec_capacity touched.old ≤ vec_capacity touched.new }
+{
+    match sums[column as usize].word() {
+        Some(so_far) => {
+            places[many] = column;
+            xs[many] = so_far;
+            ys[many] = term;
+            many + 1
+        }
+        None => {
+            begin(column, term, sums, touched);
+            many
+        }
+    }
 }
 
 /// Writes values at columns.
@@ -306,7 +351,14 @@ fn write(columns: &[u64], values: &[u64], sums: &mut [Sum])
     requires within { AreBelow (length sums.old) columns.now }
     ensures { sums_of sums.new ≡ written (sums_of sums.old) columns.now values.now }
 {
-    for k in 0..columns.len() {
+    let blocks = columns.len() / BLOCK;
+    for block in 0..blocks {
+        for place in 0..BLOCK {
+            let k = block * BLOCK + place;
+            sums[columns[k] as usize] = Sum::At(values[k]);
+        }
+    }
+    for k in blocks * BLOCK..columns.len() {
         sums[columns[k] as usize] = Sum::At(values[k]);
     }
 }

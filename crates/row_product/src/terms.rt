@@ -1,5 +1,5 @@
 //! Terms of a row of the product, gathered until many products are made together.
-ghost use Rattle.std.specs.Prelude.{◌≡◌, ◌≤◌, ◌<◌, ◌+◌, ◌^◌, ◌++◌, ◌∷◌, [], false, Some, length, set, take, vec_capacity};
+ghost use Rattle.std.specs.Prelude.{◌≡◌, ◌≤◌, ◌<◌, ◌+◌, ◌^◌, ◌++◌, ◌∷◌, [], false, true, Some, length, set, take, vec_capacity};
 ghost use Rattle.bpf_insn.specs.declared.operands.Kind.TheVariants as kinds;
 ghost use Rattle.bpf_insn.specs.declared.operands.Operands.TheVariants as on;
 ghost use Rattle.bpf_run.specs.Calls.{steps_of, calls_on, pairs_with};
@@ -112,6 +112,13 @@ impl Terms {
         );
         self.products.begin(Kind::Binary);
         made + put
+    }
+
+    /// Whether nothing waits.
+    fn is_settled(&self) -> bool
+        ensures { result ≡ true → self.now ≡ no_pending }
+    {
+        self.products.len() == 0 && self.additions.is_settled()
     }
 
     /// Whether there is no room for one product more.
@@ -271,6 +278,9 @@ impl Terms {
         ensures steps { result ≡ steps_of (calls_then add.now mul.now sums.old self.old) }
         ensures room { vec_capacity touched.old ≤ vec_capacity touched.new }
     {
+        if self.is_settled() {
+            return 0;
+        }
         let steps = self.multiply(add, mul, sums, touched);
         steps + self.additions.settle(add, sums)
     }
