@@ -10,6 +10,7 @@ ghost use Rattle.job_plan.specs.Forms.{operation, same_kind, is_of, same_shape, 
 ghost use Rattle.job_plan.specs.Refusal.{has_shape};
 
 use crate::job::Form;
+use crate::rows::{count, count_in, folds, folds_in, lesser};
 use bpf_insn::Kind;
 use bpf_run::Prepared;
 use csr_store::Matrix;
@@ -182,6 +183,23 @@ impl Form {
         ensures { result ≡ summed ((operation (form_of self.now)).rounds (mask_of mask.entry)) range.start
             (range.end - range.start) }
     {
+        match (self, mask) {
+            (Form::Apply { operand, .. }, None) => count_in(operand, range),
+            (Form::Select { operand, .. }, None) => count_in(operand, range),
+            (Form::Reduce { operand, .. }, None) => folds_in(operand, range),
+            _ => self.rounds_by_row(mask, range),
+        }
+    }
+
+    /// The same, one row after the other.
+    fn rounds_by_row(&self, mask: Option<&Matrix>, range: Range<u64>) -> u64
+        requires shapes { (operation (form_of self.now)).shapes ≡ true }
+        requires mask { has_shape (operation (form_of self.now)).rows (operation (form_of self.now)).columns (mask_of mask) ≡ true }
+        requires within { range.end ≤ (operation (form_of self.now)).rows }
+        requires few { summed ((operation (form_of self.now)).rounds (mask_of mask)) range.start (range.end - range.start) ≤ limit }
+        ensures { result ≡ summed ((operation (form_of self.now)).rounds (mask_of mask.entry)) range.start
+            (range.end - range.start) }
+    {
         let mut rounds = 0;
         for i in range.start..range.end {
             rounds += self.rounds_of_row(mask, i);
@@ -230,31 +248,6 @@ pub(crate) fn has_shape(rows: u64, columns: u64, mask: Option<&Matrix>) -> bool
         Some(mask) => mask.rows() == rows && mask.columns() == columns,
         None => true,
     }
-}
-
-/// How many entries row `i` has.
-fn count(a: &Matrix, i: u64) -> u64
-    requires { i < a.now.rows }
-    ensures { result ≡ count a.now i }
-{
-    a.row(i).len() as u64
-}
-
-/// How many entries the lesser of two rows has.
-fn lesser(a: &Matrix, b: &Matrix, i: u64) -> u64
-    requires left { i < a.now.rows }
-    requires right { i < b.now.rows }
-    ensures { result ≡ min (count a.now i) (count b.now i) }
-{
-    count(a, i).min(count(b, i))
-}
-
-/// How many calls fold row `i`.
-fn folds(a: &Matrix, i: u64) -> u64
-    requires { i < a.now.rows }
-    ensures { result ≡ count a.now i - 1 }
-{
-    count(a, i).saturating_sub(1)
 }
 
 /// How many multiplications row `i` of a product takes.

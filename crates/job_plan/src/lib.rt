@@ -8,7 +8,7 @@
 //! no more than its price. `specs/Forms.antt` is the table of the six forms, `specs/Meaning.antt` says what a job computes,
 //! `specs/Price.antt` what it may cost, `specs/Refusal.antt` when it is refused, and `specs/Chunks.antt` how jobs are cut.
 //!
-//! Read `job` first, then `form` (the table in code), `priced`, `queue` and `plan`.
+//! Read `job` first, then `form` (the table in code) with `rows` (what rows count for), `priced`, `queue` and `plan`.
 #![tactic(auto)]
 
 pub mod error;
@@ -17,6 +17,7 @@ pub mod job;
 pub mod plan;
 pub mod priced;
 pub mod queue;
+mod rows;
 
 pub use error::JobError;
 pub use job::{Form, Job};

@@ -1,0 +1,7 @@
+use Rattle.std.proofs.Common.{min}
+use Rattle.job_plan.specs.Forms.{count}
+use Rattle.job_plan.proofs.Sums.{IsAdding}
+use Rattle.job_plan.proofs.rows.filled_in.Given as goal
+
+abbrev pub invariant-loop-i : goal.invariant-loop-i
+invariant-loop-i l = IsAdding (λ i. min (count l.a i) 1) l.fn.range.start l.fn.range.end l.i l.filled
