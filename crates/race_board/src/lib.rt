@@ -20,8 +20,6 @@ mod rule;
 mod seat;
 mod stand;
 mod terms;
-#[cfg(test)]
-mod tests;
 mod totals;
 mod worker;
 

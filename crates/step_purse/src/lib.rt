@@ -18,8 +18,6 @@ pub mod laws;
 mod plain;
 mod purse;
 mod rule;
-#[cfg(test)]
-mod tests;
 mod views;
 
 pub use dealings::{Dealing, Reply, Totals};

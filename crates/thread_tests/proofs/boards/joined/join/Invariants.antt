@@ -2,7 +2,7 @@ use Rattle.std.proofs.Common.{◌≡◌, ◌+◌, ◌%◌, vec_len}
 use Rattle.std.specs.Prelude.{All, IfOk}
 use Rattle.race_board.specs.Race.{IsSeatOf, IsToldEnd, workers_of}
 use Rattle.race_board.specs.Chunks.{CostJust, completed_by}
-use Rattle.race_board.proofs.tests.joined.join.Given as goal
+use Rattle.thread_tests.proofs.boards.joined.join.Given as goal
 
 abbrev pub invariant-loop-result : goal.invariant-loop-result
 invariant-loop-result l = record {

@@ -2,7 +2,7 @@
 ghost use Rattle.std.specs.Prelude.{◌≡◌, ◌≤◌, ◌<◌, IfOk, All};
 ghost use Rattle.race_board.specs.Race.{IsSeatOf, IsToldEnd, MayDrawAt};
 
-use crate::{Board, BoardSeat, Race, RaceEvent, Totals, replay};
+use race_board::{Board, BoardSeat, Race, RaceEvent, Totals, replay};
 use std::alloc::{AllocError, Global};
 use std::test::Fail;
 use std::thread;

@@ -6,7 +6,7 @@ use Rattle.race_board.specs.Chunks.{CostJust, completed_by}
 use Rattle.race_board.proofs.Elements.{all_first, all_last, all_snoc}
 use Rattle.race_board.proofs.Seats.{workers_snoc}
 use Rattle.race_board.proofs.Chunks.{completed_snoc, cost_append}
-use Rattle.race_board.proofs.tests.joined.join.Goals as goal
+use Rattle.thread_tests.proofs.boards.joined.join.Goals as goal
 
 pub loop-result-preserved : goal.loop-result-preserved
 loop-result-preserved c =

@@ -4,7 +4,7 @@ ghost use Rattle.std.specs.Prelude.{◌≡◌, ◌<◌, ◌≤◌, ◌%◌, [], 
 ghost use Rattle.race_board.specs.Race.{BoardState, SeatState, IsSeatOf, IsToldEnd, MayDrawAt, workers_of};
 ghost use Rattle.race_board.specs.Chunks.{AreEachOnce, CostJust, completed_by, steps_in, sum_below};
 
-use crate::{Board, BoardSeat, Totals};
+use race_board::{Board, BoardSeat, Totals};
 use std::alloc::{AllocError, Global};
 use std::test::Fail;
 use std::thread;

@@ -1,14 +1,15 @@
+//! Passes that share a purse, and the purse of one thread.
 ghost use Rattle.std.specs.Prelude.{◌≡◌, ◌≤◌, ◌+◌, ◌<◌, ◌^◌};
 ghost use Rattle.std.specs.Thread.{IsSync};
 ghost use Rattle.std.specs.Prelude.{IfOk};
 ghost use Rattle.step_purse.specs.Passes.{IsPassOf};
 ghost use Rattle.step_purse.specs.declared.dealings.Reply.TheVariants.{Took};
 
-use crate::{GREATEST_ALLOWANCE, Pass, PlainPurse, Purse, Reply, Totals};
 use std::alloc::{AllocError, Global};
 use std::sync::Wait;
 use std::test::Fail;
 use std::thread::{Threads, join};
+use step_purse::{GREATEST_ALLOWANCE, Pass, PlainPurse, Purse, Reply, Totals};
 
 // A pass that nobody else shares is proved to answer as a purse of one thread: of 12 that were just opened, 12 are taken.
 fn reserve_all<R: Wait>(rt: &R, alloc: Global) -> Result<Reply, AllocError>

@@ -6,8 +6,8 @@ use Rattle.race_board.specs.Race.{Worker, MayDrawAt, IsFinished, workers_of}
 use Rattle.race_board.specs.Chunks.{AreEachOnce, steps_in}
 use Rattle.race_board.proofs.Finishing.{all_told, told_finished}
 use Rattle.race_board.proofs.Chunks.{closed_completed, recorded_steps, recorded_completed, completed_steps}
-use Rattle.race_board.proofs.tests.joined.race.Given as given
-use Rattle.race_board.proofs.tests.joined.race.Goals as goal
+use Rattle.thread_tests.proofs.boards.joined.race.Given as given
+use Rattle.thread_tests.proofs.boards.joined.race.Goals as goal
 
 pub map_vec-requires-after_bounds : goal.map_vec-requires-after_bounds
 map_vec-requires-after_bounds g c κs within = λ i x l e.

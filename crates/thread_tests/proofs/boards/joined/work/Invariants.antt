@@ -1,7 +1,7 @@
 use Rattle.std.proofs.Common.{◌≡◌, ◌<◌, ◌-◌, ◌%◌, length}
 use Rattle.race_board.specs.Race.{MayDrawAt, times_drawn}
 use Rattle.race_board.specs.Chunks.{CostJust}
-use Rattle.race_board.proofs.tests.joined.work.Given as goal
+use Rattle.thread_tests.proofs.boards.joined.work.Given as goal
 
 abbrev pub invariant-loop-chunk : goal.invariant-loop-chunk
 invariant-loop-chunk l = record {

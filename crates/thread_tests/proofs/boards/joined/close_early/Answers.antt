@@ -4,7 +4,7 @@ use Rattle.race_board.specs.Race.{workers_of, steps_of}
 use Rattle.race_board.specs.Chunks.{recorded_by, sum_below}
 use Rattle.race_board.proofs.Sums.{sum_append}
 use Rattle.race_board.proofs.Chunks.{recorded_at_most, closed_recorded, recorded_within, recorded_steps}
-use Rattle.race_board.proofs.tests.joined.close_early.Goals as goal
+use Rattle.thread_tests.proofs.boards.joined.close_early.Goals as goal
 
 pub returns-clause-priced : goal.returns-clause-priced
 returns-clause-priced c =

@@ -1,7 +1,7 @@
 use Rattle.std.proofs.Common.{arith, ◌≡◌, ℕ, ◌+◌, ◌-◌, ◌<◌, ap, sym, subst}
 use Rattle.race_board.specs.Race.{Worker, times_drawn}
 use Rattle.race_board.proofs.Turns.{completed_drew}
-use Rattle.race_board.proofs.tests.draw_all.Goals as goal
+use Rattle.thread_tests.proofs.boards.draw_all.Goals as goal
 
 pub loop-chunk-preserved : goal.loop-chunk-preserved
 loop-chunk-preserved c =

@@ -3,7 +3,7 @@ use Rattle.race_board.specs.Race.{Worker, times_drawn}
 use Rattle.race_board.specs.Chunks.{CostJust}
 use Rattle.race_board.proofs.Turns.{completed_drew}
 use Rattle.race_board.proofs.Chunks.{cost_append}
-use Rattle.race_board.proofs.tests.joined.work.Goals as goal
+use Rattle.thread_tests.proofs.boards.joined.work.Goals as goal
 
 pub loop-chunk-preserved : goal.loop-chunk-preserved
 loop-chunk-preserved c =

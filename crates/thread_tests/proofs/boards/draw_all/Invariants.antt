@@ -1,6 +1,6 @@
 use Rattle.std.proofs.Common.{◌<◌, ◌-◌, length}
 use Rattle.race_board.specs.Race.{MayDrawAt, times_drawn}
-use Rattle.race_board.proofs.tests.draw_all.Given as goal
+use Rattle.thread_tests.proofs.boards.draw_all.Given as goal
 
 abbrev pub invariant-loop-chunk : goal.invariant-loop-chunk
 invariant-loop-chunk l = record {
