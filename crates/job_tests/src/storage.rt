@@ -1,11 +1,12 @@
 //! Each call once with ample memory, the refusals in their order, and a full builder. Every test but the full one also
 //! passes where any one allocation is refused: it then asks again, and finds what was put before.
-use csr_store::{Builder, EntryList, Matrix, Rows, StoreError, Version, join_rows};
-use std::alloc::AllocError;
+use csr_store::{Builder, Matrix, Rows, StoreError, Version, join_rows};
+use std::alloc::{AllocError, Global};
 use std::process::Abort;
 use std::sync::Arc;
 use std::test::Fail;
 
+mod lists;
 mod rows;
 
 /// An entry: its row, its column and its value.
@@ -39,6 +40,19 @@ fn assert_holds(rt: &impl Abort, matrix: &Matrix, entries: &[Triple]) {
     }
 }
 
+/// Positions of a matrix have these values, or none.
+fn assert_at(rt: &impl Abort, matrix: &Matrix, wanted: &[(u64, u64, Option<u64>)]) {
+    for (i, j, value) in wanted {
+        assert_eq!(rt; matrix.get(*i, *j), *value, "at {i}, {j}");
+    }
+}
+
+/// A row of a matrix has these cells.
+fn assert_row(rt: &impl Abort, matrix: &Matrix, i: u64, cells: &[(u64, u64)]) {
+    assert!(rt; i < matrix.rows());
+    assert_eq!(rt; matrix.row(i), cells, "row {i}");
+}
+
 #[test]
 fn finds_what_was_put(rt: HostRuntime) -> Result<(), Fail> {
     let entries = [(2, 1, 5), (0, 3, 7), (0, 0, u64::MAX), (2, 0, 0), (0, 1, 3)];
@@ -47,15 +61,12 @@ fn finds_what_was_put(rt: HostRuntime) -> Result<(), Fail> {
         put_again(&mut builder, entry)?;
     }
     let matrix = finish_again(builder)?;
-    assert_eq!(rt; matrix.rows(), 3);
-    assert_eq!(rt; matrix.columns(), 4);
+    assert_eq!(rt; (matrix.rows(), matrix.columns()), (3, 4));
     assert_holds(&rt, &matrix, &entries);
-    assert_eq!(rt; matrix.get(3, 0), None);
-    assert_eq!(rt; matrix.get(0, 4), None);
-    assert!(rt; matrix.rows() == 3);
-    assert_eq!(rt; matrix.row(0), [(0, u64::MAX), (1, 3), (3, 7)].as_slice());
-    assert_eq!(rt; matrix.row(1), [].as_slice());
-    assert_eq!(rt; matrix.row(2), [(0, 0), (1, 5)].as_slice());
+    assert_at(&rt, &matrix, &[(3, 0, None), (0, 4, None)]);
+    assert_row(&rt, &matrix, 0, &[(0, u64::MAX), (1, 3), (3, 7)]);
+    assert_row(&rt, &matrix, 1, &[]);
+    assert_row(&rt, &matrix, 2, &[(0, 0), (1, 5)]);
     Ok(())
 }
 
@@ -79,23 +90,33 @@ fn refuses_and_goes_on(rt: HostRuntime) -> Result<(), Fail> {
 }
 
 #[test]
-fn sizes_reach_from_nothing_to_the_limit(rt: HostRuntime) -> Result<(), Fail> {
+fn a_matrix_of_no_rows(rt: HostRuntime) -> Result<(), Fail> {
     let mut none = Builder::new(rt.alloc(), 0, 0);
     assert_eq!(rt; none.put(0, 0, 1), Err(StoreError::IndexOutOfRange));
     assert_holds(&rt, &finish_again(none)?, &[]);
+    Ok(())
+}
 
+#[test]
+fn sizes_reach_to_the_limit(rt: HostRuntime) -> Result<(), Fail> {
     let last = 16_777_215;
     let mut wide = Builder::new(rt.alloc(), 16_777_216, 16_777_216);
     put_again(&mut wide, (last, last, 2))?;
     put_again(&mut wide, (0, last, 1))?;
     let wide = finish_again(wide)?;
-    assert_eq!(rt; wide.entries(), 2);
-    assert_eq!(rt; wide.get(0, last), Some(1));
-    assert_eq!(rt; wide.get(last, last), Some(2));
-    assert_eq!(rt; wide.get(last, 0), None);
-    assert!(rt; wide.rows() == 16_777_216);
-    assert_eq!(rt; wide.row(last), [(last, 2)].as_slice());
+    assert_eq!(rt; (wide.rows(), wide.entries()), (16_777_216, 2));
+    assert_at(
+        &rt,
+        &wide,
+        &[(0, last, Some(1)), (last, last, Some(2)), (last, 0, None)],
+    );
+    assert_row(&rt, &wide, last, &[(last, 2)]);
     Ok(())
+}
+
+/// A builder refuses an entry for this.
+fn assert_refused(rt: &impl Abort, builder: &mut Builder, entry: Triple, error: StoreError) {
+    assert_eq!(rt; builder.put(entry.0, entry.1, entry.2), Err(error));
 }
 
 #[test]
@@ -106,13 +127,17 @@ fn full_builder_refuses_in_order(rt: HostRuntime) -> Result<(), Fail> {
             builder.put(row, column, row ^ column)?;
         }
     }
-    assert_eq!(rt; builder.put(4096, 0, 1), Err(StoreError::IndexOutOfRange));
-    assert_eq!(rt; builder.put(17, 5, 1), Err(StoreError::PositionGivenTwice));
-    assert_eq!(rt; builder.put(17, 4096, 1), Err(StoreError::TooManyEntries));
+    assert_refused(&rt, &mut builder, (4096, 0, 1), StoreError::IndexOutOfRange);
+    assert_refused(
+        &rt,
+        &mut builder,
+        (17, 5, 1),
+        StoreError::PositionGivenTwice,
+    );
+    assert_refused(&rt, &mut builder, (17, 4096, 1), StoreError::TooManyEntries);
     let matrix = builder.finish().map_err(|_| AllocError)?;
     assert_eq!(rt; matrix.entries(), 16_777_216);
-    assert_eq!(rt; matrix.get(4095, 4094), Some(1));
-    assert_eq!(rt; matrix.get(17, 4096), None);
+    assert_at(&rt, &matrix, &[(4095, 4094, Some(1)), (17, 4096, None)]);
     Ok(())
 }
 
@@ -131,34 +156,41 @@ fn version_has_several_owners(rt: HostRuntime) -> Result<(), Fail> {
     Ok(())
 }
 
+/// Errors, each with its name and as it is shown.
+const ERRORS: [(StoreError, &str, &str); 4] = [
+    (
+        StoreError::IndexOutOfRange,
+        "J1",
+        "J1: the row or the column is outside the matrix",
+    ),
+    (
+        StoreError::PositionGivenTwice,
+        "J2",
+        "J2: the position has an entry already",
+    ),
+    (
+        StoreError::TooManyEntries,
+        "J3",
+        "J3: a matrix has at most 16777216 entries",
+    ),
+    (StoreError::Memory, "memory", "no memory for the entry"),
+];
+
+/// What an error is shown as, asked for once more where memory was refused.
+fn shown(alloc: Global, error: StoreError) -> Result<String, Fail> {
+    let mut text = String::new(alloc);
+    if write!(text, "{error}").is_err() {
+        text.clear();
+        write!(text, "{error}")?;
+    }
+    Ok(text)
+}
+
 #[test]
 fn errors_are_named(rt: HostRuntime) -> Result<(), Fail> {
-    let texts = [
-        (
-            StoreError::IndexOutOfRange,
-            "J1",
-            "J1: the row or the column is outside the matrix",
-        ),
-        (
-            StoreError::PositionGivenTwice,
-            "J2",
-            "J2: the position has an entry already",
-        ),
-        (
-            StoreError::TooManyEntries,
-            "J3",
-            "J3: a matrix has at most 16777216 entries",
-        ),
-        (StoreError::Memory, "memory", "no memory for the entry"),
-    ];
-    for (error, name, text) in texts {
-        assert_eq!(rt; error.name(), name);
-        let mut shown = String::new(rt.alloc());
-        if write!(shown, "{error}").is_err() {
-            shown.clear();
-            write!(shown, "{error}")?;
-        }
-        assert_eq!(rt; shown.as_str(), text);
+    for (error, name, text) in &ERRORS {
+        assert_eq!(rt; error.name(), *name);
+        assert_eq!(rt; shown(rt.alloc(), *error)?.as_str(), *text);
     }
     Ok(())
 }
@@ -267,109 +299,5 @@ fn values_are_set(rt: HostRuntime) -> Result<(), Fail> {
     rows.end_row()?;
     let matrix = join_rows(rt.alloc(), 3, 3, vec![in rt.alloc(); rows]?)?;
     assert_holds(&rt, &matrix, &[(0, 1, 10), (0, 2, 11), (2, 0, 12)]);
-    Ok(())
-}
-
-/// The matrix of a list of entries, asked for once more where memory was refused.
-fn listed(
-    rt: &HostRuntime,
-    (rows, columns): (u64, u64),
-    entries: &[Triple],
-) -> Result<Matrix, StoreError> {
-    match listed_once(rt, (rows, columns), entries) {
-        Err(StoreError::Memory) => listed_once(rt, (rows, columns), entries),
-        other => other,
-    }
-}
-
-fn listed_once(
-    rt: &HostRuntime,
-    (rows, columns): (u64, u64),
-    entries: &[Triple],
-) -> Result<Matrix, StoreError> {
-    let mut list = EntryList::new(rt.alloc(), rows.min(16_777_216), columns.min(16_777_216));
-    if list.reserve(entries.len()).is_err() {
-        return Err(StoreError::Memory);
-    }
-    for (row, column, value) in entries {
-        list.push(*row, *column, *value)?;
-    }
-    list.finish()
-}
-
-#[test]
-fn list_makes_the_matrix(rt: HostRuntime) -> Result<(), Fail> {
-    let entries = [(2, 1, 5), (0, 3, 7), (0, 0, u64::MAX), (2, 0, 0), (0, 1, 3)];
-    let matrix = listed(&rt, (4, 4), &entries)?;
-    assert!(rt; matrix.rows() == 4);
-    assert_eq!(rt; matrix.columns(), 4);
-    assert_holds(&rt, &matrix, &entries);
-    assert_eq!(rt; matrix.starts(), [0, 3, 3, 5, 5].as_slice());
-    assert_holds(&rt, &listed(&rt, (0, 0), &[])?, &[]);
-    Ok(())
-}
-
-#[test]
-fn list_refuses(rt: HostRuntime) -> Result<(), Fail> {
-    let mut list = EntryList::new(rt.alloc(), 3, 4);
-    assert_eq!(rt; list.push(3, 0, 1), Err(StoreError::IndexOutOfRange));
-    assert_eq!(rt; list.push(0, 4, 1), Err(StoreError::IndexOutOfRange));
-    assert_eq!(rt;
-        list.push(u64::MAX, u64::MAX, 1),
-        Err(StoreError::IndexOutOfRange)
-    );
-    let twice = [(1, 2, 10), (0, 0, 3), (2, 3, 1), (1, 2, 11)];
-    let refused = listed(&rt, (3, 4), &twice).map(|_| ());
-    assert_eq!(rt; refused, Err(StoreError::PositionGivenTwice));
-    let same = listed(&rt, (3, 4), &[(0, 0, 1), (0, 0, 1)]).map(|_| ());
-    assert_eq!(rt; same, Err(StoreError::PositionGivenTwice));
-    Ok(())
-}
-
-#[test]
-fn list_reaches_the_limit(rt: HostRuntime) -> Result<(), Fail> {
-    let last = 16_777_215;
-    let entries = [(last, last, 2), (0, last, 1), (last, 0, 3)];
-    let wide = listed(&rt, (16_777_216, 16_777_216), &entries)?;
-    assert_eq!(rt; wide.entries(), 3);
-    assert_eq!(rt; wide.get(0, last), Some(1));
-    assert_eq!(rt; wide.get(last, 0), Some(3));
-    assert_eq!(rt; wide.get(last, last), Some(2));
-    Ok(())
-}
-
-#[test]
-fn full_list_refuses_in_order(rt: HostRuntime) -> Result<(), Fail> {
-    let mut list = EntryList::new(rt.alloc(), 4096, 4097);
-    for column in 0..4096 {
-        for row in 0..4096 {
-            list.push(row, column, row ^ column)?;
-        }
-    }
-    assert_eq!(rt; list.push(4096, 0, 1), Err(StoreError::IndexOutOfRange));
-    assert_eq!(rt; list.push(17, 5, 1), Err(StoreError::TooManyEntries));
-    let matrix = list.finish()?;
-    assert_eq!(rt; matrix.entries(), 16_777_216);
-    assert_eq!(rt; matrix.get(4095, 4094), Some(1));
-    assert_eq!(rt; matrix.get(17, 4096), None);
-    Ok(())
-}
-
-#[test]
-fn list_and_builder_agree(rt: HostRuntime) -> Result<(), Fail> {
-    let side = 200;
-    let mut builder = Builder::new(rt.alloc(), side, side);
-    let mut descending = Vec::new(rt.alloc());
-    let mut mixed = Vec::new(rt.alloc());
-    for k in 0..30_000u64 {
-        put_again(&mut builder, (k / side, k % side, k))?;
-        let from_end = 29_999 - k;
-        descending.push((from_end / side, from_end % side, from_end))?;
-        let jump = k.wrapping_mul(7_919) % 30_000;
-        mixed.push((jump / side, jump % side, jump))?;
-    }
-    let ascending = finish_again(builder)?;
-    assert_equal(&rt, &ascending, &listed(&rt, (side, side), &descending)?);
-    assert_equal(&rt, &ascending, &listed(&rt, (side, side), &mixed)?);
     Ok(())
 }

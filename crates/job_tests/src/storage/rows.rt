@@ -45,9 +45,20 @@ fn rows_are_copied(rt: HostRuntime) -> Result<(), Fail> {
     Ok(())
 }
 
-#[test]
-fn entries_get_other_values(rt: HostRuntime) -> Result<(), Fail> {
-    let matrix = uneven(&rt)?;
+/// Rows and columns, each with its place among all cells and its value behind `other_values`.
+const CHANGED: [(u64, u64, usize, u64); 7] = [
+    (1, 0, 0, 1000),
+    (2, 0, 1, 2000),
+    (2, 126, 127, 7),
+    (3, 0, 128, 8),
+    (3, 1, 129, 9),
+    (3, 2, 130, 3002),
+    (5, 0, 256, 5000),
+];
+
+/// Three values from the place 127 on, and one at the place 500.
+fn other_values(rt: &HostRuntime) -> Result<Rows, Fail> {
+    let matrix = uneven(rt)?;
     let mut copied = matrix.copy_rows(rt.alloc(), 0..matrix.rows())?;
     if 130 <= copied.entries() {
         copied.set_values(127, &[7, 8, 9]);
@@ -55,11 +66,14 @@ fn entries_get_other_values(rt: HostRuntime) -> Result<(), Fail> {
     if 500 < copied.entries() {
         copied.set_value(500, 5);
     }
-    let rows = [(1, 0), (2, 0), (2, 126), (3, 0), (3, 1), (3, 2), (5, 0)];
-    let places = [0, 1, 127, 128, 129, 130, 256];
-    let wanted = [1000, 2000, 7, 8, 9, 3002, 5000];
+    Ok(copied)
+}
+
+#[test]
+fn entries_get_other_values(rt: HostRuntime) -> Result<(), Fail> {
+    let copied = other_values(&rt)?;
     assert_eq!(rt; copied.entries(), 687);
-    for ((row, column), (place, value)) in rows.iter().zip(places.iter().zip(wanted.iter())) {
+    for (row, column, place, value) in &CHANGED {
         assert_eq!(rt;
             copied.cells().get(*place),
             Some(&(*column, *value)),

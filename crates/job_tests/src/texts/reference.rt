@@ -1,7 +1,7 @@
 //! A plain reader of the same texts, written from the rules one after another and with no thought of speed: the fast one is
 //! compared with it.
 use matrix_market::{MarketError, MarketRule, parse_value};
-use std::alloc::Global;
+use std::alloc::{AllocError, Global};
 use std::test::Fail;
 
 /// What a text stands for: its sizes, and its entries in the order of its lines, each with its mirror behind it.
@@ -163,17 +163,91 @@ fn characters(alloc: Global, text: &[u8]) -> Result<String, Fail> {
     Ok(characters)
 }
 
+/// What the lines so far say: the kind of text, how many entries there are to be, and how many there are.
+#[derive(Drop)]
+struct Reading {
+    plain: Plain,
+    kind: Option<(bool, bool)>,
+    declared: Option<u128>,
+    given: u128,
+}
+
+/// Takes the words of a line, or says which rule it breaks.
+fn take(reading: &mut Reading, words: &[String]) -> Result<Result<(), MarketRule>, AllocError> {
+    let Some((pattern, symmetric)) = reading.kind else {
+        return match banner(words) {
+            Ok(found) => {
+                reading.kind = Some(found);
+                Ok(Ok(()))
+            }
+            Err(rule) => Ok(Err(rule)),
+        };
+    };
+    if words.is_empty() || words[0].as_str().starts_with('%') {
+        return Ok(Ok(()));
+    }
+    match reading.declared {
+        None => match sizes(words, symmetric) {
+            Ok(found) => {
+                declare(reading, found);
+                Ok(Ok(()))
+            }
+            Err(rule) => Ok(Err(rule)),
+        },
+        Some(entries) if reading.given >= entries => Ok(Err(MarketRule::LineAfterLastEntry)),
+        Some(_) => take_entry(reading, words, pattern, symmetric),
+    }
+}
+
+/// Takes the sizes.
+fn declare(reading: &mut Reading, (rows, columns, entries): (u128, u128, u128)) {
+    reading.plain.rows = rows.min(16_777_216) as u64;
+    reading.plain.columns = columns.min(16_777_216) as u64;
+    reading.declared = Some(entries);
+}
+
+/// Takes an entry, with its mirror.
+fn take_entry(
+    reading: &mut Reading,
+    words: &[String],
+    pattern: bool,
+    symmetric: bool,
+) -> Result<Result<(), MarketRule>, AllocError> {
+    let (row, column, word) = match entry(&reading.plain, words, pattern, symmetric) {
+        Ok(found) => found,
+        Err(rule) => return Ok(Err(rule)),
+    };
+    reading.plain.entries.push((row, column, word))?;
+    if symmetric && row != column {
+        reading.plain.entries.push((column, row, word))?;
+    }
+    reading.given = reading.given.saturating_add(1);
+    Ok(Ok(()))
+}
+
+/// Which rule a text breaks that ends here.
+fn ended(reading: &Reading) -> Result<(), MarketRule> {
+    match (reading.kind, reading.declared) {
+        (None, _) => Err(MarketRule::MalformedBanner),
+        (_, None) => Err(MarketRule::MalformedSize),
+        (_, Some(entries)) if reading.given < entries => Err(MarketRule::TooFewEntries),
+        _ => Ok(()),
+    }
+}
+
 /// Reads a text line by line.
 pub fn read_plainly(alloc: Global, text: &[u8]) -> Result<Answer, Fail> {
     let text = characters(alloc, text)?;
-    let mut plain = Plain {
-        rows: 0,
-        columns: 0,
-        entries: Vec::new(alloc),
+    let mut reading = Reading {
+        plain: Plain {
+            rows: 0,
+            columns: 0,
+            entries: Vec::new(alloc),
+        },
+        kind: None,
+        declared: None,
+        given: 0,
     };
-    let mut kind = None;
-    let mut declared: Option<u128> = None;
-    let mut given = 0u128;
     let mut at = 0u64;
     for line in text.lines() {
         at = at.saturating_add(1);
@@ -181,46 +255,12 @@ pub fn read_plainly(alloc: Global, text: &[u8]) -> Result<Answer, Fail> {
             return fault(MarketRule::LineTooLong, at);
         }
         let words = words_of(alloc, line)?;
-        let Some((pattern, symmetric)) = kind else {
-            match banner(&words) {
-                Ok(found) => kind = Some(found),
-                Err(rule) => return fault(rule, at),
-            }
-            continue;
-        };
-        if words.is_empty() || words[0].as_str().starts_with('%') {
-            continue;
+        if let Err(rule) = take(&mut reading, &words)? {
+            return fault(rule, at);
         }
-        let Some(entries) = declared else {
-            match sizes(&words, symmetric) {
-                Ok((rows, columns, entries)) => {
-                    plain.rows = rows.min(16_777_216) as u64;
-                    plain.columns = columns.min(16_777_216) as u64;
-                    declared = Some(entries);
-                }
-                Err(rule) => return fault(rule, at),
-            }
-            continue;
-        };
-        if given >= entries {
-            return fault(MarketRule::LineAfterLastEntry, at);
-        }
-        match entry(&plain, &words, pattern, symmetric) {
-            Ok((row, column, word)) => {
-                plain.entries.push((row, column, word))?;
-                if symmetric && row != column {
-                    plain.entries.push((column, row, word))?;
-                }
-            }
-            Err(rule) => return fault(rule, at),
-        }
-        given = given.saturating_add(1);
     }
-    let end = at.saturating_add(1);
-    match (kind, declared) {
-        (None, _) => fault(MarketRule::MalformedBanner, end),
-        (_, None) => fault(MarketRule::MalformedSize, end),
-        (_, Some(entries)) if given < entries => fault(MarketRule::TooFewEntries, end),
-        _ => Ok(Ok(plain)),
+    match ended(&reading) {
+        Ok(()) => Ok(Ok(reading.plain)),
+        Err(rule) => fault(rule, at.saturating_add(1)),
     }
 }
