@@ -29,8 +29,15 @@ fn matrix(
     for (row, column, value) in entries {
         builder.put(*row, *column, *value)?;
     }
-    let matrix = builder.finish().map_err(|_| AllocError)?;
-    Ok(Arc::new(alloc, matrix)?)
+    Ok(version(alloc, builder)?)
+}
+
+/// The matrix of a builder, with several owners.
+fn version(alloc: Global, builder: Builder) -> Result<Version, AllocError> {
+    match builder.finish() {
+        Ok(matrix) => Ok(Arc::new(alloc, matrix)?),
+        Err(_) => Err(AllocError),
+    }
 }
 
 /// The matrix with 1, 2 and so on down its diagonal.
@@ -38,10 +45,17 @@ fn diagonal(alloc: Global, rows: u32) -> Result<Version, AllocError> {
     let rows = u64::from(rows) % 4096;
     let mut builder = Builder::new(alloc, rows, rows);
     for row in 0..rows {
-        builder.put(row, row, row + 1).map_err(|_| AllocError)?;
+        put(&mut builder, row, row + 1)?;
     }
-    let matrix = builder.finish().map_err(|_| AllocError)?;
-    Ok(Arc::new(alloc, matrix)?)
+    version(alloc, builder)
+}
+
+/// Puts a value on the diagonal.
+fn put(builder: &mut Builder, row: u64, value: u64) -> Result<(), AllocError> {
+    match builder.put(row, row, value) {
+        Ok(()) => Ok(()),
+        Err(_) => Err(AllocError),
+    }
 }
 
 /// Puts a job into a queue.
@@ -91,112 +105,181 @@ fn is(answer: &BatchAnswer, job: usize, entries: &[(u64, u64, u64)], steps: u64)
     matrix.entries() == entries.len() as u64 && result.steps == steps
 }
 
+/// The plan of one job that adds one to each entry of a diagonal.
+fn increments(rt: &impl Abort, alloc: Global, rows: u32) -> Result<Plan, AllocError> {
+    let form = Form::Apply {
+        operator: operator(alloc, Kind::Unary, &[FIRST, ADD_ONE, EXIT])?,
+        thunk: None,
+        operand: diagonal(alloc, rows)?,
+    };
+    plan_of(rt, alloc, form)
+}
+
+/// Whether that job gave its matrix and its steps.
+fn is_incremented(answer: &BatchAnswer, rows: u64) -> bool {
+    let Some(result) = answer.results.get(0) else {
+        return false;
+    };
+    for row in 0..rows {
+        if result.version.get(row, row) != Some(row.wrapping_add(2)) {
+            return false;
+        }
+    }
+    answer.results.len() == 1
+        && result.version.entries() == rows
+        && result.steps == rows.wrapping_mul(3)
+}
+
 #[test]
 fn three_chunks_of_a_diagonal(rt: HostRuntime) -> Result<(), Fail> {
-    let alloc = rt.alloc();
-    let plan = plan_of(
-        &rt,
-        alloc,
-        Form::Apply {
-            operator: operator(alloc, Kind::Unary, &[FIRST, ADD_ONE, EXIT])?,
-            thunk: None,
-            operand: diagonal(alloc, 600)?,
-        },
-    )?;
+    let plan = increments(&rt, rt.alloc(), 600)?;
     assert_eq!(rt; plan.chunks(), 3);
-    let answer = answer(&rt, alloc, &plan);
-    assert_eq!(rt; answer.results.len(), 1);
-    let result = &answer.results[0];
-    assert_eq!(rt; result.steps, 1800);
-    assert_eq!(rt; result.version.entries(), 600);
-    for row in 0..600u64 {
-        assert_eq!(rt; result.version.get(row, row), Some(row + 2));
-    }
+    let answer = answer(&rt, rt.alloc(), &plan);
+    assert!(rt; is_incremented(&answer, 600));
     Ok(())
 }
 
 #[test]
-fn no_jobs_and_no_rows(rt: HostRuntime) -> Result<(), Fail> {
-    let alloc = rt.alloc();
-    let plan = Queue::open(alloc)?.take()?;
+fn no_jobs(rt: HostRuntime) -> Result<(), Fail> {
+    let plan = Queue::open(rt.alloc())?.take()?;
     assert_eq!(rt; plan.chunks(), 0);
-    assert!(rt; answer(&rt, alloc, &plan).results.is_empty());
-    let plan = plan_of(
-        &rt,
-        alloc,
-        Form::Reduce {
-            operator: operator(alloc, Kind::Binary, &[FIRST, SUB, EXIT])?,
-            operand: diagonal(alloc, 0)?,
-        },
-    )?;
-    assert_eq!(rt; plan.chunks(), 0);
-    assert!(rt; is(&answer(&rt, alloc, &plan), 0, &[], 0));
+    assert!(rt; answer(&rt, rt.alloc(), &plan).results.is_empty());
     Ok(())
+}
+
+/// The plan of a reduction of no rows.
+fn reduction_of_nothing(rt: &impl Abort, alloc: Global) -> Result<Plan, AllocError> {
+    let form = Form::Reduce {
+        operator: operator(alloc, Kind::Binary, &[FIRST, SUB, EXIT])?,
+        operand: diagonal(alloc, 0)?,
+    };
+    plan_of(rt, alloc, form)
+}
+
+#[test]
+fn no_rows(rt: HostRuntime) -> Result<(), Fail> {
+    let plan = reduction_of_nothing(&rt, rt.alloc())?;
+    assert_eq!(rt; plan.chunks(), 0);
+    assert!(rt; is(&answer(&rt, rt.alloc(), &plan), 0, &[], 0));
+    Ok(())
+}
+
+/// The operators and the operands that jobs of each form share.
+#[derive(Drop)]
+struct Common {
+    sub: Arc<Prepared>,
+    index: Arc<Prepared>,
+    a: Version,
+    b: Version,
+}
+
+/// These operators and operands.
+fn shared(alloc: Global) -> Result<Common, Fail> {
+    let a = [(0, 0, 10), (0, 1, 3), (0, 2, 2), (1, 1, 1)];
+    let b = [(0, 0, 4), (1, 0, 5), (1, 1, 1)];
+    Ok(Common {
+        sub: operator(alloc, Kind::Binary, &[FIRST, SUB, EXIT])?,
+        index: operator(alloc, Kind::Index, &[FIRST, SUB, EXIT])?,
+        a: matrix(alloc, 2, 3, &a)?,
+        b: matrix(alloc, 2, 3, &b)?,
+    })
+}
+
+/// An apply with a thunk.
+fn apply(shared: &Common) -> Result<Form, Fail> {
+    Ok(Form::Apply {
+        operator: Arc::try_clone(&shared.index)?,
+        thunk: Some(0),
+        operand: Arc::try_clone(&shared.a)?,
+    })
+}
+
+/// A selection.
+fn select(shared: &Common) -> Result<Form, Fail> {
+    Ok(Form::Select {
+        operator: Arc::try_clone(&shared.index)?,
+        thunk: 0,
+        operand: Arc::try_clone(&shared.a)?,
+    })
+}
+
+/// A union.
+fn union_of(shared: &Common) -> Result<Form, Fail> {
+    Ok(Form::Union {
+        operator: Arc::try_clone(&shared.sub)?,
+        left: Arc::try_clone(&shared.a)?,
+        right: Arc::try_clone(&shared.b)?,
+    })
+}
+
+/// What stands in both.
+fn both(shared: &Common) -> Result<Form, Fail> {
+    Ok(Form::Both {
+        operator: Arc::try_clone(&shared.sub)?,
+        left: Arc::try_clone(&shared.a)?,
+        right: Arc::try_clone(&shared.b)?,
+    })
+}
+
+/// A product with a column.
+fn product(alloc: Global, shared: &Common) -> Result<Form, Fail> {
+    let right = matrix(alloc, 3, 1, &[(0, 0, 1), (1, 0, 2)])?;
+    Ok(Form::Product {
+        add: Arc::try_clone(&shared.sub)?,
+        mul: operator(alloc, Kind::Binary, &[FIRST, MUL, EXIT])?,
+        left: Arc::try_clone(&shared.a)?,
+        right,
+    })
+}
+
+/// A reduction.
+fn reduce(shared: &Common) -> Result<Form, Fail> {
+    Ok(Form::Reduce {
+        operator: Arc::try_clone(&shared.sub)?,
+        operand: Arc::try_clone(&shared.a)?,
+    })
+}
+
+/// The plan of a job of each form, of which one has a mask.
+fn each(rt: &impl Abort, alloc: Global, shared: &Common) -> Result<Plan, Fail> {
+    let mut queue = Queue::open(alloc)?;
+    submit(rt, alloc, &mut queue, apply(shared)?, None)?;
+    submit(rt, alloc, &mut queue, select(shared)?, None)?;
+    submit(rt, alloc, &mut queue, union_of(shared)?, None)?;
+    let mask = matrix(alloc, 2, 3, &[(0, 0, 0), (1, 0, 0)])?;
+    submit(rt, alloc, &mut queue, both(shared)?, Some(mask))?;
+    submit(rt, alloc, &mut queue, product(alloc, shared)?, None)?;
+    submit(rt, alloc, &mut queue, reduce(shared)?, None)?;
+    Ok(queue.take()?)
+}
+
+/// The jobs by their numbers, with their entries and their steps.
+const EACH: [(usize, &[(u64, u64, u64)], u64); 6] = [
+    (0, &[(0, 0, 10), (0, 1, 3), (0, 2, 2), (1, 1, 0)], 12),
+    (1, &[(0, 0, 10), (0, 1, 3), (0, 2, 2)], 12),
+    (
+        2,
+        &[(0, 0, 6), (0, 1, 3), (0, 2, 2), (1, 0, 5), (1, 1, 0)],
+        6,
+    ),
+    (3, &[(0, 0, 6)], 3),
+    (4, &[(0, 0, 4), (1, 0, 2)], 12),
+    (5, &[(0, 0, 5), (1, 0, 1)], 6),
+];
+
+/// Jobs have these entries, and took so many steps.
+fn assert_each(rt: &impl Abort, answer: &BatchAnswer, wanted: &[(usize, &[(u64, u64, u64)], u64)]) {
+    for (job, entries, steps) in wanted {
+        assert!(rt; is(answer, *job, entries, *steps));
+    }
 }
 
 #[test]
 fn each_form(rt: HostRuntime) -> Result<(), Fail> {
-    let alloc = rt.alloc();
-    let sub = operator(alloc, Kind::Binary, &[FIRST, SUB, EXIT])?;
-    let mul = operator(alloc, Kind::Binary, &[FIRST, MUL, EXIT])?;
-    let index = operator(alloc, Kind::Index, &[FIRST, SUB, EXIT])?;
-    let a = matrix(alloc, 2, 3, &[(0, 0, 10), (0, 1, 3), (0, 2, 2), (1, 1, 1)])?;
-    let b = matrix(alloc, 2, 3, &[(0, 0, 4), (1, 0, 5), (1, 1, 1)])?;
-    let c = matrix(alloc, 3, 1, &[(0, 0, 1), (1, 0, 2)])?;
-    let mask = matrix(alloc, 2, 3, &[(0, 0, 0), (1, 0, 0)])?;
-    let mut queue = Queue::open(alloc)?;
-    let form = Form::Apply {
-        operator: Arc::try_clone(&index)?,
-        thunk: Some(0),
-        operand: Arc::try_clone(&a)?,
-    };
-    submit(&rt, alloc, &mut queue, form, None)?;
-    let form = Form::Select {
-        operator: index,
-        thunk: 0,
-        operand: Arc::try_clone(&a)?,
-    };
-    submit(&rt, alloc, &mut queue, form, None)?;
-    let form = Form::Union {
-        operator: Arc::try_clone(&sub)?,
-        left: Arc::try_clone(&a)?,
-        right: Arc::try_clone(&b)?,
-    };
-    submit(&rt, alloc, &mut queue, form, None)?;
-    let form = Form::Both {
-        operator: Arc::try_clone(&sub)?,
-        left: Arc::try_clone(&a)?,
-        right: Arc::try_clone(&b)?,
-    };
-    submit(&rt, alloc, &mut queue, form, Some(mask))?;
-    let form = Form::Product {
-        add: Arc::try_clone(&sub)?,
-        mul,
-        left: Arc::try_clone(&a)?,
-        right: c,
-    };
-    submit(&rt, alloc, &mut queue, form, None)?;
-    let form = Form::Reduce {
-        operator: sub,
-        operand: a,
-    };
-    submit(&rt, alloc, &mut queue, form, None)?;
-    let plan = queue.take()?;
-    let answer = answer(&rt, alloc, &plan);
+    let shared = shared(rt.alloc())?;
+    let plan = each(&rt, rt.alloc(), &shared)?;
+    let answer = answer(&rt, rt.alloc(), &plan);
     assert_eq!(rt; answer.results.len(), 6);
-    assert!(rt;
-        is(
-            &answer,
-            0,
-            &[(0, 0, 10), (0, 1, 3), (0, 2, 2), (1, 1, 0)],
-            12
-        )
-    );
-    assert!(rt; is(&answer, 1, &[(0, 0, 10), (0, 1, 3), (0, 2, 2)], 12));
-    let united = [(0, 0, 6), (0, 1, 3), (0, 2, 2), (1, 0, 5), (1, 1, 0)];
-    assert!(rt; is(&answer, 2, &united, 6));
-    assert!(rt; is(&answer, 3, &[(0, 0, 6)], 3));
-    assert!(rt; is(&answer, 4, &[(0, 0, 4), (1, 0, 2)], 12));
-    assert!(rt; is(&answer, 5, &[(0, 0, 5), (1, 0, 1)], 6));
+    assert_each(&rt, &answer, &EACH);
     Ok(())
 }

@@ -1,4 +1,4 @@
-//! Tests of the crates that keep matrices and do jobs, through their public functions alone.
+//! Tests of the crates that plan jobs and run them, through their public functions alone.
 //!
 //! The gate proves a crate that has tests of its own twice. These stand above the crates that they
 //! test, each of which is so proved once.
@@ -7,14 +7,6 @@
 #[cfg(test)]
 mod batches;
 #[cfg(test)]
-mod forms;
-#[cfg(test)]
 mod operators;
 #[cfg(test)]
 mod plans;
-#[cfg(test)]
-mod products;
-#[cfg(test)]
-mod storage;
-#[cfg(test)]
-mod texts;

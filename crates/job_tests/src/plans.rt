@@ -10,6 +10,7 @@ use bpf_run::Prepared;
 use csr_store::{Builder, Version};
 use job_plan::{Form, Job, JobError, Plan, Priced, Queue, price};
 use std::alloc::{AllocError, Global};
+use std::process::Abort;
 use std::sync::Arc;
 use std::test::Fail;
 
@@ -45,8 +46,15 @@ fn matrix(
     for entry in entries {
         builder.put(entry.0, entry.1, entry.2)?;
     }
-    let matrix = builder.finish().map_err(|_| AllocError)?;
-    Ok(Arc::new(alloc, matrix)?)
+    Ok(version(alloc, builder)?)
+}
+
+/// The matrix of a builder, with several owners.
+fn version(alloc: Global, builder: Builder) -> Result<Version, AllocError> {
+    match builder.finish() {
+        Ok(matrix) => Ok(Arc::new(alloc, matrix)?),
+        Err(_) => Err(AllocError),
+    }
 }
 
 /// A square matrix with an entry at each of the first positions of its diagonal.
@@ -55,8 +63,7 @@ fn diagonal(alloc: Global, size: u64) -> Result<Version, Fail> {
     for i in 0..size {
         builder.put(i, i, 1)?;
     }
-    let matrix = builder.finish().map_err(|_| AllocError)?;
-    Ok(Arc::new(alloc, matrix)?)
+    Ok(version(alloc, builder)?)
 }
 
 /// A matrix that has an entry everywhere.
@@ -67,8 +74,7 @@ fn full(alloc: Global, rows: u64, columns: u64) -> Result<Version, Fail> {
             builder.put(i, j, 1)?;
         }
     }
-    let matrix = builder.finish().map_err(|_| AllocError)?;
-    Ok(Arc::new(alloc, matrix)?)
+    Ok(version(alloc, builder)?)
 }
 
 /// A job of a form, for the name `C`.
@@ -84,19 +90,73 @@ fn priced(alloc: Global, form: Form, mask: Option<Version>) -> Result<Result<u64
     }
 }
 
+/// The job of a form, which can't be refused.
+fn accepted(alloc: Global, form: Form, mask: Option<Version>) -> Result<Priced, Fail> {
+    match Priced::of(job(alloc, form, mask)?) {
+        Ok(priced) => Ok(priced),
+        Err(_) => Err(AllocError.into()),
+    }
+}
+
+/// Puts such a job into a queue, where there is room. Its number, or 0.
+fn submit(
+    alloc: Global,
+    queue: &mut Queue,
+    form: Form,
+    mask: Option<Version>,
+) -> Result<u64, Fail> {
+    let job = accepted(alloc, form, mask)?;
+    match queue.has_room() {
+        true => Ok(queue.submit(job)),
+        false => Ok(0),
+    }
+}
+
+/// A count is this.
+fn assert_count(rt: &impl Abort, count: u64, wanted: u64) {
+    assert_eq!(rt; count, wanted);
+}
+
 /// An apply of a unary operator.
 fn applying(alloc: Global, slots: &[u64], operand: Version) -> Result<Form, Fail> {
-    let operator = operator(alloc, Kind::Unary, slots)?;
+    applying_by(alloc, Kind::Unary, slots, None, operand)
+}
+
+/// An apply of any operator, with a thunk or without.
+fn applying_by(
+    alloc: Global,
+    kind: Kind,
+    slots: &[u64],
+    thunk: Option<u64>,
+    operand: Version,
+) -> Result<Form, Fail> {
+    let operator = operator(alloc, kind, slots)?;
     Ok(Form::Apply {
         operator,
-        thunk: None,
+        thunk,
         operand,
     })
 }
 
-/// A union by subtraction.
-fn uniting(alloc: Global, left: Version, right: Version) -> Result<Form, Fail> {
-    let operator = operator(alloc, Kind::Binary, SUB)?;
+/// A selection of what stands on the diagonal, with the thunk 0.
+fn selecting(alloc: Global, operand: Version) -> Result<Form, Fail> {
+    let operator = operator(alloc, Kind::Index, DIAGONAL)?;
+    Ok(Form::Select {
+        operator,
+        thunk: 0,
+        operand,
+    })
+}
+
+/// A union by an operator.
+fn uniting(
+    alloc: Global,
+    kind: Kind,
+    slots: &[u64],
+    left: Version,
+    right: Version,
+) -> Result<Form, Fail> {
+    let operator = operator(alloc, kind, slots)?;
     Ok(Form::Union {
         operator,
         left,
@@ -104,10 +164,26 @@ fn uniting(alloc: Global, left: Version, right: Version) -> Result<Form, Fail> {
     })
 }
 
-/// A product by multiplication and subtraction.
-fn multiplying(alloc: Global, left: Version, right: Version) -> Result<Form, Fail> {
+/// What stands in both, by subtraction.
+fn meeting(alloc: Global, left: Version, right: Version) -> Result<Form, Fail> {
+    let operator = operator(alloc, Kind::Binary, SUB)?;
+    Ok(Form::Both {
+        operator,
+        left,
+        right,
+    })
+}
+
+/// A product by an operator that multiplies, and subtraction.
+fn multiplying(
+    alloc: Global,
+    kind: Kind,
+    slots: &[u64],
+    left: Version,
+    right: Version,
+) -> Result<Form, Fail> {
     let add = operator(alloc, Kind::Binary, SUB)?;
-    let mul = operator(alloc, Kind::Binary, MUL)?;
+    let mul = operator(alloc, kind, slots)?;
     Ok(Form::Product {
         add,
         mul,
@@ -120,4 +196,97 @@ fn multiplying(alloc: Global, left: Version, right: Version) -> Result<Form, Fai
 fn reducing(alloc: Global, operand: Version) -> Result<Form, Fail> {
     let operator = operator(alloc, Kind::Binary, SUB)?;
     Ok(Form::Reduce { operator, operand })
+}
+
+/// A matrix that jobs are tried with.
+#[derive(Clone, Copy)]
+enum Given {
+    /// So many rows and columns, and these entries.
+    Of(u64, u64, &'static [(u64, u64, u64)]),
+    /// So many rows and columns, and an entry everywhere.
+    Full(u64, u64),
+}
+
+use Given::{Full, Of};
+
+/// A form that is tried. Where its operators may be of several kinds, the kind and the slots are told.
+#[derive(Clone, Copy)]
+enum Tried {
+    Apply(Kind, &'static [u64], Option<u64>),
+    Select,
+    Union(Kind, &'static [u64]),
+    Both,
+    Product(Kind, &'static [u64]),
+    Reduce,
+}
+
+/// A form, the matrix on its left, the one on its right where it takes two, its mask, and its price or its fault.
+type Case = (
+    Tried,
+    Given,
+    Option<Given>,
+    Option<Given>,
+    Result<u64, JobError>,
+);
+
+/// The matrix that is given.
+fn made(alloc: Global, given: Given) -> Result<Version, Fail> {
+    match given {
+        Of(rows, columns, entries) => matrix(alloc, rows, columns, entries),
+        Full(rows, columns) => full(alloc, rows, columns),
+    }
+}
+
+/// The matrix that is given, if any.
+fn maybe_made(alloc: Global, maybe: Option<Given>) -> Result<Option<Version>, Fail> {
+    match maybe {
+        None => Ok(None),
+        Some(some) => Ok(Some(made(alloc, some)?)),
+    }
+}
+
+/// A form on one matrix, or on two.
+fn form_on(
+    alloc: Global,
+    tried: Tried,
+    left: Version,
+    right: Option<Version>,
+) -> Result<Form, Fail> {
+    match (tried, right) {
+        (Tried::Apply(kind, slots, thunk), _) => applying_by(alloc, kind, slots, thunk, left),
+        (Tried::Select, _) => selecting(alloc, left),
+        (Tried::Reduce, _) => reducing(alloc, left),
+        (Tried::Union(kind, slots), Some(right)) => uniting(alloc, kind, slots, left, right),
+        (Tried::Both, Some(right)) => meeting(alloc, left, right),
+        (Tried::Product(kind, slots), Some(right)) => multiplying(alloc, kind, slots, left, right),
+        (_, None) => Err("the form takes two matrices".into()),
+    }
+}
+
+/// A job has this price, or this fault.
+fn assert_priced(
+    rt: &impl Abort,
+    alloc: Global,
+    form: Form,
+    mask: Option<Version>,
+    wanted: Result<u64, JobError>,
+) -> Result<(), Fail> {
+    assert_eq!(rt; priced(alloc, form, mask)?, wanted);
+    Ok(())
+}
+
+/// A case has its price, or its fault.
+fn assert_case(rt: &impl Abort, alloc: Global, case: &Case) -> Result<(), Fail> {
+    let (tried, left, right, mask, wanted) = case;
+    let right = maybe_made(alloc, *right)?;
+    let form = form_on(alloc, *tried, made(alloc, *left)?, right)?;
+    assert_priced(rt, alloc, form, maybe_made(alloc, *mask)?, *wanted)
+}
+
+/// Each case has its price, or its fault.
+fn assert_cases(rt: &impl Abort, alloc: Global, cases: &[Case]) -> Result<(), Fail> {
+    for case in cases {
+        assert_case(rt, alloc, case)?;
+    }
+    Ok(())
 }

@@ -3,8 +3,8 @@ ghost use Rattle.std.specs.Prelude.{◌≡◌, ◌≤◌, [], IfOk, All};
 ghost use Rattle.race_board.specs.Race.{IsSeatOf, MayDrawAt, SeatState};
 ghost use Rattle.job_runner.specs.Worked.{prices_of};
 
-use super::{diagonal, operator, plan_of};
-use crate::operators::{ADD_ONE, EXIT, FIRST, MUL, SUB};
+use super::{increments, is_incremented, operator, plan_of, put, version};
+use crate::operators::{EXIT, FIRST, MUL, SUB};
 use bpf_insn::Kind;
 use csr_store::{Builder, Version};
 use job_plan::{Form, Plan};
@@ -132,32 +132,7 @@ impl Gate for Counts {
     }
 }
 
-/// The plan of one job that adds one to each entry of a diagonal.
-fn increments(rt: &impl Abort, alloc: Global, rows: u32) -> Result<Plan, AllocError> {
-    let form = Form::Apply {
-        operator: operator(alloc, Kind::Unary, &[FIRST, ADD_ONE, EXIT])?,
-        thunk: None,
-        operand: diagonal(alloc, rows)?,
-    };
-    plan_of(rt, alloc, form)
-}
-
-/// Whether that job gave its matrix and its steps.
-fn is_incremented(answer: &BatchAnswer, rows: u64) -> bool {
-    let Some(result) = answer.results.get(0) else {
-        return false;
-    };
-    for row in 0..rows {
-        if result.version.get(row, row) != Some(row.wrapping_add(2)) {
-            return false;
-        }
-    }
-    answer.results.len() == 1
-        && result.version.entries() == rows
-        && result.steps == rows.wrapping_mul(3)
-}
-
-/// Whether that job runs, on so many workers at this gate.
+/// Whether the increments of a diagonal run, on so many workers at this gate.
 fn runs<H: Threads + Wait + Abort, G: Gate + Sync>(
     rt: &H,
     alloc: Global,
@@ -192,15 +167,29 @@ fn gate_draws(rt: HostRuntime) -> Result<(), Fail> {
     Ok(())
 }
 
+/// Whether each counter is at 1.
+fn are_once(counters: &[AtomicU64]) -> bool {
+    for count in counters {
+        if count.load(SeqCst) != 1 {
+            return false;
+        }
+    }
+    true
+}
+
+/// Counters for the calls of so many chunks.
+fn no_calls(alloc: Global, chunks: u64) -> Result<Counts, AllocError> {
+    let entered = counters(alloc, chunks)?;
+    let left = counters(alloc, chunks)?;
+    Ok(Counts { entered, left })
+}
+
 #[test]
 fn gate_called_once_for_each_chunk(rt: HostRuntime) -> Result<(), Fail> {
-    let gate = Counts {
-        entered: counters(rt.alloc(), 6)?,
-        left: counters(rt.alloc(), 6)?,
-    };
+    let gate = no_calls(rt.alloc(), 6)?;
     assert!(rt; runs(&rt, rt.alloc(), 1300, 3, &gate)?);
-    assert!(rt; gate.entered.iter().all(|count| count.load(SeqCst) == 1));
-    assert!(rt; gate.left.iter().all(|count| count.load(SeqCst) == 1));
+    assert!(rt; are_once(&gate.entered));
+    assert!(rt; are_once(&gate.left));
     Ok(())
 }
 
@@ -232,19 +221,21 @@ fn work_each(
     Ok(ended)
 }
 
+/// What a board of 64 seats tells when the increments of 600 rows are done.
+const WANTED: Totals = Totals {
+    draws: 3,
+    spent: 1800,
+    count: 67,
+    recorded: 1800,
+};
+
 #[test]
 fn sixty_four_seats_in_turn(rt: HostRuntime) -> Result<(), Fail> {
     let alloc = rt.alloc();
     let plan = increments(&rt, alloc, 600)?;
     let (board, seats) = Board::open(alloc, prices(alloc, &plan)?, 64)?;
     let seats = work_each(alloc, &plan, &board, seats)?;
-    let want = Totals {
-        draws: 3,
-        spent: 1800,
-        count: 67,
-        recorded: 1800,
-    };
-    assert_eq!(rt; board.close(seats), want);
+    assert_eq!(rt; board.close(seats), WANTED);
     Ok(())
 }
 
@@ -253,10 +244,9 @@ fn ones(alloc: Global, rows: u32) -> Result<Version, AllocError> {
     let rows = u64::from(rows) % 4096;
     let mut builder = Builder::new(alloc, rows, rows);
     for row in 0..rows {
-        builder.put(row, row, 1).map_err(|_| AllocError)?;
+        put(&mut builder, row, 1)?;
     }
-    let matrix = builder.finish().map_err(|_| AllocError)?;
-    Ok(Arc::new(alloc, matrix)?)
+    version(alloc, builder)
 }
 
 /// The plan of that matrix times itself.
@@ -292,15 +282,20 @@ fn is_squared_or_refused(answer: &Result<BatchAnswer, BatchFault>) -> bool {
     }
 }
 
+/// That plan, asked for once more where memory was refused.
+fn square_again(rt: &impl Abort, alloc: Global) -> Result<Plan, AllocError> {
+    match square(rt, alloc) {
+        Ok(plan) => Ok(plan),
+        Err(AllocError) => square(rt, alloc),
+    }
+}
+
 // Run this one also with each allocation refused in turn, by `rt try --test --fail-alloc N` for N from 1 on.
 
 #[test]
 fn failing_chunk(rt: HostRuntime) -> Result<(), Fail> {
     let alloc = rt.alloc();
-    let plan = match square(&rt, alloc) {
-        Ok(plan) => plan,
-        Err(AllocError) => square(&rt, alloc)?,
-    };
+    let plan = square_again(&rt, alloc)?;
     let first = run_batch(&rt, alloc, &plan, 1, &Open);
     assert!(rt; is_squared_or_refused(&first));
     let second = run_batch(&rt, alloc, &plan, 1, &Open);

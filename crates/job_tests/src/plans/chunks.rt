@@ -1,83 +1,86 @@
 //! How jobs are cut.
 use super::*;
-use std::ops::Range;
 
 /// The plan of one job, an apply on a matrix.
 fn plan_of(alloc: Global, operand: Version) -> Result<Plan, Fail> {
     let mut queue = Queue::open(alloc)?;
-    let job = Priced::of(job(alloc, applying(alloc, INC, operand)?, None)?).map_err(
-        |_| AllocError,
-    )?;
-    if queue.has_room() {
-        queue.submit(job);
-    }
+    submit(alloc, &mut queue, applying(alloc, INC, operand)?, None)?;
     Ok(queue.take()?)
 }
 
-/// The chunks of a plan.
-fn chunks(alloc: Global, plan: &Plan) -> Result<Vec<(u64, Range<u64>, u64)>, Fail> {
-    let mut all = Vec::new(alloc);
+/// A chunk: its job, its rows from one up to another, and its price.
+type Piece = (u64, u64, u64, u64);
+
+/// A plan has these chunks.
+fn assert_chunks(rt: &impl Abort, plan: &Plan, wanted: &[Piece]) {
+    assert_count(rt, plan.chunks(), wanted.len() as u64);
     for c in 0..plan.chunks() {
-        all.push(plan.chunk(c))?;
+        let (job, rows, price) = plan.chunk(c);
+        assert_eq!(rt;
+            Some(&(job, rows.start, rows.end, price)),
+            wanted.get(c as usize)
+        );
     }
-    Ok(all)
 }
+
+/// The chunks of 600 rows.
+const SHORTER: [Piece; 3] = [(0, 0, 256, 768), (0, 256, 512, 768), (0, 512, 600, 264)];
 
 #[test]
 fn last_chunk_is_shorter(rt: HostRuntime) -> Result<(), Fail> {
-    let alloc = rt.alloc();
-    let plan = plan_of(alloc, diagonal(alloc, 600)?)?;
-    let wanted = [(0, 0..256, 768), (0, 256..512, 768), (0, 512..600, 264)];
-    assert_eq!(rt; chunks(alloc, &plan)?.as_slice(), wanted.as_slice());
+    let plan = plan_of(rt.alloc(), diagonal(rt.alloc(), 600)?)?;
+    assert_chunks(&rt, &plan, &SHORTER);
     Ok(())
 }
 
+/// The chunks of 512 rows.
+const WHOLE: [Piece; 2] = [(0, 0, 256, 768), (0, 256, 512, 768)];
+
+/// The chunks of 257 rows.
+const WITH_ONE_MORE: [Piece; 2] = [(0, 0, 256, 768), (0, 256, 257, 3)];
+
 #[test]
 fn whole_chunks_alone(rt: HostRuntime) -> Result<(), Fail> {
-    let alloc = rt.alloc();
-    let plan = plan_of(alloc, diagonal(alloc, 512)?)?;
-    let wanted = [(0, 0..256, 768), (0, 256..512, 768)];
-    assert_eq!(rt; chunks(alloc, &plan)?.as_slice(), wanted.as_slice());
-    let plan = plan_of(alloc, diagonal(alloc, 257)?)?;
-    let wanted = [(0, 0..256, 768), (0, 256..257, 3)];
-    assert_eq!(rt; chunks(alloc, &plan)?.as_slice(), wanted.as_slice());
+    let plan = plan_of(rt.alloc(), diagonal(rt.alloc(), 512)?)?;
+    assert_chunks(&rt, &plan, &WHOLE);
+    let plan = plan_of(rt.alloc(), diagonal(rt.alloc(), 257)?)?;
+    assert_chunks(&rt, &plan, &WITH_ONE_MORE);
     Ok(())
 }
 
 #[test]
 fn no_rows_no_chunk(rt: HostRuntime) -> Result<(), Fail> {
-    let alloc = rt.alloc();
-    let plan = plan_of(alloc, matrix(alloc, 0, 5, &[])?)?;
-    assert_eq!(rt; plan.chunks(), 0);
-    assert_eq!(rt; plan.jobs().len(), 1);
+    let plan = plan_of(rt.alloc(), matrix(rt.alloc(), 0, 5, &[])?)?;
+    assert_count(&rt, plan.chunks(), 0);
+    assert_count(&rt, plan.jobs().len() as u64, 1);
     Ok(())
 }
 
+/// The plan of three jobs: an apply, one of no rows, and the product of the first's operand with itself.
+fn plan_of_three(alloc: Global) -> Result<Plan, Fail> {
+    let mut queue = Queue::open(alloc)?;
+    let a = diagonal(alloc, 300)?;
+    let whole = applying(alloc, INC, Arc::try_clone(&a)?)?;
+    submit(alloc, &mut queue, whole, None)?;
+    let none = matrix(alloc, 0, 0, &[])?;
+    submit(alloc, &mut queue, applying(alloc, INC, none)?, None)?;
+    let product = multiplying(alloc, Kind::Binary, MUL, Arc::try_clone(&a)?, a)?;
+    let mask = matrix(alloc, 300, 300, &[(299, 0, 0)])?;
+    submit(alloc, &mut queue, product, Some(mask))?;
+    Ok(queue.take()?)
+}
+
+/// The chunks of these jobs.
+const OF_THREE: [Piece; 4] = [
+    (0, 0, 256, 768),
+    (0, 256, 300, 132),
+    (2, 0, 256, 0),
+    (2, 256, 300, 6),
+];
+
 #[test]
 fn chunks_of_several_jobs_follow_one_another(rt: HostRuntime) -> Result<(), Fail> {
-    let alloc = rt.alloc();
-    let a = diagonal(alloc, 300)?;
-    let none = matrix(alloc, 0, 0, &[])?;
-    let mask = matrix(alloc, 300, 300, &[(299, 0, 0)])?;
-    let forms = [
-        (applying(alloc, INC, Arc::try_clone(&a)?)?, None),
-        (applying(alloc, INC, none)?, None),
-        (multiplying(alloc, Arc::try_clone(&a)?, a)?, Some(mask)),
-    ];
-    let mut queue = Queue::open(alloc)?;
-    for (form, mask) in forms {
-        let job = Priced::of(job(alloc, form, mask)?).map_err(|_| AllocError)?;
-        if queue.has_room() {
-            queue.submit(job);
-        }
-    }
-    let plan = queue.take()?;
-    let wanted = [
-        (0, 0..256, 768),
-        (0, 256..300, 132),
-        (2, 0..256, 0),
-        (2, 256..300, 6),
-    ];
-    assert_eq!(rt; chunks(alloc, &plan)?.as_slice(), wanted.as_slice());
+    let plan = plan_of_three(rt.alloc())?;
+    assert_chunks(&rt, &plan, &OF_THREE);
     Ok(())
 }

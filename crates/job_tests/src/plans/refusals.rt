@@ -1,96 +1,141 @@
 //! Refused jobs, and the order in which the rules are looked at.
 use super::*;
 
+/// A row of two columns.
+const WIDE_ROW: Given = Of(1, 2, &[]);
+
+/// Operators of a wrong kind, on shapes that don't fit either.
+const WRONG_KINDS: [Case; 3] = [
+    (
+        Tried::Union(Kind::Unary, INC),
+        WIDE_ROW,
+        Some(Of(2, 1, &[])),
+        None,
+        Err(JobError::WrongKind),
+    ),
+    (
+        Tried::Product(Kind::Unary, INC),
+        WIDE_ROW,
+        Some(WIDE_ROW),
+        None,
+        Err(JobError::WrongKind),
+    ),
+    (
+        Tried::Apply(Kind::Unary, INC, Some(0)),
+        WIDE_ROW,
+        None,
+        None,
+        Err(JobError::WrongKind),
+    ),
+];
+
 #[test]
 fn kinds_come_before_shapes(rt: HostRuntime) -> Result<(), Fail> {
-    let alloc = rt.alloc();
-    let unary = operator(alloc, Kind::Unary, INC)?;
-    let wide = matrix(alloc, 1, 2, &[])?;
-    let tall = matrix(alloc, 2, 1, &[])?;
-    let union = Form::Union {
-        operator: Arc::try_clone(&unary)?,
-        left: Arc::try_clone(&wide)?,
-        right: tall,
-    };
-    assert_eq!(rt; priced(alloc, union, None)?, Err(JobError::WrongKind));
-    let product = Form::Product {
-        add: operator(alloc, Kind::Binary, SUB)?,
-        mul: Arc::try_clone(&unary)?,
-        left: Arc::try_clone(&wide)?,
-        right: Arc::try_clone(&wide)?,
-    };
-    assert_eq!(rt; priced(alloc, product, None)?, Err(JobError::WrongKind));
-    let thunk = Form::Apply {
-        operator: unary,
-        thunk: Some(0),
-        operand: wide,
-    };
-    assert_eq!(rt; priced(alloc, thunk, None)?, Err(JobError::WrongKind));
-    Ok(())
+    assert_cases(&rt, rt.alloc(), &WRONG_KINDS)
 }
+
+/// A row of two columns and an entry.
+const ROW: Given = Of(1, 2, &[(0, 0, 1)]);
+
+/// Shapes that don't fit, one of them under a mask that doesn't either.
+const WRONG_SHAPES: [Case; 2] = [
+    (
+        Tried::Union(Kind::Binary, SUB),
+        ROW,
+        Some(Of(1, 3, &[(0, 0, 1)])),
+        Some(Of(5, 5, &[])),
+        Err(JobError::WrongShapes),
+    ),
+    (
+        Tried::Product(Kind::Binary, MUL),
+        ROW,
+        Some(ROW),
+        None,
+        Err(JobError::WrongShapes),
+    ),
+];
 
 #[test]
 fn shapes_come_before_masks(rt: HostRuntime) -> Result<(), Fail> {
-    let alloc = rt.alloc();
-    let a = matrix(alloc, 1, 2, &[(0, 0, 1)])?;
-    let b = matrix(alloc, 1, 3, &[(0, 0, 1)])?;
-    let mask = matrix(alloc, 5, 5, &[])?;
-    let union = uniting(alloc, Arc::try_clone(&a)?, b)?;
-    assert_eq!(rt;
-        priced(alloc, union, Some(mask))?,
-        Err(JobError::WrongShapes)
-    );
-    let product = multiplying(alloc, Arc::try_clone(&a)?, a)?;
-    assert_eq!(rt; priced(alloc, product, None)?, Err(JobError::WrongShapes));
-    Ok(())
+    assert_cases(&rt, rt.alloc(), &WRONG_SHAPES)
 }
+
+/// A mask of the shape of the result, and masks like the left operand.
+const MASKS: [Case; 3] = [
+    (
+        Tried::Product(Kind::Binary, MUL),
+        Full(2, 3),
+        Some(Full(3, 4)),
+        Some(Full(2, 4)),
+        Ok(144),
+    ),
+    (
+        Tried::Product(Kind::Binary, MUL),
+        Full(2, 3),
+        Some(Full(3, 4)),
+        Some(Full(2, 3)),
+        Err(JobError::WrongMask),
+    ),
+    (
+        Tried::Reduce,
+        Full(2, 3),
+        None,
+        Some(Full(2, 3)),
+        Err(JobError::WrongMask),
+    ),
+];
 
 #[test]
 fn masks_have_the_shape_of_the_result(rt: HostRuntime) -> Result<(), Fail> {
-    let alloc = rt.alloc();
-    let a = full(alloc, 2, 3)?;
-    let b = full(alloc, 3, 4)?;
-    let product = multiplying(alloc, Arc::try_clone(&a)?, Arc::try_clone(&b)?)?;
-    assert_eq!(rt; priced(alloc, product, Some(full(alloc, 2, 4)?))?, Ok(144));
-    let product = multiplying(alloc, Arc::try_clone(&a)?, b)?;
-    let like_left = Arc::try_clone(&a)?;
-    assert_eq!(rt;
-        priced(alloc, product, Some(like_left))?,
-        Err(JobError::WrongMask)
-    );
-    let reduction = reducing(alloc, Arc::try_clone(&a)?)?;
-    assert_eq!(rt;
-        priced(alloc, reduction, Some(a))?,
-        Err(JobError::WrongMask)
-    );
-    Ok(())
+    assert_cases(&rt, rt.alloc(), &MASKS)
 }
 
-#[test]
-fn job_comes_back_with_its_fault(rt: HostRuntime) -> Result<(), Fail> {
-    let alloc = rt.alloc();
+/// A product of a matrix with itself, whose shapes don't fit.
+fn unfit(alloc: Global) -> Result<Job, Fail> {
     let a = matrix(alloc, 1, 2, &[(0, 0, 1)])?;
     let mask = matrix(alloc, 1, 2, &[])?;
-    let product = multiplying(alloc, Arc::try_clone(&a)?, a)?;
-    let Err(refused) = Priced::of(job(alloc, product, Some(mask))?) else {
-        assert!(rt; false);
-        return Ok(());
-    };
-    let (job, error) = refused;
-    assert_eq!(rt; error.name(), "J5");
+    let product = multiplying(alloc, Kind::Binary, MUL, Arc::try_clone(&a)?, a)?;
+    job(alloc, product, Some(mask))
+}
+
+/// A job is the one that was handed in.
+fn assert_unfit(rt: &impl Abort, job: &Job) {
     assert_eq!(rt; job.output(), "C");
     assert!(rt; job.mask().is_some());
     let is_product = matches!(job.form(), Form::Product { .. });
     assert!(rt; is_product);
-    Ok(())
 }
 
 #[test]
+fn job_comes_back_with_its_fault(rt: HostRuntime) -> Result<(), Fail> {
+    let Err(refused) = Priced::of(unfit(rt.alloc())?) else {
+        assert!(rt; false);
+        return Ok(());
+    };
+    let (job, error) = refused;
+    assert_name(&rt, error, "J5");
+    assert_unfit(&rt, &job);
+    Ok(())
+}
+
+/// A fault has this name.
+fn assert_name(rt: &impl Abort, error: JobError, name: &str) {
+    assert_eq!(rt; error.name(), name);
+}
+
+/// Faults with their names.
+const NAMES: [(JobError, &str); 5] = [
+    (JobError::WrongKind, "J4"),
+    (JobError::WrongShapes, "J5"),
+    (JobError::ResultTooLarge, "J7"),
+    (JobError::PriceTooHigh, "J8"),
+    (JobError::WrongMask, "J9"),
+];
+
+#[test]
 fn names_of_rules(rt: HostRuntime) -> Result<(), Fail> {
-    assert_eq!(rt; JobError::WrongKind.name(), "J4");
-    assert_eq!(rt; JobError::WrongShapes.name(), "J5");
-    assert_eq!(rt; JobError::ResultTooLarge.name(), "J7");
-    assert_eq!(rt; JobError::PriceTooHigh.name(), "J8");
-    assert_eq!(rt; JobError::WrongMask.name(), "J9");
+    for (error, name) in &NAMES {
+        assert_name(&rt, *error, name);
+    }
     Ok(())
 }

@@ -1,7 +1,7 @@
 use Rattle.std.proofs.Common.{◌≤◌, ◌≡◌, List, ◌∷◌, [], length, subst, sym}
 use Rattle.csr_store.specs.Run.{Run, numbered, all_ended}
-use Rattle.job_tests.proofs.Pieces.{pieces_small}
-use Rattle.job_tests.proofs.forms.joined.Goals as goal
+use Rattle.form_tests.proofs.Pieces.{pieces_small}
+use Rattle.form_tests.proofs.forms.joined.Goals as goal
 
 pub join_rows-requires-clause-small : goal.join_rows-requires-clause-small
 join_rows-requires-clause-small c =

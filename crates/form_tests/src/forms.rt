@@ -1,11 +1,12 @@
 //! All forms against a slow reference: a map of positions, and one call at a time by the machine with tags.
 ghost use Rattle.std.specs.Prelude.{◌≡◌, ◌≤◌, ◌-◌, ◌*◌, [], IsTrue, length, IfSome, IfOk};
 ghost use Rattle.csr_store.specs.Mask.{HasShape, mask_of};
-ghost use Rattle.job_tests.specs.Pieces.{IsPiece};
+ghost use Rattle.form_tests.specs.Pieces.{IsPiece};
 
 mod sizes;
 mod small;
 
+use crate::masks::{has_shape, passes};
 use crate::operators::{EXIT, operator};
 use bpf_insn::{Kind, Operands, Ran, run_tagged};
 use bpf_run::{Calls, Prepared};
@@ -85,16 +86,9 @@ fn matrix(alloc: Global, shape: (u64, u64), entries: &[Triple]) -> Result<Matrix
     for entry in entries {
         builder.put(entry.0, entry.1, entry.2)?;
     }
-    builder.finish().map_err(|_| AllocError.into())
-}
-
-/// Whether a matrix has this shape, or there is none.
-fn has_shape(matrix: Option<&Matrix>, rows: u64, columns: u64) -> bool
-    ensures { IsTrue result → HasShape rows columns (mask_of matrix.entry) }
-{
-    match matrix {
-        None => true,
-        Some(matrix) => matrix.rows() == rows && matrix.columns() == columns,
+    match builder.finish() {
+        Ok(matrix) => Ok(matrix),
+        Err(_) => Err(AllocError.into()),
     }
 }
 
@@ -217,6 +211,65 @@ fn called(operator: &Prepared, operands: Operands, steps: &mut u64) -> Option<u6
     }
 }
 
+/// What a binary operator gives for two words.
+fn called_with(operator: &Prepared, x: u64, y: u64, steps: &mut u64) -> Option<u64> {
+    called(operator, Operands::Binary { x, y }, steps)
+}
+
+/// What an operator with a thunk gives for a word at a position.
+fn called_at(
+    operator: &Prepared,
+    x: u64,
+    (row, column): (u64, u64),
+    thunk: u64,
+    steps: &mut u64,
+) -> Option<u64> {
+    let operands = Operands::Index {
+        x,
+        row,
+        column,
+        thunk,
+    };
+    called(operator, operands, steps)
+}
+
+/// The word at a position, unless the operator gives 0 for it.
+fn selected(
+    operator: &Prepared,
+    x: u64,
+    position: (u64, u64),
+    thunk: u64,
+    steps: &mut u64,
+) -> Option<u64> {
+    match called_at(operator, x, position, thunk, steps) {
+        Some(0) => None,
+        _ => Some(x),
+    }
+}
+
+/// What stands where two words may be met.
+fn united(operator: &Prepared, x: Option<u64>, y: Option<u64>, steps: &mut u64) -> Option<u64> {
+    match (x, y) {
+        (Some(x), Some(y)) => called_with(operator, x, y, steps),
+        (Some(x), None) => Some(x),
+        (None, y) => y,
+    }
+}
+
+/// A row folded from its first word on.
+fn folded(operator: &Prepared, a: &Matrix, row: u64, steps: &mut u64) -> Option<u64> {
+    let mut so_far = None;
+    for k in 0..a.columns() {
+        if let Some(y) = a.get(row, k) {
+            so_far = match so_far {
+                None => Some(y),
+                Some(x) => called_with(operator, x, y, steps),
+            };
+        }
+    }
+    so_far
+}
+
 /// What stands at a position of a job's result.
 fn value_at(
     job: Job,
@@ -225,65 +278,100 @@ fn value_at(
     (row, column): (u64, u64),
     steps: &mut u64,
 ) -> Option<u64> {
+    let (x, y) = (a.get(row, column), b.get(row, column));
     match job {
-        Job::Apply(None) => called(
-            operator,
-            Operands::Unary {
-                x: a.get(row, column)?,
-            },
-            steps,
-        ),
-        Job::Apply(Some(thunk)) => {
-            let x = a.get(row, column)?;
-            called(
-                operator,
-                Operands::Index {
-                    x,
-                    row,
-                    column,
-                    thunk,
-                },
-                steps,
-            )
-        }
-        Job::Select(thunk) => {
-            let x = a.get(row, column)?;
-            match called(
-                operator,
-                Operands::Index {
-                    x,
-                    row,
-                    column,
-                    thunk,
-                },
-                steps,
-            ) {
-                Some(0) => None,
-                _ => Some(x),
-            }
-        }
-        Job::Union => match (a.get(row, column), b.get(row, column)) {
-            (Some(x), Some(y)) => called(operator, Operands::Binary { x, y }, steps),
-            (Some(x), None) => Some(x),
-            (None, y) => y,
-        },
-        Job::Both => {
-            let (x, y) = (a.get(row, column)?, b.get(row, column)?);
-            called(operator, Operands::Binary { x, y }, steps)
-        }
-        Job::Reduce => {
-            let mut so_far = None;
-            for k in 0..a.columns() {
-                if let Some(y) = a.get(row, k) {
-                    so_far = match so_far {
-                        None => Some(y),
-                        Some(x) => called(operator, Operands::Binary { x, y }, steps),
-                    };
-                }
-            }
-            so_far
+        Job::Apply(None) => called(operator, Operands::Unary { x: x? }, steps),
+        Job::Apply(Some(thunk)) => called_at(operator, x?, (row, column), thunk, steps),
+        Job::Select(thunk) => selected(operator, x?, (row, column), thunk, steps),
+        Job::Union => united(operator, x, y, steps),
+        Job::Both => called_with(operator, x?, y?, steps),
+        Job::Reduce => folded(operator, a, row, steps),
+    }
+}
+
+/// A position of a matrix has this value, or none.
+fn assert_value(rt: &impl Abort, matrix: &Matrix, row: u64, column: u64, wanted: Option<u64>) {
+    assert_eq!(rt; matrix.get(row, column), wanted, "at {row}, {column}");
+}
+
+/// A matrix has so many entries, and took so many steps.
+fn assert_totals(rt: &impl Abort, matrix: &Matrix, spent: u64, entries: u64, steps: u64) {
+    assert_eq!(rt; (matrix.entries(), spent), (entries, steps));
+}
+
+/// What the reference says of a position, where it passes a mask.
+fn value_under(
+    job: Job,
+    operator: &Prepared,
+    (a, b, mask): (&Matrix, &Matrix, Option<&Matrix>),
+    (row, column): (u64, u64),
+    steps: &mut u64,
+) -> Option<u64> {
+    match passes(mask, row, column) {
+        true => value_at(job, operator, (a, b), (row, column), steps),
+        false => None,
+    }
+}
+
+/// Each position of a matrix has the value of the reference. How many have one, and the steps that they took.
+fn assert_values(
+    rt: &impl Abort,
+    matrix: &Matrix,
+    job: Job,
+    operator: &Prepared,
+    sources: (&Matrix, &Matrix, Option<&Matrix>),
+) -> (u64, u64) {
+    let mut steps = 0;
+    let mut entries: u64 = 0;
+    for row in 0..sources.0.rows() {
+        for column in 0..columns_of(job, sources.0) {
+            let wanted = value_under(job, operator, sources, (row, column), &mut steps);
+            assert_value(rt, matrix, row, column, wanted);
+            entries = entries.wrapping_add(wanted.is_some() as u64);
         }
     }
+    (entries, steps)
+}
+
+/// The whole result of a job and its steps, where everything fits.
+fn done<'m>(
+    alloc: Global,
+    job: Job,
+    operator: &Prepared,
+    sources: (&'m Matrix, &'m Matrix, Option<&'m Matrix>),
+    middle: u64,
+) -> Result<(Matrix, u64), Fail> {
+    let mut calls = Calls::new(alloc)?;
+    match whole(alloc, &mut calls, job, operator, sources, middle)? {
+        Some(done) => Ok(done),
+        None => Err(AllocError.into()),
+    }
+}
+
+/// The same by the operator that the tests take for the job.
+fn done_for<'m>(
+    alloc: Global,
+    job: Job,
+    sources: (&'m Matrix, &'m Matrix, Option<&'m Matrix>),
+    middle: u64,
+) -> Result<(Matrix, u64), Fail> {
+    let operator = operator_for(alloc, job)?;
+    done(alloc, job, &operator, sources, middle)
+}
+
+/// What an operator makes is what the slow reference says, with its steps.
+fn assert_done<'m>(
+    rt: &impl Abort,
+    alloc: Global,
+    job: Job,
+    operator: &Prepared,
+    sources: (&'m Matrix, &'m Matrix, Option<&'m Matrix>),
+    middle: u64,
+) -> Result<(), Fail> {
+    let (result, spent) = done(alloc, job, operator, sources, middle)?;
+    let (entries, steps) = assert_values(rt, &result, job, operator, sources);
+    assert_totals(rt, &result, spent, entries, steps);
+    Ok(())
 }
 
 /// A job's result is that of the slow reference, with its steps, wherever the range is cut in two.
@@ -291,33 +379,11 @@ fn assert_job<'m>(
     rt: &impl Abort,
     alloc: Global,
     job: Job,
-    (a, b, mask): (&'m Matrix, &'m Matrix, Option<&'m Matrix>),
+    sources: (&'m Matrix, &'m Matrix, Option<&'m Matrix>),
     middle: u64,
 ) -> Result<(), Fail> {
     let operator = operator_for(alloc, job)?;
-    let mut calls = Calls::new(alloc)?;
-    let Some((result, spent)) = whole(alloc, &mut calls, job, &operator, (a, b, mask), middle)?
-    else {
-        return Err(AllocError.into());
-    };
-    let mut steps = 0;
-    let mut entries: u64 = 0;
-    for row in 0..a.rows() {
-        for column in 0..columns_of(job, a) {
-            let passes = match mask {
-                None => true,
-                Some(mask) => mask.get(row, column).is_some(),
-            };
-            let wanted = match passes {
-                true => value_at(job, &operator, (a, b), (row, column), &mut steps),
-                false => None,
-            };
-            assert_eq!(rt; result.get(row, column), wanted, "at {row}, {column}");
-            entries = entries.wrapping_add(wanted.is_some() as u64);
-        }
-    }
-    assert_eq!(rt; (result.entries(), spent), (entries, steps));
-    Ok(())
+    assert_done(rt, alloc, job, &operator, sources, middle)
 }
 
 /// The jobs of the tests.

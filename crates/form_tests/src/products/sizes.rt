@@ -1,0 +1,66 @@
+//! Products of many rows, and of a long one.
+use super::{assert_count, assert_rows, chunk_of, finished, operator, scattered};
+use crate::operators::{EXIT, FIRST, MUL};
+use csr_store::{Builder, Chunk, Matrix};
+use row_product::{Scratch, mult_count_in};
+use std::alloc::Global;
+use std::ops::Range;
+use std::process::Abort;
+use std::test::Fail;
+
+/// `add64 r0, r2`
+const ADD: u64 = 0x0f20_0000_0000_0000;
+
+/// A range of rows of a product by addition, and by the operator of this slot.
+fn product_by(
+    rt: &impl Abort,
+    alloc: Global,
+    slot: u64,
+    a: &Matrix,
+    b: &Matrix,
+    range: Range<u64>,
+) -> Result<Chunk, Fail> {
+    let add = operator(alloc, &[FIRST, ADD, EXIT])?;
+    let mul = operator(alloc, &[FIRST, slot, EXIT])?;
+    let mut scratch = Scratch::new(alloc);
+    Ok(chunk_of(rt, alloc, &mut scratch, a, b, &add, &mul, None, range))
+}
+
+/// A chunk has so many rows from one on, and took so many steps.
+fn assert_chunk(
+    rt: &impl Abort,
+    chunk: Chunk,
+    first: u64,
+    count: u64,
+    steps: u64,
+) -> Result<(), Fail> {
+    assert_count(rt, chunk.steps, steps);
+    assert_rows(rt, &chunk.result?, first, count);
+    Ok(())
+}
+
+/// How many multiplications the last of the most rows there may be take.
+fn mults_of_last_rows(rt: &impl Abort, a: &Matrix, b: &Matrix) -> u64 {
+    assert!(rt; a.rows() == 16_777_216);
+    assert!(rt; a.columns() == b.rows());
+    mult_count_in(a, b, None, 16_700_000..16_777_216)
+}
+
+#[test]
+fn most_rows_with_nothing_in_them(rt: HostRuntime) -> Result<(), Fail> {
+    let a = finished(Builder::new(rt.alloc(), 16_777_216, 3))?;
+    let b = scattered(&rt, 3, 1, 1, 1, rt.alloc())?;
+    let chunk = product_by(&rt, rt.alloc(), ADD, &a, &b, 16_700_000..16_777_216)?;
+    assert_chunk(&rt, chunk, 16_700_000, 77_216, 0)?;
+    assert_count(&rt, mults_of_last_rows(&rt, &a, &b), 0);
+    Ok(())
+}
+
+#[test]
+fn row_of_many_entries(rt: HostRuntime) -> Result<(), Fail> {
+    let a = scattered(&rt, 1, 3, 8, 1, rt.alloc())?;
+    let b = scattered(&rt, 3, 100_000, 9, 1, rt.alloc())?;
+    assert_count(&rt, a.rows(), 1);
+    let chunk = product_by(&rt, rt.alloc(), MUL, &a, &b, 0..1)?;
+    assert_chunk(&rt, chunk, 0, 1, 1_500_000)
+}

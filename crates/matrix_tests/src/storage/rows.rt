@@ -1,0 +1,223 @@
+//! Runs of rows: joined, cells many at a time, rows copied from a matrix, and entries that get other values.
+ghost use Rattle.std.specs.Prelude.{◌≡◌, ◌∷◌, [], IfOk};
+
+use super::{Triple, assert_count, assert_holds, assert_starts, finish_again, put_again};
+use csr_store::{Builder, Matrix, Rows, join_rows};
+use std::alloc::{AllocError, Global};
+use std::process::Abort;
+use std::test::Fail;
+
+/// How many entries each row has: none, one, and about as many as are copied at once.
+const LENGTHS: [u64; 8] = [0, 1, 127, 128, 0, 129, 300, 2];
+
+/// A matrix of such rows. The value at a position is 1,000 times its row, and its column.
+fn uneven(rt: &HostRuntime) -> Result<Matrix, Fail> {
+    let mut builder = Builder::new(rt.alloc(), 8, 300);
+    for row in 0..8usize {
+        for column in 0..LENGTHS[row] {
+            put_again(
+                &mut builder,
+                (row as u64, column, row as u64 * 1000 + column),
+            )?;
+        }
+    }
+    Ok(finish_again(builder)?)
+}
+
+/// A run of rows has this cell at a place.
+fn assert_cell(rt: &impl Abort, rows: &Rows, place: u64, column: u64, value: u64) {
+    assert_eq!(rt;
+        rows.cells().get(place as usize),
+        Some(&(column, value)),
+        "entry {place}"
+    );
+}
+
+/// A run of rows has the cells of a row from a place on. The place behind them.
+fn assert_row_at(rt: &impl Abort, rows: &Rows, place: u64, cells: &[(u64, u64)]) -> u64 {
+    let mut next = place;
+    for (column, value) in cells {
+        assert_cell(rt, rows, next, *column, *value);
+        next = next.wrapping_add(1);
+    }
+    next
+}
+
+/// A run of rows has the rows of a matrix from one up to another.
+fn assert_copied(rt: &impl Abort, copied: &Rows, matrix: &Matrix, from: u64, to: u64) {
+    assert_count(rt, copied.first(), from);
+    assert_count(rt, copied.len(), to.wrapping_sub(from));
+    let mut next = 0;
+    for row in from..to.min(matrix.rows()) {
+        next = assert_row_at(rt, copied, next, matrix.row(row));
+    }
+    assert_count(rt, copied.entries() as u64, next);
+}
+
+#[test]
+fn rows_are_copied(rt: HostRuntime) -> Result<(), Fail> {
+    let matrix = uneven(&rt)?;
+    let rows = matrix.rows();
+    for from in 0..rows {
+        for to in from..rows {
+            let copied = matrix.copy_rows(rt.alloc(), from..to)?;
+            assert_copied(&rt, &copied, &matrix, from, to);
+        }
+    }
+    Ok(())
+}
+
+/// Rows and columns, each with its place among all cells and its value behind `other_values`.
+const CHANGED: [(u64, u64, u64, u64); 7] = [
+    (1, 0, 0, 1000),
+    (2, 0, 1, 2000),
+    (2, 126, 127, 7),
+    (3, 0, 128, 8),
+    (3, 1, 129, 9),
+    (3, 2, 130, 3002),
+    (5, 0, 256, 5000),
+];
+
+/// Three values from the place 127 on, and one at the place 500.
+fn other_values(rt: &HostRuntime) -> Result<Rows, Fail> {
+    let matrix = uneven(rt)?;
+    let mut copied = matrix.copy_rows(rt.alloc(), 0..matrix.rows())?;
+    if 130 <= copied.entries() {
+        copied.set_values(127, &[7, 8, 9]);
+    }
+    if 500 < copied.entries() {
+        copied.set_value(500, 5);
+    }
+    Ok(copied)
+}
+
+/// A run of rows has these cells, each with its row, its column, its place and its value.
+fn assert_cells(rt: &impl Abort, rows: &Rows, cells: &[(u64, u64, u64, u64)]) {
+    for (_, column, place, value) in cells {
+        assert_cell(rt, rows, *place, *column, *value);
+    }
+}
+
+/// The value of the cell at a place.
+fn value_at(rows: &Rows, place: usize) -> Option<u64> {
+    match rows.cells().get(place) {
+        Some(cell) => Some(cell.1),
+        None => None,
+    }
+}
+
+#[test]
+fn entries_get_other_values(rt: HostRuntime) -> Result<(), Fail> {
+    let copied = other_values(&rt)?;
+    assert_count(&rt, copied.entries() as u64, 687);
+    assert_cells(&rt, &copied, &CHANGED);
+    assert_eq!(rt; value_at(&copied, 500), Some(5));
+    Ok(())
+}
+
+/// A row with a cell, and with two of four that were added behind it.
+fn added_at_once(alloc: Global) -> Result<Rows, AllocError> {
+    let mut rows = Rows::begin(alloc, 4, 10);
+    rows.push(0, 1)?;
+    rows.push_where(&[(2, 5), (3, 6), (4, 7), (9, 8)], &[0, 1, u64::MAX, 0])?;
+    rows.end_row()?;
+    Ok(rows)
+}
+
+/// What that row has.
+const ADDED: [(u64, u64); 3] = [(0, 1), (3, 6), (4, 7)];
+
+#[test]
+fn cells_are_added_at_once(rt: HostRuntime) -> Result<(), Fail> {
+    let rows = added_at_once(rt.alloc())?;
+    assert_eq!(rt; rows.cells(), ADDED.as_slice());
+    assert_count(&rt, rows.entries() as u64, 3);
+    assert_count(&rt, rows.len(), 1);
+    Ok(())
+}
+
+/// Two rows from the first on, of which the second has no entry.
+fn first_rows(alloc: Global) -> Result<Rows, AllocError>
+    ensures { IfOk result (λ r. r ≡ record {
+      first = 0;
+      columns = 3;
+      ended = ((1, 10) ∷ (2, 11) ∷ []) ∷ [] ∷ [];
+      opened = [];
+    }) }
+{
+    let mut rows = Rows::begin(alloc, 0, 3);
+    rows.push(1, 10)?;
+    rows.push(2, 11)?;
+    rows.end_row()?;
+    rows.end_row()?;
+    Ok(rows)
+}
+
+/// The row behind these.
+fn last_row(alloc: Global) -> Result<Rows, AllocError>
+    ensures { IfOk result (λ r. r ≡ record {
+      first = 2;
+      columns = 3;
+      ended = ((0, 12) ∷ []) ∷ [];
+      opened = [];
+    }) }
+{
+    let mut rows = Rows::begin(alloc, 2, 3);
+    rows.push(0, 12)?;
+    rows.end_row()?;
+    Ok(rows)
+}
+
+/// The matrix of these three rows.
+fn joined(alloc: Global, first: Rows, last: Rows) -> Result<Matrix, AllocError>
+    requires first { first ≡ record {
+      first = 0;
+      columns = 3;
+      ended = ((1, 10) ∷ (2, 11) ∷ []) ∷ [] ∷ [];
+      opened = [];
+    } }
+    requires last { last ≡ record {
+      first = 2;
+      columns = 3;
+      ended = ((0, 12) ∷ []) ∷ [];
+      opened = [];
+    } }
+{
+    join_rows(alloc, 3, 3, vec![in alloc; first, last]?)
+}
+
+/// The entries of these rows.
+const JOINED: [Triple; 3] = [(0, 1, 10), (0, 2, 11), (2, 0, 12)];
+
+#[test]
+fn rows_are_joined(rt: HostRuntime) -> Result<(), Fail> {
+    let first = first_rows(rt.alloc())?;
+    assert_count(&rt, first.first(), 0);
+    assert_count(&rt, first.len(), 2);
+    let matrix = joined(rt.alloc(), first, last_row(rt.alloc())?)?;
+    assert_starts(&rt, &matrix, &[0, 2, 2, 3]);
+    assert_holds(&rt, &matrix, &JOINED);
+    Ok(())
+}
+
+/// Three rows, of which two entries were given other values.
+fn set_rows(rt: &impl Abort, alloc: Global) -> Result<Matrix, AllocError> {
+    let mut rows = Rows::begin(alloc, 0, 3);
+    rows.push(1, 10)?;
+    rows.push(2, 0)?;
+    rows.end_row()?;
+    rows.end_row()?;
+    rows.push(0, 0)?;
+    rows.set_value(1, 11);
+    rows.set_value(2, 12);
+    assert!(rt; rows.entries() == 3);
+    rows.end_row()?;
+    join_rows(alloc, 3, 3, vec![in alloc; rows]?)
+}
+
+#[test]
+fn values_are_set(rt: HostRuntime) -> Result<(), Fail> {
+    let matrix = set_rows(&rt, rt.alloc())?;
+    assert_holds(&rt, &matrix, &JOINED);
+    Ok(())
+}
