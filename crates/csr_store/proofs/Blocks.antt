@@ -1,5 +1,5 @@
 -- Ends of rows that are taken some at a time.
-use Rattle.std.proofs.Common.{◌≡◌, ◌≤◌, ◌-◌, ℕ, zero, suc, List, [], ◌∷◌, ◌++◌, map, take, drop, sym, ap, ◌∙◌, subst, append_assoc}
+use Rattle.std.proofs.Common.{◌≡◌, ℕ, zero, suc, List, [], ◌∷◌, ◌++◌, map, take, drop, sym, ap, ◌∙◌, subst, append_assoc}
 use Rattle.std.specs.List.{AllByRecursion}
 use Rattle.std.proofs.lemmas.List.{map-append, take-append-drop}
 

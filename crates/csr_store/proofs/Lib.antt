@@ -19,3 +19,4 @@ pub mod Joining
 pub mod Along
 pub mod Appending
 pub mod Blocks
+pub mod Taking

@@ -1,5 +1,5 @@
 -- Cells added to a row, many at a time. This project's own.
-use Rattle.std.specs.Prelude.{ℕ, ◌<◌, nat_eq, if◌then◌else◌, List, [], ◌∷◌}
+use Rattle.std.specs.Prelude.{ℕ, ◌<◌, nat_eq, if◌then◌else◌, List, [], ◌∷◌, Option, None, slice_index_or}
 use Rattle.std.specs.List.{AllByRecursion}
 use Rattle.csr_store.specs.Grid.{Cell}
 use Rattle.csr_store.specs.Run.{Row}
@@ -22,3 +22,7 @@ abbrev pub kept_where : Row → List ℕ → Row
 kept_where [] answers = []
 kept_where (c ∷ cells) [] = []
 kept_where (c ∷ cells) (a ∷ answers) = if nat_eq a 0 then kept_where cells answers else c ∷ kept_where cells answers
+
+-- the word in the slot of a column, if there is one
+abbrev pub slot_at : List (Option ℕ) → ℕ → Option ℕ
+slot_at words j = slice_index_or words j None

@@ -12,7 +12,8 @@
 //!
 //! Read `specs/Grid.antt` and `specs/Refusal.antt` first, then `error`, `builder`, `matrix`, `rows` and
 //! `join`; below them `filler` (rows filled in ascending order), `merge` (two lists of entries as one
-//! matrix) and `row` (parts of a list of cells, and searches in a row), over `specs/ByRows.antt`.
+//! matrix), `slots` (words moved from slots into a row) and `row` (parts of a list of cells, and searches in a row), over
+//! `specs/ByRows.antt`.
 #![tactic(auto)]
 
 pub mod builder;
@@ -25,6 +26,7 @@ pub mod matrix;
 mod merge;
 mod row;
 mod rows;
+mod slots;
 
 pub use builder::Builder;
 pub use chunk::Chunk;
@@ -33,3 +35,4 @@ pub use error::StoreError;
 pub use join::join_rows;
 pub use matrix::{Matrix, Version};
 pub use rows::Rows;
+pub use slots::Slot;

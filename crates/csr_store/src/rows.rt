@@ -1,16 +1,19 @@
 //! Runs of rows.
-ghost use Rattle.std.specs.Prelude.{◌≡◌, ◌<◌, ◌≤◌, ◌+◌, ◌^◌, ◌++◌, ◌∷◌, [], length, map, nat_eq, if◌then◌else◌, vec_capacity, OnOk, OnErr};
+ghost use Rattle.std.specs.Prelude.{◌≡◌, ◌⊎◌, ◌<◌, ◌≤◌, ◌+◌, ◌^◌, ◌++◌, ◌∷◌, [], length, map, nat_eq, if◌then◌else◌, vec_capacity, ℕ, None, OnOk, OnErr};
 ghost use Rattle.std.specs.List.{AllByRecursion};
 ghost use Rattle.csr_store.specs.Grid.{Cell};
-ghost use Rattle.csr_store.specs.Added.{ComeBehind, kept_where};
+ghost use Rattle.csr_store.specs.Added.{ComeBehind, kept_where, slot_at};
+ghost use Rattle.csr_store.specs.Along.{along, cell_at};
 ghost use Rattle.csr_store.specs.ByRows.{ends_of};
 ghost use Rattle.csr_store.specs.Valued.{entries_of, with_value, all_cells, valued_from, AreAlike};
 ghost use Rattle.csr_store.specs.Run.{AreClosed, AreRows, IsRow, ended_rows, open_row};
 
 use crate::matrix::Cell;
 use crate::row::{append, put_values};
+use crate::slots::{Slot, move_words};
 use std::alloc::{AllocError, Global};
 use std::marker::Model;
+use std::mem;
 
 /// A run of rows that follow one another: the ended ones, and the one that is open.
 #[derive(Drop)]
@@ -69,11 +72,27 @@ impl Rows {
         }
     }
 
-    /// Makes room for so many entries more.
+    /// Makes room for so many entries more: where there is none, for as many more as there are, at least.
+    #[inline]
     pub fn reserve(&mut self, entries: usize) -> Result<(), AllocError>
         ensures { self.new ≡ self.old }
     {
-        self.cells.reserve(entries)?;
+        if self.cells.capacity() - self.cells.len() >= entries {
+            return Ok(());
+        }
+        self.widen(entries)
+    }
+
+    /// Moves the entries into a list with room for so many more, and for twice as many at least.
+    #[inline(never)]
+    fn widen(&mut self, entries: usize) -> Result<(), AllocError>
+        ensures { self.new ≡ self.old }
+    {
+        let len = self.cells.len();
+        let room = len.saturating_add(entries.max(len));
+        let mut wider = Vec::with_capacity(*self.cells.allocator(), room)?;
+        append(&mut wider, &self.cells)?;
+        self.cells = wider;
         Ok(())
     }
 
@@ -107,6 +126,35 @@ impl Rows {
     {
         self.cells.reserve(cells.len())?;
         add_where(&mut self.cells, cells, answers);
+        Ok(())
+    }
+
+    /// Moves the words out of the slots of so many columns from one on into the open row, behind its others. The slot of a
+    /// column has its number. On a refusal the run and the slots are as before.
+    pub fn push_taken<S: Slot>(
+        &mut self,
+        slots: &mut [S],
+        from: u64,
+        many: u64,
+    ) -> Result<(), AllocError>
+        requires within { from + many ≤ self.old.columns }
+        requires slots { from + many ≤ length slots.old }
+        requires above { AllByRecursion (λ (c : Cell). c.0 < from) self.old.opened }
+        ensures pushed { OnOk result (self.new ≡ record self.old {
+          opened = self.old.opened ++ along (λ j. cell_at j (slot_at (map S.word slots.old) j)) from many;
+        }) }
+        ensures gone { OnOk result ((j : ℕ) → from ≤ j → j < from + many → slot_at (map S.word slots.new) j ≡ None) }
+        ensures others { OnOk result ((j : ℕ) → (j < from) ⊎ (from + many ≤ j)
+            → slot_at (map S.word slots.new) j ≡ slot_at (map S.word slots.old) j) }
+        ensures kept { OnErr result (self.new ≡ self.old) }
+        ensures left { OnErr result (slots.new ≡ slots.old) }
+    {
+        self.cells.reserve(many as usize)?;
+        // a list of its own, so that its length and its place are not looked up for each word
+        let none = Vec::new(*self.cells.allocator());
+        let mut cells = mem::replace(&mut self.cells, none);
+        move_words(&mut cells, slots, from, many);
+        self.cells = cells;
         Ok(())
     }
 

@@ -1,32 +1,5 @@
 -- What is kept of columns, as sums: how it changes where one column's changes.
-use Rattle.std.proofs.Common.{
-  ◌≡◌,
-  ℕ,
-  zero,
-  suc,
-  ◌<◌,
-  Bool,
-  true,
-  false,
-  List,
-  [],
-  ◌∷◌,
-  ◌++◌,
-  Option,
-  None,
-  Some,
-  length,
-  set,
-  refl,
-  sym,
-  ap,
-  ◌∙◌,
-  inl,
-  inr,
-  arith,
-  get_or-set_other,
-  get_or-set_same,
-}
+use Rattle.std.proofs.Common.{◌≡◌, ℕ, zero, suc, ◌<◌, Bool, true, false, List, [], ◌∷◌, ◌++◌, Option, None, length, map, set, refl, sym, ap, ◌∙◌, inl, inr, arith, get_or-set_other, get_or-set_same}
 use Rattle.std.proofs.lemmas.Bool.Decides.{eqb_tells}
 use Rattle.row_product.specs.declared.tagged.Sum.{Sum}
 use Rattle.row_product.specs.declared.tagged.Sum.TheVariants.{Nothing, At, Waiting}
@@ -97,3 +70,7 @@ pub marked_more : (sums : List Sum) (ks : List ℕ) (j v : ℕ) → AreMarked su
     → AreMarked (set sums j (Waiting v)) (ks ++ j ∷ [])
 marked_more sums [] j v h l = (ap waits (get_or-set_same sums j (Waiting v) Nothing l), _)
 marked_more sums (k ∷ ks) j v h l = (mark_kept sums k j v l h.0, marked_more sums ks j v h.1 l)
+
+pub sums_map : (sums : List Sum) → map sum_of sums ≡ sums_of sums
+sums_map [] = refl
+sums_map (s ∷ sums) = ap (λ rest. sum_of s ∷ rest) (sums_map sums)

@@ -30,6 +30,7 @@ use bpf_insn::Kind;
 use bpf_run::{Calls, MOST_CALLS, Prepared};
 use std::alloc::{AllocError, Global};
 use std::marker::Model;
+use std::mem;
 
 /// Additions that wait, no two of them at one column. A contract sees a `Waiting`.
 #[derive(Drop)]
@@ -37,10 +38,16 @@ pub(crate) struct Additions {
     calls: Calls,
     /// Room for as many columns as there can be calls: the first are theirs.
     columns: Vec<u64>,
-    /// Columns that met a term, what is kept of each, and the term: used within `add_apart` alone.
-    places: [u64; MOST_CALLS],
-    xs: [u64; MOST_CALLS],
-    ys: [u64; MOST_CALLS],
+    /// Used within `add_apart` alone.
+    met: Met,
+}
+
+/// Terms that met a sum, the first of so many: the column of each, its sum so far, and the term.
+#[derive(Clone, Copy)]
+struct Met {
+    columns: [u64; MOST_CALLS],
+    sums: [u64; MOST_CALLS],
+    terms: [u64; MOST_CALLS],
 }
 
 impl Model for Additions {
@@ -65,9 +72,11 @@ impl Additions {
         Ok(Additions {
             calls,
             columns,
-            places: [0; MOST_CALLS],
-            xs: [0; MOST_CALLS],
-            ys: [0; MOST_CALLS],
+            met: Met {
+                columns: [0; MOST_CALLS],
+                sums: [0; MOST_CALLS],
+                terms: [0; MOST_CALLS],
+            },
         })
     }
 
@@ -124,20 +133,12 @@ impl Additions {
         ensures steps { result ≡ steps_of (put_calls add.now (sums_of sums.old) (cells_of (columns_of cells.now) terms.now)) }
         ensures room { vec_capacity touched.old ≤ vec_capacity touched.new }
     {
-        let many = meet(
-            add,
-            cells,
-            terms,
-            &mut self.places,
-            &mut self.xs,
-            &mut self.ys,
-            sums,
-            touched,
-        );
+        let many = meet(add, cells, terms, &mut self.met, sums, touched);
         self.calls.begin(Kind::Binary);
-        self.calls.gather_pairs(&self.xs[..many], &self.ys[..many]);
+        self.calls
+            .gather_pairs(&self.met.sums[..many], &self.met.terms[..many]);
         let steps = self.calls.make(add);
-        write(&self.places[..many], self.calls.values(), sums);
+        write(&self.met.columns[..many], self.calls.values(), sums);
         self.calls.begin(Kind::Binary);
         steps
     }
@@ -269,73 +270,71 @@ fn begin(column: u64, term: u64, sums: &mut [Sum], touched: &mut Vec<u64>)
 /// So many cells are met, and so many values are written, by code without a loop.
 const BLOCK: usize = 8;
 
-/// Puts terms at the columns of cells, which ascend: the first at its column is its sum, and of each further one the column,
-/// the sum so far and the term are listed. Answers how many these are.
+/// Puts terms at the columns of cells, which ascend: the first at its column is its sum, and each further one is listed with
+/// its column and the sum so far. Answers how many these are.
 #[inline(never)]
 fn meet(
     _add: &Prepared,
     cells: &[(u64, u64)],
     terms: &[u64],
-    places: &mut [u64],
-    xs: &mut [u64],
-    ys: &mut [u64],
+    found: &mut Met,
     sums: &mut [Sum],
     touched: &mut Vec<u64>,
 ) -> usize
     requires terms { length terms.now ≡ length cells.now }
+    requires few { length cells.now ≤ 64 }
     requires apart { Ascends 0 (length sums.old) cells.now }
-    requires places { length cells.now ≤ length places.old }
-    requires xs { length cells.now ≤ length xs.old }
-    requires ys { length cells.now ≤ length ys.old }
     requires fits { length (put_touched _add.now (sums_of sums.old) (cells_of (columns_of cells.now) terms.now)
         touched.old.items) ≤ vec_capacity touched.old }
     ensures met { AreMet _add.now sums.old (cells_of (columns_of cells.now) terms.now) touched.old.items
-        sums.new (met result places.new xs.new ys.new) touched.new.items }
-    ensures below { AreBelow (length sums.new) (take result places.new) }
+        sums.new (met result found.new.columns found.new.sums found.new.terms) touched.new.items }
+    ensures below { AreBelow (length sums.new) (take result found.new.columns) }
     ensures few { result ≤ length cells.now }
+    ensures long { (length found.new.columns ≡ 64) × (length found.new.sums ≡ 64) × (length found.new.terms ≡ 64) }
     ensures room { vec_capacity touched.old ≤ vec_capacity touched.new }
 {
+    // a list of its own, so that its length and its place are not looked up for each term
+    let none = Vec::new(*touched.allocator());
+    let mut list = mem::replace(touched, none);
     let mut many = 0;
     let blocks = cells.len() / BLOCK;
     for block in 0..blocks {
         for place in 0..BLOCK {
             let k = block * BLOCK + place;
-            many = meet_next(cells[k].0, terms[k], many, places, xs, ys, sums, touched);
+            many = meet_next(cells[k].0, terms[k], many, found, sums, &mut list);
         }
     }
     for k in blocks * BLOCK..cells.len() {
-        many = meet_next(cells[k].0, terms[k], many, places, xs, ys, sums, touched);
+        many = meet_next(cells[k].0, terms[k], many, found, sums, &mut list);
     }
+    *touched = list;
     many
 }
 
-/// Puts a term at a column: as its sum, or else both are listed. Answers how many then are.
+/// Puts a term at a column: as its sum, or else it is listed. Answers how many then are.
 #[inline(always)]
 fn meet_next(
     column: u64,
     term: u64,
     many: usize,
-    places: &mut [u64],
-    xs: &mut [u64],
-    ys: &mut [u64],
+    found: &mut Met,
     sums: &mut [Sum],
     touched: &mut Vec<u64>,
 ) -> usize
     requires within { column < length sums.old }
-    requires places { many < length places.old }
-    requires xs { many < length xs.old }
-    requires ys { many < length ys.old }
+    requires few { many < 64 }
     requires room { slot (sums_of sums.old) column ≡ None → length touched.old.items < vec_capacity touched.old }
-    ensures met { IsMetNext sums.old (met many places.old xs.old ys.old) touched.old.items column term
-        sums.new (met result places.new xs.new ys.new) touched.new.items }
+    ensures met { IsMetNext sums.old (met many found.old.columns found.old.sums found.old.terms) touched.old.items column term
+        sums.new (met result found.new.columns found.new.sums found.new.terms) touched.new.items }
     ensures few { result ≤ many + 1 }
+    ensures long { (length found.new.columns ≡ 64) × (length found.new.sums ≡ 64) × (length found.new.terms ≡ 64) }
     ensures room { vec_capacity touched.old ≤ vec_capacity touched.new }
 {
     match sums[column as usize].word() {
         Some(so_far) => {
-            places[many] = column;
-            xs[many] = so_far;
-            ys[many] = term;
+            found.columns[many] = column;
+            found.sums[many] = so_far;
+            found.terms[many] = term;
             many + 1
         }
         None => {

@@ -15,8 +15,8 @@ use std::alloc::AllocError;
 /// From one sum in so many columns on, going over all columns is cheaper than putting those that have one in order.
 const COLUMNS_A_SUM: u64 = 16;
 
-/// So many columns are gone over without a test of an end.
-const STRETCH: u64 = 8;
+/// So many columns are gone over with room made for all of them beforehand.
+const STRETCH: u64 = 256;
 
 /// Puts the touched columns into ascending order.
 pub(crate) fn put_in_order(touched: &mut Vec<u64>)
@@ -51,30 +51,8 @@ pub(crate) fn emit(touched: &[u64], sums: &mut [Sum], rows: &mut Rows) -> Result
     Ok(())
 }
 
-/// Moves the sum of one column into the open row, if there is one.
-#[inline(always)]
-fn emit_at(column: u64, sums: &mut [Sum], rows: &mut Rows) -> Result<(), AllocError>
-    requires within { column < rows.old.columns }
-    requires width { rows.old.columns ≤ length sums.old }
-    requires above { AllByRecursion (λ (c : Cell). c.0 < column) rows.old.opened }
-    ensures rows { OnOk result (rows.new ≡ record rows.old {
-      opened = rows.old.opened ++ cell_at column (slot (sums_of sums.old) column);
-    }) }
-    ensures gone { slot (sums_of sums.new) column ≡ None }
-    ensures others { (j : ℕ) → (j ≡ column → ⊥) → slot (sums_of sums.new) j ≡ slot (sums_of sums.old) j }
-{
-    let j = column as usize;
-    match sums[j].word() {
-        Some(sum) => {
-            sums[j] = Sum::Nothing;
-            rows.push(column, sum)
-        }
-        None => Ok(()),
-    }
-}
-
 /// Moves the sums of so many columns from one on into the open row.
-#[inline(always)]
+#[inline]
 fn emit_stretch(from: u64, many: u64, sums: &mut [Sum], rows: &mut Rows) -> Result<(), AllocError>
     requires within { from + many ≤ rows.old.columns }
     requires width { rows.old.columns ≤ length sums.old }
@@ -84,10 +62,7 @@ fn emit_stretch(from: u64, many: u64, sums: &mut [Sum], rows: &mut Rows) -> Resu
         → IsEmitted rows.old.columns first run (from + many) (sums_of sums.new) rows.new) }
     ensures kept { (j v : ℕ) → slot (sums_of sums.new) j ≡ Some v → slot (sums_of sums.old) j ≡ Some v }
 {
-    for k in 0..many {
-        emit_at(from + k, sums, rows)?;
-    }
-    Ok(())
+    rows.push_taken(sums, from, many)
 }
 
 /// Moves the sums of all columns into the open row: for rows where many of them have one.
@@ -124,6 +99,7 @@ pub(crate) fn emit_row(
     ensures kept { (j v : ℕ) → slot (sums_of sums.new) j ≡ Some v → slot (sums_of sums.old) j ≡ Some v }
     ensures touched { AreTouched rows.old.columns (sums_of sums.old) touched.new.items }
 {
+    rows.reserve(touched.len())?;
     if touched.len() as u64 > columns / COLUMNS_A_SUM {
         return emit_all(columns, sums, rows);
     }

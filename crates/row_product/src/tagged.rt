@@ -2,6 +2,8 @@
 ghost use Rattle.std.specs.Prelude.{◌≡◌};
 ghost use Rattle.row_product.specs.Sums.{sum_of};
 
+use csr_store::Slot;
+
 /// The sum of a column of the row.
 #[derive(Clone, Copy)]
 pub(crate) enum Sum {
@@ -23,6 +25,21 @@ impl Sum {
             Sum::Nothing => None,
             Sum::At(word) => Some(word),
             Sum::Waiting(word) => Some(word),
+        }
+    }
+}
+
+impl Slot for Sum {
+    ghost word = { sum_of };
+
+    #[inline(always)]
+    fn take(&mut self) -> Option<u64> {
+        match self.word() {
+            Some(word) => {
+                *self = Sum::Nothing;
+                Some(word)
+            }
+            None => None,
         }
     }
 }

@@ -30,11 +30,12 @@ loop-place-preserved c =
     let next : k + 1 ≡ c.loop-block.block * 8 + (l.place + 1) = omega arith in
     record {
       meeting = subst (λ i. Meeting c.args._add.now (sums_of c.args.sums.now) c.args.touched.now.items c.args.cells.now c.args.terms.now
-          i m.new.sums (met m.result m.new.places m.new.xs m.new.ys) m.new.touched.items) next
-          (meeting_next _ _ _ _ _ k l.sums (met l.many l.places l.xs l.ys) l.touched.items m.new.sums (met m.result m.new.places
-          m.new.xs m.new.ys) m.new.touched.items l.invariant.meeting (omega (arith, b, p)) c.requires.terms m.ensures.met);
+          i m.new.sums (met m.result m.new.found.columns m.new.found.sums m.new.found.terms) m.new.touched.items) next
+          (meeting_next _ _ _ _ _ k l.sums (met l.many l.found.columns l.found.sums l.found.terms) l.list.items m.new.sums (met m.result m.new.found.columns
+          m.new.found.sums m.new.found.terms) m.new.touched.items l.invariant.meeting (omega (arith, b, p)) c.requires.terms m.ensures.met);
       few = omega (arith, few, one);
       room = omega (arith, room, more);
+      long = m.ensures.long;
     }
 
 pub meet_next-many-requires-in-loop-k-clause-room :
@@ -55,16 +56,17 @@ loop-k-preserved c =
     let room = l.invariant.room in
     let more = m.ensures.room in
     record {
-      meeting = meeting_next _ _ _ _ _ l.k l.sums (met l.many l.places l.xs l.ys) l.touched.items m.new.sums (met m.result
-          m.new.places m.new.xs m.new.ys) m.new.touched.items l.invariant.meeting c.loop-k-test.true c.requires.terms m.ensures.met;
+      meeting = meeting_next _ _ _ _ _ l.k l.sums (met l.many l.found.columns l.found.sums l.found.terms) l.list.items m.new.sums (met m.result
+          m.new.found.columns m.new.found.sums m.new.found.terms) m.new.touched.items l.invariant.meeting c.loop-k-test.true c.requires.terms m.ensures.met;
       few = omega (arith, few, one);
       room = omega (arith, room, more);
+      long = m.ensures.long;
     }
 
 pub returns-clause-met : goal.returns-clause-met
 returns-clause-met c =
     meeting_end c.args._add.now c.args.sums.now c.args.touched.now.items c.args.cells.now c.args.terms.now c.loop-k.k
-    c.loop-k.sums (met c.loop-k.many c.loop-k.places c.loop-k.xs c.loop-k.ys) c.loop-k.touched.items
+    c.loop-k.sums (met c.loop-k.many c.loop-k.found.columns c.loop-k.found.sums c.loop-k.found.terms) c.loop-k.list.items
     c.loop-k.invariant.meeting c.loop-k-test.false
 
 pub returns-clause-below : goal.returns-clause-below

@@ -1,4 +1,4 @@
-use Rattle.std.proofs.Common.{ℕ, Option, None, Some, refl, sym, ap, ◌∙◌}
+use Rattle.std.proofs.Common.{rules, ℕ, Option, None, Some, refl, sym, ap, ◌∙◌}
 use Rattle.std.proofs.lemmas.Option.{none-some}
 use Rattle.row_product.specs.Terms.{met}
 use Rattle.row_product.proofs.Meeting.{met_more}
@@ -16,12 +16,12 @@ word_of (Some w) = w
 
 pub returns-in-Some-clause-met : goal.returns-in-Some-clause-met
 returns-in-Some-clause-met c =
-    let w = met c.args.many c.args.places.now c.args.xs.now c.args.ys.now in
+    let w = met c.args.many c.args.found.now.columns c.args.found.now.sums c.args.found.now.terms in
     record {
       listed = λ s e. (
         refl,
-        met_more c.args.many c.args.places.now c.args.xs.now c.args.ys.now c.args.column c.in-Some.so_far c.args.term
-            c.requires.places c.requires.xs c.requires.ys
+        met_more c.args.many c.args.found.now.columns c.args.found.now.sums c.args.found.now.terms c.args.column c.in-Some.so_far c.args.term
+            (search rules) (search rules) (search rules)
             ∙ ap (λ u. one_waiting w c.args.column u c.args.term) (ap word_of (c.in-Some.ensures ∙ e)),
         refl,
       );
