@@ -1,38 +1,9 @@
 -- The rows of a range are a piece, and two pieces that follow one another are the whole.
-use Rattle.std.proofs.Common.{
-  ◌≡◌,
-  ◌≤◌,
-  ◌+◌,
-  ◌-◌,
-  ◌*◌,
-  ℕ,
-  zero,
-  suc,
-  List,
-  [],
-  ◌∷◌,
-  ◌++◌,
-  Option,
-  Result,
-  Ok,
-  Err,
-  IfOk,
-  length,
-  map,
-  refl,
-  sym,
-  ap,
-  ◌∙◌,
-  subst,
-  arith,
-  length-append,
-  append-nil,
-}
+use Rattle.std.proofs.Common.{◌≡◌, ◌≤◌, ◌+◌, ◌-◌, ◌*◌, ℕ, zero, suc, List, [], ◌∷◌, ◌++◌, Option, Result, Ok, Err, IfOk, length, refl, sym, ap, subst, arith, length-append, append-nil}
 use Rattle.std.specs.List.{AllByRecursion}
 use Rattle.std.proofs.lemmas.List.{length-map}
 use Rattle.csr_store.specs.Grid.{Grid, Cell, Position, at_row, limit}
 use Rattle.csr_store.specs.Run.{Row, Run, all_ended, numbered}
-use Rattle.csr_store.specs.Along.{along, cell_at}
 use Rattle.csr_store.specs.Mask.{cut, row_under, rows_under}
 use Rattle.csr_store.proofs.Along.{row_by-ascends, length_ascends}
 use Rattle.form_tests.specs.Pieces.{IsPiece}

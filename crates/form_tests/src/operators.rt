@@ -1,4 +1,4 @@
-//! Operators for the tests of jobs, from slots, each written as the eight bytes of its code in hexadecimal.
+//! Operators for the tests of forms, from slots, each written as the eight bytes of its code in hexadecimal.
 ghost use Rattle.std.specs.Prelude.{◌≡◌, IfOk};
 
 use bpf_insn::{Kind, decode};
@@ -8,8 +8,6 @@ use std::alloc::{AllocError, Global};
 
 /// `mov64 r0, r1`
 pub const FIRST: u64 = 0xbf10_0000_0000_0000;
-/// `add64 r0, 1`
-pub const ADD_ONE: u64 = 0x0700_0000_0100_0000;
 /// `sub64 r0, r2`
 pub const SUB: u64 = 0x1f20_0000_0000_0000;
 /// `mul64 r0, r2`

@@ -127,14 +127,33 @@ fn whole(alloc: Global) -> Result<String, Fail> {
     Ok(whole)
 }
 
+/// The matrix of the `symmetric` text.
+fn read_half(alloc: Global) -> Result<Matrix, Fail> {
+    let text = half(alloc)?;
+    Ok(read(alloc, text.as_bytes())?)
+}
+
+/// The matrix of the `general` text.
+fn read_whole(alloc: Global) -> Result<Matrix, Fail> {
+    let text = whole(alloc)?;
+    Ok(read(alloc, text.as_bytes())?)
+}
+
+/// Two matrices are written as one text.
+fn assert_written_alike(
+    rt: &impl Abort,
+    alloc: Global,
+    first: &Matrix,
+    second: &Matrix,
+) -> Result<(), Fail> {
+    let wanted = write(alloc, second)?;
+    assert_eq!(rt; write(alloc, first)?.as_slice(), wanted.as_slice());
+    Ok(())
+}
+
 #[test]
 fn a_symmetric_matrix_is_that_of_all_its_entries(rt: HostRuntime) -> Result<(), Fail> {
-    let first = read(rt.alloc(), half(rt.alloc())?.as_bytes())?;
-    let second = read(rt.alloc(), whole(rt.alloc())?.as_bytes())?;
+    let first = read_half(rt.alloc())?;
     assert_eq!(rt; first.entries(), COUNT);
-    assert_eq!(rt;
-        write(rt.alloc(), &first)?.as_slice(),
-        write(rt.alloc(), &second)?.as_slice()
-    );
-    Ok(())
+    assert_written_alike(&rt, rt.alloc(), &first, &read_whole(rt.alloc())?)
 }
