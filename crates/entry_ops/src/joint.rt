@@ -38,16 +38,26 @@ pub fn fill_union(
         let Some((y, ys)) = rights.split_first() else {
             return emitter.copy_all(lefts);
         };
-        if x.0 == y.0 {
-            emitter.call(operator, calls, x.0, Operands::Binary { x: x.1, y: y.1 })?;
-            lefts = xs;
-            rights = ys;
-        } else if x.0 < y.0 {
+        if x.0 < y.0 {
             emitter.copy(x.0, x.1)?;
             lefts = xs;
-        } else {
+        } else if y.0 < x.0 {
             emitter.copy(y.0, y.1)?;
             rights = ys;
+        } else {
+            // behind a column of both the next ones often are of both, so these have a loop of their own
+            let most = lefts.len().min(rights.len());
+            let mut place = 0;
+            while place < most && lefts[place].0 == rights[place].0 {
+                let operands = Operands::Binary {
+                    x: lefts[place].1,
+                    y: rights[place].1,
+                };
+                emitter.call(operator, calls, lefts[place].0, operands)?;
+                place += 1;
+            }
+            lefts = &lefts[place..];
+            rights = &rights[place..];
         }
     }
     emitter.copy_all(rights)
@@ -78,14 +88,24 @@ pub fn fill_both(
         let Some((y, ys)) = rights.split_first() else {
             return Ok(());
         };
-        if x.0 == y.0 {
-            emitter.call(operator, calls, x.0, Operands::Binary { x: x.1, y: y.1 })?;
+        if x.0 < y.0 {
             lefts = xs;
+        } else if y.0 < x.0 {
             rights = ys;
-        } else if x.0 < y.0 {
-            lefts = xs;
         } else {
-            rights = ys;
+            // behind a column of both the next ones often are of both, so these have a loop of their own
+            let most = lefts.len().min(rights.len());
+            let mut place = 0;
+            while place < most && lefts[place].0 == rights[place].0 {
+                let operands = Operands::Binary {
+                    x: lefts[place].1,
+                    y: rights[place].1,
+                };
+                emitter.call(operator, calls, lefts[place].0, operands)?;
+                place += 1;
+            }
+            lefts = &lefts[place..];
+            rights = &rights[place..];
         }
     }
     Ok(())
