@@ -16,3 +16,4 @@ pub mod Gathering
 pub mod LaneCalls
 pub mod Bytes
 pub mod Slots
+pub mod Short

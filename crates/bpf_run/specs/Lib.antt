@@ -9,3 +9,4 @@ pub mod Slots
 pub mod Ran
 pub mod Gathering
 pub mod Even
+pub mod Short

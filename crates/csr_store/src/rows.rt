@@ -83,6 +83,13 @@ impl Rows {
         self.widen(entries)
     }
 
+    /// Makes room for the ends of so many rows more.
+    pub fn reserve_rows(&mut self, rows: usize) -> Result<(), AllocError>
+        ensures { self.new ≡ self.old }
+    {
+        self.ends.reserve(rows)
+    }
+
     /// Moves the entries into a list with room for so many more, and for twice as many at least.
     #[inline(never)]
     fn widen(&mut self, entries: usize) -> Result<(), AllocError>

@@ -47,10 +47,11 @@ impl Emitter {
         }
     }
 
-    /// Makes room for so many cells.
-    pub fn reserve(&mut self, cells: usize) -> Result<(), AllocError>
+    /// Makes room for so many rows and cells.
+    pub fn reserve(&mut self, rows: usize, cells: usize) -> Result<(), AllocError>
         ensures { self.new ≡ self.old }
     {
+        self.rows.reserve_rows(rows)?;
         self.rows.reserve(cells)
     }
 

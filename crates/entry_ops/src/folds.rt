@@ -195,6 +195,7 @@ impl<'m> Folds<'m> {
     {
         let known = self.results.iter().filter(|value| value.is_some()).count();
         rows.reserve(known)?;
+        rows.reserve_rows(self.results.len())?;
         for value in &self.results {
             add_row(rows, *value)?;
         }

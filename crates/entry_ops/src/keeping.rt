@@ -124,6 +124,7 @@ fn keep_all<'m>(
     ensures spent { OnErr result
         (Charges (calls_on operator.now (coming_at a.now thunk from.entry)) keeping.old.steps keeping.new.steps) }
 {
+    keeping.rows.reserve_rows((from.end - from.row) as usize)?;
     keeping
         .rows
         .reserve(entries_between(a, from.row, from.end).min(MOST_ROOM))?;

@@ -157,7 +157,8 @@ pub fn fill_chunk(
 {
     let _ = operator.operator().program();
     let mut emitter = Emitter::begin(alloc, range.start, sources.left.columns());
-    match emitter.reserve(room_for(form, sources, range.start, range.end)) {
+    let rows = (range.end - range.start) as usize;
+    match emitter.reserve(rows, room_for(form, sources, range.start, range.end)) {
         Ok(()) => {}
         Err(error) => {
             return Chunk {

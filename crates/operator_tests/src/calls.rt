@@ -1,6 +1,7 @@
 //! Calls of flat code against the machine that knows of each register what stands in it: values and steps.
 mod folds;
 mod forms;
+mod jumps;
 mod lanes;
 mod sizes;
 mod stacks;

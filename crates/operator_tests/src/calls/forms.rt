@@ -7,7 +7,7 @@ const OPERATIONS: [u8; 12] = [
 ];
 
 /// The conditions of jumps.
-const CONDITIONS: [u8; 11] = [
+pub(super) const CONDITIONS: [u8; 11] = [
     0x10, 0x20, 0x30, 0x40, 0x50, 0x60, 0x70, 0xa0, 0xb0, 0xc0, 0xd0,
 ];
 

@@ -6,8 +6,11 @@ use Rattle.entry_ops.proofs.Standing.{on_err}
 use Rattle.entry_ops.proofs.Passing.{coming-none, kept-none, kept-over}
 use Rattle.entry_ops.proofs.keeping.keep_all.Goals as goal
 
+pub returns-in_err-reserve_rows-clause-spent : goal.returns-in_err-reserve_rows-clause-spent
+returns-in_err-reserve_rows-clause-spent c = on_err c.from_residual.result (charges-none _ _)
+
 pub returns-in_err-reserve-clause-spent : goal.returns-in_err-reserve-clause-spent
-returns-in_err-reserve-clause-spent c = on_err c.from_residual.result (charges-none _ _)
+returns-in_err-reserve-clause-spent c = on_err c.from_residual-in_err-reserve.result (charges-none _ _)
 
 pub returns-clause-kept : goal.returns-clause-kept
 returns-clause-kept c =
