@@ -17,3 +17,5 @@ pub mod LaneCalls
 pub mod Bytes
 pub mod Slots
 pub mod Short
+pub mod Ignoring
+pub mod Choice

@@ -10,3 +10,4 @@ pub mod Ran
 pub mod Gathering
 pub mod Even
 pub mod Short
+pub mod Naming

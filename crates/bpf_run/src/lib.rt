@@ -9,6 +9,7 @@ mod go;
 mod lanes;
 mod memory;
 mod micro;
+mod named;
 mod operations;
 mod prepare;
 mod run;

@@ -20,3 +20,4 @@ pub mod Along
 pub mod Appending
 pub mod Blocks
 pub mod Taking
+pub mod Keeping

@@ -12,7 +12,7 @@
 //!
 //! Read `specs/Grid.antt` and `specs/Refusal.antt` first, then `error`, `builder`, `matrix`, `rows` and
 //! `join`; below them `filler` (rows filled in ascending order), `merge` (two lists of entries as one
-//! matrix), `slots` (words moved from slots into a row) and `row` (parts of a list of cells, and searches in a row), over
+//! matrix), `kept` (cells of which some are kept), `slots` (words moved from slots into a row) and `row` (parts of a list of cells, and searches in a row), over
 //! `specs/ByRows.antt`.
 #![tactic(auto)]
 
@@ -22,6 +22,7 @@ mod entry_list;
 pub mod error;
 mod filler;
 mod join;
+mod kept;
 pub mod matrix;
 mod merge;
 mod row;

@@ -1,19 +1,21 @@
 //! Runs of rows.
-ghost use Rattle.std.specs.Prelude.{◌≡◌, ◌⊎◌, ◌<◌, ◌≤◌, ◌+◌, ◌^◌, ◌++◌, ◌∷◌, [], length, map, nat_eq, if◌then◌else◌, vec_capacity, ℕ, None, OnOk, OnErr};
+ghost use Rattle.std.specs.Prelude.{◌≡◌, ◌⊎◌, ◌<◌, ◌≤◌, ◌+◌, ◌-◌, ◌^◌, ◌++◌, ◌∷◌, [], length, map, ℕ, None, OnOk, OnErr};
 ghost use Rattle.std.specs.List.{AllByRecursion};
-ghost use Rattle.csr_store.specs.Grid.{Cell};
-ghost use Rattle.csr_store.specs.Added.{ComeBehind, kept_where, slot_at};
+ghost use Rattle.csr_store.specs.Grid.{Cell, row_of};
+ghost use Rattle.csr_store.specs.Added.{ComeBehind, kept_where, kept_rows, slot_at};
 ghost use Rattle.csr_store.specs.Along.{along, cell_at};
 ghost use Rattle.csr_store.specs.ByRows.{ends_of};
 ghost use Rattle.csr_store.specs.Valued.{entries_of, with_value, all_cells, valued_from, AreAlike};
 ghost use Rattle.csr_store.specs.Run.{AreClosed, AreRows, IsRow, ended_rows, open_row};
 
-use crate::matrix::Cell;
+use crate::kept::{add_rows_where, add_where};
+use crate::matrix::{Cell, Matrix};
 use crate::row::{append, put_values};
 use crate::slots::{Slot, move_words};
 use std::alloc::{AllocError, Global};
 use std::marker::Model;
 use std::mem;
+use std::ops::Range;
 
 /// A run of rows that follow one another: the ended ones, and the one that is open.
 #[derive(Drop)]
@@ -124,6 +126,7 @@ impl Rows {
 
     /// Adds those of some cells whose answer is not 0 to the open row, behind its others. On a refusal the run is as
     /// before.
+    #[inline(always)]
     pub fn push_where(&mut self, cells: &[Cell], answers: &[u64]) -> Result<(), AllocError>
         requires behind { ComeBehind self.old.columns self.old.opened cells.now }
         requires answers { length answers.now ≡ length cells.now }
@@ -132,7 +135,42 @@ impl Rows {
         ensures kept { OnErr result (self.new ≡ self.old) }
     {
         self.cells.reserve(cells.len())?;
-        add_where(&mut self.cells, cells, answers);
+        // a list of its own, so that its length and its place are not looked up for each cell
+        let none = Vec::new(*self.cells.allocator());
+        let mut kept = mem::replace(&mut self.cells, none);
+        add_where(&mut kept, cells, answers);
+        self.cells = kept;
+        Ok(())
+    }
+
+    /// Adds those of the cells of a matrix's rows whose answer is not 0, and ends each row. On a refusal the run is as before.
+    #[inline(never)]
+    pub fn push_rows_where(
+        &mut self,
+        a: &Matrix,
+        rows: Range<u64>,
+        answers: &[u64],
+    ) -> Result<(), AllocError>
+        requires range { rows.start ≤ rows.end }
+        requires within { rows.end ≤ a.now.rows }
+        requires columns { self.old.columns ≡ a.now.columns }
+        requires none_open { self.old.opened ≡ [] }
+        requires answers { length answers.now ≡ length (along (row_of a.now) rows.start (rows.end - rows.start)) }
+        ensures pushed { OnOk result (self.new ≡ record self.old {
+          ended = self.old.ended ++ kept_rows a.now answers.now rows.start (rows.end - rows.start);
+        }) }
+        ensures kept { OnErr result (self.new ≡ self.old) }
+    {
+        self.cells.reserve(answers.len())?;
+        self.ends.reserve((rows.end - rows.start) as usize)?;
+        // lists of their own, so that their lengths and places are not looked up for each cell
+        let none = Vec::new(*self.cells.allocator());
+        let mut cells = mem::replace(&mut self.cells, none);
+        let none = Vec::new(*self.ends.allocator());
+        let mut ends = mem::replace(&mut self.ends, none);
+        add_rows_where(&mut cells, &mut ends, a, rows, answers);
+        self.cells = cells;
+        self.ends = ends;
         Ok(())
     }
 
@@ -238,34 +276,6 @@ impl Rows {
         push_ends(starts, &self.ends, cells.len() as u64)?;
         append(cells, &self.cells)?;
         Ok(())
-    }
-}
-
-/// Adds those of some cells whose answer is not 0 to a list that has room for all of them.
-fn add_where(kept: &mut Vec<Cell>, cells: &[Cell], answers: &[u64])
-    requires answers { length answers.now ≡ length cells.now }
-    requires room { length kept.old.items + length cells.now ≤ vec_capacity kept.old }
-    ensures added { kept.new.items ≡ kept.old.items ++ kept_where cells.now answers.now }
-    ensures words { AllByRecursion (λ (c : Cell). c.1 < 2 ^ 64) cells.now }
-{
-    let mut next = 0;
-    for (column, word) in cells {
-        push_if(kept, *column, *word, answers[next]);
-        next += 1;
-    }
-}
-
-/// Adds a cell to a list that has room for it, where an answer is not 0.
-#[inline(always)]
-fn push_if(kept: &mut Vec<Cell>, column: u64, word: u64, answer: u64)
-    requires room { length kept.old.items < vec_capacity kept.old }
-    ensures added { kept.new.items
-        ≡ (if nat_eq answer 0 then kept.old.items else kept.old.items ++ (column, word) ∷ []) }
-    ensures room { vec_capacity kept.old ≤ vec_capacity kept.new }
-    ensures word { word < 2 ^ 64 }
-{
-    if answer != 0 {
-        kept.push_reserved((column, word));
     }
 }
 

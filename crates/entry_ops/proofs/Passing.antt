@@ -1,5 +1,5 @@
 -- What an operator keeps of rows, cell after cell: what is called, in its order, and what is kept so far.
-use Rattle.std.proofs.Common.{◌≡◌, ◌≤◌, ◌<◌, ◌+◌, ◌-◌, ◌⊎◌, inl, inr, ℕ, zero, suc, nat_lt, true, false, List, [], ◌∷◌, ◌++◌, length, take, drop, None, refl, sym, ap, ◌∙◌, subst, arith, length-append, length-drop, append_assoc, append-nil, take-append-drop}
+use Rattle.std.proofs.Common.{◌≡◌, ◌≤◌, ◌<◌, ◌+◌, ◌-◌, ◌^◌, ◌⊎◌, inl, inr, ℕ, zero, suc, nat_lt, nat_eq, if◌then◌else◌, true, false, List, [], ◌∷◌, ◌++◌, length, take, drop, None, refl, sym, ap, ◌∙◌, subst, arith, length-append, length-drop, append_assoc, append-nil, take-append-drop}
 use Rattle.std.proofs.Math.Seq.{take-append_seam, drop-append_seam}
 use Rattle.std.proofs.lemmas.Bool.{cases_lt, lt-ltb, le-ltb}
 use Rattle.bpf_insn.specs.declared.operands.Operands.{Operands}
@@ -7,24 +7,19 @@ use Rattle.bpf_verify.specs.Accepted.{Accepted}
 use Rattle.csr_store.specs.Grid.{Grid, IsGrid, row_of}
 use Rattle.csr_store.specs.Along.{along}
 use Rattle.csr_store.specs.Ascending.{Ascends}
-use Rattle.csr_store.specs.Added.{ComeBehind, kept_where}
+use Rattle.csr_store.specs.Added.{ComeBehind, kept_where, kept_rows}
 use Rattle.csr_store.specs.Run.{Row, Run}
-use Rattle.csr_store.proofs.Along.{along-next, along-over, along-snoc, along-same, row_of-ascends}
+use Rattle.csr_store.proofs.Along.{along-next, along-over, along-snoc, along-split, along-same, row_of-ascends}
 use Rattle.bpf_run.specs.Meaning.{value_of}
 use Rattle.bpf_run.specs.Calls.{Charges, calls_on, values_on, steps_of, entries_of}
-use Rattle.bpf_run.proofs.Charging.{Spends, spends-start, spends-step, charges-all, charges-before, calls_on-append}
+use Rattle.bpf_run.proofs.Charging.{Spends, spends-start, spends-step, charges-all, charges-before, calls_on-append, steps-append, values_on-append}
 use Rattle.entry_ops.specs.declared.form.Form.TheVariants.{Select}
 use Rattle.entry_ops.specs.Walking.{form_rows, form_all_calls}
-use Rattle.entry_ops.specs.Keeping.{row_before, kept_of, coming, IsKept, AreFirst}
+use Rattle.entry_ops.specs.declared.keeping.Cursor.{Cursor}
+use Rattle.entry_ops.specs.Keeping.{row_before, kept_of, coming, coming_at, called_before, IsKept, AreFirst}
 use Rattle.entry_ops.proofs.Mapped.{length_values, length_entries, entries_of-append}
 use Rattle.entry_ops.proofs.Lines.{front_behind, rest_behind, kept-append, alone-cells, alone-calls}
 use Rattle.entry_ops.proofs.Nexts.{none_left}
-
-pub same-parts : {A : Type 0} (xs ys us vs : List A) → length xs ≡ length us → xs ++ ys ≡ us ++ vs → (xs ≡ us) × (ys ≡ vs)
-same-parts xs ys us vs l e = (
-  sym (take-append_seam xs ys) ∙ (ap (take (length xs)) e ∙ (ap (λ n. take n (us ++ vs)) l ∙ take-append_seam us vs)),
-  sym (drop-append_seam xs ys) ∙ (ap (drop (length xs)) e ∙ (ap (λ n. drop n (us ++ vs)) l ∙ drop-append_seam us vs)),
-)
 
 -- ---- the calls that come
 
@@ -53,128 +48,273 @@ module _ (a : Grid) (thunk end : ℕ) where
   pub coming-none : (i : ℕ) (left : Row) → end ≤ i → left ≡ [] → coming a thunk i end left ≡ []
   coming-none i left l e = ap (coming a thunk i end) e ∙ along-over (λ k. entries_of k thunk (row_of a k)) (i + 1) end (omega arith)
 
-  -- a whole row is gathered, or its first cells are
-  pub gathered-row : (i : ℕ) (left : Row) (os all : List Operands) → os ++ coming a thunk i end left ≡ all
-      → (os ++ entries_of i thunk left) ++ coming a thunk (i + 1) end (row_before a end (i + 1)) ≡ all
-  gathered-row i left os all h =
-      append_assoc os (entries_of i thunk left) (coming a thunk (i + 1) end (row_before a end (i + 1)))
-      ∙ (ap (λ us. os ++ (entries_of i thunk left ++ us)) (coming-from (i + 1)) ∙ h)
+  -- what is called before a row, and before the next one
+  pub called_start : (row : ℕ) (left : Row) → called_before a thunk row left row ≡ []
+  called_start row left = let t : nat_lt row row ≡ false = le-ltb row row (omega arith) in rw t refl
 
-  pub gathered-part : (i : ℕ) (now later : Row) (os all : List Operands) → os ++ coming a thunk i end (now ++ later) ≡ all
-      → (os ++ entries_of i thunk now) ++ coming a thunk i end later ≡ all
-  gathered-part i now later os all h =
-      append_assoc os (entries_of i thunk now) (coming a thunk i end later) ∙ (ap (λ us. os ++ us) (sym (coming-parts i now later)) ∙ h)
+  called_beyond : (row : ℕ) (left : Row) (i : ℕ) → row < i
+      → called_before a thunk row left i ≡ entries_of row thunk left ++ along (λ k. entries_of k thunk (row_of a k)) (row + 1) (i - (row + 1))
+  called_beyond row left i l = let t : nat_lt row i ≡ true = lt-ltb row i l in rw t refl
 
--- ---- values are taken one row after the other
+  -- the cells of row i, of which some are left where it is the first
+  pub here_of : ℕ → Row → ℕ → Row
+  here_of row left i = if nat_lt row i then row_before a end i else left
 
-values_on-take : (f : Accepted) (n : ℕ) (os : List Operands) → take n (values_on f os) ≡ values_on f (take n os)
-values_on-take f zero os = refl
-values_on-take f (suc n) [] = refl
-values_on-take f (suc n) (o ∷ os) = ap (λ vs. value_of f o ∷ vs) (values_on-take f n os)
+  pub here_first : (row : ℕ) (left : Row) → here_of row left row ≡ left
+  unfolding here_of
+  here_first row left = let t : nat_lt row row ≡ false = le-ltb row row (omega arith) in rw t refl
 
-values_on-drop : (f : Accepted) (n : ℕ) (os : List Operands) → drop n (values_on f os) ≡ values_on f (drop n os)
-values_on-drop f zero os = refl
-values_on-drop f (suc n) [] = refl
-values_on-drop f (suc n) (o ∷ os) = values_on-drop f n os
+  pub here_beyond : (row : ℕ) (left : Row) (i : ℕ) → row < i → here_of row left i ≡ row_before a end i
+  unfolding here_of
+  here_beyond row left i l = let t : nat_lt row i ≡ true = lt-ltb row i l in rw t refl
 
-pub record IsPlacing (f : Accepted) (a : Grid) (thunk end : ℕ) (all : List Operands) (was row : ℕ) (left : Row) (vs : List ℕ) (spent : ℕ) : Type 0 where
-  pub made : List Operands
-  pub beyond : List Operands
-  pub todo : List Operands
-  pub whole : made ++ beyond ≡ all
-  pub same : todo ++ beyond ≡ coming a thunk row end left
-  pub values : vs ≡ values_on f todo
-  pub steps : spent ≡ was + steps_of (calls_on f made)
-  pub many : (length made ≡ 64) ⊎ (beyond ≡ [])
+  pub here_is : (row : ℕ) (left : Row) (i : ℕ) → here_of row left i ≡ (if nat_lt row i then row_before a end i else left)
+  unfolding here_of
+  here_is row left i = refl
 
-module _ (f : Accepted) (a : Grid) (thunk end : ℕ) (all : List Operands) (was : ℕ) where
-  pub placing-start : (row : ℕ) (left : Row) (os : List Operands) (values : List ℕ) (steps : ℕ) → all ≡ coming a thunk row end left → AreFirst os all
-      → values ≡ values_on f os → steps ≡ was + steps_of (calls_on f os) → IsPlacing f a thunk end all was row left values steps
-  placing-start row left os values steps e h v s = record {
-    made = os;
-    beyond = h.rest;
-    todo = os;
-    whole = h.parts;
-    same = h.parts ∙ e;
-    values = v;
-    steps = s;
-    many = h.many;
-  }
+  pub called_more : (row : ℕ) (left : Row) (i : ℕ) (now : Row) → row ≤ i → i < end → now ≡ here_of row left i
+      → called_before a thunk row left i ++ entries_of i thunk now ≡ called_before a thunk row left (i + 1)
+  called_more row left i now l u e = elim (cases_lt row i) [
+    | inl b ↦
+        let m : i + 1 - (row + 1) ≡ i - (row + 1) + 1 = omega (arith, b) in
+        let k : row + 1 + (i - (row + 1)) ≡ i = omega (arith, b) in
+        ap (λ cs. called_before a thunk row left i ++ entries_of i thunk cs) (e ∙ here_beyond row left i b ∙ inside i u)
+        ∙ ap (λ os. os ++ entries_of i thunk (row_of a i)) (called_beyond row left i b)
+        ∙ append_assoc (entries_of row thunk left) (along (λ k. entries_of k thunk (row_of a k)) (row + 1) (i - (row + 1))) (entries_of i thunk (row_of a i))
+        ∙ ap (λ j. entries_of row thunk left ++ (along (λ k. entries_of k thunk (row_of a k)) (row + 1) (i - (row + 1)) ++ entries_of j thunk (row_of a j))) (sym k)
+        ∙ ap (λ os. entries_of row thunk left ++ os) (sym (along-snoc (λ k. entries_of k thunk (row_of a k)) (row + 1) (i - (row + 1))))
+        ∙ ap (λ n. entries_of row thunk left ++ along (λ k. entries_of k thunk (row_of a k)) (row + 1) n) (sym m)
+        ∙ sym (called_beyond row left (i + 1) (omega (arith, b)))
+    | inr b ↦
+        let s : row ≡ i = omega (arith, b, l) in
+        let z : i + 1 - (row + 1) ≡ 0 = omega (arith, s) in
+        ap (λ j. called_before a thunk row left j ++ entries_of i thunk now) (sym s)
+        ∙ ap (λ os. os ++ entries_of i thunk now) (called_start row left)
+        ∙ ap (λ j. entries_of j thunk now) (sym s)
+        ∙ ap (entries_of row thunk) (e ∙ ap (here_of row left) (sym s) ∙ here_first row left)
+        ∙ sym (append-nil (entries_of row thunk left))
+        ∙ ap (λ n. entries_of row thunk left ++ along (λ k. entries_of k thunk (row_of a k)) (row + 1) n) (sym z)
+        ∙ sym (called_beyond row left (i + 1) (omega (arith, b)))
+  ]
 
-  module _ (row : ℕ) (left : Row) (values : List ℕ) (steps : ℕ) (h : IsPlacing f a thunk end all was row left values steps) where
-    count : length values ≡ length h.todo
-    count = ap length h.values ∙ length_values f h.todo
+  -- what is gathered, and what comes behind it, is all that comes
+  pub called_then : (row : ℕ) (left : Row) (stop : ℕ) (done later : Row) → row ≤ stop → stop ≤ end → done ++ later ≡ here_of row left stop
+      → (called_before a thunk row left stop ++ entries_of stop thunk done) ++ coming a thunk stop end later ≡ coming a thunk row end left
+  called_then row left stop done later l u e =
+      append_assoc (called_before a thunk row left stop) (entries_of stop thunk done) (coming a thunk stop end later)
+      ∙ ap (λ os. called_before a thunk row left stop ++ os) (sym (coming-parts stop done later) ∙ ap (coming a thunk stop end) e)
+      ∙ go (cases_lt row stop)
+    where
+      go : (row < stop) ⊎ (stop ≤ row) → called_before a thunk row left stop ++ coming a thunk stop end (here_of row left stop) ≡ coming a thunk row end left
+      go (inl b) =
+          let m : stop - (row + 1) + (end - stop) ≡ end - (row + 1) = omega (arith, b, u) in
+          let k : row + 1 + (stop - (row + 1)) ≡ stop = omega (arith, b) in
+          ap (λ cs. called_before a thunk row left stop ++ coming a thunk stop end cs) (here_beyond row left stop b)
+          ∙ ap (λ os. called_before a thunk row left stop ++ os) (coming-from stop)
+          ∙ ap (λ os. os ++ along (λ k. entries_of k thunk (row_of a k)) stop (end - stop)) (called_beyond row left stop b)
+          ∙ append_assoc (entries_of row thunk left) (along (λ k. entries_of k thunk (row_of a k)) (row + 1) (stop - (row + 1))) (along (λ k. entries_of k thunk (row_of a k)) stop (end - stop))
+          ∙ ap (λ j. entries_of row thunk left ++ (along (λ k. entries_of k thunk (row_of a k)) (row + 1) (stop - (row + 1)) ++ along (λ k. entries_of k thunk (row_of a k)) j (end - stop))) (sym k)
+          ∙ ap (λ os. entries_of row thunk left ++ os) (sym (along-split (λ k. entries_of k thunk (row_of a k)) (row + 1) (stop - (row + 1)) (end - stop)))
+          ∙ ap (λ n. entries_of row thunk left ++ along (λ k. entries_of k thunk (row_of a k)) (row + 1) n) m
+      go (inr b) =
+          let s : row ≡ stop = omega (arith, b, l) in
+          ap (λ j. called_before a thunk row left j ++ coming a thunk j end (here_of row left j)) (sym s)
+          ∙ ap (λ os. os ++ coming a thunk row end (here_of row left row)) (called_start row left)
+          ∙ ap (coming a thunk row end) (here_first row left)
 
-    module _ (l : length left ≤ length values) (front back : List ℕ) (first : front ≡ take (length left) values) (rest : back ≡ drop (length left) values) where
-      split : (take (length left) h.todo ≡ entries_of row thunk left)
-          × (drop (length left) h.todo ++ h.beyond ≡ along (λ k. entries_of k thunk (row_of a k)) (row + 1) (end - (row + 1)))
-      split = same-parts (take (length left) h.todo) (drop (length left) h.todo ++ h.beyond) (entries_of row thunk left) _
-          (let t = take-append-drop (length left) h.todo in let n = ap length t in
-          omega (arith, n, length-append (take (length left) h.todo) (drop (length left) h.todo), length-drop (length left) h.todo, length_entries row thunk left, count, l))
-          (sym (append_assoc (take (length left) h.todo) (drop (length left) h.todo) h.beyond)
-          ∙ (ap (λ us. us ++ h.beyond) (take-append-drop (length left) h.todo) ∙ h.same))
+-- ---- what was called and what it gave
 
-      pub row-values : front ≡ values_on f (entries_of row thunk left)
-      row-values = first ∙ (ap (take (length left)) h.values ∙ (values_on-take f (length left) h.todo ∙ ap (values_on f) split.0))
+length_rows : (a : Grid) (thunk i n : ℕ) → length (along (λ k. entries_of k thunk (row_of a k)) i n) ≡ length (along (row_of a) i n)
+length_rows a thunk i zero = refl
+length_rows a thunk i (suc n) =
+    let r = length_rows a thunk (suc i) n in let e = length_entries i thunk (row_of a i) in
+    omega (
+      arith,
+      length-append (entries_of i thunk (row_of a i)) (along (λ k. entries_of k thunk (row_of a k)) (suc i) n),
+      length-append (row_of a i) (along (row_of a) (suc i) n),
+      r,
+      e,
+    )
 
-      pub placing-row : IsPlacing f a thunk end all was (row + 1) (row_before a end (row + 1)) back steps
-      placing-row = record {
-        made = h.made;
-        beyond = h.beyond;
-        todo = drop (length left) h.todo;
-        whole = h.whole;
-        same = split.1 ∙ sym (coming-from a thunk end (row + 1));
-        values = rest ∙ (ap (drop (length left)) h.values ∙ values_on-drop f (length left) h.todo);
-        steps = h.steps;
-        many = h.many;
-      }
+split-two : {A : Type 0} (n : ℕ) (vs xs ys front back : List A) → vs ≡ xs ++ ys → n ≡ length xs → front ≡ take n vs → back ≡ drop n vs → (front ≡ xs) × (back ≡ ys)
+split-two n vs xs ys front back e l f b = (
+  f ∙ ap (λ k. take k vs) l ∙ ap (take (length xs)) e ∙ take-append_seam xs ys,
+  b ∙ ap (λ k. drop k vs) l ∙ ap (drop (length xs)) e ∙ drop-append_seam xs ys,
+)
 
-    -- no row is left
-    pub placing-none : end ≤ row → left ≡ [] → length values ≤ length left
-    placing-none l e =
-        let n = ap length (h.same ∙ coming-none a thunk end row left l e) in
-        omega (arith, n, length-append h.todo h.beyond, count)
+module _ (f : Accepted) (a : Grid) (thunk : ℕ) (operands : List Operands) (at stop : Cursor) (h : AreFirst f a thunk operands at stop) where
+  pub here_at : h.done ++ stop.left.now ≡ here_of a thunk at.end at.row at.left.now stop.row
+  here_at = h.parts ∙ sym (here_is a thunk at.end at.row at.left.now stop.row)
 
-    -- the values that are left are those of the first cells of a row
-    module _ (l : length values ≤ length left) (now later : Row) (first : now ≡ take (length values) left) (rest : later ≡ drop (length values) left) where
-      cut : left ≡ now ++ later
-      cut = sym (ap (λ r. r ++ later) first ∙ (ap (λ r. take (length values) left ++ r) rest ∙ take-append-drop (length values) left))
+  pub first_then : h.first ++ coming_at a thunk stop ≡ coming_at a thunk at
+  first_then = ap (λ n. h.first ++ coming a thunk stop.row n stop.left.now) h.end
+      ∙ ap (λ os. os ++ coming a thunk stop.row at.end stop.left.now) h.is
+      ∙ called_then a thunk at.end at.row at.left.now stop.row h.done stop.left.now h.onward h.within here_at
 
-      last : (h.todo ≡ entries_of row thunk now) × (h.beyond ≡ coming a thunk row end later)
-      last = same-parts h.todo h.beyond (entries_of row thunk now) (coming a thunk row end later)
-          (let t = ap length cut in let d = ap length rest in
-          omega (arith, t, d, length-append now later, length-drop (length values) left, length_entries row thunk now, count, l))
-          (h.same ∙ (ap (coming a thunk row end) cut ∙ coming-parts a thunk end row now later))
+  calls_are : calls_on f (coming_at a thunk at) ≡ calls_on f h.first ++ calls_on f (coming_at a thunk stop)
+  calls_are = ap (calls_on f) (sym first_then) ∙ calls_on-append f h.first (coming_at a thunk stop)
 
-      pub last-values : values ≡ values_on f (entries_of row thunk now)
-      last-values = h.values ∙ ap (values_on f) last.0
+  -- what is spent for them
+  pub first_steps : (n : ℕ) → n ≡ steps_of (calls_on f operands) → n ≡ steps_of (calls_on f h.first)
+  first_steps n e = e ∙ h.alike.steps
 
-      calls_are : calls_on f all ≡ calls_on f h.made ++ calls_on f (coming a thunk row end later)
-      calls_are = ap (calls_on f) (sym h.whole) ∙ (calls_on-append f h.made h.beyond ∙ ap (λ os. calls_on f h.made ++ calls_on f os) last.1)
+  pub first_fits : (was n : ℕ) → n ≡ steps_of (calls_on f operands) → was + steps_of (calls_on f (coming_at a thunk at)) < 2 ^ 64 → was + n < 2 ^ 64
+  first_fits was n e r =
+      let s = ap steps_of calls_are ∙ steps-append (calls_on f h.first) (calls_on f (coming_at a thunk stop)) in
+      let k = first_steps n e in omega (arith, s, k, r)
 
-      pub placing-spends : Spends (calls_on f all) was (calls_on f (coming a thunk row end later)) steps
-      placing-spends = spends-step (calls_on f all) was (calls_on f all) was (calls_on f h.made) (calls_on f (coming a thunk row end later)) steps
-          (spends-start (calls_on f all) was) calls_are h.steps
+  module _ (was steps n : ℕ) (e : n ≡ steps_of (calls_on f operands)) (s : steps ≡ was + n) where
+    spent_is : steps ≡ was + steps_of (calls_on f h.first)
+    spent_is = s ∙ ap (λ k. was + k) (first_steps n e)
 
-      -- the end is nearer
-      pub placing-less : (from : ℕ) → from < end → from ≤ row → row ≤ end → (row ≡ end) ⊎ (length values < length left)
-          → length (coming a thunk row end later) + (end - row) < length all + (end - from)
-      placing-less from s b w e =
-          let n = ap length h.whole in let p = ap length last.1 in let q = length-append h.made h.beyond in
-          elim e [
-            | inl o ↦ omega (arith, n, p, q, o, s)
-            | inr o ↦ elim h.many [
-              | inl m ↦ omega (arith, n, p, q, m, b)
-              | inr z ↦ absurd (let d = ap length rest in let u = ap length z in
-                  omega (arith, p, u, d, o, length-drop (length values) left, length-append (entries_of row thunk later) (along (λ k. entries_of k thunk (row_of a k)) (row + 1) (end - (row + 1))), length_entries row thunk later))
-            ]
-          ]
+    pub first_spends : Spends (calls_on f (coming_at a thunk at)) was (calls_on f (coming_at a thunk stop)) steps
+    first_spends = spends-step (calls_on f (coming_at a thunk at)) was (calls_on f (coming_at a thunk at)) was (calls_on f h.first) (calls_on f (coming_at a thunk stop)) steps
+        (spends-start (calls_on f (coming_at a thunk at)) was) calls_are spent_is
 
-    pub placing-stop : Charges (calls_on f all) was steps
-    placing-stop = subst (λ cs. Charges cs was steps) (sym (calls_on-append f h.made h.beyond) ∙ ap (calls_on f) h.whole)
-        (charges-before (calls_on f h.made) (calls_on f h.beyond) was steps (charges-all (calls_on f h.made) was steps h.steps))
+    pub first_stop : Charges (calls_on f (coming_at a thunk at)) was steps
+    first_stop = subst (λ cs. Charges cs was steps) (sym calls_are)
+        (charges-before (calls_on f h.first) (calls_on f (coming_at a thunk stop)) was steps (charges-all (calls_on f h.first) was steps spent_is))
+
+  -- the end is nearer
+  pub first_less : at.row < at.end → length (coming_at a thunk stop) + (stop.end - stop.row) < length (coming_at a thunk at) + (at.end - at.row)
+  first_less b =
+      let n = ap length (sym first_then) ∙ length-append h.first (coming_at a thunk stop) in
+      let e = h.end in let o = h.onward in let w = h.within in
+      elim h.full [
+        | inl s ↦ omega (arith, n, e, o, s, b)
+        | inr m ↦ omega (arith, n, e, o, w, m, b)
+      ]
+
+  -- the values of the cells of one row
+  module _ (values : List ℕ) (v : values ≡ values_on f operands) (same : stop.row ≡ at.row) where
+    first_here : h.first ≡ entries_of stop.row thunk h.done
+    first_here = h.is ∙ ap (λ i. called_before a thunk at.row at.left.now i ++ entries_of stop.row thunk h.done) same
+        ∙ ap (λ os. os ++ entries_of stop.row thunk h.done) (called_start a thunk at.end at.row at.left.now)
+
+    left_here : h.done ++ stop.left.now ≡ at.left.now
+    left_here = here_at ∙ ap (here_of a thunk at.end at.row at.left.now) same ∙ here_first a thunk at.end at.row at.left.now
+
+    pub values_here : values ≡ values_on f (entries_of at.row thunk h.done)
+    values_here = v ∙ h.alike.values ∙ ap (values_on f) first_here ∙ ap (λ i. values_on f (entries_of i thunk h.done)) same
+
+    pub many_here : length values ≡ length h.done
+    many_here = ap length values_here ∙ length_values f (entries_of at.row thunk h.done) ∙ length_entries at.row thunk h.done
+
+    pub few_here : length values ≤ length at.left.now
+    few_here = let l = ap length left_here ∙ refl in let m = many_here in omega (arith, l, m, length-append h.done stop.left.now)
+
+    pub now_here : (now : Row) → now ≡ take (length values) at.left.now → now ≡ h.done
+    now_here now t = t ∙ ap (λ k. take k at.left.now) many_here ∙ ap (take (length h.done)) (sym left_here) ∙ take-append_seam h.done stop.left.now
+
+    pub cut_here : (now : Row) → now ≡ take (length values) at.left.now → at.left.now ≡ now ++ stop.left.now
+    cut_here now t = sym left_here ∙ ap (λ r. r ++ stop.left.now) (sym (now_here now t))
+
+  -- the values of the cells of several rows
+  module _ (values : List ℕ) (v : values ≡ values_on f operands) (b : at.row < stop.row) where
+    between : List Operands
+    between = along (λ k. entries_of k thunk (row_of a k)) (at.row + 1) (stop.row - (at.row + 1))
+
+    first_far : h.first ≡ entries_of at.row thunk at.left.now ++ (between ++ entries_of stop.row thunk h.done)
+    unfolding between
+    first_far = h.is ∙ ap (λ os. os ++ entries_of stop.row thunk h.done) (called_beyond a thunk at.end at.row at.left.now stop.row b)
+        ∙ append_assoc (entries_of at.row thunk at.left.now) (along (λ k. entries_of k thunk (row_of a k)) (at.row + 1) (stop.row - (at.row + 1))) (entries_of stop.row thunk h.done)
+
+    values_far : values ≡ values_on f (entries_of at.row thunk at.left.now) ++ (values_on f between ++ values_on f (entries_of stop.row thunk h.done))
+    values_far = v ∙ h.alike.values ∙ ap (values_on f) first_far
+        ∙ values_on-append f (entries_of at.row thunk at.left.now) (between ++ entries_of stop.row thunk h.done)
+        ∙ ap (λ vs. values_on f (entries_of at.row thunk at.left.now) ++ vs) (values_on-append f between (entries_of stop.row thunk h.done))
+
+    pub far_few : length at.left.now ≤ length values
+    far_few =
+        let n = ap length values_far in
+        omega (
+          arith,
+          n,
+          length-append (values_on f (entries_of at.row thunk at.left.now)) (values_on f between ++ values_on f (entries_of stop.row thunk h.done)),
+          length_values f (entries_of at.row thunk at.left.now),
+          length_entries at.row thunk at.left.now,
+        )
+
+    module _ (front others : List ℕ) (t : front ≡ take (length at.left.now) values) (d : others ≡ drop (length at.left.now) values) where
+      far_parts : (front ≡ values_on f (entries_of at.row thunk at.left.now)) × (others ≡ values_on f between ++ values_on f (entries_of stop.row thunk h.done))
+      far_parts = split-two (length at.left.now) values _ _ front others values_far
+          (let x = length_values f (entries_of at.row thunk at.left.now) in let y = length_entries at.row thunk at.left.now in omega (arith, x, y)) t d
+
+      pub far_first : front ≡ values_on f (entries_of at.row thunk at.left.now)
+      far_first = far_parts.0
+
+      module _ (last : Row) (l : last ≡ row_before a at.end stop.row) (passed : ℕ) (p : passed ≡ length last - length stop.left.now) where
+        last_is : last ≡ h.done ++ stop.left.now
+        last_is = l ∙ sym (here_beyond a thunk at.end at.row at.left.now stop.row b) ∙ sym here_at
+
+        pub far_left : length stop.left.now ≤ length last
+        far_left = let n = ap length last_is in omega (arith, n, length-append h.done stop.left.now)
+
+        passed_is : passed ≡ length h.done
+        passed_is = let n = ap length last_is in omega (arith, p, n, length-append h.done stop.left.now)
+
+        long : length others ≡ length (values_on f between) + passed
+        long = let n = ap length far_parts.1 in let q = passed_is in
+            omega (
+              arith,
+              n,
+              q,
+              length-append (values_on f between) (values_on f (entries_of stop.row thunk h.done)),
+              length_values f (entries_of stop.row thunk h.done),
+              length_entries stop.row thunk h.done,
+            )
+
+        pub far_passed : passed ≤ length others
+        far_passed = let n = long in omega (arith, n)
+
+        pub last_passed : passed ≤ length last
+        last_passed = omega (arith, p)
+
+        module _ (whole behind : List ℕ) (w : whole ≡ take (length others - passed) others) (u : behind ≡ drop (length others - passed) others) where
+          far_whole_parts : (whole ≡ values_on f between) × (behind ≡ values_on f (entries_of stop.row thunk h.done))
+          far_whole_parts = split-two (length others - passed) others _ _ whole behind far_parts.1 (let n = long in omega (arith, n)) w u
+
+          pub far_whole : whole ≡ values_on f (along (λ k. entries_of k thunk (row_of a k)) (at.row + 1) (stop.row - (at.row + 1)))
+          unfolding between
+          far_whole = far_whole_parts.0
+
+          pub far_many : length whole ≡ length (along (row_of a) (at.row + 1) (stop.row - (at.row + 1)))
+          far_many = ap length far_whole ∙ length_values f (along (λ k. entries_of k thunk (row_of a k)) (at.row + 1) (stop.row - (at.row + 1)))
+              ∙ length_rows a thunk (at.row + 1) (stop.row - (at.row + 1))
+
+          module _ (now : Row) (g : now ≡ take passed last) where
+            pub far_now : now ≡ h.done
+            far_now = g ∙ ap (λ k. take k last) passed_is ∙ ap (take (length h.done)) last_is ∙ take-append_seam h.done stop.left.now
+
+            pub far_cut : row_before a at.end stop.row ≡ now ++ stop.left.now
+            far_cut = sym l ∙ last_is ∙ ap (λ r. r ++ stop.left.now) (sym far_now)
+
+            pub far_last : behind ≡ values_on f (entries_of stop.row thunk now)
+            far_last = far_whole_parts.1 ∙ ap (λ r. values_on f (entries_of stop.row thunk r)) (sym far_now)
+
+            pub far_even : length behind ≡ length now
+            far_even = ap length far_last ∙ length_values f (entries_of stop.row thunk now) ∙ length_entries stop.row thunk now
 
 -- ---- what is kept so far
+
+-- answers beyond those of the cells don't matter
+kept_before : (cells : Row) (vs ws : List ℕ) → length vs ≡ length cells → kept_where cells (vs ++ ws) ≡ kept_where cells vs
+kept_before [] vs ws e = refl
+kept_before (c ∷ cells) [] ws e = absurd (omega (arith, e))
+kept_before (c ∷ cells) (v ∷ vs) ws e = ap (λ r. if nat_eq v 0 then r else c ∷ r) (kept_before cells vs ws (omega (arith, e)))
+
+kept_rows-along : (f : Accepted) (a : Grid) (thunk i n : ℕ) (vs : List ℕ) → vs ≡ values_on f (along (λ k. entries_of k thunk (row_of a k)) i n)
+    → kept_rows a vs i n ≡ along (λ k. kept_of f thunk k (row_of a k) ∷ []) i n
+kept_rows-along f a thunk i zero vs e = refl
+kept_rows-along f a thunk i (suc n) vs e =
+    let here = values_on f (entries_of i thunk (row_of a i)) in
+    let rest = values_on f (along (λ k. entries_of k thunk (row_of a k)) (suc i) n) in
+    let parts : vs ≡ here ++ rest = e ∙ values_on-append f (entries_of i thunk (row_of a i)) (along (λ k. entries_of k thunk (row_of a k)) (suc i) n) in
+    let long : length here ≡ length (row_of a i) = length_values f (entries_of i thunk (row_of a i)) ∙ length_entries i thunk (row_of a i) in
+    ap (λ r. r ∷ kept_rows a (drop (length (row_of a i)) vs) (suc i) n) (ap (kept_where (row_of a i)) parts ∙ kept_before (row_of a i) here rest long)
+    ∙ ap (λ rs. kept_of f thunk i (row_of a i) ∷ rs)
+    (kept_rows-along f a thunk (suc i) n (drop (length (row_of a i)) vs)
+    (ap (drop (length (row_of a i))) parts ∙ ap (λ k. drop k (here ++ rest)) (sym long) ∙ drop-append_seam here rest))
 
 module _ (f : Accepted) (a : Grid) (thunk end : ℕ) where
   pub kept-start : (start : ℕ) → start ≤ end → (run : Run) → run ≡ record { first = start; columns = a.columns; ended = []; opened = [] }
@@ -252,6 +392,31 @@ module _ (f : Accepted) (a : Grid) (thunk end : ℕ) where
       where
         so_far : ℕ → List Row → Run
         so_far n rows = record { first = n; columns = a.columns; ended = rows; opened = [] }
+
+  -- whole rows, of which none is begun
+  pub kept-whole : (row stop : ℕ) (run : Run) → IsKept f a thunk row end (row_before a end row) run → run.opened ≡ [] → row ≤ stop → stop ≤ end → (vs : List ℕ)
+      → vs ≡ values_on f (along (λ k. entries_of k thunk (row_of a k)) row (stop - row)) → (new : Run)
+      → new ≡ record run { ended = run.ended ++ kept_rows a vs row (stop - row) } → IsKept f a thunk stop end (row_before a end stop) new
+  kept-whole row stop run h none l u vs v new e =
+      let fr = h.from in
+      let first_is : new.first ≡ run.first = ap (λ (r : Run). r.first) e in
+      let m : row - run.first + (stop - row) ≡ stop - run.first = omega (arith, fr, l) in
+      let k : run.first + (row - run.first) ≡ row = omega (arith, fr) in record {
+        done = [];
+        parts = refl;
+        from = omega (arith, first_is, fr, l);
+        within = u;
+        is = e ∙ (ap (λ rows. record run { ended = run.ended ++ rows }) (kept_rows-along f a thunk row (stop - row) vs v)
+            ∙ (ap (λ os. record run { ended = run.ended ++ along (λ i. kept_of f thunk i (row_of a i) ∷ []) row (stop - row); opened = os }) none
+            ∙ (ap (λ (r : Run). so_far run.first r.columns (r.ended ++ along (λ i. kept_of f thunk i (row_of a i) ∷ []) row (stop - row))) h.is
+            ∙ (ap (λ i. so_far run.first a.columns (along (λ i. kept_of f thunk i (row_of a i) ∷ []) run.first (row - run.first) ++ along (λ i. kept_of f thunk i (row_of a i) ∷ []) i (stop - row))) (sym k)
+            ∙ (ap (so_far run.first a.columns) (sym (along-split (λ i. kept_of f thunk i (row_of a i) ∷ []) run.first (row - run.first) (stop - row)))
+            ∙ (ap (λ n. so_far run.first a.columns (along (λ i. kept_of f thunk i (row_of a i) ∷ []) run.first n)) m
+            ∙ ap (λ n. so_far n a.columns (along (λ i. kept_of f thunk i (row_of a i) ∷ []) n (stop - n))) (sym first_is)))))));
+      }
+    where
+      so_far : ℕ → ℕ → List Row → Run
+      so_far n columns rows = record { first = n; columns = columns; ended = rows; opened = [] }
 
   -- ---- the end
 

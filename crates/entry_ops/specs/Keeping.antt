@@ -7,6 +7,7 @@ use Rattle.csr_store.specs.Along.{along}
 use Rattle.csr_store.specs.Run.{Row, Run}
 use Rattle.csr_store.specs.Added.{kept_where}
 use Rattle.bpf_run.specs.Calls.{calls_on, values_on, entries_of}
+use Rattle.bpf_run.specs.Naming.{AnswersAlike}
 use Rattle.bpf_run.proofs.Charging.{Spends}
 use Rattle.entry_ops.specs.declared.keeping.Cursor.{Cursor}
 use Rattle.entry_ops.specs.declared.keeping.Keeping.{Keeping}
@@ -42,11 +43,23 @@ pub record IsKept (f : Accepted) (a : Grid) (thunk row end : ℕ) (left : Row) (
 abbrev pub IsKeptAt : Accepted → Grid → ℕ → Cursor → Keeping → Type 0
 IsKeptAt f a thunk at k = IsKept f a thunk at.row at.end at.left.now k.rows
 
--- as many calls are gathered as fit in, of those that come
-pub record AreFirst (operands all : List Operands) : Type 0 where
-  pub rest : List Operands
-  pub parts : operands ++ rest ≡ all
-  pub many : (length operands ≡ 64) ⊎ (rest ≡ [])
+-- what is called for the cells that are left of a row and for the rows behind it, before another row
+abbrev pub called_before : Grid → ℕ → ℕ → Row → ℕ → List Operands
+called_before a thunk row left stop =
+    if nat_lt row stop then entries_of row thunk left ++ along (λ i. entries_of i thunk (row_of a i)) (row + 1) (stop - (row + 1)) else []
+
+-- As many calls of an operator are gathered as fit in, of those for the cells from one place up to another, or others that give
+-- and cost the same.
+pub record AreFirst (f : Accepted) (a : Grid) (thunk : ℕ) (operands : List Operands) (at stop : Cursor) : Type 0 where
+  pub first : List Operands
+  pub done : Row
+  pub alike : AnswersAlike f operands first
+  pub is : first ≡ called_before a thunk at.row at.left.now stop.row ++ entries_of stop.row thunk done
+  pub parts : done ++ stop.left.now ≡ (if nat_lt at.row stop.row then row_before a at.end stop.row else at.left.now)
+  pub end : stop.end ≡ at.end
+  pub onward : at.row ≤ stop.row
+  pub within : stop.row ≤ at.end
+  pub full : (stop.row ≡ at.end) ⊎ (length first ≡ 64)
 
 -- calls were made, and the cells of which the operator keeps some were passed
 pub record IsOnward (f : Accepted) (a : Grid) (thunk : ℕ) (at next : Cursor) (old new : Keeping) : Type 0 where

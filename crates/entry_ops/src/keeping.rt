@@ -1,7 +1,8 @@
 //! Select without a mask: cells are called 64 at a time, whichever rows they stand in, and those that are kept are copied.
-ghost use Rattle.std.specs.Prelude.{◌≡◌, ◌<◌, ◌≤◌, ◌+◌, ◌-◌, ◌^◌, [], None, IfOk, OnOk, OnErr};
+ghost use Rattle.std.specs.Prelude.{◌≡◌, ◌<◌, ◌≤◌, ◌+◌, ◌++◌, ◌-◌, ◌^◌, [], length, None, IfOk, OnOk, OnErr};
 ghost use Rattle.bpf_insn.specs.declared.operands.Kind.TheVariants as kinds;
-ghost use Rattle.bpf_run.specs.Calls.{calls_on, steps_of, Charges};
+ghost use Rattle.bpf_run.specs.Calls.{calls_on, steps_of, entries_of, Charges};
+ghost use Rattle.bpf_run.specs.Naming.{AnswersAlike};
 ghost use Rattle.entry_ops.specs.declared.form.Form.TheVariants as forms;
 ghost use Rattle.entry_ops.specs.Keeping.{row_before, coming_at, IsKept, IsKeptAt, AreFirst, IsOnward};
 ghost use Rattle.entry_ops.specs.Walking.{form_rows, form_all_calls};
@@ -36,28 +37,62 @@ fn row_before(a: &Matrix, end: u64, row: u64) -> &[Cell]
     if row < end { a.row(row) } else { &[] }
 }
 
-/// Gathers the calls of the cells that come, as many as fit in.
-fn gather_run<'m>(calls: &mut Calls, a: &'m Matrix, thunk: u64, at: Cursor<'m>)
+/// Gathers the calls of the cells of a row, of which many have none, with what the operator reads.
+#[inline(always)]
+fn gather_row(operator: &Prepared, calls: &mut Calls, cells: &[Cell], row: u64, thunk: u64)
+    requires room { length calls.old.operands + length cells.now ≤ 64 }
+    requires kind { calls.old.kind ≡ kinds.Index }
+    ensures kind { calls.new.kind ≡ calls.old.kind }
+    ensures alike { AnswersAlike operator.now calls.new.operands (calls.old.operands ++ entries_of row thunk cells.now) }
+{
+    if cells.is_empty() {
+        return;
+    }
+    calls.gather_entries_for(operator, cells, row, thunk);
+}
+
+/// Gathers the calls of the cells that come, as many as fit in, with what the operator reads. Answers where the cells begin
+/// that come behind them.
+#[inline(always)]
+fn gather_run<'m>(
+    operator: &Prepared,
+    calls: &mut Calls,
+    a: &'m Matrix,
+    thunk: u64,
+    at: Cursor<'m>,
+) -> Cursor<'m>
     requires begun { calls.old.kind ≡ kinds.Index }
     requires none { calls.old.operands ≡ [] }
     requires end { at.end ≤ a.now.rows }
-    requires within { at.row ≤ at.end }
-    requires over { at.row ≡ at.end → at.left.now ≡ [] }
+    requires before { at.row < at.end }
     ensures kind { calls.new.kind ≡ calls.old.kind }
-    ensures first { AreFirst calls.new.operands (coming_at a.now thunk at.entry) }
+    ensures first { AreFirst operator.now a.now thunk calls.new.operands at.entry result }
 {
     let mut row = at.row;
     let mut left = at.left;
-    while row < at.end && left.len() <= MOST_CALLS - calls.len() {
-        calls.gather_entries(left, row, thunk);
+    while left.len() <= MOST_CALLS - calls.len() {
+        gather_row(operator, calls, left, row, thunk);
         row += 1;
-        left = row_before(a, at.end, row);
+        if row >= at.end {
+            return Cursor {
+                row,
+                end: at.end,
+                left: &[],
+            };
+        }
+        left = a.row(row);
     }
-    let (now, _) = left.split_at(left.len().min(MOST_CALLS - calls.len()));
-    calls.gather_entries(now, row, thunk);
+    let (now, later) = left.split_at(MOST_CALLS - calls.len());
+    calls.gather_entries_for(operator, now, row, thunk);
+    Cursor {
+        row,
+        end: at.end,
+        left: later,
+    }
 }
 
 /// Makes the calls of the next cells, and copies those that the operator keeps.
+#[inline(always)]
 fn keep_run<'m>(
     operator: &Prepared,
     calls: &mut Calls,
@@ -80,26 +115,26 @@ fn keep_run<'m>(
         (Charges (calls_on operator.now (coming_at a.now thunk at.entry)) keeping.old.steps keeping.new.steps) }
 {
     let _ = a.columns();
-    gather_run(calls, a, thunk, at);
+    let stop = gather_run(operator, calls, a, thunk, at);
     keeping.steps += calls.make(operator);
-    let mut row = at.row;
-    let mut left = at.left;
-    let mut values = calls.values();
-    while row < at.end && left.len() <= values.len() {
-        let (now, behind) = values.split_at(left.len());
-        keeping.rows.push_where(left, now)?;
-        keeping.rows.end_row()?;
-        values = behind;
-        row += 1;
-        left = row_before(a, at.end, row);
+    let values = calls.values();
+    if stop.row == at.row {
+        let (now, _) = at.left.split_at(values.len());
+        keeping.rows.push_where(now, values)?;
+        return Ok(stop);
     }
-    let (now, later) = left.split_at(values.len());
-    keeping.rows.push_where(now, values)?;
-    Ok(Cursor {
-        row,
-        end: at.end,
-        left: later,
-    })
+    let (first, others) = values.split_at(at.left.len());
+    keeping.rows.push_where(at.left, first)?;
+    keeping.rows.end_row()?;
+    let last = row_before(a, at.end, stop.row);
+    let passed = last.len() - stop.left.len();
+    let (whole, behind) = others.split_at(others.len() - passed);
+    keeping
+        .rows
+        .push_rows_where(a, at.row + 1..stop.row, whole)?;
+    let (now, _) = last.split_at(passed);
+    keeping.rows.push_where(now, behind)?;
+    Ok(stop)
 }
 
 /// Makes the calls of all cells that come, and copies those that the operator keeps.

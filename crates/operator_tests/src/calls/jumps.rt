@@ -1,4 +1,4 @@
-//! Conditional jumps over one move, which lanes that stand together do at once with the move.
+//! Conditional jumps over one move, which lanes that stand together do at once with the move, and with one before the jump.
 use super::forms::{CONDITIONS, slot};
 use super::*;
 
@@ -167,6 +167,144 @@ fn jumps_over_no_move_are_alike(rt: HostRuntime) -> Result<(), Fail> {
             let code = [MOVE, slot(0x2d, 1, 2, offset, 0), *other, EXIT];
             expect_alike(&rt, rt.alloc(), &code, Kind::Binary)?;
         }
+    }
+    Ok(())
+}
+
+/// A move, a jump and another move, and then what R1, R2 and R3 hold, in one word. R3 holds 5 before.
+fn expect_around(
+    rt: &impl Abort,
+    alloc: Global,
+    first: u64,
+    jump: u64,
+    last: u64,
+) -> Result<(), Fail> {
+    let code = [
+        slot(0xb7, 3, 0, 0, 5),
+        slot(0xbf, 4, 1, 0, 0),
+        first,
+        jump,
+        last,
+        MOVE,
+        slot(0x27, 0, 0, 0, 31),
+        slot(0xaf, 0, 2, 0, 0),
+        slot(0x27, 0, 0, 0, 31),
+        slot(0xaf, 0, 3, 0, 0),
+        EXIT,
+    ];
+    expect_alike(rt, alloc, &code, Kind::Binary)
+}
+
+/// R1, R2 or R3 gets one of two words: where R1 and R2 are compared, R2 and R3, R4 and itself, or R1 and a number. Registers
+/// that are compared are among those that get the word.
+fn expect_choices(rt: &impl Abort, alloc: Global, opcode: u8) -> Result<(), Fail> {
+    for dst in [1u8, 2, 3] {
+        let first = slot(0xb7, dst, 0, 0, 9);
+        let last = slot(0xb7, dst, 0, 0, -7);
+        expect_around(rt, alloc, first, slot(opcode | 0x08, 1, 2, 1, 0), last)?;
+        expect_around(rt, alloc, first, slot(opcode | 0x08, 2, 3, 1, 0), last)?;
+        expect_around(rt, alloc, first, slot(opcode | 0x08, 4, 4, 1, 0), last)?;
+        expect_around(rt, alloc, first, slot(opcode, 1, 0, 1, 2), last)?;
+        expect_around(rt, alloc, first, slot(opcode, 1, 0, 1, -1), last)?;
+    }
+    Ok(())
+}
+
+#[test]
+fn choices_are_alike(rt: HostRuntime) -> Result<(), Fail> {
+    for condition in CONDITIONS {
+        expect_choices(&rt, rt.alloc(), condition | 0x05)?;
+    }
+    Ok(())
+}
+
+#[test]
+fn choices_on_32_bits_are_alike(rt: HostRuntime) -> Result<(), Fail> {
+    for condition in CONDITIONS {
+        expect_choices(&rt, rt.alloc(), condition | 0x06)?;
+    }
+    Ok(())
+}
+
+/// What isn't a choice between two words that stand in the code: moves into two registers, of what a register holds, or of 32
+/// bits, and what is no move.
+#[test]
+fn moves_around_a_jump_are_alike(rt: HostRuntime) -> Result<(), Fail> {
+    let jump = slot(0x2d, 1, 2, 1, 0);
+    let moves = [
+        slot(0xb7, 3, 0, 0, 9),
+        slot(0xb7, 2, 0, 0, -7),
+        slot(0xbf, 3, 1, 0, 0),
+        slot(0xb4, 3, 0, 0, -7),
+        slot(0x07, 3, 0, 0, 9),
+    ];
+    for first in &moves {
+        for last in &moves {
+            expect_around(&rt, rt.alloc(), *first, jump, *last)?;
+        }
+    }
+    Ok(())
+}
+
+/// A choice behind a jump that leads to its own jump, or to its second move, and so parts the lanes.
+#[test]
+fn jumps_into_a_choice_are_alike(rt: HostRuntime) -> Result<(), Fail> {
+    for offset in [1i16, 2, 3] {
+        for condition in CONDITIONS {
+            let code = [
+                slot(0xb7, 0, 0, 0, 3),
+                slot(0x45, 1, 0, offset, 1),
+                slot(0xb7, 0, 0, 0, 1),
+                slot(condition | 0x0d, 1, 2, 1, 0),
+                slot(0xb7, 0, 0, 0, 0),
+                slot(0x27, 0, 0, 0, 31),
+                slot(0x0f, 0, 1, 0, 0),
+                EXIT,
+            ];
+            expect_alike(&rt, rt.alloc(), &code, Kind::Binary)?;
+        }
+    }
+    Ok(())
+}
+
+/// Two choices, and a third one where lanes may have parted: a jump leads over it to the end, or to an exit of its own.
+#[test]
+fn choices_one_after_the_other_are_alike(rt: HostRuntime) -> Result<(), Fail> {
+    for offset in [3i16, 4, 5] {
+        let code = [
+            slot(0xb7, 0, 0, 0, 1),
+            slot(0x2d, 1, 2, 1, 0),
+            slot(0xb7, 0, 0, 0, 0),
+            slot(0xb7, 3, 0, 0, 6),
+            slot(0x66, 0, 0, 1, 0),
+            slot(0xb7, 3, 0, 0, 11),
+            slot(0x45, 1, 0, offset, 1),
+            slot(0xb7, 0, 0, 0, 20),
+            slot(0xcd, 2, 1, 1, 0),
+            slot(0xb7, 0, 0, 0, 30),
+            slot(0x0f, 0, 3, 0, 0),
+            EXIT,
+            slot(0x0f, 0, 2, 0, 0),
+            EXIT,
+        ];
+        expect_alike(&rt, rt.alloc(), &code, Kind::Binary)?;
+    }
+    Ok(())
+}
+
+/// A jump behind a move that leads further than over the next one, and a choice that two instructions and the end follow.
+#[test]
+fn jumps_further_behind_a_move_are_alike(rt: HostRuntime) -> Result<(), Fail> {
+    for offset in [0i16, 1, 2, 3] {
+        let code = [
+            slot(0xb7, 0, 0, 0, 1),
+            slot(0xad, 1, 2, offset, 0),
+            slot(0xb7, 0, 0, 0, 0),
+            slot(0x07, 0, 0, 0, 5),
+            slot(0x27, 0, 0, 0, 3),
+            EXIT,
+        ];
+        expect_alike(&rt, rt.alloc(), &code, Kind::Binary)?;
     }
     Ok(())
 }

@@ -210,6 +210,107 @@ fn entries_in_bulk(rt: HostRuntime) -> Result<(), Fail> {
     Ok(())
 }
 
+/// Cells of a row of its own, each a column with its square.
+fn squares(alloc: Global) -> Result<Vec<(u64, u64)>, Fail> {
+    let mut cells = Vec::new(alloc);
+    for column in 0..23u64 {
+        cells.push((column, column.wrapping_mul(column)))?;
+    }
+    Ok(cells)
+}
+
+/// Adds the operands of cells of a row.
+fn push_entries(
+    operands: &mut Vec<Operands>,
+    cells: &[(u64, u64)],
+    row: u64,
+    thunk: u64,
+) -> Result<(), Fail> {
+    for (column, x) in cells {
+        operands.push(Operands::Index {
+            x: *x,
+            row,
+            column: *column,
+            thunk,
+        })?;
+    }
+    Ok(())
+}
+
+/// Cells that fill all lanes.
+const OTHERS: [(u64, u64); 64] = [(3000, 1000); 64];
+
+/// That calls of cells that are gathered for one operator, where other words stood in the lanes, give and cost what the tagged
+/// machine says of each: of a few cells, one call after the other, and of more, in lanes.
+fn expect_entries_for(rt: &impl Abort, alloc: Global, slots: &[u64]) -> Result<(), Fail> {
+    let tagged = program(alloc, slots)?;
+    let operator = prepared(alloc, slots, Kind::Index)?;
+    let long = squares(alloc)?;
+    let mut calls = Calls::new(alloc)?;
+    for more in [false, true] {
+        let mut operands = Vec::new(alloc);
+        calls.begin(Kind::Index);
+        calls.gather_entries(&OTHERS, 2000, 4000);
+        calls.begin(Kind::Index);
+        calls.gather_entries_for(&operator, &CELLS, 2, 5);
+        push_entries(&mut operands, &CELLS, 2, 5)?;
+        if more && calls.len() + long.len() <= MOST_CALLS {
+            calls.gather_entries_for(&operator, &long, 3, 5);
+            push_entries(&mut operands, &long, 3, 5)?;
+        }
+        if operator.kind() == Kind::Index {
+            let steps = calls.make(&operator);
+            assert_eq!(rt;
+                steps,
+                expect_values(rt, &tagged, &operands, calls.values())
+            );
+        }
+    }
+    Ok(())
+}
+
+/// Cells that are gathered for one operator are called with all that its program names.
+#[test]
+fn entries_for_an_operator(rt: HostRuntime) -> Result<(), Fail> {
+    // mov64 r0, r2; mul64 r0, 100; add64 r0, r3
+    let position = [
+        0xbf20_0000_0000_0000,
+        0x2700_0000_6400_0000,
+        0x0f30_0000_0000_0000,
+        EXIT,
+    ];
+    // mov64 r0, r2; jge64 r1, r3, +1; mov64 r0, r1
+    let word = [
+        0xbf20_0000_0000_0000,
+        0x3d31_0100_0000_0000,
+        0xbf10_0000_0000_0000,
+        EXIT,
+    ];
+    // mov64 r0, r3; sub64 r0, r4
+    let number = [0xbf30_0000_0000_0000, 0x1f40_0000_0000_0000, EXIT];
+    // mov64 r0, 1; jgt64 r1, r4, +1; mov64 r0, 0
+    let both = [
+        0xb700_0000_0100_0000,
+        0x2d41_0100_0000_0000,
+        0xb700_0000_0000_0000,
+        EXIT,
+    ];
+    // stxdw [r10 - 8], r1; stxdw [r10 - 16], r4; ldxdw r0, [r10 - 16]; ldxdw r5, [r10 - 8]; add64 r0, r5
+    let stored = [
+        0x7b1a_f8ff_0000_0000,
+        0x7b4a_f0ff_0000_0000,
+        0x79a0_f0ff_0000_0000,
+        0x79a5_f8ff_0000_0000,
+        0x0f50_0000_0000_0000,
+        EXIT,
+    ];
+    expect_entries_for(&rt, rt.alloc(), &position)?;
+    expect_entries_for(&rt, rt.alloc(), &word)?;
+    expect_entries_for(&rt, rt.alloc(), &number)?;
+    expect_entries_for(&rt, rt.alloc(), &both)?;
+    expect_entries_for(&rt, rt.alloc(), &stored)
+}
+
 /// Pairs of two lists are called in their order, and values stay until the next calls are made.
 #[test]
 fn pairs_of_lists(rt: HostRuntime) -> Result<(), Fail> {

@@ -1,44 +1,87 @@
-use Rattle.std.proofs.Common.{◌+◌, ◌++◌, ◌∙◌, inl, inr, length, ap, sym, arith, length-append, List}
-use Rattle.bpf_insn.specs.declared.operands.Operands.{Operands}
-use Rattle.bpf_run.specs.Calls.{Gathered, entries_of}
-use Rattle.entry_ops.specs.Keeping.{coming}
+use Rattle.std.proofs.Common.{◌+◌, ◌-◌, ◌++◌, ◌∙◌, [], refl, inl, inr, length, ap, sym, arith, length-append, append-nil}
+use Rattle.bpf_run.specs.Calls.{entries_of}
+use Rattle.entry_ops.specs.Keeping.{called_before}
+use Rattle.bpf_run.proofs.Ignoring.{alike_then, alike_ends, alike_same, alike_long}
 use Rattle.entry_ops.proofs.Mapped.{length_entries, parts}
-use Rattle.entry_ops.proofs.Passing.{gathered-row, gathered-part, coming-none, ended}
-use Rattle.entry_ops.proofs.Nexts.{none_left}
+use Rattle.entry_ops.proofs.Passing.{called_start, called_more, here_of, here_is, here_first, here_beyond, inside, ended}
 use Rattle.entry_ops.proofs.keeping.gather_run.Goals as goal
-use Rattle.entry_ops.proofs.keeping.gather_run.Goals.{then-loop-row-test+else-left-len, else-loop-row-test}
 
-pub loop-row-preserved : goal.loop-row-preserved
-loop-row-preserved c = record {
-  kind = ap (λ (g : Gathered). g.kind) c.gather_entries.ensures ∙ c.loop-row.invariant.kind;
-  whole = ap (λ (g : Gathered). g.operands ++ coming c.args.a.now c.args.thunk (c.loop-row.row + 1) c.args.at.end c.row_before-left.result.now) c.gather_entries.ensures
-      ∙ (ap (λ cs. (c.loop-row.calls.operands ++ entries_of c.loop-row.row c.args.thunk c.loop-row.left.now) ++ coming c.args.a.now c.args.thunk (c.loop-row.row + 1) c.args.at.end cs) c.row_before-left.ensures
-      ∙ gathered-row c.args.a.now c.args.thunk c.args.at.end c.loop-row.row c.loop-row.left.now c.loop-row.calls.operands _ c.loop-row.invariant.whole);
-  within = let t = c.loop-row-test.true in omega (arith, t);
-  over = λ e. c.row_before-left.ensures ∙ ended c.args.a.now c.args.thunk c.args.at.end (c.loop-row.row + 1) e;
+pub loop-left-init : goal.loop-left-init
+loop-left-init c = record {
+  kind = c.requires.begun;
+  first = [];
+  alike = alike_same c.args.operator.now c.args.calls.now.operands [] c.requires.none;
+  is = sym (called_start c.args.a.now c.args.thunk c.args.at.end c.args.at.row c.args.at.left.now);
+  here = sym (here_first c.args.a.now c.args.thunk c.args.at.end c.args.at.row c.args.at.left.now)
+      ∙ here_is c.args.a.now c.args.thunk c.args.at.end c.args.at.row c.args.at.left.now c.args.at.row;
+  onward = omega arith;
+  within = c.requires.before;
 }
+
+pub loop-left-preserved : goal.loop-left-preserved
+loop-left-preserved c =
+    let a = c.args.a.now in let t = c.args.thunk in let end = c.args.at.end in
+    let row = c.args.at.row in let left = c.args.at.left.now in
+    let i = c.loop-left.invariant in
+    let here = entries_of c.loop-left.row t c.loop-left.left.now in
+    record {
+      kind = c.gather_row.ensures.kind ∙ i.kind;
+      first = i.first ++ here;
+      alike = alike_then c.args.operator.now c.gather_row.new.calls.operands (c.loop-left.calls.operands ++ here) (i.first ++ here)
+          c.gather_row.ensures.alike (alike_ends c.args.operator.now c.loop-left.calls.operands i.first here i.alike);
+      is = ap (λ os. os ++ here) i.is
+          ∙ called_more a t end row left c.loop-left.row c.loop-left.left.now i.onward i.within (i.here ∙ sym (here_is a t end row left c.loop-left.row));
+      here = c.row-left.ensures
+          ∙ sym (inside a t end (c.loop-left.row + 1) c.if-row-at.false)
+          ∙ sym (here_beyond a t end row left (c.loop-left.row + 1) (let o = i.onward in omega (arith, o)))
+          ∙ here_is a t end row left (c.loop-left.row + 1);
+      onward = let o = i.onward in omega (arith, o);
+      within = c.if-row-at.false;
+    }
+
+pub returns-then-row-at-clause-first : goal.returns-then-row-at-clause-first
+returns-then-row-at-clause-first c =
+    let a = c.args.a.now in let t = c.args.thunk in let end = c.args.at.end in
+    let row = c.args.at.row in let left = c.args.at.left.now in
+    let i = c.loop-left.invariant in
+    let here = entries_of c.loop-left.row t c.loop-left.left.now in
+    let o = i.onward in let w = i.within in let e = c.if-row-at.true in
+    record {
+      first = i.first ++ here;
+      done = [];
+      alike = alike_then c.args.operator.now c.gather_row.new.calls.operands (c.loop-left.calls.operands ++ here) (i.first ++ here)
+          c.gather_row.ensures.alike (alike_ends c.args.operator.now c.loop-left.calls.operands i.first here i.alike);
+      is = ap (λ os. os ++ here) i.is
+          ∙ called_more a t end row left c.loop-left.row c.loop-left.left.now i.onward i.within (i.here ∙ sym (here_is a t end row left c.loop-left.row))
+          ∙ sym (append-nil (called_before a t row left (c.loop-left.row + 1)));
+      parts = sym (sym (here_is a t end row left (c.loop-left.row + 1)) ∙ here_beyond a t end row left (c.loop-left.row + 1) (omega (arith, o))
+          ∙ ended a t end (c.loop-left.row + 1) (omega (arith, w, e)));
+      end = refl;
+      onward = omega (arith, o);
+      within = omega (arith, w);
+      full = inl (omega (arith, w, e));
+    }
 
 pub returns-clause-first : goal.returns-clause-first
 returns-clause-first c =
-    let i = c.loop-row.invariant in
-    let cut = parts c.min.result c.loop-row.left.now c.split_at.result.0.now c.split_at.result.1.now c.split_at.ensures.front c.split_at.ensures.back in
-    let more = ap (λ (g : Gathered). g.operands) c.gather_entries-2.ensures in
-    let n = ap (λ (os : List Operands). length os) more in
-    let m = c.min.ensures in
+    let i = c.loop-left.invariant in
+    let cut = parts (64 - c.len-2.result) c.loop-left.left.now c.split_at.result.0.now c.split_at.result.1.now c.split_at.ensures.front c.split_at.ensures.back in
+    let here = entries_of c.loop-left.row c.args.thunk c.split_at.result.0.now in
     let f = c.len-2.ensures.few in let g = c.len-2.ensures.len in
-    let p = length-append c.loop-row.calls.operands (entries_of c.loop-row.row c.args.thunk c.split_at.result.0.now) in
-    let q = length_entries c.loop-row.row c.args.thunk c.split_at.result.0.now in
+    let n = alike_long c.args.operator.now c.loop-left.calls.operands i.first i.alike in
+    let p = length-append i.first here in
+    let q = length_entries c.loop-left.row c.args.thunk c.split_at.result.0.now in
     let u = c.split_at.ensures.front_len in
+    let w = i.within in
     record {
-      rest = coming c.args.a.now c.args.thunk c.loop-row.row c.args.at.end c.split_at.result.1.now;
-      parts = ap (λ os. os ++ coming c.args.a.now c.args.thunk c.loop-row.row c.args.at.end c.split_at.result.1.now) more
-          ∙ gathered-part c.args.a.now c.args.thunk c.args.at.end c.loop-row.row c.split_at.result.0.now c.split_at.result.1.now c.loop-row.calls.operands _
-          (ap (λ cs. c.loop-row.calls.operands ++ coming c.args.a.now c.args.thunk c.loop-row.row c.args.at.end cs) (sym cut) ∙ i.whole);
-      many = elim c.loop-row-test.branch [
-        | then-loop-row-test+else-left-len w ↦ inl (let t = w.if-left-len.false in let k = w.len.ensures.len in omega (arith, n, m, f, g, p, q, u, t, k))
-        | else-loop-row-test w ↦ inr (let t = w.loop-row-test.false in let b = i.within in
-            let none = i.over (omega (arith, t, b)) in let z = ap length none in let v = c.split_at.ensures.back_len in
-            coming-none c.args.a.now c.args.thunk c.args.at.end c.loop-row.row c.split_at.result.1.now (omega (arith, t))
-            (none_left c.split_at.result.1.now (omega (arith, z, v))))
-      ];
+      first = i.first ++ here;
+      done = c.split_at.result.0.now;
+      alike = alike_then c.args.operator.now c.gather_entries_for.new.self.operands (c.loop-left.calls.operands ++ here) (i.first ++ here)
+          c.gather_entries_for.ensures.alike (alike_ends c.args.operator.now c.loop-left.calls.operands i.first here i.alike);
+      is = ap (λ os. os ++ here) i.is;
+      parts = sym cut ∙ i.here;
+      end = refl;
+      onward = i.onward;
+      within = omega (arith, w);
+      full = inr (omega (arith, n, f, g, p, q, u));
     }

@@ -1,15 +1,20 @@
-use Rattle.std.proofs.Common.{◌≡◌, ◌≤◌, ◌++◌, [], ◌-◌}
+use Rattle.std.proofs.Common.{List, ◌≡◌, ◌≤◌, ◌<◌, ◌-◌, if◌then◌else◌, nat_lt}
 use Rattle.bpf_insn.specs.declared.operands.Kind.TheVariants as kinds
-use Rattle.entry_ops.specs.Keeping.{coming, coming_at}
+use Rattle.bpf_insn.specs.declared.operands.Operands.{Operands}
+use Rattle.bpf_run.specs.Naming.{AnswersAlike}
+use Rattle.entry_ops.specs.Keeping.{row_before, called_before}
 use Rattle.entry_ops.proofs.keeping.gather_run.Given as goal
 
-abbrev pub invariant-loop-row : goal.invariant-loop-row
-invariant-loop-row l = record {
+abbrev pub invariant-loop-left : goal.invariant-loop-left
+invariant-loop-left l = record {
   kind : l.calls.kind ≡ kinds.Index;
-  whole : l.calls.operands ++ coming l.a l.thunk l.row l.at.end l.left ≡ coming_at l.a l.thunk l.at;
-  within : l.row ≤ l.at.end;
-  over : l.row ≡ l.at.end → l.left ≡ [];
+  first : List Operands;
+  alike : AnswersAlike l.operator l.calls.operands first;
+  is : first ≡ called_before l.a l.thunk l.at.row l.at.left.now l.row;
+  here : l.left ≡ (if nat_lt l.at.row l.row then row_before l.a l.at.end l.row else l.at.left.now);
+  onward : l.at.row ≤ l.row;
+  within : l.row < l.at.end;
 }
 
-abbrev pub decreases-loop-row : goal.decreases-loop-row
-decreases-loop-row l = l.at.end - l.row
+abbrev pub decreases-loop-left : goal.decreases-loop-left
+decreases-loop-left l = l.at.end - l.row

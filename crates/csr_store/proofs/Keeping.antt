@@ -1,0 +1,168 @@
+-- Cells kept a block at a time.
+use Rattle.std.proofs.Common.{◌≡◌, ◌≤◌, ◌<◌, ◌+◌, ◌-◌, ◌^◌, ℕ, suc, Bool, true, false, nat_eq, if◌then◌else◌, List, [], ◌∷◌, ◌++◌, length, take, drop, refl, sym, ap, ◌∙◌, subst, arith, length-append, length-drop, append_assoc, append-nil}
+use Rattle.std.specs.List.{AllByRecursion}
+use Rattle.std.proofs.lemmas.List.{take-append-drop, length-take-le}
+use Rattle.csr_store.specs.Grid.{Cell, Grid, IsGrid, row_of}
+use Rattle.csr_store.specs.Along.{along}
+use Rattle.csr_store.specs.Ascending.{Ascends}
+use Rattle.csr_store.specs.Added.{ComeBehind, kept_where, kept_rows}
+use Rattle.csr_store.specs.Run.{Row, Run, AreRows, ended_rows, open_row}
+use Rattle.csr_store.proofs.Along.{along-next, along-over, row_of-ascends}
+use Rattle.csr_store.proofs.Appending.{rows_append, run_append, kept_behind, kept_words}
+use Rattle.csr_store.proofs.Runs.{rows_more, run, run_end}
+
+one_kept : (c : Cell) (more others : Row) (b : Bool)
+    → (if b then more ++ others else c ∷ (more ++ others)) ≡ (if b then more else c ∷ more) ++ others
+one_kept c more others true = refl
+one_kept c more others false = refl
+
+-- those kept of some cells, and then of others
+kept_both : (cells others : Row) (answers more : List ℕ) → length answers ≡ length cells
+    → kept_where (cells ++ others) (answers ++ more) ≡ kept_where cells answers ++ kept_where others more
+kept_both [] others [] more e = refl
+kept_both [] others (a ∷ answers) more e = absurd (omega (arith, e))
+kept_both (c ∷ cells) others [] more e = absurd (omega (arith, e))
+kept_both (c ∷ cells) others (a ∷ answers) more e =
+    ap (λ r. if nat_eq a 0 then r else c ∷ r) (kept_both cells others answers more (omega (arith, e)))
+    ∙ one_kept c (kept_where cells answers) (kept_where others more) (nat_eq a 0)
+
+all_both : (P : Cell → Type 0) (cells others : Row) → AllByRecursion P cells → AllByRecursion P others → AllByRecursion P (cells ++ others)
+all_both P [] others h g = g
+all_both P (c ∷ cells) others h g = (h.0, all_both P cells others h.1 g)
+
+-- those that are kept of what is behind are all that is missing
+pub record AreBehind (cells : Row) (answers : List ℕ) (start rest : Row) (left : List ℕ) (now : Row) (room : ℕ) : Type 0 where
+  pub same : now ++ kept_where rest left ≡ start ++ kept_where cells answers
+  pub words : AllByRecursion (λ (c : Cell). c.1 < 2 ^ 64) rest → AllByRecursion (λ (c : Cell). c.1 < 2 ^ 64) cells
+  pub fits : length now + length rest ≤ room
+  pub alike : length left ≡ length rest
+
+pub behind_none : (cells : Row) (answers : List ℕ) (start : Row) (room : ℕ) → length answers ≡ length cells → length start + length cells ≤ room
+    → AreBehind cells answers start cells answers start room
+behind_none cells answers start room e h = record { same = refl; words = λ w. w; fits = h; alike = e }
+
+kept_of : (rest block behind : Row) (left here later : List ℕ) → rest ≡ block ++ behind → left ≡ here ++ later → length here ≡ length block
+    → kept_where rest left ≡ kept_where block here ++ kept_where behind later
+kept_of rest block behind left here later e f l =
+    ap (λ r. kept_where r left) e ∙ ap (kept_where (block ++ behind)) f ∙ kept_both block behind here later l
+
+length_kept : (cells : Row) (answers : List ℕ) → length (kept_where cells answers) ≤ length cells
+length_kept [] answers = omega arith
+length_kept (c ∷ cells) [] = omega arith
+length_kept (c ∷ cells) (a ∷ answers) = go (nat_eq a 0) (length_kept cells answers) where
+  go : (b : Bool) → length (kept_where cells answers) ≤ length cells
+      → length (if b then kept_where cells answers else c ∷ kept_where cells answers) ≤ suc (length cells)
+  go true h = omega (arith, h)
+  go false h = omega (arith, h)
+
+parts : {X : Type 0} (k : ℕ) (all front back : List X) → front ≡ take k all → back ≡ drop k all → all ≡ front ++ back
+parts k all front back f b = sym (ap (λ r. r ++ back) f ∙ (ap (λ r. take k all ++ r) b ∙ take-append-drop k all))
+
+-- a block more
+pub behind_more : (cells : Row) (answers : List ℕ) (start rest : Row) (left : List ℕ) (now : Row) (room k : ℕ)
+    (block behind : Row) (here later : List ℕ) (new : Row) (more : ℕ)
+    → AreBehind cells answers start rest left now room → k ≤ length rest → block ≡ take k rest → behind ≡ drop k rest
+    → here ≡ take k left → later ≡ drop k left → new ≡ now ++ kept_where block here
+    → AllByRecursion (λ (c : Cell). c.1 < 2 ^ 64) block → room ≤ more
+    → AreBehind cells answers start behind later new more
+behind_more cells answers start rest left now room k block behind here later new more h l b o e g n w r = record {
+  same = ap (λ cs. cs ++ kept_where behind later) n ∙ append_assoc now (kept_where block here) (kept_where behind later)
+      ∙ ap (λ cs. now ++ cs) (sym (kept_of rest block behind left here later whole answered few)) ∙ h.same;
+  words = λ v. h.words (rw whole (all_both (λ (c : Cell). c.1 < 2 ^ 64) block behind w v));
+  fits = let f = h.fits in let m = ap length whole ∙ length-append block behind in
+      let q = ap length n ∙ length-append now (kept_where block here) in let t = length_kept block here in omega (arith, f, m, q, t, r);
+  alike = let a = h.alike in let m = ap length whole ∙ length-append block behind in
+      let p = ap length answered ∙ length-append here later in let f = few in omega (arith, a, m, p, f);
+}
+  where
+    whole : rest ≡ block ++ behind
+    whole = parts k rest block behind b o
+
+    answered : left ≡ here ++ later
+    answered = parts k left here later e g
+
+    few : length here ≡ length block
+    few = let a = h.alike in let x = ap length e ∙ length-take-le k left (omega (arith, a, l)) in
+        let y = ap length b ∙ length-take-le k rest l in omega (arith, x, y)
+
+-- ---- whole rows, one after the other
+
+-- answers beyond those of the cells don't matter
+kept_first : (cells : Row) (answers : List ℕ) → kept_where cells (take (length cells) answers) ≡ kept_where cells answers
+kept_first [] answers = refl
+kept_first (c ∷ cells) [] = refl
+kept_first (c ∷ cells) (a ∷ answers) = ap (λ r. if nat_eq a 0 then r else c ∷ r) (kept_first cells answers)
+
+pub record AreRowsKept (a : Grid) (first end : ℕ) (answers : List ℕ) (start : List Row) (i : ℕ) (left : List ℕ) (ends : List ℕ) (cells : Row) (room most : ℕ) : Type 0 where
+  pub rows : AreRows a.columns ends cells
+  pub none_open : open_row 0 ends cells ≡ []
+  pub same : ended_rows 0 ends cells ++ kept_rows a left i (end - i) ≡ start ++ kept_rows a answers first (end - first)
+  pub many : length left ≡ length (along (row_of a) i (end - i))
+  pub fits : length cells + length left ≤ room
+  pub fits_ends : length ends + (end - i) ≤ most
+
+-- cells of one row, of those that are left
+pub row_there : (a : Grid) (i end : ℕ) (left : List ℕ) → i < end → length left ≡ length (along (row_of a) i (end - i))
+    → length left ≡ length (row_of a i) + length (along (row_of a) (i + 1) (end - (i + 1)))
+row_there a i end left l m = m ∙ ap length (along-next (row_of a) i end l) ∙ length-append (row_of a i) (along (row_of a) (i + 1) (end - (i + 1)))
+
+module _ (a : Grid) (first end : ℕ) (answers : List ℕ) (start : List Row) (i : ℕ) (left : List ℕ) (ends : List ℕ) (cells : Row) (room most : ℕ)
+    (h : AreRowsKept a first end answers start i left ends cells room most) (l : i < end) (g : IsGrid a) (row : Row) (is : row ≡ row_of a i)
+    (now later : List ℕ) (f : now ≡ take (length row) left) (b : later ≡ drop (length row) left) where
+  there : length left ≡ length row + length (along (row_of a) (i + 1) (end - (i + 1)))
+  there = row_there a i end left l h.many ∙ ap (λ (r : Row). length r + length (along (row_of a) (i + 1) (end - (i + 1)))) (sym is)
+
+  kept_now : kept_where row now ≡ kept_where (row_of a i) left
+  kept_now = ap (kept_where row) f ∙ kept_first row left ∙ ap (λ (r : Row). kept_where r left) is
+
+  next : kept_rows a left i (end - i) ≡ kept_where row now ∷ kept_rows a later (i + 1) (end - (i + 1))
+  next =
+      let e : end - i ≡ suc (end - (i + 1)) = omega (arith, l) in
+      let s : suc i ≡ i + 1 = omega arith in
+      ap (kept_rows a left i) e
+      ∙ ap (λ k. kept_where (row_of a i) left ∷ kept_rows a (drop (length (row_of a i)) left) k (end - (i + 1))) s
+      ∙ ap (λ (r : Row). r ∷ kept_rows a (drop (length (row_of a i)) left) (i + 1) (end - (i + 1))) (sym kept_now)
+      ∙ ap (λ (r : Row). kept_where row now ∷ kept_rows a (drop (length r) left) (i + 1) (end - (i + 1))) (sym is)
+      ∙ ap (λ vs. kept_where row now ∷ kept_rows a vs (i + 1) (end - (i + 1))) (sym b)
+
+  module _ (new : Row) (added : new ≡ cells ++ kept_where row now) (w : AllByRecursion (λ (c : Cell). c.1 < 2 ^ 64) row)
+      (n : ℕ) (long : n ≡ length new) (more : List ℕ) (pushed : more ≡ ends ++ n ∷ []) where
+    comes : ComeBehind a.columns (open_row 0 ends cells) (kept_where row now)
+    comes = kept_behind a.columns (open_row 0 ends cells) row now (record {
+      low = 0;
+      above = subst (AllByRecursion (λ (c : Cell). c.0 < 0)) (sym h.none_open) tt;
+      ascend = subst (Ascends 0 a.columns) (sym is) (row_of-ascends a i g);
+    })
+
+    appended : AreRows a.columns ends new
+    appended = subst (AreRows a.columns ends) (sym added) (rows_append a.columns ends cells (kept_where row now) h.rows comes (kept_words row now w))
+
+    run_is : run 0 a.columns more new ≡ record {
+      first = 0;
+      columns = a.columns;
+      ended = ended_rows 0 ends cells ++ (open_row 0 ends cells ++ kept_where row now) ∷ [];
+      opened = [];
+    }
+    run_is = run_end 0 a.columns ends more new n _ appended long pushed (run_append 0 a.columns ends cells new (kept_where row now) (run 0 a.columns ends cells) h.rows added refl)
+
+    ended_is : ended_rows 0 more new ≡ ended_rows 0 ends cells ++ kept_where row now ∷ []
+    ended_is = ap (λ (r : Run). r.ended) run_is ∙ ap (λ (r : Row). ended_rows 0 ends cells ++ (r ++ kept_where row now) ∷ []) h.none_open
+
+    pub rows_kept_more : (wide wider : ℕ) → room ≤ wide → most ≤ wider → AreRowsKept a first end answers start (i + 1) later more new wide wider
+    rows_kept_more wide wider v u = record {
+      rows = subst (λ es. AreRows a.columns es new) (sym pushed) (rows_more a.columns ends new n appended long);
+      none_open = ap (λ (r : Run). r.opened) run_is;
+      same = ap (λ rs. rs ++ kept_rows a later (i + 1) (end - (i + 1))) ended_is
+          ∙ append_assoc (ended_rows 0 ends cells) (kept_where row now ∷ []) (kept_rows a later (i + 1) (end - (i + 1)))
+          ∙ ap (λ rs. ended_rows 0 ends cells ++ rs) (sym next) ∙ h.same;
+      many = let t = there in let d = ap length b in omega (arith, t, d, length-drop (length row) left);
+      fits = let q = h.fits in let t = there in let d = ap length b in let e = ap length added in let s = length-append cells (kept_where row now) in
+          let k = length_kept row now in omega (arith, q, t, d, e, s, k, v, length-drop (length row) left);
+      fits_ends = let q = h.fits_ends in let e = ap length pushed in let s = length-append ends (n ∷ []) in omega (arith, q, e, s, l, u);
+    }
+
+pub rows_kept_ends : (a : Grid) (first end : ℕ) (answers : List ℕ) (start : List Row) (i : ℕ) (left : List ℕ) (ends : List ℕ) (cells : Row) (room most : ℕ)
+    → AreRowsKept a first end answers start i left ends cells room most → end ≤ i → ended_rows 0 ends cells ≡ start ++ kept_rows a answers first (end - first)
+rows_kept_ends a first end answers start i left ends cells room most h l =
+    let z : end - i ≡ 0 = omega (arith, l) in
+    sym (append-nil (ended_rows 0 ends cells)) ∙ ap (λ n. ended_rows 0 ends cells ++ kept_rows a left i n) (sym z) ∙ h.same

@@ -1,0 +1,32 @@
+use Rattle.std.proofs.Common.{arith, vec_capacity, length-drop}
+use Rattle.csr_store.proofs.Appending.{are_kept_none, kept_step, are_kept}
+use Rattle.csr_store.proofs.kept.add_each.Goals as goal
+
+pub loop-column-init : goal.loop-column-init
+loop-column-init c = (are_kept_none c.args.cells.now c.args.answers.now c.args.kept.now.items (vec_capacity c.args.kept.now) c.requires.room, omega arith)
+
+pub bounds-answers-next : goal.bounds-answers-next
+bounds-answers-next c = let a = c.loop-column.invariant.0.at in let t = c.loop-column-test.true in omega (arith, a, t, c.requires.answers)
+
+pub push_if-requires : goal.push_if-requires
+push_if-requires c =
+    let f = c.loop-column.invariant.0.fits in
+    let m = length-drop c.loop-column.column-index c.args.cells.now in
+    let t = c.loop-column-test.true in
+    omega (arith, f, m, t)
+
+pub loop-column-preserved : goal.loop-column-preserved
+loop-column-preserved c = (
+  kept_step c.args.cells.now c.args.answers.now c.args.kept.now.items c.loop-column.column-index c.loop-column.next c.loop-column.kept.items
+      (vec_capacity c.loop-column.kept) (0, 0) c.loop-column.invariant.0 c.loop-column-test.true c.requires.answers c.push_if.ensures.word _ _ c.push_if.ensures.added c.push_if.ensures.room,
+  let a = c.loop-column.invariant.1 in let b = c.push_if.ensures.room in omega (arith, a, b),
+)
+
+pub returns-clause-added : goal.returns-clause-added
+returns-clause-added c = (are_kept _ _ _ _ _ _ _ c.loop-column.invariant.0 (let l = c.loop-column-test.false in omega (arith, l))).0
+
+pub returns-clause-words : goal.returns-clause-words
+returns-clause-words c = (are_kept _ _ _ _ _ _ _ c.loop-column.invariant.0 (let l = c.loop-column-test.false in omega (arith, l))).1
+
+pub returns-clause-room : goal.returns-clause-room
+returns-clause-room c = c.loop-column.invariant.1

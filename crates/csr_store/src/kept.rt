@@ -1,0 +1,97 @@
+//! Cells of which some are kept: those whose answer is not 0.
+ghost use Rattle.std.specs.Prelude.{◌≡◌, ◌<◌, ◌≤◌, ◌+◌, ◌-◌, ◌^◌, ◌++◌, ◌∷◌, [], length, nat_eq, if◌then◌else◌, vec_capacity};
+ghost use Rattle.std.specs.List.{AllByRecursion};
+ghost use Rattle.csr_store.specs.Grid.{Cell, row_of};
+ghost use Rattle.csr_store.specs.Added.{kept_where, kept_rows};
+ghost use Rattle.csr_store.specs.Along.{along};
+ghost use Rattle.csr_store.specs.Run.{AreRows, ended_rows, open_row};
+
+use crate::matrix::{Cell, Matrix};
+use std::ops::Range;
+
+/// So many cells are looked at by code without a loop.
+const BLOCK_OF_CELLS: usize = 4;
+
+/// Adds those of some cells whose answer is not 0 to a list that has room for all of them.
+#[inline(always)]
+pub fn add_where(kept: &mut Vec<Cell>, cells: &[Cell], answers: &[u64])
+    requires answers { length answers.now ≡ length cells.now }
+    requires room { length kept.old.items + length cells.now ≤ vec_capacity kept.old }
+    ensures added { kept.new.items ≡ kept.old.items ++ kept_where cells.now answers.now }
+    ensures words { AllByRecursion (λ (c : Cell). c.1 < 2 ^ 64) cells.now }
+    ensures room { vec_capacity kept.old ≤ vec_capacity kept.new }
+{
+    let mut rest = cells;
+    let mut left = answers;
+    while rest.len() >= BLOCK_OF_CELLS {
+        let (block, behind) = rest.split_at(BLOCK_OF_CELLS);
+        let (here, later) = left.split_at(BLOCK_OF_CELLS);
+        add_each(kept, block, here);
+        rest = behind;
+        left = later;
+    }
+    add_each(kept, rest, left);
+}
+
+/// The same, one cell after the other.
+#[inline(always)]
+fn add_each(kept: &mut Vec<Cell>, cells: &[Cell], answers: &[u64])
+    requires answers { length answers.now ≡ length cells.now }
+    requires room { length kept.old.items + length cells.now ≤ vec_capacity kept.old }
+    ensures added { kept.new.items ≡ kept.old.items ++ kept_where cells.now answers.now }
+    ensures words { AllByRecursion (λ (c : Cell). c.1 < 2 ^ 64) cells.now }
+    ensures room { vec_capacity kept.old ≤ vec_capacity kept.new }
+{
+    let mut next = 0;
+    for (column, word) in cells {
+        push_if(kept, *column, *word, answers[next]);
+        next += 1;
+    }
+}
+
+/// Adds a cell to a list that has room for it, where an answer is not 0.
+#[inline(always)]
+fn push_if(kept: &mut Vec<Cell>, column: u64, word: u64, answer: u64)
+    requires room { length kept.old.items < vec_capacity kept.old }
+    ensures added { kept.new.items
+        ≡ (if nat_eq answer 0 then kept.old.items else kept.old.items ++ (column, word) ∷ []) }
+    ensures room { vec_capacity kept.old ≤ vec_capacity kept.new }
+    ensures word { word < 2 ^ 64 }
+{
+    if answer != 0 {
+        kept.push_reserved((column, word));
+    }
+}
+
+/// Adds those of the cells of a matrix's rows whose answer is not 0, and where each row ends then, to lists that have room for
+/// all of them.
+#[inline(always)]
+pub fn add_rows_where(
+    cells: &mut Vec<Cell>,
+    ends: &mut Vec<u64>,
+    a: &Matrix,
+    rows: Range<u64>,
+    answers: &[u64],
+)
+    requires range { rows.start ≤ rows.end }
+    requires within { rows.end ≤ a.now.rows }
+    requires answers { length answers.now ≡ length (along (row_of a.now) rows.start (rows.end - rows.start)) }
+    requires room { length cells.old.items + length answers.now ≤ vec_capacity cells.old }
+    requires room_of_ends { length ends.old.items + (rows.end - rows.start) ≤ vec_capacity ends.old }
+    requires rows { AreRows a.now.columns ends.old.items cells.old.items }
+    requires none_open { open_row 0 ends.old.items cells.old.items ≡ [] }
+    ensures rows { AreRows a.now.columns ends.new.items cells.new.items }
+    ensures none_open { open_row 0 ends.new.items cells.new.items ≡ [] }
+    ensures ended { ended_rows 0 ends.new.items cells.new.items
+        ≡ ended_rows 0 ends.old.items cells.old.items ++ kept_rows a.now answers.now rows.start (rows.end - rows.start) }
+{
+    let _ = a.columns();
+    let mut left = answers;
+    for row in rows.start..rows.end {
+        let here = a.row(row);
+        let (now, later) = left.split_at(here.len());
+        add_where(cells, here, now);
+        ends.push_reserved(cells.len() as u64);
+        left = later;
+    }
+}
