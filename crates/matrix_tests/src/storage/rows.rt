@@ -1,5 +1,5 @@
 //! Runs of rows: joined, cells many at a time, rows copied from a matrix, and entries that get other values.
-ghost use Rattle.std.specs.Prelude.{◌≡◌, ◌∷◌, [], IfOk};
+ghost use Rattle.std.specs.Prelude.{◌≡◌, ◌≤◌, ◌+◌, ◌∷◌, [], length, IfOk, OnOk};
 
 use super::{Triple, assert_count, assert_holds, assert_starts, finish_again, put_again};
 use csr_store::{Builder, Matrix, Rows, Slot, join_rows};
@@ -133,6 +133,57 @@ fn cells_are_added_at_once(rt: HostRuntime) -> Result<(), Fail> {
     assert_eq!(rt; rows.cells(), ADDED.as_slice());
     assert_count(&rt, rows.entries() as u64, 3);
     assert_count(&rt, rows.len(), 1);
+    Ok(())
+}
+
+/// Adds an answer for each cell: 0 where its column is even.
+fn push_answers(answers: &mut Vec<u64>, cells: &[(u64, u64)]) -> Result<(), AllocError>
+    ensures many { OnOk result (length answers.new.items ≡ length answers.old.items + length cells.now) }
+{
+    for (column, _) in cells {
+        answers.push(*column % 2)?;
+    }
+    Ok(())
+}
+
+/// Rows of a matrix from one up to another, with those of their cells that stand in odd columns.
+fn odd_columns(alloc: Global, matrix: &Matrix, from: u64, to: u64) -> Result<Rows, AllocError>
+    requires order { from ≤ to }
+    requires within { to ≤ matrix.now.rows }
+{
+    let mut answers = Vec::new(alloc);
+    for row in from..to {
+        push_answers(&mut answers, matrix.row(row))?;
+    }
+    let mut rows = Rows::begin(alloc, from, matrix.columns());
+    rows.push_rows_where(matrix, from..to, &answers)?;
+    Ok(rows)
+}
+
+/// A run of rows has from a place on those cells of a row that stand in odd columns. The place behind them.
+fn assert_odd_at(rt: &impl Abort, rows: &Rows, place: u64, cells: &[(u64, u64)]) -> u64 {
+    let mut next = place;
+    for (column, value) in cells {
+        if *column % 2 == 1 {
+            assert_cell(rt, rows, next, *column, *value);
+            next = next.wrapping_add(1);
+        }
+    }
+    next
+}
+
+#[test]
+fn rows_are_added_at_once(rt: HostRuntime) -> Result<(), Fail> {
+    let matrix = uneven(&rt)?;
+    for from in 0..matrix.rows() {
+        let rows = odd_columns(rt.alloc(), &matrix, from, matrix.rows())?;
+        let mut next = 0;
+        for row in from..matrix.rows() {
+            next = assert_odd_at(&rt, &rows, next, matrix.row(row));
+        }
+        assert_count(&rt, rows.entries() as u64, next);
+        assert_count(&rt, rows.len(), matrix.rows().wrapping_sub(from));
+    }
     Ok(())
 }
 
