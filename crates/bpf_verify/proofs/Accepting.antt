@@ -149,4 +149,4 @@ accepted kind insns table program no_fault x =
 
 pub explained : (kind : Kind) (insns : List Insn) (error : VerifyError) → HasNoSlotFault insns → ExplainsTyping insns (entry_tags kind) error → ExplainsRefusal kind insns error
 explained kind insns (errors.Fault fault) clean e = OfPaths clean e
-explained kind insns errors.Memory clean e = tt
+explained kind insns errors.Memory clean e = clean

@@ -35,15 +35,15 @@ pub record IsAcceptable (kind : Kind) (insns : List Insn) : Type 0 where
   pub clean : HasNoSlotFault insns
   pub nothing : NothingShown insns (entry_tags kind)
 
--- why a program is refused: it has this slot fault; or it has none, and this is the first fault that paths show; or
--- there was no memory
+-- the fault of a program: its slot fault, or, where it has none, the first fault that paths show
 pub data IsFault (kind : Kind) (insns : List Insn) (fault : Fault) : Type 0 where
   OfSlot : IsSlotFault insns fault.slot fault.rule → IsFault kind insns fault
   OfPaths : HasNoSlotFault insns → IsFirstShown insns (entry_tags kind) fault.slot fault.rule → IsFault kind insns fault
 
+-- why a program is refused: its fault, or, where it has no slot fault, want of memory
 abbrev pub ExplainsRefusal : Kind → List Insn → VerifyError → Type 0
 ExplainsRefusal kind insns (errors.Fault fault) = IsFault kind insns fault
-ExplainsRefusal kind insns errors.Memory = Unit {0}
+ExplainsRefusal kind insns errors.Memory = HasNoSlotFault insns
 
 -- on all operands of the kind the program has a value, at a cost of at most so many steps, and is never stuck
 abbrev pub IsSound : Kind → List Insn → Type 0

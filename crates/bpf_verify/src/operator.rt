@@ -35,7 +35,7 @@ impl Model for Operator {
 }
 
 /// The operator of the program, where it has no slot fault and no path shows a fault. Else the
-/// program comes back, with the first fault, or with want of memory.
+/// program comes back, with its first fault, or, where it has no slot fault, with want of memory.
 pub fn verify(
     alloc: Global,
     program: Program,

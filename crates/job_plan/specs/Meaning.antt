@@ -42,9 +42,6 @@ abbrev pub bound_in : Job → ℕ → ℕ → ℕ
 bound_in job first n = bound_of (calls_in job first n)
 
 -- the same of the whole job
-abbrev pub calls_of_job : Job → List Call
-calls_of_job job = calls_in job 0 (row_count job)
-
 abbrev pub steps_of_job : Job → ℕ
 steps_of_job job = steps_in job 0 (row_count job)
 

@@ -22,8 +22,8 @@ use std::thread::Threads;
 ///
 /// # Errors
 ///
-/// There is no memory, or a thread could not be started, which is told where a worker wants memory too. The workers that had started
-/// go on to their ends; the steps are those of all their calls.
+/// There is no memory; or, of more than one worker, a thread could not be started, which is told where a worker wants memory too. The
+/// workers that had started go on to their ends; the steps are those of all their calls.
 pub fn run_batch<H: Threads + Wait, G: Gate + Sync>(
     rt: &H,
     alloc: Global,
@@ -36,6 +36,7 @@ pub fn run_batch<H: Threads + Wait, G: Gate + Sync>(
     ensures theorem { IfOk result (λ a. BatchTheorem plan.now (map result_of a.results.items)) }
     ensures results { IfOk result (λ a. AreResultsOf plan.now (map result_of a.results.items)) }
     ensures spent { IfErr result (λ f. f.spent ≤ total_steps plan.now) }
+    ensures thread { IfErr result (λ f. f.cause ≡ Cause.Thread → 1 < workers) }
 {
     let _jobs = plan.jobs();
     let mut spent = 0;
@@ -46,6 +47,10 @@ pub fn run_batch<H: Threads + Wait, G: Gate + Sync>(
 }
 
 impl From<AllocError> for Cause {
+    ghost use Rattle.job_runner.specs.declared.answer.Cause.TheVariants.{Memory};
+
+    ghost from_gives = { λ _ cause. cause ≡ Memory };
+
     fn from(_refused: AllocError) -> Cause {
         Cause::Memory
     }
@@ -65,6 +70,7 @@ fn results<H: Threads + Wait, G: Gate + Sync>(
     requires spent { spent.old ≡ 0 }
     ensures results { IfOk result (λ rs. AreResultsOf plan.now (map result_of rs.items)) }
     ensures spent { spent.new ≤ total_steps plan.now }
+    ensures thread { IfErr result (λ why. why ≡ Cause.Thread → 1 < workers) }
 {
     let count = workers.min(plan.chunks()).max(1);
     let gathered = Gathered::new(alloc, plan, count)?;

@@ -1,5 +1,5 @@
 //! Workers in threads.
-ghost use Rattle.std.specs.Prelude.{◌≡◌, ◌<◌, ◌≤◌, ◌+◌, false, None, All, vec_len, vec_capacity, []};
+ghost use Rattle.std.specs.Prelude.{◌≡◌, ◌<◌, ◌≤◌, ◌+◌, true, false, None, Some, All, vec_len, vec_capacity, []};
 ghost use Rattle.std.specs.List.{AllByRecursion};
 ghost use Rattle.race_board.specs.Race.{MayDrawAt, SeatState};
 ghost use Rattle.job_runner.specs.Worked.{prices_of};
@@ -68,6 +68,7 @@ fn start<'s, 'a, G: Gate + Sync>(
     ensures promised { AllByRecursion (λ h. h.promise ≡ task.entry) handles.new.items }
     ensures some { vec_len handles.new ≤ vec_len seats }
     ensures all { result ≡ false → vec_len handles.new ≡ vec_len seats }
+    ensures refused { result ≡ true → 0 < vec_len seats }
 {
     let Task { plan, board } = task;
     let mut seats = seats;
@@ -123,6 +124,7 @@ fn work_beside<'s, 'a, H: Threads, G: Gate + Sync>(
     requires gathered { IsGathered task.board.now task.plan.now gathered }
     ensures gathered { IsGathered task.entry.board.now task.entry.plan.now result.0 }
     ensures all { result.1 ≡ None → vec_len result.0.seats ≡ vec_len seats + 1 }
+    ensures thread { result.1 ≡ Some Cause.Thread → 0 < vec_len seats }
 {
     let mut gathered = gathered;
     let Ok(mut handles) = Vec::with_capacity(alloc, seats.len()) else {
@@ -156,6 +158,7 @@ pub(crate) fn work_all<H: Threads + Wait, G: Gate + Sync>(
     requires gathered { IsGathered task.board.now task.plan.now gathered }
     ensures gathered { IsGathered task.entry.board.now task.entry.plan.now result.0 }
     ensures all { result.1 ≡ None → vec_len result.0.seats ≡ vec_len seats }
+    ensures thread { result.1 ≡ Some Cause.Thread → 1 < vec_len seats }
 {
     let Task { plan, board } = task;
     let mut seats = seats;
@@ -175,6 +178,7 @@ pub(crate) fn work_all<H: Threads + Wait, G: Gate + Sync>(
             requires gathered { IsGathered board.now plan.now gathered }
             ensures gathered { IsGathered board.entry.now plan.entry.now result.0 }
             ensures all { result.1 ≡ None → vec_len result.0.seats ≡ vec_len seats + 1 }
+            ensures thread { result.1 ≡ Some Cause.Thread → 0 < vec_len seats }
         {
             let task = Task { plan, board };
             work_beside(rt, scope, alloc, task, gate, own, seats, gathered)

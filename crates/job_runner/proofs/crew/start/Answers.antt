@@ -22,6 +22,7 @@ loop-seat-preserved-after-spawn_with-2 g c =
         some = grind (arith, common_steps);
         room = grind (arith, common_steps);
         all = grind (arith, common_steps);
+        refused = grind (arith, common_steps);
       }
       | in-Err w ↦ record {
         ready = all_first (MayDrawAt c.args.task.board.now) c.pop.new.self.items (c.in-Some.seat ∷ [])
@@ -32,5 +33,6 @@ loop-seat-preserved-after-spawn_with-2 g c =
         some = grind (arith, common_steps);
         room = grind (arith, common_steps);
         all = grind (arith, common_steps);
+        refused = grind (arith, common_steps);
       }
     ]

@@ -1,4 +1,4 @@
-use Rattle.std.proofs.Common.{◌≡◌, ◌≤◌, ◌+◌, [], false, vec_len, vec_capacity}
+use Rattle.std.proofs.Common.{◌≡◌, ◌<◌, ◌≤◌, ◌+◌, [], true, false, vec_len, vec_capacity}
 use Rattle.std.specs.Prelude.{All}
 use Rattle.std.specs.List.{AllByRecursion}
 use Rattle.race_board.specs.Race.{MayDrawAt, SeatState}
@@ -12,6 +12,7 @@ invariant-loop-seat g l = record {
   some : vec_len l.handles + vec_len l.seats ≤ vec_len l.fn.seats;
   room : vec_len l.handles + vec_len l.seats ≤ vec_capacity l.handles;
   all : l.refused ≡ false → vec_len l.handles + vec_len l.seats ≡ vec_len l.fn.seats;
+  refused : l.refused ≡ true → 0 < vec_len l.fn.seats;
 }
 
 abbrev pub decreases-loop-seat : goal.decreases-loop-seat
