@@ -12,3 +12,4 @@ pub mod WrittenText
 pub mod Scanning
 pub mod Fields
 pub mod Gathering
+pub mod Sizes

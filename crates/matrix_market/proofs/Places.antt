@@ -1,5 +1,5 @@
 -- Where a reader stands in a text.
-use Rattle.std.proofs.Common.{◌≡◌, ◌≢◌, ◌≤◌, ◌<◌, ◌+◌, ◌-◌, ℕ, zero, suc, List, [], ◌∷◌, ◌++◌, Bool, true, false, nat_lt, cond, not, Option, Some, None, length, take, drop, filter, refl, sym, ap, ◌∙◌, subst, arith, append_assoc, append-nil, length-append, inl, inr}
+use Rattle.std.proofs.Common.{◌≡◌, ◌+◌, ◌-◌, ℕ, zero, suc, List, [], ◌∷◌, ◌++◌, false, nat_lt, cond, not, Some, None, length, take, refl, sym, ap, ◌∙◌, arith, append_assoc, append-nil, length-append, inl, inr}
 use Rattle.std.specs.Prelude.{slice_get}
 use Rattle.std.proofs.lemmas.List.{take_at}
 use Rattle.std.proofs.lemmas.List.Elements.{filter-append}
@@ -9,7 +9,7 @@ use Rattle.std.specs.Str.Lines.{lines}
 use Rattle.matrix_market.specs.declared.rule.MarketRule.{MarketRule}
 use Rattle.matrix_market.specs.declared.rule.MarketRule.TheVariants.{LineTooLong}
 use Rattle.matrix_market.specs.declared.kinds.Banner.{Banner}
-use Rattle.matrix_market.specs.Market.{is_skipped, content, banner_of, rules_behind, rules_at, later_rules, end_rules, first_rule, when, IsFault}
+use Rattle.matrix_market.specs.Market.{is_skipped, content, rules_behind, rules_at, later_rules, end_rules, first_rule, when, IsFault}
 use Rattle.matrix_market.specs.Answers.{IsIdle}
 use Rattle.matrix_market.specs.Filling.{Clean, At}
 

@@ -1,18 +1,18 @@
 -- What the next line of a text does to what was read.
-use Rattle.std.proofs.Common.{◌≡◌, ◌≢◌, ◌≤◌, ◌<◌, ◌+◌, ◌-◌, ℕ, zero, suc, List, [], ◌∷◌, ◌++◌, Bool, true, false, nat_lt, ◌||◌, ◌&&◌, cond, not, Option, Some, None, Result, Ok, Err, length, refl, sym, ap, ◌∙◌, subst, arith, append_assoc, append-nil, length-append}
+use Rattle.std.proofs.Common.{◌≡◌, ◌≤◌, ◌<◌, ◌+◌, ℕ, List, [], ◌∷◌, ◌++◌, Bool, true, false, nat_lt, ◌||◌, ◌&&◌, cond, Option, Some, None, Ok, Err, length, refl, sym, ap, ◌∙◌, arith, append_assoc, append-nil, length-append}
 use Rattle.std.proofs.lemmas.Bool.{lt-ltb, le-ltb, ltb-false}
 use Rattle.std.specs.List.{flat_map}
 use Rattle.std.specs.Str.Lines.{lines}
 use Rattle.std.specs.FinMap as fin
 use Rattle.csr_store.specs.Grid.{Grid, Position, pos_cmp}
 use Rattle.matrix_market.specs.declared.rule.MarketRule.{MarketRule}
-use Rattle.matrix_market.specs.declared.rule.MarketRule.TheVariants.{MalformedBanner, OutsideProfile, MalformedSize, SizeAboveLimit, MalformedEntry, IndexOutsideMatrix, ValueOutOfRange, PositionGivenTwice, TooFewEntries, LineAfterLastEntry, LineTooLong, SymmetricNotSquare}
+use Rattle.matrix_market.specs.declared.rule.MarketRule.TheVariants.{MalformedBanner, MalformedSize, SizeAboveLimit, IndexOutsideMatrix, ValueOutOfRange, PositionGivenTwice, TooFewEntries, LineAfterLastEntry, LineTooLong, SymmetricNotSquare}
 use Rattle.matrix_market.specs.declared.kinds.Banner.{Banner}
 use Rattle.matrix_market.specs.declared.kinds.Size.{Size}
 use Rattle.matrix_market.specs.declared.kinds.Found.{Found}
-use Rattle.matrix_market.specs.Market.{WrittenEntry, IsFault, IsTextOf, words, is_skipped, is_banner, banner_words, tail, banner_rules, later_rules, content_rules, size_rules, size_words, entry_rules, entry_words, end_rules, entries_of, option_list, is_large, outside, is_word, word_of, is_repeated, places, words_at, at_most, rules_at, first_rule, when}
-use Rattle.matrix_market.specs.Answers.{Passes, banner_answer, known_banner, size_answer, size_checked, entry_answer, entry_checked, spots, put_all, some_given}
-use Rattle.matrix_market.specs.Filling.{Clean, At, Filled}
+use Rattle.matrix_market.specs.Market.{WrittenEntry, IsFault, IsTextOf, words, is_skipped, is_banner, banner_words, tail, content_rules, size_rules, size_words, entry_rules, entry_words, end_rules, entries_of, option_list, is_large, word_of, is_repeated, places, words_at, at_most, rules_at, first_rule, when}
+use Rattle.matrix_market.specs.Answers.{Passes, banner_answer, known_banner, size_answer, entry_answer, spots, put_all, some_given}
+use Rattle.matrix_market.specs.Filling.{At, Filled}
 use Rattle.matrix_market.proofs.Places.{rules_here, next_rules, last_rules, idle_lines, content_line, fault_next, clean_more}
 use Rattle.matrix_market.proofs.Puts.{cells_more, repeated_is}
 

@@ -1,6 +1,5 @@
 -- A text is that of one matrix at most, and none that has a fault.
-use Rattle.std.proofs.Common.{◌≡◌, ◌+◌, ℕ, List, [], ◌∷◌, Option, Some, None, length, get_or, refl, sym, ap, ◌∙◌}
-use Rattle.std.specs.Str.Lines.{lines}
+use Rattle.std.proofs.Common.{◌≡◌, ℕ, List, [], ◌∷◌, Option, Some, None, get_or, refl, sym, ap, ◌∙◌}
 use Rattle.std.specs.FinMap as fin
 use Rattle.csr_store.specs.Grid.{Grid, Position, pos_cmp}
 use Rattle.csr_store.proofs.Laws.{same_values}
@@ -11,7 +10,7 @@ use Rattle.std.specs.Prelude.{Result, Ok, Err, IfOk, IfErr}
 use Rattle.matrix_market.specs.declared.rule.MarketError.{MarketError}
 use Rattle.matrix_market.specs.declared.rule.MarketError.TheVariants.{Fault, Memory}
 use Rattle.matrix_market.specs.Refusal.{IsOnlyMatrix, ExplainsRefusal, NamesFault}
-use Rattle.matrix_market.specs.Market.{IsFault, IsTextOf, tail, content, banner_of, size_of, words_at, entries_of, at_most, rules_at, first_rule}
+use Rattle.matrix_market.specs.Market.{IsFault, IsTextOf, tail, content, banner_of, size_of, words_at, entries_of, at_most, first_rule}
 
 same_some : {X : Type 0} (x y : X) → Some x ≡ Some y → x ≡ y
 same_some x y e = cc
@@ -64,4 +63,4 @@ only_matrix text (Err e) t = tt
 pub refusal_explained : (text : List ℕ) (r : Result Grid MarketError) → IfErr r (λ e. NamesFault text e) → IfErr r (ExplainsRefusal text)
 refusal_explained text (Ok m) t = tt
 refusal_explained text (Err (Fault rule line)) t = (t, λ g h. never_both text g line rule h t)
-refusal_explained text (Err Memory) t = tt
+refusal_explained text (Err Memory) t = t

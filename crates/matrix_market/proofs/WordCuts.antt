@@ -1,5 +1,5 @@
 -- Words of a line.
-use Rattle.std.proofs.Common.{◌≡◌, ◌≤◌, ◌<◌, ◌⊎◌, inl, inr, ℕ, zero, suc, List, [], ◌∷◌, Bool, true, false, cond, length, take, drop, get_or, refl, sym, ap, ◌∙◌, subst, arith, nat_lt, filter}
+use Rattle.std.proofs.Common.{◌≡◌, ◌≤◌, ◌<◌, ℕ, zero, suc, List, [], ◌∷◌, true, false, length, take, drop, get_or, refl, arith, filter}
 use Rattle.std.specs.List.{slice_split}
 use Rattle.matrix_market.specs.Market.{words, is_blank, is_some_text}
 

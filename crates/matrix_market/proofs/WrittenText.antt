@@ -1,6 +1,6 @@
 -- The canonical text of a matrix is a text of it.
-use Rattle.std.proofs.Common.{◌≡◌, ◌≤◌, ◌<◌, ◌+◌, ◌-◌, ◌^◌, ℕ, zero, suc, List, [], ◌∷◌, ◌++◌, Bool, true, false, ◌||◌, nat_lt, nat_eq, Option, Some, None, Ok, is_some, length, take, get_or, refl, sym, ap, ◌∙◌, subst, arith, append_assoc, append-nil, length-append, lit<}
-use Rattle.std.proofs.lemmas.Bool.{lt-ltb, le-ltb}
+use Rattle.std.proofs.Common.{◌≡◌, ◌≤◌, ◌<◌, ◌+◌, ◌-◌, ◌^◌, ℕ, List, [], ◌∷◌, ◌++◌, true, false, ◌||◌, nat_lt, nat_eq, Some, Ok, is_some, length, get_or, refl, sym, ap, ◌∙◌, subst, arith, append_assoc, append-nil, length-append, lit<}
+use Rattle.std.proofs.lemmas.Bool.{le-ltb}
 use Rattle.std.proofs.lemmas.Bool.Decides.{nat_tests}
 use Rattle.std.proofs.lemmas.Fmt.{decimal_nonempty, length-decimal-le}
 use Rattle.std.proofs.lemmas.List.{take_at, get_or_at}
@@ -8,16 +8,16 @@ use Rattle.std.specs.Fmt.{decimal}
 use Rattle.std.specs.Prelude.{codes}
 use Rattle.std.specs.Str.Lines.{lines}
 use Rattle.std.specs.FinMap as fin
-use Rattle.csr_store.specs.Grid.{Grid, IsGrid, IsInside, Entry, Position, pos_cmp, limit}
+use Rattle.csr_store.specs.Grid.{Grid, IsGrid, IsInside, Entry, pos_cmp, limit}
 use Rattle.csr_store.proofs.Laws.{entries_ascend, take_ascend, entries-insert_last, entries-empty, get-last, same_entries, entry_inside, entry_word}
 use Rattle.matrix_market.specs.declared.kinds.Banner.{Banner}
 use Rattle.matrix_market.specs.declared.kinds.Size.{Size}
 use Rattle.matrix_market.specs.declared.kinds.Found.{Found}
-use Rattle.matrix_market.specs.CanonicalText.{banner, line_of, size_line, entry_line, entry_lines, value_text, canonical_text}
-use Rattle.matrix_market.specs.Market.{IsTextOf, WrittenEntry, words, is_skipped, number, value, is_word, word_of, outside, is_large, size_words, entry_words, first_rule}
-use Rattle.matrix_market.specs.Answers.{Passes, banner_answer, size_answer, entry_answer, entry_checked, spots, put_all, some_given}
+use Rattle.matrix_market.specs.CanonicalText.{banner, line_of, size_line, entry_lines, value_text, canonical_text}
+use Rattle.matrix_market.specs.Market.{IsTextOf, WrittenEntry, words, is_skipped, outside, size_words, entry_words}
+use Rattle.matrix_market.specs.Answers.{Passes, size_answer, entry_answer, entry_checked}
 use Rattle.matrix_market.specs.Filling.{At, Filled}
-use Rattle.matrix_market.proofs.Canonical.{all_above, AreFields, three, words_three, lines_three, lines_before, number-decimal, value-value_text, value_for, value_for-is_word, word_of-value_for, decimal_above, value_above, starts_with_digit, decimal_starts, value_some, value_length}
+use Rattle.matrix_market.proofs.Canonical.{AreFields, three, words_three, lines_three, lines_before, number-decimal, value-value_text, value_for, value_for-is_word, word_of-value_for, decimal_above, value_above, starts_with_digit, decimal_starts, value_some, value_length}
 use Rattle.matrix_market.proofs.Reading.{begun, size_read, entry_read, whole}
 
 abbrev general : Banner

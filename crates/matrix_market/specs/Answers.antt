@@ -1,5 +1,5 @@
 -- What a line of each kind gives, or which rule it breaks.
-use Rattle.std.specs.Prelude.{◌≡◌, ℕ, ◌+◌, ◌-◌, ◌^◌, ◌<◌, ◌≤◌, ◌==◌, ◌||◌, ◌&&◌, not, nat_lt, Bool, true, false, if◌then◌else◌, List, [], ◌∷◌, length, Option, Some, None, Result, Ok, Err, min}
+use Rattle.std.specs.Prelude.{◌≡◌, ℕ, ◌+◌, ◌-◌, ◌^◌, ◌≤◌, ◌==◌, ◌||◌, ◌&&◌, not, nat_lt, Bool, true, false, if◌then◌else◌, List, [], ◌∷◌, length, Option, Some, None, Result, Ok, Err, min}
 use Rattle.matrix_market.specs.declared.rule.MarketRule.{MarketRule}
 use Rattle.matrix_market.specs.declared.rule.MarketRule.TheVariants.{MalformedBanner, OutsideProfile, MalformedSize, SizeAboveLimit, MalformedEntry, IndexOutsideMatrix, ValueOutOfRange, SymmetricNotSquare}
 use Rattle.matrix_market.specs.declared.kinds.Banner.{Banner}
@@ -11,7 +11,7 @@ use Rattle.std.specs.Prelude.{◌++◌, is_some}
 use Rattle.std.specs.List.{AllByRecursion, list_any}
 use Rattle.std.specs.Str.Lines.{lines}
 use Rattle.std.specs.FinMap as fin
-use Rattle.csr_store.specs.Grid.{Grid, Position, pos_cmp}
+use Rattle.csr_store.specs.Grid.{Position, pos_cmp}
 use Rattle.matrix_market.specs.declared.lines.Next.{Next}
 use Rattle.matrix_market.specs.declared.lines.Next.TheVariants.{Line, End, TooLong}
 use Rattle.matrix_market.specs.Market.{mirrored, is_skipped, Value, WrittenEntry, is_banner, banner_words, tail, is_large, outside, is_word, word_of}

@@ -1,13 +1,13 @@
 -- What was gathered of a text in any order. Positions that are given twice are looked for when all entries are there, so
 -- what is said of the lines holds if there are none. This project's own.
-use Rattle.std.specs.Prelude.{◌≡◌, ℕ, ◌+◌, ◌≤◌, ◌<◌, Bool, List, ◌++◌, map, length, drop}
+use Rattle.std.specs.Prelude.{◌≡◌, ℕ, ◌+◌, ◌≤◌, ◌<◌, Bool, List, [], ◌++◌, map, length, drop}
 use Rattle.csr_store.specs.Grid.{Position, Entry}
 use Rattle.csr_store.specs.ByRows.{grid}
 use Rattle.csr_store.specs.Listed.{Listed, NoneTwice}
 use Rattle.matrix_market.specs.declared.kinds.Banner.{Banner}
 use Rattle.matrix_market.specs.declared.kinds.Size.{Size}
 use Rattle.matrix_market.specs.declared.kinds.Found.{Found}
-use Rattle.matrix_market.specs.Answers.{spots}
+use Rattle.matrix_market.specs.Answers.{spots, Passes}
 use Rattle.matrix_market.specs.Filling.{Filled}
 
 -- these entry lines were read into a list
@@ -32,3 +32,7 @@ pub record Reached (text : List ℕ) (b : Banner) (s : Size) (l : Listed) (rest 
   pub within : next ≤ length rest
   pub fewer : at + given + length (drop next rest) ≤ at + length rest
   pub most : before + given ≤ s.entries
+
+-- nothing but lines that are passed over follow
+abbrev pub IsEnd : List ℕ → ℕ → Type 0
+IsEnd rest at = (last : ℕ) × Passes rest at [] last

@@ -7,3 +7,4 @@ pub mod Refusal
 pub mod Usual
 pub mod Gathering
 pub mod Values
+pub mod Halting

@@ -2,15 +2,14 @@
 -- (https://math.nist.gov/MatrixMarket/formats.html, "Coordinate Format for Sparse Matrices"), with the qualifiers
 -- `integer`, `pattern`, `general` and `symmetric`; and which line of a text breaks which rule. The rules, the limits and
 -- the order in which a line is looked at are this project's own.
-use Rattle.std.specs.Prelude.{◌≡◌, ◌≢◌, ℕ, ◌+◌, ◌-◌, ◌*◌, ◌^◌, ◌<◌, ◌≤◌, ◌↔◌, ◌⊎◌, ◌==◌, ◌||◌, ◌&&◌, not, nat_lt, nat_le, nat_eq, Bool, true, false, if◌then◌else◌, List, [], ◌∷◌, ◌++◌, length, Option, Some, None, IsSome, filter, map, flat_map, take, drop, slice_get, codes, Any, IsTrue}
+use Rattle.std.specs.Prelude.{◌≡◌, ℕ, ◌+◌, ◌-◌, ◌*◌, ◌^◌, ◌<◌, ◌≤◌, ◌==◌, ◌||◌, ◌&&◌, not, nat_lt, nat_le, nat_eq, Bool, true, false, if◌then◌else◌, List, [], ◌∷◌, ◌++◌, length, Option, Some, None, filter, flat_map, take, slice_get, codes}
 use Rattle.std.specs.List.{slice_split, list_any}
-use Rattle.std.specs.Option.{option_map}
 use Rattle.std.specs.Char.{is_ascii_digit}
 use Rattle.std.specs.Str.{str_to_ascii_lowercase}
 use Rattle.std.specs.Str.Lines.{lines}
 use Rattle.std.specs.Cmp.Lexicographic.{pointwise}
 use Rattle.std.specs.FinMap as fin
-use Rattle.csr_store.specs.Grid.{Grid, Position, pos_cmp}
+use Rattle.csr_store.specs.Grid.{Grid, Position}
 use Rattle.matrix_market.specs.declared.rule.MarketRule.{MarketRule}
 use Rattle.matrix_market.specs.declared.rule.MarketRule.TheVariants.{MalformedBanner, OutsideProfile, MalformedSize, SizeAboveLimit, MalformedEntry, IndexOutsideMatrix, ValueOutOfRange, PositionGivenTwice, TooFewEntries, LineAfterLastEntry, LineTooLong, SymmetricNotSquare}
 use Rattle.matrix_market.specs.declared.kinds.Banner.{Banner}

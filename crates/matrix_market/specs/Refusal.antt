@@ -1,7 +1,10 @@
 -- That a text is that of one matrix alone, and what a refusal says of it. This project's own.
-use Rattle.std.specs.Prelude.{◌≡◌, ℕ, List}
+use Rattle.std.specs.Prelude.{◌≡◌, ◌≤◌, ◌+◌, ℕ, List, [], ◌∷◌, ◌++◌, length, Some}
+use Rattle.std.specs.Str.Lines.{lines}
 use Rattle.csr_store.specs.Grid.{Grid}
-use Rattle.matrix_market.specs.Market.{IsFault, IsTextOf}
+use Rattle.matrix_market.specs.declared.kinds.Banner.{Banner}
+use Rattle.matrix_market.specs.declared.kinds.Size.{Size}
+use Rattle.matrix_market.specs.Market.{IsFault, IsTextOf, banner_of, content, size_of, rules_at}
 use Rattle.matrix_market.specs.declared.rule.MarketError.{MarketError}
 use Rattle.matrix_market.specs.declared.rule.MarketError.TheVariants.{Fault, Memory}
 
@@ -13,13 +16,25 @@ IsNoMatrix text = (g : Grid) → IsTextOf text g → ⊥
 abbrev pub IsOnlyMatrix : List ℕ → Grid → Type 0
 IsOnlyMatrix text matrix = (g : Grid) → IsTextOf text g → g ≡ matrix
 
+-- the text begins with lines that give a banner and sizes, and none of them breaks a rule
+pub record HasSizes (text : List ℕ) : Type 0 where
+  pub first : List ℕ
+  pub others : List (List ℕ)
+  pub behind : List (List ℕ)
+  pub cut : lines text ≡ (first ∷ others) ++ behind
+  pub banner : Banner
+  pub banner_is : banner_of first ≡ Some banner
+  pub size : Size
+  pub size_is : size_of (content others) ≡ Some size
+  pub faultless : (k : ℕ) → 1 ≤ k → k ≤ length others + 1 → rules_at (lines text) k ≡ []
+
 -- The rule is the one that is named, of the first line that breaks one, and no matrix has the text; or memory was
--- refused.
+-- refused, which only entries need.
 abbrev pub ExplainsRefusal : List ℕ → MarketError → Type 0
 ExplainsRefusal text (Fault rule line) = IsFault text line rule × IsNoMatrix text
-ExplainsRefusal text Memory = Unit {0}
+ExplainsRefusal text Memory = HasSizes text
 
 -- the first half of it
 abbrev pub NamesFault : List ℕ → MarketError → Type 0
 NamesFault text (Fault rule line) = IsFault text line rule
-NamesFault text Memory = Unit {0}
+NamesFault text Memory = HasSizes text

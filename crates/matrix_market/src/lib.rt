@@ -7,14 +7,16 @@
 //!
 //! Read `rule` first (what can be wrong with a text), then `writer`; of the reader first `reader`, which
 //! goes line by line and knows all the rules, over `kinds` (what a line of each kind says), `lines` and
-//! `words`; then `gather`, which reads entries fast, in any order, and leaves every text that breaks a
-//! rule to it, over `usual`, which reads entry lines in their usual form.
+//! `words`; then `gather`, which reads entries fast, in any order, up to the first line that breaks a rule,
+//! over `usual`, which reads entry lines in their usual form; then `repeats`, which looks where a position
+//! is given again.
 #![tactic(auto)]
 
 mod gather;
 mod kinds;
 mod lines;
 mod reader;
+mod repeats;
 mod rule;
 mod usual;
 mod values;

@@ -11,6 +11,7 @@ ghost use Rattle.matrix_market.specs.Answers.{spots, put_all, some_given};
 use crate::gather::{Halt, gather};
 use crate::kinds::{Banner, Found, Size, read_banner, read_entry, read_size};
 use crate::lines::{Next, first_line, next_content};
+use crate::repeats::lines_before_repeat;
 use crate::rule::{MarketError, MarketRule};
 use csr_store::{Builder, Matrix, StoreError};
 use std::alloc::Global;
@@ -101,8 +102,38 @@ fn read_entries(
     ensures ok { IfOk result (λ m. IsTextOf text.now m) }
     ensures err { IfErr result (λ e. NamesFault text.now e) }
 {
-    match gather(alloc, text, banner, size, rest, at) {
+    match gather(alloc, text, banner, size, rest, at, size.entries) {
         Ok(matrix) => return Ok(matrix),
+        Err(Halt::Fault(fault)) => return Err(fault),
+        Err(Halt::Memory) => return Err(MarketError::Memory),
+        Err(Halt::Rule) => {}
+    }
+    read_again(alloc, text, banner, size, rest, at)
+}
+
+/// Reads the entries of a text that breaks a rule: those before the line that is told to give a position again are gathered, and what
+/// that line breaks is looked at then. Where that names no fault, all lines are gone over one by one.
+fn read_again(
+    alloc: Global,
+    text: &[u8],
+    banner: Banner,
+    size: Size,
+    rest: &[u8],
+    at: u64,
+) -> Result<Matrix, MarketError>
+    requires room { at + length rest.now < 2 ^ 63 }
+    requires filled { Filled text.now banner size
+        (record { rows = size.rows; columns = size.columns; cells = map.empty }) rest.now at 0 }
+    ensures ok { IfOk result (λ m. IsTextOf text.now m) }
+    ensures err { IfErr result (λ e. NamesFault text.now e) }
+{
+    let clean = match lines_before_repeat(alloc, banner, size, rest, at) {
+        Ok(clean) => clean,
+        Err(_) => return Err(MarketError::Memory),
+    };
+    match gather(alloc, text, banner, size, rest, at, clean) {
+        Ok(matrix) => return Ok(matrix),
+        Err(Halt::Fault(fault)) => return Err(fault),
         Err(Halt::Memory) => return Err(MarketError::Memory),
         Err(Halt::Rule) => {}
     }

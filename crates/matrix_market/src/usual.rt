@@ -166,15 +166,24 @@ fn pattern_line(text: &[u8], at: usize, last: usize) -> Option<UsualLine>
     })
 }
 
-/// The place of the last LF of a text.
-pub fn last_feed(text: &[u8]) -> Option<usize>
+/// How many bytes of a text its last LF and what follows it are, or all where there is no LF.
+pub fn behind_feeds(text: &[u8]) -> usize {
+    for at in (0..text.len()).rev() {
+        if text[at] == b'\n' {
+            return text.len() - at;
+        }
+    }
+    text.len()
+}
+
+/// The place so many bytes before the end of a text, where an LF stands there.
+pub fn feed_before(text: &[u8], behind: usize) -> Option<usize>
     ensures within { IfSome result (λ n. n < length text.now) }
     ensures stop { IfSome result (λ n. slice_index text.now n ≡ 10) }
 {
-    for at in (0..text.len()).rev() {
-        if text[at] == b'\n' {
-            return Some(at);
-        }
+    let at = text.len().checked_sub(behind)?;
+    match text.get(at) {
+        Some(b'\n') => Some(at),
+        _ => None,
     }
-    None
 }

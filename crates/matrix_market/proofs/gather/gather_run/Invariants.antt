@@ -1,9 +1,12 @@
-use Rattle.std.proofs.Common.{◌≡◌, ◌≤◌, ◌-◌, ◌+◌, length}
+use Rattle.std.proofs.Common.{◌≤◌, ◌-◌}
 use Rattle.matrix_market.specs.Gathering.{Reached}
 use Rattle.matrix_market.proofs.gather.gather_run.Given as goal
 
 abbrev pub invariant-loop-given : goal.invariant-loop-given
-invariant-loop-given l = Reached l.text l.fn.banner l.fn.size l.list l.rest l.at l.before l.given l.next
+invariant-loop-given l = record {
+  reached : Reached l.text l.fn.banner l.fn.size l.list l.rest l.at l.before l.given l.next;
+  few : l.given ≤ l.left;
+}
 
 abbrev pub decreases-loop-given : goal.decreases-loop-given
-decreases-loop-given l = l.most - l.given
+decreases-loop-given l = l.left - l.given

@@ -1,8 +1,7 @@
-use Rattle.std.proofs.Common.{◌≡◌, ◌≤◌, ◌<◌, ◌*◌, ◌+◌, ◌-◌, ◌^◌, ℕ, sym, ap, ◌∙◌, arith, refl, drop, length, Some, None, min}
+use Rattle.std.proofs.Common.{sym, ap, ◌∙◌, arith, refl, length}
 use Rattle.std.proofs.lemmas.Bool.{eqb-false}
-use Rattle.matrix_market.specs.Market.{digits_after}
-use Rattle.matrix_market.specs.Answers.{held, held_number}
-use Rattle.matrix_market.proofs.Numbers.{digits_some, digits_none, digit_more, digit_not, digit_end}
+use Rattle.matrix_market.specs.Answers.{held_number}
+use Rattle.matrix_market.proofs.Numbers.{digits_some, digit_more, digit_not, digit_end}
 use Rattle.matrix_market.proofs.kinds.digits.Goals as goal
 
 pub returns : goal.returns

@@ -1,6 +1,5 @@
-use Rattle.std.proofs.Common.{◌≡◌, ℕ, ◌∙◌, ap, sym}
-use Rattle.matrix_market.specs.Market.{number, value, words, entry_words}
-use Rattle.matrix_market.specs.Answers.{entry_answer}
+use Rattle.std.proofs.Common.{◌∙◌}
+use Rattle.matrix_market.specs.Market.{words}
 use Rattle.matrix_market.proofs.Numbers.{entry_three}
 use Rattle.matrix_market.proofs.kinds.read_entry.Goals as goal
 

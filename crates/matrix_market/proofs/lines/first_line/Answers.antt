@@ -1,4 +1,4 @@
-use Rattle.std.proofs.Common.{◌≡◌, ◌<◌, ◌+◌, ℕ, suc, List, [], ◌∷◌, length, take, drop, get_or, eqb, sym, ap, ◌∙◌, arith, eq-eqb}
+use Rattle.std.proofs.Common.{suc, ◌∷◌, length, drop, sym, ap, ◌∙◌, arith, eq-eqb}
 use Rattle.std.specs.Str.Lines.{lines}
 use Rattle.std.proofs.lemmas.Bool.{eqb-false}
 use Rattle.matrix_market.proofs.FirstLine.{lines_cut, lines_all, rest_behind}

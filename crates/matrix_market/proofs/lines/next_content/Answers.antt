@@ -1,4 +1,4 @@
-use Rattle.std.proofs.Common.{◌≡◌, ◌≤◌, ◌+◌, length, arith, sym, ◌∙◌}
+use Rattle.std.proofs.Common.{length, arith, sym, ◌∙◌}
 use Rattle.std.proofs.lemmas.Bool.{le-ltb}
 use Rattle.matrix_market.proofs.Passing.{passes_more}
 use Rattle.matrix_market.proofs.lines.next_content.Goals as goal

@@ -1,6 +1,7 @@
-use Rattle.std.proofs.Common.{◌+◌, arith, refl}
+use Rattle.std.proofs.Common.{arith}
 use Rattle.std.specs.Str.Lines.{lines}
 use Rattle.matrix_market.proofs.Reading.{long_entry, too_many, whole}
+use Rattle.matrix_market.proofs.Sizes.{has_sizes}
 use Rattle.matrix_market.proofs.reader.finish_text.Goals as goal
 
 pub returns-in-Line-clause-err : goal.returns-in-Line-clause-err
@@ -16,3 +17,6 @@ pub returns-in-Ok-clause-ok : goal.returns-in-Ok-clause-ok
 returns-in-Ok-clause-ok c =
     let e = c.in-End.ensures in
     whole c.args.text.now c.args.rest.now c.args.banner c.args.size c.args.builder c.in-Ok.m c.args.at c.in-End.field-0 c.args.size.entries c.requires.filled (omega arith) e.0 c.in-Ok.ensures.ok
+
+pub returns-clause-err : goal.returns-clause-err
+returns-clause-err c = has_sizes c.args.text.now c.args.banner c.args.size c.args.builder c.args.rest.now c.args.at c.args.size.entries c.requires.filled

@@ -1,7 +1,3 @@
-use Rattle.std.proofs.Common.{◌≡◌, ◌≢◌, ◌||◌, ℕ, Bool, true, false, is_some, refl, ap, sym, ◌∙◌, arith}
-use Rattle.std.specs.FinMap as fin
-use Rattle.csr_store.specs.Grid.{Grid}
-use Rattle.matrix_market.specs.Answers.{spots, put_all, some_given}
 use Rattle.matrix_market.proofs.Puts.{not_given, given_before, two_put, two_refused}
 use Rattle.matrix_market.proofs.reader.put_entry.Goals as goal
 

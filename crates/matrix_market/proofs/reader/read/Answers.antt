@@ -1,4 +1,3 @@
-use Rattle.std.proofs.Common.{List, ℕ}
 use Rattle.matrix_market.proofs.Unique.{only_matrix, refusal_explained}
 use Rattle.matrix_market.proofs.reader.read.Goals as goal
 

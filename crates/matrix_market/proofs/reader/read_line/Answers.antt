@@ -1,6 +1,7 @@
-use Rattle.std.proofs.Common.{◌+◌, arith, refl}
+use Rattle.std.proofs.Common.{◌+◌, refl}
 use Rattle.std.specs.Str.Lines.{lines}
 use Rattle.matrix_market.proofs.Reading.{entry_fault, twice_fault, entry_read, long_entry, too_few}
+use Rattle.matrix_market.proofs.Sizes.{has_sizes}
 use Rattle.matrix_market.proofs.reader.read_line.Goals as goal
 
 pub returns-in-End-clause-err : goal.returns-in-End-clause-err
@@ -28,3 +29,10 @@ returns-in-Ok-put_entry-clause-filled c =
     let p = c.in-Ok-put_entry.ensures in
     entry_read c.args.text.now c.args.rest.now c.in-Line.more.now c.args.banner c.args.size c.args.builder.now c.put_entry.new.builder c.args.at e.0 c.in-Line.n c.args.given c.in-Line.line.now c.in-Ok.f
     c.requires.filled c.requires.few e.1 e.2 e.3 e.4 c.in-Ok.ensures p.1 p.0
+
+pub returns-in-Err-put_entry : goal.returns-in-Err-put_entry
+returns-in-Err-put_entry c = record {
+  less = tt;
+  filled = tt;
+  err = has_sizes c.args.text.now c.args.banner c.args.size c.args.builder.now c.args.rest.now c.args.at c.args.given c.requires.filled;
+}

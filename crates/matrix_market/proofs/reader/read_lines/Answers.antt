@@ -1,4 +1,4 @@
-use Rattle.std.proofs.Common.{◌≡◌, ◌≤◌, ◌<◌, ◌+◌, ℕ, [], ◌∷◌, arith, sym, ap, ◌∙◌, length, refl}
+use Rattle.std.proofs.Common.{◌+◌, [], ◌∷◌, arith, length, refl}
 use Rattle.std.proofs.lemmas.Bool.{le-ltb}
 use Rattle.std.specs.Str.Lines.{lines}
 use Rattle.matrix_market.proofs.Reading.{begun, passed, long_fault, no_size, size_fault, size_read}

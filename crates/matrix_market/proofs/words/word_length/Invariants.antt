@@ -1,6 +1,5 @@
-use Rattle.std.proofs.Common.{◌≡◌, ◌++◌, take, drop, length, ◌<◌, ℕ, get_or, false}
-use Rattle.std.specs.List.{slice_split}
-use Rattle.matrix_market.specs.Market.{words, is_blank}
+use Rattle.std.proofs.Common.{◌≡◌, ◌<◌, ℕ, get_or, false}
+use Rattle.matrix_market.specs.Market.{is_blank}
 use Rattle.matrix_market.proofs.words.word_length.Given as goal
 
 abbrev pub invariant-loop-i : goal.invariant-loop-i
