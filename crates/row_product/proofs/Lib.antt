@@ -9,3 +9,4 @@ pub mod EmittingAll
 pub mod Marking
 pub mod Filling
 pub mod Meeting
+pub mod Barren

@@ -8,7 +8,8 @@
 //! A row of the result is summed in a [`Scratch`], which a caller keeps from call to call: for each column its sum and whether an
 //! addition to it waits (`tagged`), whether the mask's row allows it, and the columns that are touched. The rows of B that A's row
 //! names are added one after another, and the touched columns are then put in order, moved into the result and emptied. Where at
-//! least one column in 16 is touched, all columns are gone over in place of putting these in order. So the work is linear in the
+//! least one column in 16 is touched, all columns are gone over in place of putting these in order. The columns' sums are made when a
+//! range has a term, never before. So the work is linear in the
 //! multiplications, the rows and the entries, but for the order of a row's columns; and the room is taken row by row.
 //!
 //! Calls are made up to 64 together. Products wait until there are so many, and a row of B is gathered as many cells at a time as
