@@ -1,5 +1,5 @@
 //! A session, from the bytes that it reads to the bytes that it writes.
-ghost use Rattle.std.specs.Prelude.{◌≡◌, ◌≤◌, ◌<◌, ◌+◌, [], false, vec_capacity, IfOk, Ok, None};
+ghost use Rattle.std.specs.Prelude.{◌≡◌, ◌≢◌, ◌≤◌, ◌<◌, ◌+◌, [], false, vec_capacity, IfOk, Ok, Err, None};
 ghost use Rattle.wire.specs.Fetching.{reach};
 ghost use Rattle.job_plan.specs.Price.{total_price};
 ghost use Rattle.workspace.specs.State.{empty};
@@ -13,6 +13,7 @@ use crate::end::{End, ServeFault};
 use crate::hearing::{Heard, hear};
 use command_text::{FatalRule, Reply, parse};
 use std::alloc::{AllocError, Global};
+use std::marker::Model;
 use std::sync::Wait;
 use std::thread::Threads;
 use step_budget::Steps;
@@ -181,6 +182,82 @@ fn converse<R: Source, W: Sink, T: Steps, H: Threads + Wait>(
     }
 }
 
+/// The room of one session, made before it begins, so that a server can know that it has it. A contract sees how many reads
+/// the session may make.
+#[derive(Drop)]
+pub struct Room {
+    alloc: Global,
+    desk: Desk,
+}
+
+impl Model for Room {
+    ghost use Rattle.std.specs.Prelude.{ℕ, ◌≡◌, [], false};
+    ghost use Rattle.workspace.specs.State.{empty};
+    ghost use Rattle.workspace.specs.Workspace.{state_of};
+
+    ghost Value = { ℕ };
+
+    ghost view = { λ r. r.desk.input.reads_left };
+
+    ghost invariant = { λ r. (r.desk.input.bytes ≡ []) × (r.desk.input.ended ≡ false) × (state_of r.desk.workspace ≡ empty) };
+}
+
+/// The most reads that a session makes.
+const MOST_READS: u64 = 4_294_967_296;
+
+impl Room {
+    /// Room for a session each of whose batches runs on so many workers.
+    ///
+    /// # Errors
+    ///
+    /// There is no memory for it.
+    pub fn new(alloc: Global, workers: u64) -> Result<Room, AllocError>
+        requires some { 1 ≤ workers }
+        requires few { workers ≤ 64 }
+        ensures { IfOk result (λ r. r ≡ 4294967296) }
+    {
+        Room::with_reads(alloc, workers, MOST_READS)
+    }
+
+    /// As `new`, for a session that makes so many reads at most.
+    ///
+    /// # Errors
+    ///
+    /// There is no memory for it.
+    pub fn with_reads(alloc: Global, workers: u64, reads: u64) -> Result<Room, AllocError>
+        requires some { 1 ≤ workers }
+        requires few { workers ≤ 64 }
+        ensures { IfOk result (λ r. r ≡ reads) }
+    {
+        let desk = Desk::new(alloc, workers, reads)?;
+        Ok(Room { alloc, desk })
+    }
+
+    /// Serves a session in this room, as `serve` does.
+    ///
+    /// # Errors
+    ///
+    /// As those of `serve`, but `Memory`: the room is there.
+    pub fn serve<R: Source, W: Sink, T: Steps, H: Threads + Wait>(
+        self,
+        rt: &H,
+        reader: &mut R,
+        writer: &mut W,
+        steps: &mut T,
+    ) -> Result<End, ServeFault>
+        ensures said { Outcome T.leads self
+            (record { budget = steps.old; source = R.state reader.old; sink = W.state writer.old })
+            (record { budget = steps.new; source = R.state reader.new; sink = W.state writer.new }) result }
+        ensures owed { T.owes steps.new ≡ T.owes steps.old }
+        ensures begun { result ≢ Err ServeFault.Memory }
+    {
+        let Room { alloc, mut desk } = self;
+        let outcome = converse(rt, alloc, &mut desk, reader, writer, steps);
+        release(rt, &desk.workspace, steps);
+        outcome
+    }
+}
+
 /// Serves one session as `serve` does, with so many reads at most.
 ///
 /// # Errors
@@ -202,16 +279,11 @@ pub fn serve_turns<R: Source, W: Sink, T: Steps, H: Threads + Wait>(
         (record { budget = steps.new; source = R.state reader.new; sink = W.state writer.new }) result }
     ensures owed { T.owes steps.new ≡ T.owes steps.old }
 {
-    let Ok(mut desk) = Desk::new(alloc, workers, reads) else {
+    let Ok(room) = Room::with_reads(alloc, workers, reads) else {
         return Err(ServeFault::Memory);
     };
-    let outcome = converse(rt, alloc, &mut desk, reader, writer, steps);
-    release(rt, &desk.workspace, steps);
-    outcome
+    room.serve(rt, reader, writer, steps)
 }
-
-/// The most reads that a session makes.
-const MOST_READS: u64 = 4_294_967_296;
 
 /// Serves one session: reads commands, and writes the reply to each, until `quit`, the end of the input, or a refusal after
 /// which a session can't go on. Each batch runs on so many workers.

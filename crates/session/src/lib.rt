@@ -18,7 +18,7 @@ mod hearing;
 mod session_tests;
 
 pub use command_text::FatalRule;
-pub use conversation::{serve, serve_turns};
+pub use conversation::{Room, serve, serve_turns};
 pub use end::{End, ServeFault};
-pub use step_budget::{Steps, Tally};
+pub use step_budget::{Steps, Tally, Wallet};
 pub use wire::{FromRead, Sink, Source, ToWrite};

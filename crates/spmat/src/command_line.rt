@@ -1,64 +1,20 @@
 //! The settings that the words of the command line give.
-ghost use Rattle.std.specs.Prelude.{◌≡◌, ◌≤◌, ℕ, Some, false, true, IfOk, IfSome, MatchResult, map};
-ghost use Rattle.clap.specs.Words.{app_of, found_of, kind_of, one_of, rows_of, rule_of, takes};
+ghost use Rattle.std.specs.Prelude.{◌≡◌, ◌≤◌, ℕ, Option, Some, true, is_some, codes, IfOk, IfSome, MatchResult, map};
+ghost use Rattle.clap.specs.Words.{found_of, kind_of, one_of, rows_of, takes};
 ghost use Rattle.spmat.specs.CommandLine as line;
-ghost use Rattle.spmat.specs.CommandLine.{IsAsked, IsAskedIn, IsNumberOf};
-ghost use Rattle.spmat.specs.InRange.{IsInRange};
+ghost use Rattle.spmat.specs.CommandLine.{IsAsked, IsAskedIn, IsNumberOf, IsNumberIfAny};
+ghost use Rattle.spmat.specs.InRange.{IsInRange, IsWithin};
 
+use crate::grammar::{LAST_PORT, MOST_SECONDS, MOST_SESSIONS, MOST_STEPS, MOST_WORKERS, program};
 use crate::settings::{Settings, SettingsFault};
-use clap::builder::ValueParser;
+use clap::ArgMatches;
 use clap::error::ErrorKind;
-use clap::{Arg, ArgMatches, Command, value_parser};
-use std::alloc::{AllocError, Global};
+use std::alloc::Global;
 use std::convert::AsStr;
 
-/// The most steps that a budget opens with: 2^62.
-const MOST_STEPS: i64 = 4_611_686_018_427_387_904;
-
-/// The most workers that run the jobs of a session.
-const MOST_WORKERS: i64 = 64;
-
 /// The text where an option has no number, which `clap` would have to let pass.
-const NO_NUMBERS: &str = "error: `spmat run` takes --steps N and --workers N\n";
-
-/// An option `--NAME N` that has to be given.
-fn number_option<'a>(
-    alloc: Global,
-    name: &'a str,
-    help: &'a str,
-    numbers: ValueParser<'a>,
-) -> Arg<'a>
-    ensures rule { rule_of result ≡ line.number_option name.entry.now numbers.entry }
-    ensures local { result.global ≡ false }
-{
-    Arg::new(alloc, name)
-        .long(name)
-        .value_name("N")
-        .help(help)
-        .required(true)
-        .value_parser(numbers)
-}
-
-/// The command line: `spmat run --steps N --workers N`.
-fn program<'a>(alloc: Global) -> Result<Command<'a>, AllocError>
-    ensures { IfOk result (λ command. app_of command ≡ line.program) }
-{
-    let steps = value_parser!(u64).range(..=MOST_STEPS);
-    let workers = value_parser!(u64).range(1..MOST_WORKERS + 1);
-    let run = Command::new(alloc, "run")
-        .about("Serves one session on standard input and output")
-        .arg(number_option(
-            alloc,
-            "steps",
-            "Steps that the jobs of the session may spend",
-            steps,
-        ))?
-        .arg(number_option(alloc, "workers", "Workers that run the jobs", workers))?;
-    Command::new(alloc, "spmat")
-        .about("A server for jobs over sparse matrices")
-        .subcommand_required(true)
-        .subcommand(run)
-}
+const NO_NUMBERS: &str =
+    "error: a number is missing or not in its range, as `--help` of the command tells them\n";
 
 /// The fault that an error of `clap` is: memory ran out, or the words are refused with its text.
 fn fault_of(alloc: Global, error: &clap::Error) -> SettingsFault
@@ -88,17 +44,74 @@ fn number(matches: &ArgMatches<'_>, name: &str, least: u64, most: u64) -> Option
     }
 }
 
+/// Whether an option is given.
+fn is_given(matches: &ArgMatches<'_>, name: &str) -> bool
+    ensures { result ≡ is_some (one_of name.now (rows_of (found_of matches.now))) }
+{
+    match matches.try_get_one::<u64>(name) {
+        Ok(None) => false,
+        Ok(Some(_)) => true,
+        Err(_) => true,
+    }
+}
+
+/// The number that an option has where it is given, if it lies in a range from 1.
+fn number_if_any(matches: &ArgMatches<'_>, name: &str, most: u64) -> Option<Option<u64>>
+    ensures given { IfSome result (λ o. IsWithin most o ×
+        IsNumberIfAny (one_of name.now (rows_of (found_of matches.now))) o) }
+    ensures taken { (o : Option ℕ) → IsNumberIfAny (one_of name.now (rows_of (found_of matches.now))) o →
+        IsWithin most o → result ≡ Some o }
+{
+    if !is_given(matches, name) {
+        return Some(None);
+    }
+    let number = number(matches, name, 1, most)?;
+    Some(Some(number))
+}
+
 /// The settings of `run`.
 fn run_settings(matches: &ArgMatches<'_>) -> Option<Settings>
-    ensures asked { IfSome result (λ s. IsAskedIn (rows_of (found_of matches.now)) s) }
+    ensures asked { IfSome result (λ s. IsAskedIn (codes "run") (rows_of (found_of matches.now)) s) }
     ensures range { IfSome result (λ s. IsInRange s) }
-    ensures taken { (s : Settings) → IsAskedIn (rows_of (found_of matches.now)) s → IsInRange s →
+    ensures taken { (s : Settings) → IsAskedIn (codes "run") (rows_of (found_of matches.now)) s → IsInRange s →
         result ≡ Some s }
 {
     Some(Settings::Run {
         steps: number(matches, "steps", 0, MOST_STEPS as u64)?,
         workers: number(matches, "workers", 1, MOST_WORKERS as u64)?,
     })
+}
+
+/// The settings of `serve`.
+fn serve_settings(matches: &ArgMatches<'_>) -> Option<Settings>
+    ensures asked { IfSome result (λ s. IsAskedIn (codes "serve") (rows_of (found_of matches.now)) s) }
+    ensures range { IfSome result (λ s. IsInRange s) }
+    ensures taken { (s : Settings) → IsAskedIn (codes "serve") (rows_of (found_of matches.now)) s → IsInRange s →
+        result ≡ Some s }
+{
+    let steps = number(matches, "steps", 0, MOST_STEPS as u64)?;
+    let workers = number(matches, "workers", 1, MOST_WORKERS as u64)?;
+    Some(Settings::Serve {
+        port: number(matches, "port", 1, LAST_PORT as u64)? as u16,
+        steps,
+        workers,
+        sessions: number_if_any(matches, "sessions", MOST_SESSIONS as u64)?,
+        idle: number_if_any(matches, "idle", MOST_SECONDS as u64)?,
+    })
+}
+
+/// The settings of the command that was named.
+fn settings_in(name: &str, matches: &ArgMatches<'_>) -> Option<Settings>
+    ensures asked { IfSome result (λ s. IsAskedIn name.now (rows_of (found_of matches.now)) s) }
+    ensures range { IfSome result (λ s. IsInRange s) }
+    ensures taken { (s : Settings) → IsAskedIn name.now (rows_of (found_of matches.now)) s → IsInRange s →
+        result ≡ Some s }
+{
+    match name {
+        "run" => run_settings(matches),
+        "serve" => serve_settings(matches),
+        _ => None,
+    }
 }
 
 /// Reads the words of the command line, of which the first is the program's own name.
@@ -118,8 +131,8 @@ pub fn settings_of<'a, S: AsStr>(alloc: Global, words: &'a [S]) -> Result<Settin
         Ok(matches) => matches,
         Err(error) => return Err(fault_of(alloc, &error)),
     };
-    if let Some((_, run)) = matches.subcommand() {
-        if let Some(settings) = run_settings(run) {
+    if let Some((name, command)) = matches.subcommand() {
+        if let Some(settings) = settings_in(name, command) {
             return Ok(settings);
         }
     }

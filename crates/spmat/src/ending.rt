@@ -5,16 +5,31 @@ ghost use Rattle.spmat.specs.Endings.{code_of, status_of, said_by, text_of};
 ghost use Rattle.spmat.specs.declared.ending.Failure.TheVariants as failures;
 
 use crate::settings::SettingsFault;
-use session::{End, ServeFault};
+use listener::{End, ListenFault, ServeFault};
 use std::process::ExitCode;
 
-/// Why no session was served to its end.
+/// What ended well.
+#[derive(Clone, Copy, Debug, PartialEq, Eq)]
+pub enum Done {
+    /// The one session of `run`.
+    Session(End),
+    /// All sessions of `serve`.
+    Sessions,
+}
+
+/// Why nothing was served to its end.
 #[derive(Debug, Drop)]
 pub enum Failure {
-    /// The words of the command line gave no settings, so none began.
+    /// The words of the command line gave no settings.
     Settings(SettingsFault),
-    /// It broke off.
+    /// There was no memory for the purse.
+    Purse,
+    /// The line that tells the port could not be written.
+    Announcement,
+    /// The one session broke off.
     Session(ServeFault),
+    /// The port could not be bound, or no more connections are taken.
+    Listening(ListenFault),
 }
 
 impl From<SettingsFault> for Failure {
@@ -33,12 +48,20 @@ impl From<ServeFault> for Failure {
     }
 }
 
+impl From<ListenFault> for Failure {
+    ghost from_gives = { λ fault failure. failure ≡ failures.Listening fault };
+
+    fn from(fault: ListenFault) -> Self {
+        Failure::Listening(fault)
+    }
+}
+
 /// The exit status.
 #[derive(Clone, Copy, Debug, PartialEq, Eq)]
 pub enum Status {
-    /// The session ended by `quit` or with its input.
+    /// The session ended by `quit` or with its input, or all sessions were served.
     Ended = 0,
-    /// A stream or the memory failed.
+    /// A stream, the network or the memory failed.
     Failed = 1,
     /// The words of the command line were refused.
     WordsRefused = 2,
@@ -65,7 +88,7 @@ pub struct Ending {
 }
 
 /// The line that names a fault of a session.
-fn fault_line(fault: ServeFault) -> &'static str
+fn session_line(fault: ServeFault) -> &'static str
     ensures { result.now ≡ text_of (Err (failures.Session fault)) }
 {
     match fault {
@@ -76,21 +99,52 @@ fn fault_line(fault: ServeFault) -> &'static str
     }
 }
 
-/// How the process ends, by what became of the session.
-pub fn ending_of(outcome: Result<End, Failure>) -> Ending
+/// The line that names a fault of a server.
+fn listening_line(fault: ListenFault) -> &'static str
+    ensures { result.now ≡ text_of (Err (failures.Listening fault)) }
+{
+    match fault {
+        ListenFault::Network => "spmat: network failed\n",
+        ListenFault::Memory => "spmat: no memory\n",
+    }
+}
+
+/// What is said of a failure.
+fn message_of(failure: Failure) -> Message
+    ensures { said_by result ≡ text_of (Err failure) }
+{
+    match failure {
+        Failure::Settings(SettingsFault::Words(text)) => Message::Words(text),
+        Failure::Settings(SettingsFault::Memory) | Failure::Purse => {
+            Message::Fault("spmat: no memory\n")
+        }
+        Failure::Announcement => Message::Fault("spmat: write failed\n"),
+        Failure::Session(fault) => Message::Fault(session_line(fault)),
+        Failure::Listening(fault) => Message::Fault(listening_line(fault)),
+    }
+}
+
+/// The status of what became of all.
+fn status_after(outcome: &Result<Done, Failure>) -> Status
+    ensures { result ≡ status_of outcome.now }
+{
+    match outcome {
+        Ok(Done::Session(End::Refused(_))) => Status::SessionRefused,
+        Ok(_) => Status::Ended,
+        Err(Failure::Settings(SettingsFault::Words(_))) => Status::WordsRefused,
+        Err(_) => Status::Failed,
+    }
+}
+
+/// How the process ends, by what became of all.
+pub fn ending_of(outcome: Result<Done, Failure>) -> Ending
     ensures status { result.status ≡ status_of outcome }
     ensures message { said_by result.message ≡ text_of outcome }
 {
-    let (status, message) = match outcome {
-        Ok(End::Quit | End::InputEnd) => (Status::Ended, Message::Nothing),
-        Ok(End::Refused(_)) => (Status::SessionRefused, Message::Nothing),
-        Err(Failure::Settings(SettingsFault::Words(text))) => {
-            (Status::WordsRefused, Message::Words(text))
-        }
-        Err(Failure::Settings(SettingsFault::Memory)) => {
-            (Status::Failed, Message::Fault("spmat: no memory\n"))
-        }
-        Err(Failure::Session(fault)) => (Status::Failed, Message::Fault(fault_line(fault))),
+    let status = status_after(&outcome);
+    let message = match outcome {
+        Ok(_) => Message::Nothing,
+        Err(failure) => message_of(failure),
     };
     Ending { status, message }
 }

@@ -9,7 +9,19 @@ use thiserror::Error;
 #[derive(Clone, Copy, Debug, PartialEq, Eq)]
 pub enum Settings {
     /// Serve one session on standard input and output, with a budget of so many steps.
-    Run { steps: u64, workers: u64 },
+    Run {
+        steps: u64,
+        workers: u64,
+    },
+    /// Serve sessions on a port of this machine, all on one purse of so many steps: so many sessions, if a number is given, and
+    /// for so many seconds without a word of its client each, if a number is given.
+    Serve {
+        port: u16,
+        steps: u64,
+        workers: u64,
+        sessions: Option<u64>,
+        idle: Option<u64>,
+    },
 }
 
 /// Why the words of the command line gave no settings.

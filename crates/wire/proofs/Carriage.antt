@@ -1,9 +1,9 @@
 -- A line with a CR at its end, and without one.
-use Rattle.std.proofs.Common.{◌≡◌, ◌≤◌, ◌<◌, ◌+◌, ℕ, true, false, List, [], ◌∷◌, ◌++◌, length, take, drop, refl, sym, ap, ◌∙◌, arith, eqb, ltb, cond, inl, inr, Bool, zero, suc, subst}
+use Rattle.std.proofs.Common.{◌≡◌, ◌≤◌, ◌+◌, ℕ, true, false, List, [], ◌∷◌, ◌++◌, length, take, drop, refl, sym, ap, ◌∙◌, arith, eqb, ltb, cond, inl, inr, Bool, zero, suc}
 use Rattle.std.proofs.lemmas.Bool.Decides.{eqb_tells}
 use Rattle.std.proofs.lemmas.Bool.{le-ltb}
 use Rattle.std.proofs.lemmas.List.{length-take}
-use Rattle.wire.specs.Lines.{Cut, Uncut, At, Line, Over, cut_line, without_cr, first, first_of, measured}
+use Rattle.wire.specs.Lines.{At, Line, Over, cut_line, without_cr, first, first_of}
 
 -- a byte stands last
 pub without_cr-last : (xs : List ℕ) (b : ℕ) → without_cr (xs ++ b ∷ []) ≡ cond (eqb b 13) xs (xs ++ b ∷ [])

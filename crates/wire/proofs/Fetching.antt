@@ -1,11 +1,9 @@
 -- How what is fetched adds up.
-use Rattle.std.proofs.Common.{◌≡◌, ◌+◌, ℕ, Bool, true, false, List, [], ◌∷◌, ◌++◌, Option, Result, Ok, Err, refl, sym, ap, ◌∙◌, subst, append_assoc, arith, ◌&&◌, ◌||◌, not}
-use Rattle.std.specs.Io.KnownBytes.{Consumes, Keeps, IsAtEnd}
+use Rattle.std.proofs.Common.{◌≡◌, ◌+◌, ℕ, Bool, true, false, List, [], ◌++◌, refl, sym, ap, ◌∙◌, subst, append_assoc, arith, ◌&&◌, ◌||◌, not}
 use Rattle.wire.specs.Devices.{SourceState}
-use Rattle.wire.specs.Held.{Held, Stream, ended_after}
-use Rattle.wire.specs.Fetching.{Follows, Fetched, IsFilled}
-use Rattle.wire.specs.declared.fault.ReadFault.TheVariants.{Failed, OutOfReads}
-use Rattle.wire.proofs.Known.{append_nil, consumes_nothing, consumes_more, consumes_kept}
+use Rattle.wire.specs.Held.{Held, Stream}
+use Rattle.wire.specs.Fetching.{Follows, Fetched}
+use Rattle.wire.proofs.Known.{append_nil, consumes_nothing, consumes_more}
 
 -- nothing follows
 pub nothing_follows : (ended : Bool) → Follows ended [] ended

@@ -1,51 +1,72 @@
--- How a body grows.
-use Rattle.std.proofs.Common.{◌≡◌, ◌<◌, ℕ, ◌+◌, ◌-◌, List, ◌++◌, length, take, drop, Option, None, Some, Vec, sym, ap, ◌∙◌, arith, append_assoc}
-use Rattle.std.proofs.Common.{length-append, length-take, Global, Ok}
-use Rattle.std.proofs.lemmas.List.{take-append-drop}
+-- How a body grows, or is passed over.
+use Rattle.std.proofs.Common.{◌≡◌, ◌<◌, ◌≤◌, ℕ, false, ◌+◌, ◌-◌, List, [], ◌++◌, length, take, drop, take_all, sym, ap, ◌∙◌, arith, append_assoc}
+use Rattle.std.proofs.Common.{length-append, length-take, Result, Ok, Err}
+use Rattle.std.proofs.lemmas.List.{take-append-drop, length-take-le}
+use Rattle.std.proofs.Math.Seq.{take-add}
 use Rattle.wire.specs.Held.{Held}
+use Rattle.wire.specs.declared.fault.ReadFault.{ReadFault}
+use Rattle.wire.specs.declared.fault.ReadFault.TheVariants.{Failed, OutOfReads}
 use Rattle.wire.specs.declared.fetch.Body.{Body}
 use Rattle.wire.specs.declared.fetch.Body.TheVariants as bodies
-use Rattle.wire.specs.Keeping.{IsAdded, IsFinished}
-use Rattle.wire.specs.Fetching.{IsBody}
-
--- what is kept of a body is what there is of it
-abbrev pub Kept : {Z : Type 0} → Option (Vec ℕ Z) → List ℕ → Type 0
-Kept None body = Unit {0}
-Kept (Some v) body = v.items ≡ body
+use Rattle.wire.specs.Fetching.{IsBody, IsFilled}
+use Rattle.wire.specs.Keeping.{IsSkipped}
+use Rattle.wire.proofs.Known.{append_nil}
 
 -- all bytes are a part of a body, of which some are missing, and what is held behind it
-pub record IsPart {Z : Type 0} (len missing : ℕ) (room : Option (Vec ℕ Z)) (behind bytes : List ℕ) : Type 0 where
+pub record IsPart (len missing : ℕ) (behind bytes : List ℕ) : Type 0 where
   pub body : List ℕ
   pub parts : bytes ≡ body ++ behind
   pub count : length body + missing ≡ len
-  pub kept : Kept room body
 
-kept_more : {Z : Type 0} (old new : Option (Vec ℕ Z)) (body part : List ℕ) → Kept old body → IsAdded old part new → Kept new (body ++ part)
-kept_more old None body part k a = tt
-kept_more None (Some w) body part k a = absurd a
-kept_more (Some v) (Some w) body part k a = a ∙ ap (λ xs. xs ++ part) k
-
-module _ {Z : Type 0} (len missing : ℕ) (room new : Option (Vec ℕ Z)) (behind bytes : List ℕ) where
-  -- what is held of the missing bytes was taken
-  pub part_gathered : IsPart len missing room behind bytes → IsAdded room (take missing behind) new → IsPart len (missing - length behind) new (drop missing behind) bytes
-  part_gathered p a = record {
-    body = p.body ++ take missing behind;
-    parts = p.parts ∙ (ap (λ xs. p.body ++ xs) (sym (take-append-drop missing behind)) ∙ sym (append_assoc p.body (take missing behind) (drop missing behind)));
-    count = let n = p.count in omega (arith, length-append p.body (take missing behind), length-take missing behind);
-    kept = kept_more room new p.body (take missing behind) p.kept a;
+module _ (len missing : ℕ) (behind bytes : List ℕ) (p : IsPart len missing behind bytes) where
+  -- some of what is held was passed over
+  pub part_gathered : (part : ℕ) → part ≤ missing → part ≤ length behind → IsPart len (missing - part) (drop part behind) bytes
+  part_gathered part m h = record {
+    body = p.body ++ take part behind;
+    parts = p.parts ∙ (ap (λ xs. p.body ++ xs) (sym (take-append-drop part behind)) ∙ sym (append_assoc p.body (take part behind) (drop part behind)));
+    count = let n = p.count in omega (arith, length-append p.body (take part behind), length-take part behind);
   }
 
--- nothing is missing
-pub part_whole : (len : ℕ) (room : Option (Vec ℕ Global)) (result : Body) (new : Held) (bytes : List ℕ) → IsPart len 0 room new.bytes bytes → IsFinished room result → IsBody len (Ok result) new bytes
-part_whole len None (bodies.Whole v) new bytes p f = absurd f
-part_whole len None bodies.Dropped new bytes p f = (p.body, p.parts, let n = p.count in omega arith)
-part_whole len None bodies.Cut new bytes p f = absurd f
-part_whole len (Some v) (bodies.Whole w) new bytes p f =
-    let same : w.items ≡ p.body = ap (λ (x : Vec ℕ Global). x.items) f ∙ p.kept in
-    (p.parts ∙ ap (λ xs. xs ++ new.bytes) (sym same), ap length same ∙ (let n = p.count in omega arith))
-part_whole len (Some v) bodies.Dropped new bytes p f = absurd f
-part_whole len (Some v) bodies.Cut new bytes p f = absurd f
+  -- more was read behind a part
+  pub part_read : (got filled : List ℕ) → filled ≡ behind ++ got → IsPart len missing filled (bytes ++ got)
+  part_read got filled e = record {
+    body = p.body;
+    count = p.count;
+    parts = ap (λ xs. xs ++ got) p.parts ∙ (append_assoc p.body behind got ∙ ap (λ xs. p.body ++ xs) (sym e));
+  }
 
--- something is missing, and nothing is held
-pub part_short : {Z : Type 0} (len missing : ℕ) (room : Option (Vec ℕ Z)) (behind bytes : List ℕ) → IsPart len missing room behind bytes → 0 < missing → length behind ≡ 0 → length bytes < len
-part_short len missing room behind bytes p m e = let n = p.count in omega (arith, ap length p.parts, length-append p.body behind)
+-- bytes came in front of those that were passed over
+pub skipped_behind : (len came : ℕ) (front rest : List ℕ) (new : Held) (result : Result Body ReadFault) → length front ≡ came → came ≤ len → IsSkipped (len - came) result new rest → IsBody len result new (front ++ rest)
+skipped_behind len came front rest new (Ok (bodies.Whole body)) f c s = absurd s
+skipped_behind len came front rest new (Ok bodies.Dropped) f c s =
+    (front ++ s.0, ap (λ xs. front ++ xs) s.1 ∙ sym (append_assoc front s.0 new.bytes), let n = s.2 in omega (arith, length-append front s.0))
+skipped_behind len came front rest new (Ok bodies.Cut) f c s = (let n = s.0 in omega (arith, length-append front rest), s.1)
+skipped_behind len came front rest new (Err Failed) f c s = (let n = s.0 in omega (arith, length-append front rest), s.1)
+skipped_behind len came front rest new (Err OutOfReads) f c s = (let n = s.0 in omega (arith, length-append front rest), s.1)
+
+-- The first part of a body and all bytes behind it are what came of the body, which stands first in its room, and what is held
+-- behind it.
+abbrev pub IsKeeping : List ℕ → ℕ → List ℕ → List ℕ → List ℕ → Type 0
+IsKeeping first came room behind bytes = first ++ bytes ≡ take came room ++ behind
+
+module _ (first bytes room behind : List ℕ) (came : ℕ) (k : IsKeeping first came room behind bytes) (c : came ≤ length room) where
+  -- all of the room is the body
+  pub keeping_whole : (len : ℕ) → came ≡ len → length room ≤ len → (first ++ bytes ≡ room ++ behind) × (length room ≡ len)
+  keeping_whole len e l = (k ∙ ap (λ xs. xs ++ behind) (take_all came room (omega arith)), omega arith)
+
+  -- nothing is held behind it
+  pub keeping_count : behind ≡ [] → length (first ++ bytes) ≡ came
+  keeping_count e = omega (arith, ap length k, length-append (take came room) behind, ap (λ (xs : List ℕ). length xs) e, length-take-le came room c)
+
+  -- nothing was read, and something is missing
+  pub keeping_short : (len : ℕ) (fault : ReadFault) (old new : Held) (got : List ℕ) → behind ≡ [] → came < len → old.ended ≡ false → IsFilled (Err fault) old new (old.bytes ++ got)
+      → IsBody len (Err fault) new (first ++ (bytes ++ got))
+  keeping_short len Failed old new got e s fresh h = (let n = keeping_count e in omega (arith, ap length (append_assoc first bytes got), length-append (first ++ bytes) got, length-append old.bytes got, ap length h.1.0), h.1.1 ∙ fresh)
+  keeping_short len OutOfReads old new got e s fresh h = (let n = keeping_count e in omega (arith, ap length (append_assoc first bytes got), length-append (first ++ bytes) got, length-append old.bytes got, ap length h.1.0), (ap (λ (x : Held). x.ended) h.0 ∙ fresh, h.1.1))
+
+  -- more was read into a room with the same front
+  pub keeping_more : (filled got after : List ℕ) (n : ℕ) → take came filled ≡ take came room → behind ++ got ≡ take n (drop came filled) → after ≡ [] → IsKeeping first (came + n) filled after (bytes ++ got)
+  keeping_more filled got after n same e none =
+      sym (append_assoc first bytes got) ∙ (ap (λ xs. xs ++ got) k ∙ (append_assoc (take came room) behind got
+      ∙ (ap (λ xs. xs ++ (behind ++ got)) (sym same) ∙ (ap (λ xs. take came filled ++ xs) e
+      ∙ (sym (take-add came n filled) ∙ (sym (append_nil (take (came + n) filled)) ∙ ap (λ xs. take (came + n) filled ++ xs) (sym none)))))))

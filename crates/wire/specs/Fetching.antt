@@ -1,6 +1,6 @@
 -- How a stream is read on, until what is waited for is there: a line or a body, however the stream is cut into pieces (this
 -- project's own).
-use Rattle.std.specs.Prelude.{ℕ, ◌≡◌, ◌<◌, ◌+◌, ◌*◌, ◌&&◌, ◌||◌, not, Bool, true, false, List, [], ◌++◌, length, Result, Ok, Err}
+use Rattle.std.specs.Prelude.{ℕ, ◌≡◌, ◌<◌, ◌+◌, ◌*◌, ◌&&◌, ◌||◌, not, Bool, true, false, List, [], ◌++◌, length, take, drop, Result, Ok, Err}
 use Rattle.std.specs.Io.KnownBytes.{Consumes, IsAtEnd}
 use Rattle.wire.specs.Held.{Held, Stream}
 use Rattle.wire.specs.Lines as lines
@@ -38,6 +38,11 @@ abbrev pub IsFilled : Result Unit ReadFault → Held → Held → List ℕ → T
 IsFilled (Ok done) old new bytes = new.bytes ≡ bytes
 IsFilled (Err Failed) old new bytes = (new.bytes ≡ bytes) × ((bytes ≡ old.bytes) × (new.ended ≡ old.ended))
 IsFilled (Err OutOfReads) old new bytes = (new ≡ old) × ((bytes ≡ old.bytes) × (new.reads_left ≡ 0))
+
+-- After one more read the bytes are those that it put into a room, from a place on; after a fault there are no more than before.
+abbrev pub IsReadBehind : Result ℕ ReadFault → (room : List ℕ) (at : ℕ) → Held → Held → List ℕ → Type 0
+IsReadBehind (Ok n) room at old new bytes = bytes ≡ take n (drop at room)
+IsReadBehind (Err fault) room at old new bytes = IsFilled (Err fault) old new bytes
 
 -- what stands first in all the bytes: the line, with the bytes that are left behind it; or, after a fault, less than a line
 abbrev pub IsLined : Result Lined ReadFault → List ℕ → Held → List ℕ → Type 0

@@ -1,17 +1,25 @@
 -- What is kept of a body while it comes (this project's own).
-use Rattle.std.specs.Prelude.{ℕ, ◌≡◌, Vec, None, Some, List, ◌++◌, Option}
-use Rattle.std.specs.declared.alloc.Global.{Global}
+use Rattle.std.specs.Prelude.{ℕ, ◌≡◌, ◌<◌, false, List, [], ◌++◌, length, Result, Ok, Err}
+use Rattle.wire.specs.Held.{Held}
+use Rattle.wire.specs.Fetching.{IsBody}
+use Rattle.wire.specs.declared.fault.ReadFault.{ReadFault}
 use Rattle.wire.specs.declared.fetch.Body.{Body}
 use Rattle.wire.specs.declared.fetch.Body.TheVariants as bodies
+use Rattle.wire.specs.declared.fetch.Kept.{Kept}
+use Rattle.wire.specs.declared.fetch.Kept.TheVariants.{Whole, Full, Cut}
 
--- bytes were added to what is kept of a body, or nothing is kept any more
-abbrev pub IsAdded : {Z : Type 0} → Option (Vec ℕ Z) → List ℕ → Option (Vec ℕ Z) → Type 0
-IsAdded old part None = Unit {0}
-IsAdded (Some old) part (Some new) = new.items ≡ old.items ++ part
-IsAdded None part (Some new) = ⊥
+-- What all the bytes behind the first part of a body are: the rest of the body, and what is left behind it; or less than that,
+-- of which so many are a body's with the first part, and nothing is left.
+abbrev pub IsKept : ℕ → List ℕ → Result Kept ReadFault → Held → List ℕ → Type 0
+IsKept len first (Ok (Whole body)) new bytes = IsBody len (Ok (bodies.Whole body)) new (first ++ bytes)
+IsKept len first (Ok (Full came)) new bytes =
+    (length (first ++ bytes) ≡ came) × ((came < len) × ((new.bytes ≡ []) × (new.ended ≡ false)))
+IsKept len first (Ok Cut) new bytes = IsBody len (Ok bodies.Cut) new (first ++ bytes)
+IsKept len first (Err fault) new bytes = IsBody len (Err fault) new (first ++ bytes)
 
--- a body of which nothing is missing: what was kept of it, if it was kept at all
-abbrev pub IsFinished : Option (Vec ℕ Global) → Body → Type 0
-IsFinished None bodies.Dropped = Unit {0}
-IsFinished (Some kept) (bodies.Whole body) = body ≡ kept
-IsFinished _ _ = ⊥
+-- what all the bytes are: a body of so many bytes that was not kept, and what is left behind it; or less than a body
+abbrev pub IsSkipped : ℕ → Result Body ReadFault → Held → List ℕ → Type 0
+IsSkipped len (Ok (bodies.Whole body)) new bytes = ⊥
+IsSkipped len (Ok bodies.Dropped) new bytes = IsBody len (Ok bodies.Dropped) new bytes
+IsSkipped len (Ok bodies.Cut) new bytes = IsBody len (Ok bodies.Cut) new bytes
+IsSkipped len (Err fault) new bytes = IsBody len (Err fault) new bytes

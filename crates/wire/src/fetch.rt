@@ -1,7 +1,7 @@
 //! Reading on, until a line or a body is there.
-ghost use Rattle.std.specs.Prelude.{ℕ, ◌≡◌, ◌<◌, ◌≤◌, ◌+◌, ◌-◌, ◌++◌, OnOk, take, drop, length, vec_capacity, Ok};
+ghost use Rattle.std.specs.Prelude.{ℕ, ◌≡◌, ◌<◌, ◌≤◌, ◌++◌, OnOk, [], take, vec_capacity, vec_len, IfOk, Ok};
 ghost use Rattle.wire.specs.Fetching.{Fetched, IsLined, IsBody, failed_reads, reach};
-ghost use Rattle.wire.specs.Keeping.{IsAdded, IsFinished};
+ghost use Rattle.wire.specs.Keeping.{IsKept, IsSkipped};
 
 use crate::device::Source;
 use crate::fault::ReadFault;
@@ -68,53 +68,150 @@ pub fn next_line<R: Source>(
 /// The least room that is made for a body at once, in bytes.
 const STEP: usize = 8192;
 
-/// Adds bytes to what is kept of a body of which so many bytes are missing, these among them. Its room grows by half of it
-/// at least, and never past the body's end.
+/// The most bytes that are made ready for one read into a body's room.
+const PIECE: usize = 262_144;
+
+/// The room of a body of `length` bytes with the first part of it, which was held.
 ///
 /// # Errors
 ///
 /// There is no room for them.
-fn extend(kept: &mut Vec<u8>, part: &[u8], missing: usize) -> Result<(), AllocError>
-    ensures { OnOk result (kept.new.items ≡ kept.old.items ++ part.now) }
+fn begin(alloc: Global, part: &[u8], length: u64) -> Result<Vec<u8>, AllocError>
+    ensures { IfOk result (λ kept. kept.items ≡ part.now) }
 {
-    if kept.capacity() - kept.len() < part.len() {
-        kept.reserve_exact(missing.min(kept.len().max(STEP)))?;
-    }
-    kept.extend_from_slice(part)
+    let mut kept = Vec::with_capacity(alloc, (length as usize).min(STEP))?;
+    kept.extend_from_slice(part)?;
+    Ok(kept)
 }
 
-/// Adds bytes to what is kept of a body, of which so many are missing. Where there is no room for them nothing is kept any
-/// more.
-fn keep(room: &mut Option<Vec<u8>>, part: &[u8], missing: usize)
-    ensures { IsAdded room.old part.now room.new }
+/// Makes some room ready behind the bytes of a body of `length` bytes that came. The room grows to twice of what came, and
+/// never past the body's end.
+///
+/// # Errors
+///
+/// There is no memory for more room.
+fn extend(kept: &mut Vec<u8>, came: usize, length: usize) -> Result<(), AllocError>
+    requires missing { came < length }
+    requires came { came ≤ vec_len kept.old }
+    requires within { vec_len kept.old ≤ length }
+    ensures ready { OnOk result (came < vec_len kept.new) }
+    ensures within { vec_len kept.new ≤ length }
+    ensures same { OnOk result (take came kept.new.items ≡ take came kept.old.items) }
 {
-    if let Some(kept) = room {
-        if extend(kept, part, missing).is_err() {
-            *room = None;
+    if came < kept.len() {
+        return Ok(());
+    }
+    let missing = length - came;
+    if kept.capacity() == came {
+        kept.reserve_exact(missing.min(came.max(STEP)))?;
+    }
+    let ready = missing.min(kept.capacity() - came).min(PIECE);
+    kept.resize(came + ready, 0)
+}
+
+/// What became of a body that is kept.
+#[derive(Drop)]
+enum Kept {
+    /// It came whole.
+    Whole(Vec<u8>),
+    /// There was no room for what follows so many bytes of it. They were dropped.
+    Full(usize),
+    /// The input ended in it.
+    Cut,
+}
+
+/// Reads the rest of a body of `length` bytes into its own room, behind the first part of it.
+///
+/// # Errors
+///
+/// A read failed, or no more reads may be made, before the body was there. What came of it is dropped.
+fn keep<R: Source>(
+    input: &mut Input,
+    reader: &mut R,
+    first: Vec<u8>,
+    length: usize,
+) -> Result<Kept, ReadFault>
+    requires within { vec_len first ≤ length }
+    requires next { vec_len first < length → input.old.bytes ≡ [] }
+    ensures fetched { Fetched (failed_reads result)
+        (record { source = R.state reader.old; held = input.old })
+        (record { source = R.state reader.new; held = input.new }) (IsKept length first.items result input.new) }
+    ensures bounded { reach input.new ≤ reach input.old }
+{
+    let mut kept = first;
+    let mut came = kept.len();
+    'reading: loop {
+        if came == length {
+            return Ok(Kept::Whole(kept));
+        }
+        if input.has_ended() {
+            return Ok(Kept::Cut);
+        }
+        match extend(&mut kept, came, length) {
+            Ok(()) => {}
+            Err(_) => return Ok(Kept::Full(came)),
+        }
+        match input.fill_behind(reader, &mut kept, came) {
+            Ok(n) => came += n,
+            Err(fault) => return Err(fault),
         }
     }
 }
 
-/// Takes from the input what is there of the missing bytes of a body, and answers how many are missing then.
-fn gather(input: &mut Input, room: &mut Option<Vec<u8>>, missing: u64) -> u64
-    ensures missing { result ≡ missing - length input.old.bytes }
-    ensures added { IsAdded room.old (take missing input.old.bytes) room.new }
-    ensures left { input.new ≡ record input.old { bytes = drop missing input.old.bytes } }
+/// Reads on until so many bytes of a body came, and drops them.
+///
+/// # Errors
+///
+/// A read failed, or no more reads may be made, before they came.
+fn skip<R: Source>(input: &mut Input, reader: &mut R, count: u64) -> Result<Body, ReadFault>
+    ensures fetched { Fetched (failed_reads result)
+        (record { source = R.state reader.old; held = input.old })
+        (record { source = R.state reader.new; held = input.new }) (IsSkipped count result input.new) }
+    ensures bounded { reach input.new ≤ reach input.old }
 {
-    let there = input.bytes().len() as u64;
-    let count = missing.min(there);
-    keep(room, &input.bytes()[..count as usize], missing as usize);
-    input.take(count as usize);
-    missing - count
+    let mut missing = count;
+    'reading: loop {
+        let there = input.bytes().len() as u64;
+        let part = missing.min(there);
+        input.take(part as usize);
+        missing -= part;
+        if missing == 0 {
+            return Ok(Body::Dropped);
+        }
+        if input.has_ended() {
+            return Ok(Body::Cut);
+        }
+        match input.fill(reader) {
+            Ok(()) => {}
+            Err(fault) => return Err(fault),
+        }
+    }
 }
 
-/// A body of which nothing is missing.
-fn finished(room: Option<Vec<u8>>) -> Body
-    ensures { IsFinished room result }
+/// Reads the rest of a body of `length` bytes, of which the first part came. Where there is no room for it, it is dropped.
+///
+/// # Errors
+///
+/// A read failed, or no more reads may be made, before the body was there. What came of it is dropped.
+fn read_rest<R: Source>(
+    input: &mut Input,
+    reader: &mut R,
+    first: Vec<u8>,
+    length: u64,
+) -> Result<Body, ReadFault>
+    requires within { vec_len first ≤ length }
+    requires next { vec_len first < length → input.old.bytes ≡ [] }
+    ensures fetched { Fetched (failed_reads result)
+        (record { source = R.state reader.old; held = input.old })
+        (record { source = R.state reader.new; held = input.new })
+        (λ bytes. IsBody length result input.new (first.items ++ bytes)) }
+    ensures bounded { reach input.new ≤ reach input.old }
 {
-    match room {
-        Some(body) => Body::Whole(body),
-        None => Body::Dropped,
+    match keep(input, reader, first, length as usize) {
+        Ok(Kept::Whole(body)) => Ok(Body::Whole(body)),
+        Ok(Kept::Cut) => Ok(Body::Cut),
+        Ok(Kept::Full(came)) => skip(input, reader, length - came as u64),
+        Err(fault) => Err(fault),
     }
 }
 
@@ -135,19 +232,11 @@ pub fn read_body<R: Source>(
         (record { source = R.state reader.new; held = input.new }) (IsBody length result input.new) }
     ensures bounded { reach input.new ≤ reach input.old }
 {
-    let mut room = Some(Vec::new(alloc));
-    let mut missing = length;
-    'reading: loop {
-        missing = gather(input, &mut room, missing);
-        if missing == 0 {
-            return Ok(finished(room));
-        }
-        if input.has_ended() {
-            return Ok(Body::Cut);
-        }
-        match input.fill(reader) {
-            Ok(()) => {}
-            Err(fault) => return Err(fault),
-        }
+    let part = length.min(input.bytes().len() as u64) as usize;
+    let begun = begin(alloc, &input.bytes()[..part], length);
+    input.take(part);
+    match begun {
+        Ok(first) => read_rest(input, reader, first, length),
+        Err(_) => skip(input, reader, length - part as u64),
     }
 }

@@ -1,9 +1,9 @@
 //! The bytes that were read of a stream and not used yet, in room made at the start.
-ghost use Rattle.std.specs.Prelude.{◌≡◌, ◌<◌, ◌≤◌, ◌+◌, ◌++◌, ◌↔◌, ◌||◌, ◌==◌, ℕ, List, [], false, IsTrue, length, take, drop, vec_capacity, IfOk, OnOk, OnErr};
+ghost use Rattle.std.specs.Prelude.{◌≡◌, ◌<◌, ◌≤◌, ◌+◌, ◌++◌, ◌↔◌, ◌||◌, ◌==◌, ℕ, List, [], false, IsTrue, length, take, drop, vec_capacity, IfOk, IfErr, OnOk, OnErr};
 ghost use Rattle.std.specs.Prelude as prelude;
 ghost use Rattle.std.specs.Io.KnownBytes.{Consumes, Keeps, IsAtEnd};
 ghost use Rattle.wire.specs.Devices.{failures_in};
-ghost use Rattle.wire.specs.Fetching.{Fetched, IsFilled, failed_reads};
+ghost use Rattle.wire.specs.Fetching.{Fetched, IsFilled, IsReadBehind, failed_reads};
 ghost use Rattle.wire.specs.Held.{ended_after};
 
 use crate::device::Source;
@@ -129,6 +129,24 @@ impl Input {
         Ok(())
     }
 
+    /// Counts one more read.
+    ///
+    /// # Errors
+    ///
+    /// No more reads may be made.
+    fn count_read(&mut self) -> Result<(), ReadFault>
+        ensures ok { OnOk result
+            (self.old ≡ record self.new { reads_left = self.new.reads_left + 1 }) }
+        ensures err { IfErr result (λ fault.
+            (fault ≡ ReadFault.OutOfReads) × (self.new ≡ self.old) × (self.old.reads_left ≡ 0)) }
+    {
+        if self.reads_left == 0 {
+            return Err(ReadFault::OutOfReads);
+        }
+        self.reads_left -= 1;
+        Ok(())
+    }
+
     /// Reads some more bytes, by one read of the source. A read that gives none tells that the
     /// stream has ended.
     ///
@@ -145,14 +163,52 @@ impl Input {
         ensures less { OnOk result (self.new.reads_left < self.old.reads_left) }
         ensures bounded { self.new.reads_left ≤ self.old.reads_left }
     {
-        if self.reads_left == 0 {
-            return Err(ReadFault::OutOfReads);
+        match self.count_read() {
+            Ok(()) => {}
+            Err(fault) => return Err(fault),
         }
-        self.reads_left -= 1;
         match self.read_some(source) {
             Ok(()) => Ok(()),
             Err(_) => Err(ReadFault::Failed),
         }
+    }
+
+    /// Reads some more bytes into the part of a caller's room from a place on, by one read of the source, where no bytes are
+    /// held. Answers how many came. A read that gives none tells that the stream has ended.
+    ///
+    /// # Errors
+    ///
+    /// No more reads may be made, or the source failed.
+    pub fn fill_behind<S: Source>(
+        &mut self,
+        source: &mut S,
+        room: &mut [u8],
+        at: usize,
+    ) -> Result<usize, ReadFault>
+        requires none { self.old.bytes ≡ [] }
+        requires open { self.old.ended ≡ false }
+        requires place { at < length room.old }
+        ensures fetched { Fetched (failed_reads result)
+            (record { source = S.state source.old; held = self.old })
+            (record { source = S.state source.new; held = self.new }) (IsReadBehind result room.new at self.old self.new) }
+        ensures len { length room.new ≡ length room.old }
+        ensures bound { IfOk result (λ n. at + n ≤ length room.old) }
+        ensures front { take at room.new ≡ take at room.old }
+        ensures none { self.new.bytes ≡ [] }
+        ensures less { OnOk result (self.new.reads_left < self.old.reads_left) }
+        ensures bounded { self.new.reads_left ≤ self.old.reads_left }
+    {
+        match self.count_read() {
+            Ok(()) => {}
+            Err(fault) => return Err(fault),
+        }
+        let Ok(n) = read_behind(source, room, at) else {
+            return Err(ReadFault::Failed);
+        };
+        if n == 0 {
+            self.ended = true;
+        }
+        Ok(n)
     }
 
     /// Copies the first line of the bytes, of so many bytes, and uses up the bytes that it takes

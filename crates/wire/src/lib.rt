@@ -21,4 +21,4 @@ pub use device::{Sink, Source, WriteFailed, put};
 pub use fault::ReadFault;
 pub use fetch::{Body, Lined, next_line, read_body};
 pub use input::Input;
-pub use wrap::{FromRead, ToWrite};
+pub use wrap::{Count, FromRead, ToWrite};

@@ -9,7 +9,7 @@ use std::sync::ledger::{Blank, Book, Ledger, Share};
 
 /// A count that only grows. It takes no memory and no time, and contracts alone see it.
 #[derive(Drop)]
-struct Count<L: Ledger> {
+pub struct Count<L: Ledger> {
     book: Book<L>,
     share: Share<L>,
 }
@@ -26,7 +26,7 @@ impl<L: Ledger> Model for Count<L> {
 
 impl<L: Ledger> Count<L> {
     /// A count of 0, by a ledger that nothing else is counted by.
-    fn new(blank: Blank) -> Self
+    pub fn new(blank: Blank) -> Self
         requires name { blank.name ≡ L.name }
         requires parts { blank.parts ≡ L.parts }
         requires some { 0 < blank.parts }
@@ -36,7 +36,8 @@ impl<L: Ledger> Count<L> {
         Count { book, share }
     }
 
-    fn tick(&mut self)
+    /// One more.
+    pub fn tick(&mut self)
         ensures { self.new ≡ self.old + 1 }
     {
         self.book.add(&mut self.share, 1);

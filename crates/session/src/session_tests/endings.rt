@@ -39,23 +39,25 @@ fn pieces_do_not_change_the_text(rt: HostRuntime) -> Result<(), Fail> {
 
 #[test]
 fn a_failing_read_ends_the_session(rt: HostRuntime) -> Result<(), Fail> {
-    // The reads that succeed, each of 39 bytes, the bytes written by then, and the steps spent. After the first and the third a
-    // body is cut, and after the fourth a job waits. Five reads bring the whole input.
+    // The reads that succeed, each of 17 bytes where a body doesn't end before, the bytes written by then, and the steps spent. The
+    // fifth and the ninth end a body, and after the tenth a job waits. Eleven reads bring the whole input.
     let failing = [
         (0, 0, 0),
         (1, 0, 0),
-        (2, 16, 0),
-        (3, 16, 0),
-        (4, 40, 0),
-        (5, 142, 3),
+        (4, 0, 0),
+        (5, 16, 0),
+        (8, 16, 0),
+        (9, 26, 0),
+        (10, 40, 0),
+        (11, 142, 3),
     ];
     for (calls, length, spent) in failing {
         let reads = Pace {
-            piece: 39,
+            piece: 17,
             calls,
             most: None,
         };
-        let outcome = if calls < 5 {
+        let outcome = if calls < 11 {
             Err(ServeFault::Read)
         } else {
             Ok(End::Quit)
@@ -137,6 +139,37 @@ fn one_read_too_many_ends_the_session(rt: HostRuntime) -> Result<(), Fail> {
         100,
         want,
     )
+}
+
+#[test]
+fn an_endless_line_takes_1026_bytes(rt: HostRuntime) -> Result<(), Fail> {
+    let reads = Pace {
+        piece: 1,
+        calls: u64::MAX,
+        most: Some(1026),
+    };
+    let want = Want {
+        outcome: Ok(End::Refused(FatalRule::LineTooLong)),
+        text: "no S6\n",
+        spent: 0,
+    };
+    let line = [b'x'; 2000];
+    assert_talk(&rt, rt.alloc(), (&line, reads), AMPLE, 5, want)
+}
+
+#[test]
+fn the_input_ends_at_each_place_in_a_body(rt: HostRuntime) -> Result<(), Fail> {
+    // The first line takes 12 bytes, and its body 62.
+    for length in 12..74 {
+        let input = FIRST_RUN.get(..length).ok_or("a front part")?;
+        let want = Want {
+            outcome: Ok(End::Refused(FatalRule::InputEndsInBody)),
+            text: "no S5\n",
+            spent: 0,
+        };
+        assert_talk(&rt, rt.alloc(), (input.as_bytes(), AMPLE), AMPLE, 5, want)?;
+    }
+    Ok(())
 }
 
 #[test]

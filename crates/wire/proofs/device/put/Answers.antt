@@ -1,5 +1,5 @@
 use Rattle.std.proofs.lemmas.Bool.Decides.{eqb_tells}
-use Rattle.std.proofs.Common.{◌≡◌, eqb, cond, true, false, Ok, inl, inr, refl, ◌-◌, ◌+◌, ℕ, List, length, take, drop, sym, ap, ◌∙◌, subst, arith, length-drop, Option}
+use Rattle.std.proofs.Common.{◌≡◌, eqb, cond, true, false, Ok, inl, inr, refl, ◌-◌, ◌+◌, ℕ, List, length, take, drop, sym, ap, subst, arith, length-drop, Option}
 use Rattle.std.specs.Io.KnownBytes.{Appends}
 use Rattle.std.proofs.lemmas.List.{take-append-drop}
 use Rattle.std.proofs.Math.Seq.{take-add}

@@ -1,5 +1,5 @@
 use Rattle.std.proofs.Common.{◌≡◌, ◌-◌, ◌+◌, ◌++◌, ◌≤◌, length, take, drop, sym, ap, ◌∙◌, arith, vec_len}
-use Rattle.wire.specs.Held.{Held, ended_after}
+use Rattle.wire.specs.Held.{Held}
 use Rattle.wire.proofs.Known.{filled, still_open, not_end, not_empty}
 use Rattle.wire.proofs.input.Input.read_some.Goals as goal
 

@@ -1,11 +1,11 @@
 use Rattle.std.proofs.Common.{◌≤◌}
 use Rattle.wire.specs.Fetching.{Fetched, reach}
 use Rattle.wire.proofs.Gathering.{IsPart}
-use Rattle.wire.proofs.fetch.read_body.Given as goal
+use Rattle.wire.proofs.fetch.skip.Given as goal
 
 abbrev pub invariant-reading : goal.invariant-reading
 invariant-reading g l = record {
-  fetched : Fetched 0 (record { source = g.R.Source.state l.fn.reader; held = l.fn.input }) (record { source = g.R.Source.state l.reader; held = l.input }) (IsPart l.length l.missing l.room l.input.bytes);
+  fetched : Fetched 0 (record { source = g.R.Source.state l.fn.reader; held = l.fn.input }) (record { source = g.R.Source.state l.reader; held = l.input }) (IsPart l.count l.missing l.input.bytes);
   bounded : reach l.input ≤ reach l.fn.input;
 }
 

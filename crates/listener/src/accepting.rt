@@ -1,0 +1,229 @@
+//! A listener whose connections are served.
+ghost use Rattle.std.specs.Prelude.{◌≡◌, ◌≤◌, ◌<◌, ◌+◌, ◌≢◌, None, OnOk, IfOk, IfErr};
+ghost use Rattle.wire.specs.Devices.{failures_in};
+ghost use Rattle.step_purse.specs.Passes.{IsPassOf};
+ghost use Rattle.listener.specs.Listening.{Listened};
+
+use crate::connection::admit;
+use crate::entrance::{Entrance, FromListener};
+use crate::fault::ListenFault;
+use crate::house::{House, Terms};
+use crate::seats::SEATS;
+use session::Room;
+use std::alloc::Global;
+use std::marker::Brand;
+use std::net::{OpenListener, TcpStream};
+use std::sync::Wait;
+use std::sync::ledger::{Blank, Ledger};
+use std::thread;
+use std::thread::{Scope, Threads};
+use step_purse::{Pass, Purse};
+
+/// What the next session is started with: a pass, of which its own is split off, and its room, if there was memory for it.
+#[derive(Drop)]
+struct Ready {
+    pass: Pass,
+    room: Option<Room>,
+}
+
+/// Accepts connections until a session was started for one. Answers with what the one after it is started.
+///
+/// # Errors
+///
+/// No connection could be accepted.
+#[tactic(auto, using(step_purse::proofs::Shares::whole_gives))]
+fn start_next<'s, 'a, E: Entrance + Drop, R: Threads + Wait + Sync, L: Ledger + Send + Sync>(
+    scope: &Scope<'s, &'a ()>,
+    rt: &'a R,
+    house: &'a House<'a, L>,
+    entrance: &mut E,
+    ready: Ready,
+) -> Result<Ready, ListenFault>
+    requires own { IsPassOf house.now.purse.now ready.pass }
+    requires whole { 0 < ready.pass.known.share.wholes }
+    ensures own { IfOk result (λ r. IsPassOf house.now.purse.now r.pass) }
+    ensures whole { IfOk result (λ r. 0 < r.pass.known.share.wholes) }
+    ensures accepted { OnOk result ((E.state entrance.old).accepted < (E.state entrance.new).accepted) }
+    ensures failures { (E.state entrance.new).failures ≡ (E.state entrance.old).failures + failures_in result }
+    ensures network { IfErr result (λ f. f ≡ ListenFault.Network) }
+{
+    let Ready { mut pass, mut room } = ready;
+    for _ in rt.forever() {
+        let Ok(stream) = entrance.accept() else {
+            return Err(ListenFault::Network);
+        };
+        let (kept, given) = house.purse.split(rt, pass);
+        pass = kept;
+        let is_started = admit(scope, rt, house, room, given, stream);
+        room = house.room();
+        if is_started {
+            return Ok(Ready { pass, room });
+        }
+    }
+    unreachable!()
+}
+
+/// Starts so many sessions.
+///
+/// # Errors
+///
+/// A connection could not be accepted before.
+fn start_some<'s, 'a, E: Entrance + Drop, R: Threads + Wait + Sync, L: Ledger + Send + Sync>(
+    scope: &Scope<'s, &'a ()>,
+    rt: &'a R,
+    house: &'a House<'a, L>,
+    entrance: &mut E,
+    ready: Ready,
+    count: u64,
+) -> Result<(), ListenFault>
+    requires own { IsPassOf house.now.purse.now ready.pass }
+    requires whole { 0 < ready.pass.known.share.wholes }
+    ensures accepted { OnOk result ((E.state entrance.old).accepted + count ≤ (E.state entrance.new).accepted) }
+    ensures failures { (E.state entrance.new).failures ≡ (E.state entrance.old).failures + failures_in result }
+    ensures network { IfErr result (λ f. f ≡ ListenFault.Network) }
+{
+    let mut ready = ready;
+    for _ in 0..count {
+        match start_next(scope, rt, house, entrance, ready) {
+            Ok(next) => ready = next,
+            Err(fault) => return Err(fault),
+        }
+    }
+    Ok(())
+}
+
+/// Starts sessions until a connection can't be accepted, and tells that fault.
+fn start_all<'s, 'a, E: Entrance + Drop, R: Threads + Wait + Sync, L: Ledger + Send + Sync>(
+    scope: &Scope<'s, &'a ()>,
+    rt: &'a R,
+    house: &'a House<'a, L>,
+    entrance: &mut E,
+    ready: Ready,
+) -> ListenFault
+    requires own { IsPassOf house.now.purse.now ready.pass }
+    requires whole { 0 < ready.pass.known.share.wholes }
+    ensures failures { (E.state entrance.new).failures ≡ (E.state entrance.old).failures + 1 }
+    ensures network { result ≡ ListenFault.Network }
+{
+    let mut ready = ready;
+    for _ in rt.forever() {
+        match start_next(scope, rt, house, entrance, ready) {
+            Ok(next) => ready = next,
+            Err(fault) => return fault,
+        }
+    }
+    unreachable!()
+}
+
+/// Starts as many sessions as the terms tell, or as many as come.
+///
+/// # Errors
+///
+/// A connection could not be accepted before.
+fn start<'s, 'a, E: Entrance + Drop, R: Threads + Wait + Sync, L: Ledger + Send + Sync>(
+    scope: &Scope<'s, &'a ()>,
+    rt: &'a R,
+    house: &'a House<'a, L>,
+    entrance: &mut E,
+    ready: Ready,
+) -> Result<(), ListenFault>
+    requires own { IsPassOf house.now.purse.now ready.pass }
+    requires whole { 0 < ready.pass.known.share.wholes }
+    ensures { Listened house.now.terms.sessions (E.state entrance.old) (E.state entrance.new) result }
+{
+    match house.terms.sessions {
+        Some(count) => start_some(scope, rt, house, entrance, ready, count),
+        None => Err(start_all(scope, rt, house, entrance, ready)),
+    }
+}
+
+/// Serves what comes in by an entrance, and hands it back: up to sixteen sessions at once, each in a thread of its own, with a
+/// pass of the house's purse. A connection for which there is no seat, no room or no thread is told so and doesn't count. It
+/// ends once all sessions have ended.
+///
+/// # Errors
+///
+/// As those of `serve_listener`, beside the entrance.
+pub fn serve_entrance<'a, E: Entrance + Drop, R: Threads + Wait + Sync, L: Ledger + Send + Sync>(
+    rt: &'a R,
+    house: &'a House<'a, L>,
+    entrance: E,
+    pass: Pass,
+) -> (E, Result<(), ListenFault>)
+    requires own { IsPassOf house.now.purse.now pass }
+    requires whole { 0 < pass.known.share.wholes }
+    ensures { Listened house.now.terms.sessions (E.state entrance) (E.state result.0) result.1 }
+{
+    let room = house.room();
+    if room.is_none() {
+        return (entrance, Err(ListenFault::Memory));
+    }
+    let ready = Ready { pass, room };
+    thread::scope(
+        thread::scope_env(),
+        rt,
+        move |scope| -> (E, Result<(), ListenFault>)
+            requires own { IsPassOf house.now.purse.now ready.pass }
+            requires whole { 0 < ready.pass.known.share.wholes }
+            ensures ended { Listened house.entry.now.terms.sessions (E.state entrance) (E.state result.0) result.1 }
+        {
+            let mut entrance = entrance;
+            let ended = start(scope, rt, house, &mut entrance, ready);
+            (entrance, ended)
+        },
+    )
+}
+
+/// As `serve_listener`, with the counts by ledgers of the caller's: of seats, of accepted connections and of failures.
+fn serve_counted<
+    N: OpenListener<Stream = TcpStream>,
+    R: Threads + Wait + Sync,
+    L: Ledger + Send + Sync,
+    C: Ledger,
+    F: Ledger,
+>(
+    rt: &R,
+    alloc: Global,
+    listener: &N,
+    purse: &Purse,
+    pass: Pass,
+    terms: Terms,
+    blanks: (Blank, Blank, Blank),
+) -> Result<(), ListenFault>
+    requires own { IsPassOf purse.now pass }
+    requires whole { 0 < pass.known.share.wholes }
+    requires seats { (blanks.0.name ≡ L.name) × (blanks.0.parts ≡ L.parts) × (blanks.0.parts ≡ 16) }
+    requires accepted { (blanks.1.name ≡ C.name) × (blanks.1.parts ≡ C.parts) × (0 < blanks.1.parts) }
+    requires failures { (blanks.2.name ≡ F.name) × (blanks.2.parts ≡ F.parts) × (0 < blanks.2.parts) }
+    ensures { OnOk result (terms.sessions ≢ None) }
+{
+    let (seats, accepted, failures) = blanks;
+    let house = House::<L>::new(alloc, purse, terms, seats);
+    let entrance = FromListener::<N, C, F>::new(listener, accepted, failures);
+    let (_entrance, ended) = serve_entrance(rt, &house, entrance, pass);
+    ended
+}
+
+/// Serves the connections of a listener: up to sixteen sessions at once, each in a thread of its own, with a pass of one purse.
+/// A further connection, and one for which there is no room or no thread, gets `no busy` and is closed. With a number of
+/// sessions it ends once so many were started and have ended.
+///
+/// # Errors
+///
+/// `Memory` where the room of the first session was refused, before any connection was accepted. `Network` where a connection
+/// could not be accepted; sessions that run go on to their ends first.
+pub fn serve_listener<N: OpenListener<Stream = TcpStream>, R: Threads + Wait + Sync>(
+    rt: &R,
+    alloc: Global,
+    listener: &N,
+    purse: &Purse,
+    pass: Pass,
+    terms: Terms,
+) -> Result<(), ListenFault>
+    requires own { IsPassOf purse.now pass }
+    requires whole { 0 < pass.known.share.wholes }
+    ensures { OnOk result (terms.sessions ≢ None) }
+{
+    let blanks = (Blank::new(SEATS), Blank::new(1), Blank::new(1));
+    serve_counted::<N, R, Brand, Brand, Brand>(rt, alloc, listener, purse, pass, terms, blanks)
+}

@@ -1,0 +1,69 @@
+//! What connections come in by.
+ghost use Rattle.std.specs.Prelude.{◌≡◌, ◌<◌};
+ghost use Rattle.listener.specs.Entrances.{EntranceState, after_accept};
+
+use std::net::{OpenListener, TcpStream};
+use std::sync::ledger::{Blank, Ledger};
+use thiserror::Error;
+use wire::Count;
+
+/// No connection could be accepted.
+#[derive(Debug, Drop, Error)]
+#[error("accept failed")]
+pub struct AcceptFailed;
+
+/// What connections come in by: calls of `accept` and those that failed are counted, for contracts alone.
+pub trait Entrance {
+    // the counts
+    ghost state: { Self → EntranceState };
+
+    /// Waits for a connection.
+    ///
+    /// # Errors
+    ///
+    /// None could be accepted.
+    fn accept(&mut self) -> Result<TcpStream, AcceptFailed>
+        ensures { state self.new ≡ after_accept (state self.old) result };
+}
+
+/// An entrance over any listener.
+#[derive(Drop)]
+pub struct FromListener<'l, N: OpenListener<Stream = TcpStream>, C: Ledger, F: Ledger> {
+    listener: &'l N,
+    accepted: Count<C>,
+    failures: Count<F>,
+}
+
+impl<'l, N: OpenListener<Stream = TcpStream>, C: Ledger, F: Ledger> FromListener<'l, N, C, F> {
+    /// An entrance by this listener. `accepted` and `failures` are new ledgers of at least one part (`Blank::new(1)`), and the
+    /// types `C` and `F` stand for them.
+    pub fn new(listener: &'l N, accepted: Blank, failures: Blank) -> Self
+        requires accepted_blank { (accepted.name ≡ C.name) × (accepted.parts ≡ C.parts) × (0 < accepted.parts) }
+        requires failures_blank { (failures.name ≡ F.name) × (failures.parts ≡ F.parts) × (0 < failures.parts) }
+        ensures { ⟦<FromListener<'l, N, C, F> as Entrance>⟧.state result ≡ record { accepted = 0; failures = 0 } }
+    {
+        FromListener {
+            listener,
+            accepted: Count::new(accepted),
+            failures: Count::new(failures),
+        }
+    }
+}
+
+impl<'l, N: OpenListener<Stream = TcpStream>, C: Ledger, F: Ledger> Entrance
+    for FromListener<'l, N, C, F> {
+    ghost state = { λ s. record { accepted = s.accepted; failures = s.failures } };
+
+    fn accept(&mut self) -> Result<TcpStream, AcceptFailed> {
+        match self.listener.accept() {
+            Ok((stream, _)) => {
+                self.accepted.tick();
+                Ok(stream)
+            }
+            Err(_) => {
+                self.failures.tick();
+                Err(AcceptFailed)
+            }
+        }
+    }
+}

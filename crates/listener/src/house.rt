@@ -1,0 +1,55 @@
+//! What all sessions of a listener share.
+ghost use Rattle.std.specs.Prelude.{◌≡◌, ◌≤◌};
+
+use crate::seats::Seats;
+use session::Room;
+use std::alloc::Global;
+use std::sync::Mutex;
+use std::sync::ledger::{Blank, Ledger};
+use step_purse::Purse;
+
+/// On which terms connections are served.
+#[derive(Clone, Copy, Debug, PartialEq, Eq)]
+pub struct Terms {
+    /// How many workers run a batch of a session: 1 to 64.
+    pub workers: u64,
+    /// How many sessions are started. Without a number there is no end.
+    pub sessions: Option<u64>,
+    /// For how many seconds a session waits for its client to send something, or to take something of a reply, one at
+    /// least. Without a number there is no end.
+    pub idle: Option<u64>,
+    ghost some: { 1 ≤ workers },
+    ghost few: { workers ≤ 64 },
+}
+
+/// What all sessions of a listener share.
+#[derive(Drop)]
+pub struct House<'p, L: Ledger> {
+    pub alloc: Global,
+    pub purse: &'p Purse,
+    pub seats: Mutex<Seats<L>>,
+    pub terms: Terms,
+}
+
+impl<'p, L: Ledger> House<'p, L> {
+    /// A house of sixteen free seats, which are counted by this ledger.
+    pub fn new(alloc: Global, purse: &'p Purse, terms: Terms, blank: Blank) -> Self
+        requires name { blank.name ≡ L.name }
+        requires parts { blank.parts ≡ L.parts }
+        requires sixteen { blank.parts ≡ 16 }
+        ensures purse { result.purse.now ≡ purse.now }
+        ensures terms { result.terms ≡ terms }
+    {
+        House {
+            alloc,
+            purse,
+            seats: Mutex::new(Seats::<L>::new(blank)),
+            terms,
+        }
+    }
+
+    /// Room for the next session, if there is memory for it.
+    pub fn room(&self) -> Option<Room> {
+        Room::new(self.alloc, self.terms.workers).ok()
+    }
+}

@@ -1,0 +1,69 @@
+//! For how long a session waits for its client.
+ghost use Rattle.std.specs.Prelude.{◌≡◌};
+
+use std::io;
+use std::io::{ErrorKind, Read, Write};
+use std::net::TcpStream;
+use std::time::Duration;
+
+/// Lets each read and each write of a connection wait for so many seconds at most, or without end. What a session does between
+/// two of them isn't counted.
+///
+/// # Errors
+///
+/// The system refuses it.
+pub fn set_idle(stream: &TcpStream, idle: Option<u64>) -> io::Result<()> {
+    let longest = idle.map(Duration::from_secs);
+    stream.set_read_timeout(longest)?;
+    stream.set_write_timeout(longest)
+}
+
+/// A side of a connection whose calls are made again where a signal cut them short, as where the process was stopped and goes on.
+/// The client's time begins anew then.
+#[derive(Drop)]
+pub struct Patient<'s> {
+    stream: &'s TcpStream,
+}
+
+impl<'s> Patient<'s> {
+    /// A side of this connection.
+    pub fn new(stream: &'s TcpStream) -> Self {
+        Patient { stream }
+    }
+}
+
+/// Whether a signal cut a call short.
+fn is_cut_short<T>(outcome: &io::Result<T>) -> bool {
+    match outcome {
+        Ok(_) => false,
+        Err(error) => error.kind() == ErrorKind::Interrupted,
+    }
+}
+
+impl Read for Patient<'_> {
+    fn read(&mut self, buf: &mut [u8]) -> io::Result<usize> {
+        for _ in 0..u64::MAX {
+            let outcome = self.stream.read(buf);
+            if !is_cut_short(&outcome) {
+                return outcome;
+            }
+        }
+        Err(io::Error::from(ErrorKind::Interrupted))
+    }
+}
+
+impl Write for Patient<'_> {
+    fn write(&mut self, buf: &[u8]) -> io::Result<usize> {
+        for _ in 0..u64::MAX {
+            let outcome = self.stream.write(buf);
+            if !is_cut_short(&outcome) {
+                return outcome;
+            }
+        }
+        Err(io::Error::from(ErrorKind::Interrupted))
+    }
+
+    fn flush(&mut self) -> io::Result<()> {
+        Ok(())
+    }
+}

@@ -1,0 +1,161 @@
+//! Sessions within a purse that another pass draws on too, over memory: what the other finds after each end and each fault.
+use crate::talk::{PRODUCT, SET_UP, SETUP};
+use listener::{End, FatalRule, Room, ServeFault, serve_pass};
+use std::alloc::Global;
+use std::io;
+use std::io::{ErrorKind, Read, Write};
+use std::process::Abort;
+use std::sync::Wait;
+use std::test::Fail;
+use std::thread::Threads;
+use step_purse::{Purse, Totals};
+
+/// A reader that gives bytes, and then ends or fails.
+#[derive(Drop)]
+struct Given<'a> {
+    bytes: &'a [u8],
+    fails: bool,
+}
+
+impl Read for Given<'_> {
+    fn read(&mut self, buf: &mut [u8]) -> io::Result<usize> {
+        if self.bytes.is_empty() && self.fails {
+            return Err(io::Error::from(ErrorKind::BrokenPipe));
+        }
+        self.bytes.read(buf)
+    }
+}
+
+/// A writer that takes so many pieces, and then fails.
+#[derive(Drop)]
+struct Taking<'a> {
+    text: &'a mut Vec<u8>,
+    pieces: u64,
+}
+
+impl Write for Taking<'_> {
+    fn write(&mut self, buf: &[u8]) -> io::Result<usize> {
+        if self.pieces == 0 {
+            return Err(io::Error::from(ErrorKind::BrokenPipe));
+        }
+        self.pieces -= 1;
+        self.text.extend_from_slice(buf)?;
+        Ok(buf.len())
+    }
+
+    fn flush(&mut self) -> io::Result<()> {
+        Ok(())
+    }
+}
+
+/// A way by which a session ends while it holds a job of 12 steps: what it reads last, and which of its devices fail.
+#[derive(Clone, Copy)]
+struct Last<'a> {
+    text: &'a str,
+    read_fails: bool,
+    pieces: u64,
+    reads: u64,
+    outcome: Result<End, ServeFault>,
+}
+
+/// A session that has run the product once, queued it again, and then ends so, leaves nothing reserved to another pass.
+fn assert_settled<H: Threads + Wait + Abort>(
+    rt: &H,
+    alloc: Global,
+    last: Last<'_>,
+) -> Result<(), Fail> {
+    let (purse, pass) = Purse::open(alloc, 24)?;
+    let (mut other, pass) = purse.split(rt, pass);
+    let said = format!(in alloc; "{SETUP}{PRODUCT}run\n{PRODUCT}{}", last.text)?;
+    let reader = Given {
+        bytes: said.as_bytes(),
+        fails: last.read_fails,
+    };
+    let mut text = Vec::new(alloc);
+    let writer = Taking {
+        text: &mut text,
+        pieces: last.pieces,
+    };
+    let room = Room::with_reads(alloc, 2, last.reads)?;
+    let (_pass, ended) = serve_pass(rt, room, reader, writer, &purse, pass);
+    assert_eq!(rt; ended, last.outcome);
+    let queued = format!(in alloc;
+        "{SET_UP}ok queued 1 12\nok run 1 9\nC 1 1 1 9\nok queued 1 12\n"
+    )?;
+    assert!(rt; text.starts_with(queued.as_bytes()));
+    let totals = Totals {
+        left: 15,
+        reserved: 0,
+        spent: 9,
+    };
+    assert_eq!(rt; purse.totals(rt, &mut other), totals);
+    Ok(())
+}
+
+/// Ends and faults, each of a session whose last words these are.
+const LAST: Last<'static> = Last {
+    text: "",
+    read_fails: false,
+    pieces: u64::MAX,
+    reads: 4,
+    outcome: Ok(End::InputEnd),
+};
+
+#[test]
+fn each_end_settles(rt: HostRuntime) -> Result<(), Fail> {
+    let refused = [
+        ("matrix X\n", FatalRule::MalformedWords),
+        ("matrix X 5\n1234", FatalRule::InputEndsInBody),
+        ("matrix X 268435457\n", FatalRule::BodyTooLong),
+    ];
+    for (text, rule) in refused {
+        let outcome = Ok(End::Refused(rule));
+        assert_settled(
+            &rt,
+            rt.alloc(),
+            Last {
+                text,
+                outcome,
+                ..LAST
+            },
+        )?;
+    }
+    let outcome = Ok(End::Quit);
+    let text = "quit\n";
+    assert_settled(
+        &rt,
+        rt.alloc(),
+        Last {
+            text,
+            outcome,
+            ..LAST
+        },
+    )?;
+    assert_settled(&rt, rt.alloc(), LAST)
+}
+
+#[test]
+fn each_fault_settles(rt: HostRuntime) -> Result<(), Fail> {
+    let faults = [
+        Last {
+            read_fails: true,
+            outcome: Err(ServeFault::Read),
+            ..LAST
+        },
+        Last {
+            text: "budget\n",
+            pieces: 7,
+            outcome: Err(ServeFault::Write),
+            ..LAST
+        },
+        Last {
+            reads: 1,
+            outcome: Err(ServeFault::Turns),
+            ..LAST
+        },
+    ];
+    for last in faults {
+        assert_settled(&rt, rt.alloc(), last)?;
+    }
+    Ok(())
+}
