@@ -1,0 +1,119 @@
+"""What the algorithms share: columns, checks of what is handed in, products by parts, and rounds until nothing changes."""
+from __future__ import annotations
+
+from typing import Callable, Optional, Union
+
+from ..errors import TooLarge
+from ..matrix import Matrix
+from ..operators import Semiring, asm
+
+Progress = Optional[Callable[[str, int, int], None]]
+"""Called as a session's `progress` is: with a word ('level' or 'round'), the number of those that have ended, and of how
+many; 0 where that isn't known."""
+NOT_THIS_ROW = asm('index', 'mov64 r0, 1\njne64 r2, r4, 1\nmov64 r0, 0\nexit\n')
+
+
+def order(graph: Matrix, transpose: Optional[Matrix] = None) -> int:
+    """The number of vertices. Raises ValueError where the matrix isn't square, or its transpose is of another size."""
+    if graph.nrows != graph.ncols:
+        raise ValueError('a graph is a square matrix; this one has %d rows and %d columns' % (graph.nrows, graph.ncols))
+    if transpose is not None and transpose.shape != graph.shape:
+        raise ValueError('GT has to be the transpose: it has %d rows and %d columns, and the graph %d vertices'
+                         % (transpose.nrows, transpose.ncols, graph.nrows))
+    return graph.nrows
+
+
+def vertex(number: int, count: int) -> int:
+    """A vertex. Raises ValueError where it is none of 0 to count - 1."""
+    if isinstance(number, bool) or not hasattr(number, '__index__') or not 0 <= number < count:
+        raise ValueError('no vertex %r: they are 0 to %d' % (number, count - 1) if count else 'the graph has no vertex')
+    return int(number)
+
+
+def column(like: Matrix, value: int) -> Matrix:
+    """A column of one value, with a row for each vertex of a graph."""
+    return like.session.full(like.nrows, 1, value)
+
+
+def spot(like: Matrix, row: int, value: int) -> Matrix:
+    """A column of one entry."""
+    return like.session.from_coo([row], [0], [value], like.nrows, 1)
+
+
+def nothing(like: Matrix) -> Matrix:
+    """A column without entries."""
+    return like.session.from_coo([], [], [], like.nrows, 1)
+
+
+def loops(like: Matrix, value: int) -> Matrix:
+    """A loop of one value at each vertex: a diagonal matrix."""
+    return like.session.identity(like.nrows, value)
+
+
+def tell(progress: Progress, word: str, number: int, of: int = 0) -> None:
+    if progress is not None:
+        progress(word, number, of)
+
+
+def product(a: Matrix, b: Matrix, semiring: Union[str, Semiring], mask: Optional[Matrix] = None) -> Matrix:
+    """`a.mxm(b, semiring, mask=mask.S)`; where that is refused as too large (over 16,777,216 multiplications), by halves of the
+    rows of `a`, their halves, and so on, joined afterwards. Runs: those that the operands want, and 2 for each halving. Raises
+    TooLarge where a single row is too dear (its price above 2^32)."""
+    try:
+        return a.mxm(b, semiring) if mask is None else a.mxm(b, semiring, mask=mask.S)
+    except TooLarge:
+        return _by_halves(a, b, semiring, mask, 0, a.nrows)
+
+
+def _by_halves(a: Matrix, b: Matrix, semiring: Union[str, Semiring], mask: Optional[Matrix], first: int, end: int) -> Matrix:
+    middle = (first + end) // 2
+    parts = []
+    for rows, start, stop in ((a.select('rowle', middle - 1), first, middle), (a.select('rowgt', middle - 1), middle, end)):
+        try:
+            parts.append(rows.mxm(b, semiring) if mask is None else rows.mxm(b, semiring, mask=mask.S))
+        except TooLarge:
+            if stop - start <= 1:
+                raise
+            parts.append(_by_halves(rows, b, semiring, mask, start, stop))
+    return parts[0].ewise_add(parts[1], 'first')
+
+
+class NotSettled(Exception):
+    """More rounds than there can be."""
+
+
+def settle(step: Callable[[Matrix], Matrix], start: Matrix, progress: Progress = None, most: Optional[int] = None) -> Matrix:
+    """`start`, `step(start)`, `step(step(start))` and so on, until two that follow are the same. Positions may be added on the way,
+    and none may go.
+
+    Runs: 1 a round. Round k and the comparison of rounds k-1 and k-2 stand in one batch, so two rounds too many are made. Raises
+    NotSettled where `most` rounds are too few.
+    """
+    older: Optional[Matrix] = None
+    differs: Optional[Matrix] = None
+    oldest_count, last, number = -1, start, 0
+    while True:
+        new = step(last)
+        changed = differs.select('nonzero', 0) if differs is not None else None
+        differs = last.ewise_mult(older, 'ne') if older is not None else None
+        new.nvals                                                          # runs the batch
+        number += 1
+        tell(progress, 'round', number)
+        if changed is not None and older is not None and changed.nvals == 0 and older.nvals == oldest_count:
+            return older
+        if most is not None and number > most + 2:
+            raise NotSettled('%d rounds, and it goes on' % number)
+        oldest_count = older.nvals if older is not None else -1
+        older, last = last, new
+
+
+def undirected(graph: Matrix, GT: Optional[Matrix] = None) -> Matrix:
+    """The graph without its directions, weights and loops: an entry 1 at (i, j) and (j, i) for each edge between two vertices.
+
+    `GT` is the transpose, where the caller has it. Runs: 3. Steps: up to 16 an entry.
+    GraphBLAS: `eWiseAdd` with the transpose, `select` off the diagonal.
+    """
+    order(graph, GT)
+    back = graph.T if GT is None else GT
+    there, back = graph.select('offdiag', 0), back.select('offdiag', 0)
+    return there.ewise_add(back, 'first').apply('one')

@@ -1,0 +1,149 @@
+"""A command for each algorithm. Vertices count from 1, as in the file: in options, in results, and where a value is a vertex."""
+from __future__ import annotations
+
+import argparse
+import inspect
+from typing import Any, Callable, Dict, List, NamedTuple, Optional
+
+from .. import algorithms
+from ..algorithms.counts import CLUSTERING_SCALE
+from ..algorithms.ranks import ONE
+from ..matrix import Matrix
+from . import common
+
+Call = Callable[[Matrix, argparse.Namespace, Optional[common.Progress]], Any]
+
+
+class Algorithm(NamedTuple):
+    """A command: what it gives in a few words, its function, what calls it, the options beside those of every graph, what a value
+    is counted in (1 where it is a whole number), whether a value is a vertex, and what draws the result."""
+    gives: str
+    function: Callable[..., Any]
+    call: Call
+    options: List[str] = []
+    scale: int = 1
+    are_vertices: bool = False
+    plot: Optional[str] = None
+
+
+def transposed(graph: Matrix, options: argparse.Namespace) -> Optional[Matrix]:
+    """The transpose, where it is the graph itself."""
+    return graph if options.undirected else None
+
+
+def start(graph: Matrix, options: argparse.Namespace) -> int:
+    """The vertex that a search begins with, from 0. ValueError where it is none."""
+    if not 1 <= options.source <= graph.nrows:
+        raise ValueError('no vertex %d: they are 1 to %d' % (options.source, graph.nrows))
+    return options.source - 1
+
+
+ALGORITHMS: Dict[str, Algorithm] = {
+    'degrees': Algorithm('edges that leave each vertex', algorithms.degrees, lambda g, o, p: algorithms.degrees(g),
+                         plot='degree_histogram'),
+    'triangle-count': Algorithm('the number of triangles', algorithms.triangle_count, lambda g, o, p: algorithms.triangle_count(g)),
+    'triangles': Algorithm('triangles at each vertex', algorithms.triangles, lambda g, o, p: algorithms.triangles(g)),
+    'clustering': Algorithm('local clustering of each vertex', algorithms.clustering, lambda g, o, p: algorithms.clustering(g),
+                            scale=CLUSTERING_SCALE),
+    'bfs-levels': Algorithm('edges from a vertex to each other one', algorithms.bfs_levels, lambda g, o, p: algorithms.bfs_levels(
+        g, start(g, o), transposed(g, o), p), ['source'], plot='levels'),
+    'bfs-parents': Algorithm('the tree of a breadth-first search', algorithms.bfs_parents, lambda g, o, p: algorithms.bfs_parents(
+        g, start(g, o), transposed(g, o), p), ['source'], are_vertices=True),
+    'connected-components': Algorithm(
+        'the least vertex of each one\'s component', algorithms.connected_components,
+        lambda g, o, p: algorithms.connected_components(g, transposed(g, o), p), are_vertices=True),
+    'sssp': Algorithm('lengths of shortest paths from a vertex', algorithms.sssp, lambda g, o, p: algorithms.sssp(
+        g, start(g, o), transposed(g, o), p), ['source']),
+    'all-pairs': Algorithm('lengths of shortest paths between all', algorithms.all_pairs,
+                           lambda g, o, p: algorithms.all_pairs(g, p)),
+    'transitive-closure': Algorithm('which vertices reach which', algorithms.transitive_closure,
+                                    lambda g, o, p: algorithms.transitive_closure(g, p), plot='spy'),
+    'k-truss': Algorithm('edges that stand in k - 2 triangles or more', algorithms.k_truss,
+                         lambda g, o, p: algorithms.k_truss(g, o.k, p), ['k'], plot='spy'),
+    'k-core': Algorithm('vertices with k neighbours or more', algorithms.k_core,
+                        lambda g, o, p: algorithms.k_core(g, o.k, p), ['k']),
+    'pagerank': Algorithm('the PageRank of each vertex', algorithms.pagerank, lambda g, o, p: algorithms.pagerank(
+        g, transposed(g, o), o.damping, o.tolerance, progress=p), ['damping', 'tolerance'], scale=ONE),
+    'maximal-independent-set': Algorithm(
+        'vertices of which no two are neighbours', algorithms.maximal_independent_set,
+        lambda g, o, p: algorithms.maximal_independent_set(g, o.seed, p), ['seed']),
+}
+OPTIONS: Dict[str, Dict[str, Any]] = {
+    'source': dict(type=int, default=1, metavar='V', help='the vertex to begin with, from 1 (default: 1)'),
+    'k': dict(type=int, required=True, metavar='K', help='how dense'),
+    'damping': dict(type=float, default=0.85, metavar='D', help='the share that follows edges (default: 0.85)'),
+    'tolerance': dict(type=float, default=1e-6, metavar='T', help='how far the ranks may be from the true ones (default: 1e-6)'),
+    'seed': dict(type=int, default=0, metavar='N', help='decides which of the sets it is (default: 0)'),
+}
+
+
+def add_commands(commands: Any) -> None:
+    """Adds a command for each algorithm."""
+    for name, algorithm in ALGORITHMS.items():
+        command = commands.add_parser(name, help=algorithm.gives, description=description(algorithm),
+                                      formatter_class=argparse.RawDescriptionHelpFormatter, epilog=epilog(name, algorithm))
+        common.add_graph_options(command)
+        for option in algorithm.options:
+            command.add_argument('--' + option, **OPTIONS[option])
+        common.add_output_options(command)
+        if algorithm.plot:
+            command.add_argument('--plot', metavar='FILE.png', help='a picture of the result; wants matplotlib')
+        common.add_session_options(command)
+        command.set_defaults(run=lambda options, chosen=algorithm: run(chosen, options))
+
+
+def description(algorithm: Algorithm) -> str:
+    """What the function says of itself, less what is said of arguments that the command line has no words for."""
+    paragraphs = (inspect.getdoc(algorithm.function) or '').split('\n\n')
+    return '\n\n'.join(paragraph for paragraph in paragraphs if not paragraph.startswith('`'))
+
+
+def epilog(name: str, algorithm: Algorithm) -> str:
+    """What is printed, and an example."""
+    words = ' '.join('--%s %s' % (option, {'k': 4}.get(option, 1)) for option in algorithm.options if option in ('source', 'k'))
+    if algorithm.scale > 1:
+        printed = 'Printed are fractions; --mtx has whole numbers, in units of 1/%d.' % algorithm.scale
+    elif algorithm.are_vertices:
+        printed = 'Values are vertices, from 1.'
+    else:
+        printed = 'Vertices count from 1.'
+    return '%s\n\nexample:\n  python3 -m spmat %s graph.mtx%s' % (printed, name, ' ' + words if words else '')
+
+
+def run(algorithm: Algorithm, options: argparse.Namespace) -> int:
+    """Reads the graph, computes, writes the result and draws it."""
+    with common.progress_of(options) as progress, common.open_session(options, progress) as session:
+        graph = common.read_graph(session, options)
+        result = algorithm.call(graph, options, progress)
+        if getattr(options, 'plot', None):
+            draw(algorithm, graph, result, options)
+        write(algorithm, result, options)
+    return 0
+
+
+def write(algorithm: Algorithm, result: Any, options: argparse.Namespace) -> None:
+    """Writes a number, a column or a matrix."""
+    if isinstance(result, int):
+        with common.output(options) as stream:
+            stream.write('%d\n' % result)
+        return
+    if algorithm.are_vertices:
+        result = result.apply('plus', right=1)
+    if algorithm.scale == 1 or options.mtx:
+        common.write_matrix(options, result)
+        return
+    rows, _, values = result.to_coo(arrays=False)
+    with common.output(options) as stream:
+        stream.writelines('%d %.9f\n' % (row + 1, value / algorithm.scale) for row, value in zip(rows, values))
+
+
+def draw(algorithm: Algorithm, graph: Matrix, result: Matrix, options: argparse.Namespace) -> None:
+    """Draws the result into the file that the options name."""
+    from .. import draw as pictures
+    graph.nodes = list(range(1, graph.nrows + 1))
+    if algorithm.plot == 'degree_histogram':
+        pictures.degree_histogram(graph, options.plot)
+    elif algorithm.plot == 'levels':
+        pictures.levels(graph, result, options.plot)
+    else:
+        pictures.spy(result, options.plot)

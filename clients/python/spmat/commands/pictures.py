@@ -1,0 +1,32 @@
+"""`spy`: where a matrix has its entries."""
+from __future__ import annotations
+
+import argparse
+from typing import Any
+
+from . import common
+
+EPILOG = """Up to 256 rows and columns each entry is a square. Above that it is the density in a raster, which the server counts.
+
+example:
+  python3 -m spmat spy graph.mtx --plot spy.png"""
+
+
+def add_commands(commands: Any) -> None:
+    command = commands.add_parser('spy', help='a picture of where a matrix has its entries', epilog=EPILOG,
+                                  description='Draws where a matrix has its entries.',
+                                  formatter_class=argparse.RawDescriptionHelpFormatter)
+    common.add_graph_options(command)
+    command.add_argument('--plot', metavar='FILE.png', required=True, help='where the picture goes; wants matplotlib')
+    common.add_session_options(command)
+    command.set_defaults(run=run)
+
+
+def run(options: argparse.Namespace) -> int:
+    """Draws the matrix, and says its size."""
+    from .. import draw
+    with common.progress_of(options) as progress, common.open_session(options, progress) as session:
+        matrix = common.read_graph(session, options)
+        draw.spy(matrix, options.plot)
+        print('%d rows, %d columns, %d entries' % (matrix.nrows, matrix.ncols, matrix.nvals))
+    return 0

@@ -1,0 +1,233 @@
+"""Triples from what callers have, looked at before anything is sent: lists, arrays of numpy, scipy.sparse, networkx."""
+from __future__ import annotations
+
+import math
+import numbers
+import operator
+from typing import Any, Callable, Dict, Iterable, List, Optional, Sequence, Tuple
+
+from .errors import refusal
+from .market import FEW, MOST_SIDE, Triples, find_numpy, is_array
+
+LEAST, MOST = -1 << 63, (1 << 63) - 1
+
+
+def checked(rows: Any, columns: Any, values: Any, nrows: Optional[int] = None, ncols: Optional[int] = None) -> Triples:
+    """Triples of whole numbers within 64 bits, indices within the sizes. Sizes that aren't given are the least that fit. `values`
+    may be one number for all. TypeError for what is no number, ValueError for lengths that differ, values that aren't whole, and
+    what is out of range; the place is counted from 0."""
+    if is_array(rows) or is_array(columns) or is_array(values):
+        return _checked_arrays(rows, columns, values, nrows, ncols)
+    rows, columns = whole_list(rows, 'row'), whole_list(columns, 'column')
+    values = whole_list(values, 'value') if _is_many(values) else [whole(values, 'value')] * len(rows)
+    _same_length(rows, columns, values)
+    nrows = side(nrows, (max(rows) + 1) if rows else 0, 'nrows')
+    ncols = side(ncols, (max(columns) + 1) if columns else 0, 'ncols')
+    for what, many, least, most in (('row', rows, 0, nrows - 1), ('column', columns, 0, ncols - 1), ('value', values, LEAST, MOST)):
+        if many and not (least <= min(many) and max(many) <= most):
+            at = next(at for at, number in enumerate(many) if not least <= number <= most)
+            raise ValueError('%s %d is not in %d to %d (entry %d)' % (what, many[at], least, most, at))
+    return Triples(rows, columns, values, nrows, ncols)
+
+
+def columns_of(triples: Any) -> Tuple[Any, Any, Any]:
+    """The rows, columns and values of (row, column, value), or of an array of numpy with these as its columns."""
+    if is_array(triples) and triples.shape[1:] == (3,):
+        return triples[:, 0], triples[:, 1], triples[:, 2]
+    many = list(triples)
+    if any(len(triple) != 3 for triple in many):
+        raise ValueError('a triple is (row, column, value)')
+    rows, columns, values = zip(*many) if many else ((), (), ())
+    return rows, columns, values
+
+
+def whole(number: Any, what: str = 'value') -> int:
+    """A number as an int: any integer, or a float that is one. TypeError for what is no number, ValueError for other floats."""
+    try:
+        return operator.index(number)
+    except TypeError:
+        pass
+    if not isinstance(number, numbers.Real):
+        raise TypeError('a %s is a whole number, not %r' % (what, number))
+    if not math.isfinite(number) or number != int(number):
+        raise ValueError('a %s is a whole number, not %r: scale it first' % (what, number))
+    return int(number)
+
+
+def word(number: Any, what: str) -> int:
+    """A whole number within 64 bits."""
+    got = whole(number, what)
+    if not LEAST <= got <= MOST:
+        raise ValueError('%s %d is not in -2^63 to 2^63 - 1' % (what, got))
+    return got
+
+
+def whole_list(many: Iterable[Any], what: str) -> List[int]:
+    """Numbers as ints; see `whole`."""
+    many = list(many)
+    try:
+        return list(map(operator.index, many))
+    except TypeError:
+        return [whole(number, what) for number in many]
+
+
+def side(given: Optional[int], least: int, what: str) -> int:
+    """A matrix's size: the given one, or the least that fits. TooLarge above the server's limit."""
+    size = least if given is None else whole(given, what)
+    if size < 0:
+        raise ValueError('%s is %d' % (what, size))
+    if size > MOST_SIDE:
+        raise refusal('M4', detail='%s is %d' % (what, size))
+    return size
+
+
+def _is_many(values: Any) -> bool:
+    return hasattr(values, '__iter__') and not isinstance(values, (str, bytes))
+
+
+def _same_length(rows: Sequence[Any], columns: Sequence[Any], values: Sequence[Any]) -> None:
+    if not len(rows) == len(columns) == len(values):
+        raise ValueError('%d rows, %d columns and %d values' % (len(rows), len(columns), len(values)))
+
+
+def _checked_arrays(rows: Any, columns: Any, values: Any, nrows: Optional[int], ncols: Optional[int]) -> Triples:
+    import numpy
+    rows, columns = whole_array(rows, 'row'), whole_array(columns, 'column')
+    values = whole_array(values, 'value') if _is_many(values) else numpy.full(len(rows), word(values, 'value'), numpy.int64)
+    _same_length(rows, columns, values)
+    nrows = side(nrows, int(rows.max()) + 1 if len(rows) else 0, 'nrows')
+    ncols = side(ncols, int(columns.max()) + 1 if len(columns) else 0, 'ncols')
+    for what, many, most in (('row', rows, nrows - 1), ('column', columns, ncols - 1)):
+        if len(many) and not (many.min() >= 0 and many.max() <= most):
+            at = int(((many < 0) | (many > most)).argmax())
+            raise ValueError('%s %d is not in 0 to %d (entry %d)' % (what, many[at], most, at))
+    return Triples(rows, columns, values, nrows, ncols)
+
+
+def whole_array(many: Any, what: str) -> Any:
+    """One dimension of numbers as an array of int64. TypeError for what is no number, ValueError for more dimensions, for values
+    that aren't whole, and for those beyond 64 bits."""
+    import numpy
+    array = numpy.asarray(many)
+    if array.ndim != 1:
+        raise ValueError('one dimension of %ss is wanted, not %d' % (what, array.ndim))
+    if array.dtype.kind == 'O' or (array.dtype.kind == 'f' and not len(array)):
+        return numpy.array([word(number, what) for number in array.tolist()], numpy.int64)
+    if array.dtype.kind not in 'biuf':
+        raise TypeError('%ss are whole numbers, not %s' % (what, array.dtype))
+    wrong = None
+    if array.dtype.kind == 'f':
+        wrong = ~(numpy.abs(array) <= 2.0 ** 63) | (array == 2.0 ** 63)
+        wrong |= numpy.trunc(array) != array
+    elif array.dtype.kind == 'u' and array.dtype.itemsize == 8:
+        wrong = array > numpy.uint64(MOST)
+    if wrong is not None and wrong.any():
+        at = int(wrong.argmax())
+        raise ValueError('a %s is a whole number of 64 bits, not %s (entry %d): scale it first' % (what, array[at], at))
+    return array.astype(numpy.int64, copy=False)
+
+
+def from_dense(rows: Any, missing: Any = None) -> Triples:
+    """The triples of a table: a list of rows, or an array of two dimensions. A list of numbers, or an array of one dimension, is a
+    column. Cells that are `missing` (None: no cell) have no entry."""
+    if is_array(rows):
+        import numpy
+        table = rows.reshape(-1, 1) if rows.ndim == 1 else rows
+        if table.ndim != 2:
+            raise ValueError('one or two dimensions are wanted, not %d' % table.ndim)
+        at = numpy.nonzero(numpy.ones(table.shape, bool) if missing is None else table != missing)
+        return checked(at[0], at[1], table[at], *table.shape)
+    table = [list(row) if _is_many(row) else [row] for row in rows]
+    ncols = len(table[0]) if table else 0
+    if any(len(row) != ncols for row in table):
+        raise ValueError('rows of %s cells' % ' and '.join(sorted({str(len(row)) for row in table})))
+    kept = [(i, j, cell) for i, row in enumerate(table) for j, cell in enumerate(row) if missing is None or cell != missing]
+    rows, columns, cells = zip(*kept) if kept else ((), (), ())
+    return checked(rows, columns, cells, len(table), ncols)
+
+
+def indices(n: int) -> Any:
+    """0 to n - 1: an array of numpy where they are many and it is there."""
+    numpy = find_numpy() if n > FEW else None
+    return range(n) if numpy is None else numpy.arange(n, dtype=numpy.int64)
+
+
+def full(nrows: int, ncols: int, value: int) -> Triples:
+    """One value everywhere."""
+    at = indices(nrows * ncols)
+    if is_array(at):
+        return checked(at // ncols, at % ncols, value, nrows, ncols)
+    return checked([k // ncols for k in at], [k % ncols for k in at], value, nrows, ncols)
+
+
+def from_scipy(matrix: Any) -> Triples:
+    """The triples of a scipy.sparse matrix or array; entries of one position are added up, as scipy has it."""
+    if len(matrix.shape) != 2:
+        raise ValueError('two dimensions are wanted, not %d' % len(matrix.shape))
+    coo = matrix.tocoo(copy=True)
+    coo.sum_duplicates()
+    return checked(coo.row, coo.col, coo.data, *coo.shape)
+
+
+def from_graph(graph: Any, weight: Optional[str], nodelist: Optional[Sequence[Any]]) -> Tuple[Triples, List[Any], bool]:
+    """The triples of a networkx graph, its nodes by index, and whether positions may repeat (a multigraph). Entry (i, j) is the
+    edge from node i to node j; an undirected edge stands both ways, a loop once. Edges that leave `nodelist` are left out."""
+    nodes = list(graph) if nodelist is None else list(nodelist)
+    index: Dict[Any, int] = {node: at for at, node in enumerate(nodes)}
+    if len(index) != len(nodes):
+        raise ValueError('a node stands twice in nodelist')
+    missing = [node for node in nodes if node not in graph]
+    if missing:
+        raise ValueError('no node of the graph: %r' % (missing[0],))
+    rows, columns, values = [], [], []  # type: List[int], List[int], List[Any]
+    both = not graph.is_directed()
+    for u, v, value in graph.edges(data=weight, default=1) if weight is not None else ((u, v, 1) for u, v in graph.edges()):
+        if u in index and v in index:
+            i, j = index[u], index[v]
+            for a, b in ((i, j), (j, i)) if both and i != j else ((i, j),):
+                rows.append(a)
+                columns.append(b)
+                values.append(value)
+    return checked(rows, columns, values, len(nodes), len(nodes)), nodes, graph.is_multigraph()
+
+
+Fold = Callable[[Triples], Any]
+
+
+def unrepeated(triples: Triples, fold: Fold) -> Triples:
+    """Triples in which each position stands once. `fold` gets the values of those that stand several times as a matrix with a row
+    for each such position, its values from column 0 in their order, and answers one value a row. It isn't called where there are
+    none."""
+    if is_array(triples.rows):
+        return _unrepeated_arrays(triples, fold)
+    found: Dict[Tuple[int, int], List[int]] = {}
+    for i, j, value in zip(triples.rows, triples.columns, triples.values):
+        found.setdefault((i, j), []).append(value)
+    if len(found) == len(triples.rows):
+        return triples
+    many = [position for position, had in found.items() if len(had) > 1]
+    cells = [(row, column, value) for row, position in enumerate(many) for column, value in enumerate(found[position])]
+    rows, columns, values = zip(*cells)
+    for position, value in zip(many, fold(Triples(rows, columns, values, len(many), max(columns) + 1))):
+        found[position] = [value]
+    return Triples([i for i, _ in found], [j for _, j in found], [had[0] for had in found.values()], triples.nrows, triples.ncols)
+
+
+def _unrepeated_arrays(triples: Triples, fold: Fold) -> Triples:
+    import numpy
+    key = triples.rows * max(triples.ncols, 1) + triples.columns
+    order = numpy.argsort(key, kind='stable')
+    rows, columns, values, key = triples.rows[order], triples.columns[order], triples.values[order], key[order]
+    first = numpy.ones(len(key), bool)
+    first[1:] = key[1:] != key[:-1]
+    starts = numpy.flatnonzero(first)
+    if len(starts) == len(key):
+        return triples
+    lengths = numpy.diff(numpy.append(starts, len(key)))
+    many = numpy.flatnonzero(lengths > 1)
+    repeated = numpy.repeat(lengths > 1, lengths)
+    row = numpy.repeat(numpy.arange(len(many)), lengths[many])
+    column = (numpy.arange(len(key)) - numpy.repeat(starts, lengths))[repeated]
+    kept = values[starts]
+    kept[many] = fold(Triples(row, column, values[repeated], len(many), int(lengths.max())))
+    return Triples(rows[starts], columns[starts], kept, triples.nrows, triples.ncols)

@@ -1,0 +1,255 @@
+"""Pictures of matrices and graphs, by matplotlib: where the entries stand, how many vertices have which degree, the levels of a
+breadth-first search. Each is written to a file, whose ending says the format (.png, .svg, .pdf).
+
+Little comes out of a large matrix: the server counts the entries in a raster, or the edges between levels, and the client draws
+the counts. matplotlib (and numpy, which it brings) is imported when a picture is drawn.
+"""
+from __future__ import annotations
+
+import os
+from typing import Any, Dict, List, Optional, Sequence, Set, Tuple, Union
+
+from .matrix import Matrix
+
+Path = Union[str, 'os.PathLike[str]']
+RASTER = 256               # `spy` shows a square for each entry up to so many rows and columns, and a raster of as many cells above
+FEW_ROWS = 64              # with a line between squares up to so many
+FEW_VERTICES = 150         # `levels` shows each vertex up to so many
+FEW_EDGES = 700
+FEW_LEVELS = 16            # .. and above that a circle a level, up to so many
+LABELS = 60                # vertices have labels up to so many
+INK, PALE, GREY, WARM = '#1f4e79', '#c9d3dd', '#5a6672', '#b5651d'
+
+
+def _figure(width: float, height: float) -> Tuple[Any, Any]:
+    """A figure of its own and its axes: nothing of pyplot, whose state is the caller's."""
+    from matplotlib.figure import Figure
+    figure = Figure(figsize=(width, height), dpi=130)
+    return figure, figure.add_subplot()
+
+
+def _note(axes: Any, text: str, place: Tuple[float, float], off: Tuple[int, int], **look: Any) -> None:
+    """A small text, so many points off a place."""
+    axes.annotate(text, place, xytext=off, textcoords='offset points', **{'ha': 'center', 'fontsize': 8, **look})
+
+
+def _many(number: int, word: str, words: Optional[str] = None) -> str:
+    return '%s %s' % (format(number, ','), word if number == 1 else words or word + 's')
+
+
+def _entries(A: Matrix) -> str:
+    return _many(A.nvals, 'entry', 'entries')
+
+
+def raster(A: Matrix, rows: int = RASTER, columns: int = RASTER) -> Matrix:
+    """How many entries stand in each cell of a raster of so many rows and columns over A. 3 jobs, 3 runs; two products, of as many
+    multiplications as A has entries. In the GraphBLAS P A Q over plus, with P and Q that gather rows and columns."""
+    import numpy
+    rows, columns = min(rows, A.nrows), min(columns, A.ncols)
+    i, j = numpy.arange(A.nrows), numpy.arange(A.ncols)
+    P = A.session.from_coo(i * rows // max(1, A.nrows), i, 1, rows, A.nrows)
+    Q = A.session.from_coo(j, j * columns // max(1, A.ncols), 1, A.ncols, columns)
+    return P.mxm(A.apply('one'), 'plus_second').mxm(Q, 'plus_first')
+
+
+def spy(A: Matrix, path: Path, size: int = RASTER) -> None:
+    """Where the entries of a matrix stand: a square each, where it has up to `size` rows and columns; above that how many stand in
+    each cell of a raster of `size` by `size`. Row 0 is at the top. Runs: 1, or 3. ImportError where there is no matplotlib."""
+    import numpy
+    from matplotlib.colors import ListedColormap, LogNorm
+    figure, axes = _figure(6, 6)
+    small = max(A.shape) <= size
+    shown = A.apply('one') if small else raster(A, size, size)
+    rows, columns, values = shown.to_coo(arrays=True)
+    table = numpy.full(shown.shape, numpy.nan)
+    table[rows, columns] = values
+    least, most = (int(values.min()), int(values.max())) if len(values) else (1, 1)
+    many = LogNorm(least, max(least + 1, most))
+    look = {'cmap': ListedColormap([INK])} if small else {'cmap': 'viridis_r', 'norm': many}
+    if len(values):
+        image = axes.imshow(table, extent=(-.5, A.ncols - .5, A.nrows - .5, -.5), interpolation='nearest',
+                            aspect='equal' if 3 * min(A.shape) > max(A.shape) else 'auto', **look)
+        if not small:
+            cell = '%s by %s' % tuple(format(-(-side // cells), ',') for side, cells in zip(A.shape, shown.shape))
+            figure.colorbar(image, ax=axes, fraction=.046, pad=.03, label='entries in a cell of %s' % cell)
+    axes.xaxis.tick_top()
+    for axis, count in ((axes.xaxis, A.ncols), (axes.yaxis, A.nrows)):
+        axis.get_major_locator().set_params(integer=True)
+        axis.set_major_formatter(lambda place, _: format(int(place), ',') if place == int(place) else '')
+    axes.tick_params(labelsize=8)
+    if max(A.shape) <= FEW_ROWS:                                  # a line between squares
+        axes.vlines([j + .5 for j in range(A.ncols - 1)], -.5, A.nrows - .5, color='white', linewidth=1)
+        axes.hlines([i + .5 for i in range(A.nrows - 1)], -.5, A.ncols - .5, color='white', linewidth=1)
+    axes.set_title('%s, %s, %s' % (_many(A.nrows, 'row'), _many(A.ncols, 'column'), _entries(A)), fontsize=10)
+    figure.savefig(path, bbox_inches='tight')
+
+
+def degree_histogram(A: Matrix, path: Path) -> None:
+    """How many rows have how many entries (vertices their edges that leave them): a bar each for degrees up to 40, above that
+    points in logarithmic axes. Vertices without an edge are told in the title. Runs: 2; one column comes out."""
+    import numpy
+    figure, axes = _figure(6.4, 4.4)
+    degrees = A.apply('one').reduce_rowwise('plus').to_coo(arrays=True)[2]
+    counts = numpy.bincount(degrees, minlength=1)
+    at = numpy.flatnonzero(counts)
+    if len(counts) <= 41:
+        axes.bar(at, counts[at], width=.8, color=INK)
+        axes.xaxis.get_major_locator().set_params(integer=True)
+        axes.yaxis.get_major_locator().set_params(integer=True)
+        axes.set_xlim(0, len(counts))
+    else:
+        axes.loglog(at, counts[at], 'o', markersize=3.5, color=INK, alpha=.8, markeredgewidth=0)
+        axes.grid(True, which='major', alpha=.3)
+        mean = A.nvals / A.nrows
+        axes.axvline(mean, color=WARM, linewidth=1)
+        _note(axes, 'mean %.1f' % mean, (mean, 1), (4, -12), xycoords=('data', 'axes fraction'), ha='left', color=WARM)
+    axes.set_xlabel('degree')
+    axes.set_ylabel('vertices')
+    alone = A.nrows - len(degrees)
+    axes.set_title('%s, %s%s' % (_many(A.nrows, 'vertex', 'vertices'), _entries(A),
+                                 ', %s of degree 0' % format(alone, ',') if alone else ''), fontsize=10)
+    figure.savefig(path, bbox_inches='tight')
+
+
+def levels(G: Matrix, found: Matrix, path: Path) -> None:
+    """The levels of a breadth-first search on a drawing of the graph; `found` is what `algorithms.bfs_levels` gave.
+
+    Up to 150 vertices and 700 edges each vertex is drawn, a level a column, and each edge. Above that each level is a circle with
+    the number of its vertices, and between them stands the number of edges from one to the next, which the server counts (2 jobs, 2
+    runs); from 17 levels on it is the number of vertices a level. Raises ValueError where `found` isn't a column of the graph's.
+    """
+    if found.shape != (G.nrows, 1) or G.nrows != G.ncols:
+        raise ValueError('levels are a column with a row for each vertex, as bfs_levels gives it')
+    at = {i: level for (i, _), level in found.to_dict().items()}
+    deepest = max(at.values(), default=-1)
+    if G.nrows <= FEW_VERTICES and G.nvals <= 2 * FEW_EDGES:
+        figure = _each_vertex(G, at, deepest)
+    elif deepest < FEW_LEVELS:
+        figure = _circles(G, at, deepest)
+    else:
+        figure = _depths(at, deepest)
+    figure.axes[0].set_title('%s, %s, %s%s' % (
+        _many(G.nrows, 'vertex', 'vertices'), _entries(G), _many(deepest + 1, 'level'),
+        ', %s not reached' % format(G.nrows - len(at), ',') if len(at) < G.nrows else ''), fontsize=10)
+    figure.savefig(path, bbox_inches='tight')
+
+
+def _order(columns: List[List[int]], near: Dict[int, Set[int]]) -> None:
+    """Puts the vertices of each column near their neighbours in the one before, and then in the one behind, some times over."""
+    for turn in range(8):
+        order = range(1, len(columns)) if turn % 2 == 0 else range(len(columns) - 2, -1, -1)
+        for number in order:
+            beside = columns[number - 1 if turn % 2 == 0 else number + 1]
+            height = {i: k / max(1, len(beside) - 1) for k, i in enumerate(beside)}
+            old = {i: k / max(1, len(columns[number]) - 1) for k, i in enumerate(columns[number])}
+            heights = {i: [height[j] for j in near[i] if j in height] for i in columns[number]}
+            columns[number].sort(key=lambda i: (sum(heights[i]) / len(heights[i]) if heights[i] else old[i], old[i]))
+
+
+def _each_vertex(G: Matrix, at: Dict[int, int], deepest: int) -> Any:
+    """A column a level, those that aren't reached behind the last, each edge a line, within a column an arc."""
+    from matplotlib.patches import FancyArrowPatch
+    pairs = {(i, j) for i, j, _ in G.to_triples() if i != j}
+    directed = any((j, i) not in pairs for i, j in pairs)
+    near: Dict[int, Set[int]] = {i: set() for i in range(G.nrows)}
+    for i, j in pairs:
+        near[i].add(j)
+        near[j].add(i)
+    columns: List[List[int]] = [[] for _ in range(deepest + 2)]
+    for i in range(G.nrows):
+        columns[at.get(i, deepest + 1)].append(i)
+    _order(columns, near)
+    tallest = max((len(column) for column in columns), default=1)
+    figure, axes = _figure(max(5, min(14, 1.7 * len(columns))), max(4, min(9, .4 * tallest)))
+    place = {i: (level + .4 * (level > deepest), (len(column) - 1) / 2 - k) for level, column in enumerate(columns)
+             for k, i in enumerate(column)}
+    shrink = 8 if G.nrows <= LABELS else 5
+    for i, j in sorted(pairs):
+        if directed or i < j:
+            (x, y), (u, v) = place[i], place[j]
+            bend = .25 if x == u else .12 if directed and (j, i) in pairs else 0
+            onward = at.get(j) == at.get(i, -9) + 1 or not directed and at.get(i) == at.get(j, -9) + 1
+            axes.add_patch(FancyArrowPatch(
+                (x, y), (u, v), arrowstyle='-|>' if directed else '-', mutation_scale=8, linewidth=.8 if onward else .6, zorder=1,
+                connectionstyle='arc3,rad=%g' % (bend if y > v or directed else -bend), shrinkA=shrink, shrinkB=shrink,
+                color=INK if onward else '#9aa7b4'))
+    _dots(axes, G, place, at, deepest)
+    axes.set_xticks(range(deepest + 1))
+    axes.set_xlabel('level')
+    axes.set_yticks([])
+    axes.set_xlim(-.6, max((x for x, _ in place.values()), default=0) + .6)
+    axes.set_ylim(-tallest / 2 - .3, tallest / 2 + .3)
+    for side in ('left', 'right', 'top'):
+        axes.spines[side].set_visible(False)
+    return figure
+
+
+def _dots(axes: Any, G: Matrix, place: Dict[int, Tuple[float, float]], at: Dict[int, int], deepest: int) -> None:
+    """The vertices, coloured by level, with their labels where they are few."""
+    from matplotlib import colormaps
+    colours = colormaps['viridis_r']
+    labels: Sequence[Any] = G.nodes if G.nodes is not None else range(G.nrows)
+    few = G.nrows <= LABELS
+    for i, (x, y) in place.items():
+        share = at[i] / max(1, deepest) if i in at else 0
+        axes.plot([x], [y], 'o', markersize=15 if few else 8, color=colours(.08 + .85 * share) if i in at else PALE,
+                  markeredgecolor='white', markeredgewidth=1, zorder=2)
+        if few:
+            axes.annotate('%.12s' % (labels[i],), (x, y), ha='center', va='center', fontsize=7, zorder=3,
+                          color='white' if i in at and share > .35 else 'black')
+    if len(at) < G.nrows:
+        _note(axes, 'not reached', (deepest + 1.4, 0), (0, -14), xycoords=('data', 'axes fraction'), color=GREY)
+
+
+def _between(G: Matrix, at: Dict[int, int], deepest: int) -> Dict[Tuple[int, int], int]:
+    """How many entries lead from each level to each, counted by the server: P G P^T over plus, with P that gathers levels."""
+    vertices = sorted(at)
+    gather = G.session.from_coo([at[i] for i in vertices], vertices, 1, deepest + 1, G.nrows)
+    return gather.mxm(G.apply('one'), 'plus_second').mxm(gather.T, 'plus_first').to_dict()
+
+
+def _circles(G: Matrix, at: Dict[int, int], deepest: int) -> Any:
+    """A circle a level, its area by the logarithm of its vertices; the entries between levels as lines, inside one as a number
+    below."""
+    import math
+    from matplotlib import colormaps
+    figure, axes = _figure(max(6, 1.7 * (deepest + 1)), 3.6)
+    counts = [0] * (deepest + 1)
+    for level in at.values():
+        counts[level] += 1
+    between = _between(G, at, deepest)
+    most = math.log(max(counts, default=1) + 1)
+    widest = math.log(max(between.values(), default=1) + 1)
+    for (i, j), edges in between.items():
+        if j == i + 1:
+            axes.plot([i, j], [0, 0], color=PALE, linewidth=1 + 9 * math.log(edges + 1) / widest, zorder=1, solid_capstyle='butt')
+            _note(axes, format(edges, ','), (i + .5, 0), (0, 9))
+    for level, count in enumerate(counts):
+        axes.plot([level], [0], 'o', markersize=14 + 34 * math.sqrt(math.log(count + 1) / most), zorder=2, markeredgecolor='white',
+                  color=colormaps['viridis_r'](.08 + .85 * level / max(1, deepest)))
+        _note(axes, format(count, ','), (level, 0), (0, 31), fontweight='bold')
+        inside = between.get((level, level), 0)
+        if inside:
+            _note(axes, '%s inside' % format(inside, ','), (level, 0), (0, -38), color=GREY)
+    axes.set_xticks(range(deepest + 1))
+    axes.set_xlabel('level: vertices above it, entries to the next level on the line')
+    axes.set_yticks([])
+    axes.set_xlim(-.6, max(deepest, 0) + .6)
+    axes.set_ylim(-1, 1)
+    for side in ('left', 'right', 'top'):
+        axes.spines[side].set_visible(False)
+    return figure
+
+
+def _depths(at: Dict[int, int], deepest: int) -> Any:
+    """How many vertices each level has."""
+    figure, axes = _figure(7, 4)
+    counts = [0] * (deepest + 1)
+    for level in at.values():
+        counts[level] += 1
+    axes.fill_between(range(deepest + 1), counts, step='mid', color=INK, alpha=.85, linewidth=0)
+    axes.set_xlim(-.5, deepest + .5)
+    axes.set_ylim(0)
+    axes.set_xlabel('level')
+    axes.set_ylabel('vertices')
+    return figure

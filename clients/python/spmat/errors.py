@@ -1,0 +1,227 @@
+"""What goes wrong, as exceptions that are told apart by what a user can do about them.
+
+    SpmatError
+        Closed               the session has ended; open another one
+        NotMade              this matrix was the result of a run that was refused; its cause says why
+        Refused              the server answered `no ..`, or would have
+            OperatorRefused      mend the operator (rules A1 to A6, V1 to V16, S9)
+            TextRefused          mend the matrix text (M1 to M12)
+            TooLarge             cut the work into parts (M4, S7, J7, J8)
+            DimensionMismatch    shapes don't fit (J5, J9)
+            DomainMismatch       an operator of another kind is wanted (J4)
+            BudgetExceeded       more steps are wanted than are left (S8)
+            OutOfMemory          the server has too little memory
+            NoThread             the server could start too few threads; fewer workers may do
+            Busy                 the server has as many sessions as it serves; try later
+
+Each refusal has its rule, the place (a line or a slot), the line that stands there, and the rule's sentence. The sentences stand
+here once, in the words of docs/protocol.md and docs/operators.md.
+"""
+from __future__ import annotations
+
+from typing import Callable, Dict, Optional, Sequence, Tuple, Type
+
+SENTENCES: Dict[str, str] = {
+    'S1': "unknown command: the first word is no command's, whatever follows it",
+    'S2': 'a wrong number of words, a KIND, LEN or THUNK that is malformed or out of range, or another word where mask has to '
+          'stand',
+    'S3': 'a name that is not 1 to 32 letters, digits or underscores',
+    'S4': 'the name of an operand, of an operator or of the mask stands for nothing',
+    'S5': 'the input ends in a body',
+    'S6': 'a line too long',
+    'S7': 'LEN above 268,435,456 for matrix, above 262,144 for asm and op',
+    'S8': 'fewer steps are left than the price',
+    'S9': 'a body of op that is not an even number of hexadecimal digits',
+    'A1': 'a line of over 1,024 bytes, comment included, LF and CR not counted',
+    'A2': 'unknown mnemonic',
+    'A3': 'too few or too many operands, or one that is no register or no number where that is wanted',
+    'A4': 'r with digits that is none of r0 to r10',
+    'A5': 'a number outside its field',
+    'A6': 'more than 4,096 slots, at the line that passes them; no instruction at all, at the number of lines plus 1',
+    'V1': 'the length is 0, no multiple of 8, or over 4,096 slots (looked at first)',
+    'V2': 'unknown opcode',
+    'V3': 'outside the profile: opcodes 85, c3, db, 20, 28, 30, 40, 48, 50, and 18 with a source field other than 0',
+    'V4': 'a register field that is used is above 10',
+    'V5': "a field that is not used isn't 0, or a reserved value of offset or imm",
+    'V6': "a wide load in the last slot, or whose second slot's first 32 bits aren't 0",
+    'V7': 'a jump to its own slot or before it',
+    'V8': 'a jump out of the code, or into the second slot of a wide load',
+    'V9': 'R10 is written',
+    'V10': 'the last instruction is no EXIT',
+    'V11': 'a register is read that some path leaves unset',
+    'V12': 'a register is read that two paths set differently: to a number and a place in the stack, or to two places',
+    'V13': 'a place in the stack where a number is wanted',
+    'V14': 'a number where a place in the stack is wanted',
+    'V15': 'an access, or a moved place, outside the stack',
+    'V16': "a load of a byte that some path hasn't stored",
+    'M1': "line 1 is missing, doesn't have five words, or its first isn't %%MatrixMarket in this case",
+    'M2': 'another word of line 1 is none of matrix, coordinate, integer or pattern, general or symmetric',
+    'M3': "the size line is missing, or isn't three numbers without -",
+    'M4': 'rows, columns or entries above 16,777,216, or in symmetric entries above 8,388,608',
+    'M5': 'an entry line has the wrong number of fields, or a field that is no number (an index has no -)',
+    'M6': 'an index is 0 or above its size',
+    'M7': 'a value is outside -2^63 to 2^63 - 1',
+    'M8': 'the position was given before, or in symmetric its mirror',
+    'M9': 'too few entries; the line named is the number of lines plus 1, as for a missing line 1 or size line',
+    'M10': "a line behind the last entry that isn't passed over, whatever it holds",
+    'M11': 'a line of over 1,024 bytes, LF and CR not counted',
+    'M12': 'symmetric, and rows differ from columns (after M4)',
+    'J4': 'an operator is of another kind than the job takes',
+    'J5': "the operands' shapes don't fit",
+    'J6': '64 jobs wait already',
+    'J7': 'the result could be too large',
+    'J8': 'the price is above 4,294,967,296',
+    'J9': "the mask's shape is not the result's",
+    'memory': 'out of memory for what the command needs',
+    'memory SPENT': 'run: out of memory, after so many steps',
+    'thread SPENT': 'run: a thread could not be started for a worker; those that were started went on, to so many steps',
+    'busy': 'the server has as many sessions as it serves',
+}
+
+MENDS: Dict[str, str] = {
+    'V7': 'jump forward, and write a loop out',
+    'V8': 'count from the slot after the jump, two slots for a wide',
+    'V9': 'copy R10, and move the copy',
+    'V10': 'end with exit',
+    'V11': 'set it on all paths, as at the start; EXIT reads R0',
+    'V12': 'read it on each path, before they meet',
+    'V13': 'places are copied (mov64), moved (add64 of a number) and used as bases, and nothing else',
+    'V14': 'load and store through R10, or a copy of it',
+    'V15': 'b bytes want a place from -512 to -b',
+    'V16': 'store it on all paths first',
+}
+
+
+class SpmatError(Exception):
+    """Everything that this package raises of its own."""
+
+
+class Closed(SpmatError):
+    """The session has ended: by close, by a refusal that ends sessions, or because the program or the connection is gone. Its words
+    are what the program said, its status among them."""
+
+
+class NotMade(SpmatError):
+    """This matrix is the result of a job whose run was refused, so it never came to be. The refusal is the cause."""
+
+
+class Refused(SpmatError):
+    """A refusal: `.rule` as the documents name it ('J5'; 'memory', 'thread', 'busy'), `.sentence` in words, `.at` the line (M and
+    A rules) or slot (V rules) or None, `.line` what stands there, `.command` the command's line, `.numbers` all numbers of the
+    reply."""
+
+    def __init__(self, rule: str, numbers: Sequence[int] = (), command: str = '', line: str = '', detail: str = '') -> None:
+        self.rule, self.numbers, self.command, self.line, self.detail = rule, tuple(numbers), command, line, detail
+        self.at: Optional[int] = self.numbers[0] if self.numbers and is_placed(rule) else None
+        key = rule if rule in SENTENCES and not (self.numbers and rule + ' SPENT' in SENTENCES) else rule + ' SPENT'
+        self.sentence = SENTENCES.get(key, 'a refusal that this client does not know')
+        super().__init__(self._message())
+
+    def _message(self) -> str:
+        text = '%s: %s' % (self.rule, self.sentence)
+        if self.at is not None:
+            text += ', %s %d' % ('slot' if self.rule.startswith('V') else 'line', self.at)
+            text += ": '%s'" % self.line if self.line else ''
+        text += ' (in `%s`)' % self.command if self.command else ''
+        more = [self.detail] if self.detail else []
+        more += ['to mend it: ' + MENDS[self.rule]] if self.rule in MENDS else []
+        return '; '.join([text] + more)
+
+    def hinting(self, rule: str, hint: str) -> 'Refused':
+        """This refusal, with a hint where it is by this rule and has none yet."""
+        if self.rule != rule or self.detail:
+            return self
+        return type(self)(self.rule, self.numbers, self.command, self.line, hint)
+
+    def __reduce__(self) -> Tuple[type, tuple]:
+        return type(self), (self.rule, self.numbers, self.command, self.line, self.detail)
+
+
+class OperatorRefused(Refused):
+    """An operator breaks a rule of assembly text (A1 to A6), of code (V1 to V6, S9) or of the verifier (V7 to V16)."""
+
+
+class TextRefused(Refused, ValueError):
+    """A matrix text breaks a rule (M1 to M12 but M4)."""
+
+
+class TooLarge(Refused, ValueError):
+    """Sizes, a body, a price or the possible result of a job above a limit (M4, S7, J7, J8)."""
+
+
+class DimensionMismatch(Refused, ValueError):
+    """Shapes of operands (J5) or of the mask (J9) don't fit. In python-graphblas the same name."""
+
+
+class DomainMismatch(Refused, TypeError):
+    """An operator of another kind than the job takes (J4). In python-graphblas the same name."""
+
+
+class _Spent(Refused):
+    @property
+    def spent(self) -> Optional[int]:
+        """The steps that a refused run took, or None where another command was refused."""
+        return self.numbers[0] if self.numbers else None
+
+
+class OutOfMemory(_Spent):
+    """The server has no memory for what the command needs. In python-graphblas the same name."""
+
+
+class NoThread(_Spent):
+    """A run could not start a thread for a worker."""
+
+
+class Busy(Refused):
+    """The server has as many sessions as it serves, and closed the connection."""
+
+
+class BudgetExceeded(Refused):
+    """A job's price is above what is left, also after the queue was run."""
+
+    def __init__(self, rule: str, numbers: Sequence[int] = (), command: str = '', line: str = '', detail: str = '') -> None:
+        detail = detail or ('the price is %d, and %d are left' % tuple(numbers[:2]) if len(numbers) >= 2 else '')
+        super().__init__(rule, numbers, command, line, detail)
+
+    @property
+    def price(self) -> int:
+        """The most steps that the job can take."""
+        return self.numbers[0]
+
+    @property
+    def left(self) -> int:
+        """The steps that were left."""
+        return self.numbers[1]
+
+
+_CLASSES: Dict[str, Type[Refused]] = {
+    'J4': DomainMismatch, 'J5': DimensionMismatch, 'J9': DimensionMismatch, 'J7': TooLarge, 'J8': TooLarge, 'M4': TooLarge,
+    'S7': TooLarge, 'S8': BudgetExceeded, 'S9': OperatorRefused, 'memory': OutOfMemory, 'thread': NoThread, 'busy': Busy}
+_FAMILIES: Dict[str, Type[Refused]] = {'A': OperatorRefused, 'V': OperatorRefused, 'M': TextRefused}
+
+Near = Callable[[str, int], str]
+
+
+def is_placed(rule: str) -> bool:
+    """Whether refusals by this rule name a line or a slot: A1, V7, M5."""
+    return rule[:1] in ('A', 'V', 'M') and rule[1:].isdigit()
+
+
+def class_of(rule: str) -> Type[Refused]:
+    """The exception of a rule."""
+    family = _FAMILIES.get(rule[:1], Refused) if is_placed(rule) else Refused
+    return _CLASSES.get(rule, family)
+
+
+def refusal(rule: str, numbers: Sequence[int] = (), command: str = '', line: str = '', detail: str = '') -> Refused:
+    """The exception of a rule, for a refusal that the client foresees."""
+    return class_of(rule)(rule, numbers, command, line, detail)
+
+
+def refusal_of(reply: str, command: str, near: Optional[Near] = None) -> Refused:
+    """The exception of a reply `no ..`; `near` gives the line that stands at a place that a rule names."""
+    words = reply.split()
+    rule = words[1] if len(words) > 1 else ''
+    numbers = [int(word) for word in words[2:] if word.isdigit()]
+    line = near(rule, numbers[0]) if near is not None and numbers and is_placed(rule) else ''
+    return refusal(rule, numbers, command, line)

@@ -1,0 +1,167 @@
+"""Matrix text as the server reads and writes it: `coordinate integer general`, from triples and back.
+
+Triples are three sequences of one length, indices from 0: lists, or arrays of numpy (int64), which are written and read without a
+step of Python for an entry.
+"""
+from __future__ import annotations
+
+import sys
+from typing import Any, Iterator, List, NamedTuple, Optional, Tuple
+
+BANNER = b'%%MatrixMarket matrix coordinate integer general\n'
+EMPTY = BANNER + b'0 0 0\n'
+MOST_SIDE = 16_777_216
+MOST_TEXT = 268_435_456
+FEW = 1 << 16                                      # shorter texts are read without numpy, which takes longer to import
+_LINES = 1 << 15                                   # lines that are written at a time, so that their table stays in a cache
+
+
+class Triples(NamedTuple):
+    """Entries by row, column and value, and the two sizes."""
+    rows: Any
+    columns: Any
+    values: Any
+    nrows: int
+    ncols: int
+
+
+def is_array(thing: Any) -> bool:
+    """Whether this is an array of numpy; numpy isn't imported for it."""
+    numpy = sys.modules.get('numpy')
+    return numpy is not None and isinstance(thing, numpy.ndarray)
+
+
+def find_numpy() -> Any:
+    """numpy, or None where it isn't there."""
+    try:
+        import numpy
+    except ImportError:
+        return None
+    return numpy
+
+
+def write(triples: Triples) -> bytes:
+    """The text of triples, in their order. Arrays have to be of int64."""
+    rows, columns, values, nrows, ncols = triples
+    head = BANNER + b'%d %d %d\n' % (nrows, ncols, len(rows))
+    if is_array(rows):
+        return head + _written(rows, columns, values, MOST_TEXT - len(head))
+    line = b'%d %d %d\n'
+    return head + b''.join([line % (i + 1, j + 1, value) for i, j, value in zip(rows, columns, values)])
+
+
+def _written(rows: Any, columns: Any, values: Any, room: int) -> bytes:
+    """All lines at one width, numbers with leading zeros, which the format allows: a table of bytes that is filled by columns.
+    Where that is too long for a body, the zeros are taken out again."""
+    if len(rows) == 0:
+        return b''
+    import numpy
+    least, most = int(values.min()), int(values.max())
+    widths = [_width(int(rows.max()) + 1), _width(int(columns.max()) + 1), _width(max(most, -least))]
+    table = _Table(numpy, widths, signed=least < 0)
+    bare = len(rows) * table.line > room
+    pieces = []
+    for at in range(0, len(rows), _LINES):
+        part = slice(at, at + _LINES)
+        pieces.append(table.fill(rows[part] + 1, columns[part] + 1, values[part], bare))
+    return b''.join(pieces)
+
+
+def _width(number: int) -> int:
+    """Digits of a number, rounded up to a multiple of four."""
+    return -(-len(str(number)) // 4) * 4
+
+
+class _Table:
+    """Lines of one width: three numbers of so many digits, the last with a sign where one is wanted, blanks between them, LF."""
+
+    def __init__(self, numpy: Any, widths: List[int], signed: bool) -> None:
+        self._numpy, self._widths, self._signed = numpy, widths, signed
+        self._four = numpy.frombuffer(b''.join(b'%04d' % k for k in range(10000)), numpy.uint32)
+        self.line = sum(widths) + 3 + signed
+
+    def fill(self, rows: Any, columns: Any, values: Any, bare: bool) -> bytes:
+        """So many lines; `bare` takes the leading zeros out."""
+        numpy = self._numpy
+        out = numpy.full((len(rows), self.line), 32, numpy.uint8)
+        keep = numpy.ones(out.shape, bool) if bare else None
+        at = self._digits(rows, self._widths[0], out, 0, keep) + 1
+        at = self._digits(columns, self._widths[1], out, at, keep) + 1
+        if self._signed:
+            out[:, at] = numpy.where(values < 0, 45, 43)
+            at += 1
+            values = numpy.where(values < 0, 0 - values.astype(numpy.uint64), values.astype(numpy.uint64))
+        at = self._digits(values, self._widths[2], out, at, keep)
+        out[:, at] = 10
+        return (out if keep is None else out[keep]).tobytes()
+
+    def _digits(self, numbers: Any, width: int, out: Any, at: int, keep: Any) -> int:
+        """Writes numbers that aren't negative into columns of the table, four digits at a time; the place behind them."""
+        numpy = self._numpy
+        end = at + width
+        for part, digits in self._eights(numbers, width):
+            for step in range(digits // 4):
+                end -= 4
+                above = part // numpy.uint32(10000) if step + 1 < digits // 4 else numpy.uint32(0)
+                place = numpy.ndarray((len(out),), numpy.uint32, buffer=out.data, offset=end, strides=(self.line,))
+                place[:] = self._four.take((part - above * numpy.uint32(10000)).astype(numpy.intp))
+                part = above
+        if keep is not None:
+            seen = numpy.logical_or.accumulate(out[:, at:at + width] != 48, axis=1)
+            keep[:, at:at + width - 1] = seen[:, :-1]
+        return at + width
+
+    def _eights(self, numbers: Any, width: int) -> Iterator[Tuple[Any, int]]:
+        """Numbers by eight digits, the lowest first, as 32-bit words, with how many digits are left of them."""
+        numpy = self._numpy
+        while width > 8:
+            numbers = numbers.astype(numpy.uint64, copy=False)
+            above = numbers // numpy.uint64(10 ** 8)
+            yield (numbers - above * numpy.uint64(10 ** 8)).astype(numpy.uint32), 8
+            numbers, width = above, width - 8
+        yield numbers.astype(numpy.uint32), width
+
+
+def read(text: bytes, arrays: Optional[bool] = None) -> Triples:
+    """The triples of a text as the server writes it. `arrays` says whether as arrays of numpy or as lists; without it lists."""
+    nrows, ncols, start = head_of(text)
+    if arrays:
+        numbers = numbers_of(text[start:])
+        return Triples(numbers[0::3] - 1, numbers[1::3] - 1, numbers[2::3].copy(), nrows, ncols)
+    if len(text) > FEW and find_numpy() is not None:
+        rows, columns, values, nrows, ncols = read(text, True)
+        return Triples(rows.tolist(), columns.tolist(), values.tolist(), nrows, ncols)
+    words = list(map(int, text[start:].split()))
+    return Triples([i - 1 for i in words[0::3]], [j - 1 for j in words[1::3]], words[2::3], nrows, ncols)
+
+
+def head_of(text: bytes) -> Tuple[int, int, int]:
+    """Rows, columns, and where the entries begin in a text as the server writes it."""
+    first = text.index(b'\n') + 1
+    second = text.index(b'\n', first) + 1
+    nrows, ncols, _ = map(int, text[first:second].split())
+    return nrows, ncols, second
+
+
+def numbers_of(text: bytes) -> Any:
+    """All numbers of a text, as an array of int64."""
+    import numpy
+    return numpy.fromstring(text, numpy.int64, sep=' ') if text.strip() else numpy.zeros(0, numpy.int64)
+
+
+def swapped(text: bytes) -> bytes:
+    """The text of the transpose, from a text as the server writes it."""
+    rows, columns, values, nrows, ncols = read(text, len(text) > FEW and find_numpy() is not None)
+    return write(Triples(columns, rows, values, ncols, nrows))
+
+
+def line_at(text: bytes, at: int) -> str:
+    """Line `at` of a text, from 1, cut where it is long; empty where there is none."""
+    start = 0
+    for _ in range(at - 1):
+        start = text.find(b'\n', start) + 1
+        if not start:
+            return ''
+    end = text.find(b'\n', start)
+    line = text[start:] if end < 0 else text[start:end]
+    return line[:100].decode('utf-8', 'replace').strip() + ('..' if len(line) > 100 else '')

@@ -1,0 +1,63 @@
+"""Names of matrices in a session: which are held, which may be used again, which hold what nobody wants."""
+from __future__ import annotations
+
+import collections
+import re
+import weakref
+from typing import Any, Deque, Dict, Iterator, Optional, Set
+
+SMALL = 65_536                                     # a dead matrix of more rows and entries than this is overwritten
+_NAME = re.compile('[A-Za-z0-9_]{1,32}')
+
+
+class Names:
+    """The names of one session.
+
+    A matrix that nobody holds leaves its name here: that alone happens when it is collected, and nothing is sent. The name is used
+    again, but not while a job waits that will bind it: what were uploaded under it would be replaced by the next run. What is large
+    is to be overwritten, as no command forgets a matrix.
+    """
+
+    def __init__(self) -> None:
+        self._dropped: Deque[str] = collections.deque()   # as they were collected
+        self._free: Deque[str] = collections.deque()
+        self._given: Set[str] = set()                     # wished by the caller, and held
+        self._sizes: Dict[str, int] = {}                  # rows and entries of what a name stands for
+        self._count = 0
+
+    def take(self, wished: Optional[str] = None) -> str:
+        """A name for a new matrix: the one that is wished, where the server takes it and no other matrix has it, or one of the
+        client's, which begin with an underscore."""
+        if wished is not None and not wished.startswith('_') and wished not in self._given and _NAME.fullmatch(wished):
+            self._given.add(wished)
+            return wished
+        if self._free:
+            return self._free.popleft()
+        self._count += 1
+        return '_%d' % self._count
+
+    def give_back(self, name: str) -> None:
+        """A name that was taken and is not to be used: its command was refused."""
+        self._given.discard(name)
+        if name.startswith('_'):
+            self._free.append(name)
+
+    def hold(self, matrix: Any, name: str) -> None:
+        """Gives the name back when the matrix is collected."""
+        weakref.finalize(matrix, self._dropped.append, name).atexit = False
+
+    def bound(self, name: str, rows: int, entries: int) -> None:
+        """What a name stands for now."""
+        self._sizes[name] = rows + entries
+
+    def settle(self, waiting: Set[str]) -> Iterator[str]:
+        """Makes names of collected matrices free, and yields those whose matrix is to be overwritten before. Names that waiting
+        jobs will bind stay as they are."""
+        for _ in range(len(self._dropped)):
+            name = self._dropped.popleft()
+            if name in waiting:
+                self._dropped.append(name)
+                continue
+            if self._sizes.pop(name, 0) > SMALL:
+                yield name
+            self.give_back(name)

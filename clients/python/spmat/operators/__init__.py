@@ -1,0 +1,187 @@
+"""Operators: programs with a kind, as descriptions that belong to no session and can be pickled.
+
+A session uploads an operator at its first use, and each operator once, whatever object it comes in: two descriptions of the same
+kind and the same text or code are equal. The ready ones are one file each, `KIND/NAME.asm` beside this one, in the assembly text
+of docs/operators.md, by python-graphblas' names: `unary.abs`, `binary.plus`, `indexunary.tril`, and `semiring.min_plus` for any
+two binary names. Wherever an operator is wanted its name does as well: `A.apply("abs")`.
+"""
+from __future__ import annotations
+
+import os
+from dataclasses import dataclass, field
+from typing import Dict, Iterator, List, Optional, Tuple, Union
+
+KINDS = ('unary', 'binary', 'index')
+_FOLDER = os.path.dirname(os.path.abspath(__file__))
+_RIGHT = (('mov64 r2, r4', 'bf42000000000000'),)
+_LEFT = (('mov64 r2, r1', 'bf12000000000000'), ('mov64 r1, r4', 'bf41000000000000'))
+_SIGNS = {'==': 'valueeq', '!=': 'valuene', '<': 'valuelt', '<=': 'valuele', '>': 'valuegt', '>=': 'valuege'}
+
+
+@dataclass(frozen=True)
+class Operator:
+    """A program and its kind, `unary`, `binary` or `index`: assembly text, or code as bytes. `name` is for people and for the
+    session's messages; operators that differ in nothing else are equal."""
+    kind: str
+    text: Optional[str] = None
+    code: Optional[bytes] = None
+    name: Optional[str] = field(default=None, compare=False)
+
+    def __post_init__(self) -> None:
+        if self.kind not in KINDS:
+            raise ValueError('a kind is unary, binary or index, not %r' % (self.kind,))
+        if (self.text is None) == (self.code is None):
+            raise ValueError('an operator has assembly text, or code')
+
+    def __repr__(self) -> str:
+        return '<%s operator%s>' % (self.kind, ' ' + self.name if self.name else '')
+
+    @property
+    def body(self) -> bytes:
+        """What is uploaded: the assembly text, or the code in hexadecimal."""
+        return self.text.encode() if self.text is not None else (self.code or b'').hex().encode()
+
+    def line_at(self, rule: str, at: int) -> str:
+        """What stands at the place that a refusal names: A rules name lines of the text, V rules slots, of which `wide` has two.
+        Where there is code alone, the slot's hexadecimal digits. Empty where nothing stands there."""
+        if self.text is None:
+            return (self.code or b'')[8 * at:8 * at + 8].hex() if rule.startswith('V') else ''
+        if rule.startswith('A'):
+            lines = self.text.split('\n')
+            return lines[at - 1].strip() if 0 < at <= len(lines) else ''
+        return next((line for slot, line in self.slots() if slot == at), '')
+
+    def slots(self) -> Iterator[Tuple[int, str]]:
+        """The slot of each instruction of the text, with its line, without comments."""
+        slot = 0
+        for line in (self.text or '').split('\n'):
+            bare = line.split(';')[0].split('#')[0].strip()
+            if bare:
+                yield slot, bare
+                slot += 2 if bare.split()[0] == 'wide' else 1
+
+    def bind_right(self) -> Operator:
+        """OP(x, thunk) of a binary OP as an index operator; one instruction more."""
+        return self._behind(_RIGHT, '_right')
+
+    def bind_left(self) -> Operator:
+        """OP(thunk, x) of a binary OP as an index operator; two instructions more."""
+        return self._behind(_LEFT, '_left')
+
+    def _behind(self, moves: Tuple[Tuple[str, str], ...], tail: str) -> Operator:
+        """The program with moves before it. Jumps are relative and go forward, so they stand."""
+        if self.kind != 'binary':
+            raise TypeError('a binary operator can be bound, and this is %s' % self.kind)
+        name = self.name and self.name + tail
+        if self.text is not None:
+            return Operator('index', text=''.join(line + '\n' for line, _ in moves) + self.text, name=name)
+        return Operator('index', code=bytes.fromhex(''.join(digits for _, digits in moves)) + (self.code or b''), name=name)
+
+
+@dataclass(frozen=True)
+class Semiring:
+    """Two binary operators for products, given as operators or by name: terms `mul(a, b)`, folded by `add` with ascending index."""
+    add: Operator
+    mul: Operator
+
+    def __post_init__(self) -> None:
+        object.__setattr__(self, 'add', find('binary', self.add))
+        object.__setattr__(self, 'mul', find('binary', self.mul))
+
+    def __repr__(self) -> str:
+        return '<semiring %s_%s>' % (self.add.name or '?', self.mul.name or '?')
+
+
+def asm(kind: str, text: str, name: Optional[str] = None) -> Operator:
+    """An operator from assembly text (docs/operators.md). Nothing is looked at before its first use."""
+    return Operator(kind, text=text if text.endswith('\n') else text + '\n', name=name)
+
+
+def code(kind: str, data: Union[str, bytes, bytearray], name: Optional[str] = None) -> Operator:
+    """An operator from BPF code, 8 bytes a slot: bytes, or hexadecimal text. ValueError where the text isn't hexadecimal."""
+    return Operator(kind, code=bytes.fromhex(data) if isinstance(data, str) else bytes(data), name=name)
+
+
+class Ready:
+    """The ready operators of one kind, by name: `binary.plus`, `binary['plus']`, `'plus' in binary`; iterating gives the names."""
+
+    def __init__(self, kind: str) -> None:
+        self._kind = kind
+        self._known: Dict[str, Operator] = {}
+
+    def _file(self, name: str) -> str:
+        return os.path.join(_FOLDER, self._kind, name + '.asm')
+
+    def __getitem__(self, name: str) -> Operator:
+        if name not in self._known:
+            if not name.isidentifier() or not os.path.isfile(self._file(name)):
+                raise KeyError(name)
+            with open(self._file(name), encoding='ascii', newline='') as file:
+                self._known[name] = asm(self._kind, file.read(), name)
+        return self._known[name]
+
+    def __getattr__(self, name: str) -> Operator:
+        if not name.startswith('_'):
+            try:
+                return self[name]
+            except KeyError:
+                pass
+        raise AttributeError('no ready %s operator %r' % (self.__dict__.get('_kind'), name))
+
+    def __contains__(self, name: object) -> bool:
+        return isinstance(name, str) and (name in self._known or (name.isidentifier() and os.path.isfile(self._file(name))))
+
+    def __iter__(self) -> Iterator[str]:
+        return iter(sorted(file[:-4] for file in os.listdir(os.path.join(_FOLDER, self._kind)) if file.endswith('.asm')))
+
+    def __dir__(self) -> List[str]:
+        return list(self)
+
+
+class Semirings:
+    """`semiring.min_plus` is Semiring(binary.min, binary.plus): any two ready binary names, joined by `_`."""
+
+    def __getitem__(self, name: str) -> Semiring:
+        add, _, mul = name.partition('_')
+        if add not in binary or mul not in binary:
+            raise KeyError(name)
+        return Semiring(binary[add], binary[mul])
+
+    def __getattr__(self, name: str) -> Semiring:
+        try:
+            return self[name]
+        except KeyError:
+            raise AttributeError('no semiring %r: two ready binary names, joined by _, are wanted' % name) from None
+
+
+unary, binary, indexunary = Ready('unary'), Ready('binary'), Ready('index')
+semiring = Semirings()
+select = indexunary
+READY = {'unary': unary, 'binary': binary, 'index': indexunary}
+
+
+def find(kind: str, op: Union[str, Operator]) -> Operator:
+    """An operator that is given as itself, or by the name of a ready one of this kind. TypeError for anything else, ValueError
+    for a name that no ready one has. An operator of another kind is given back as it is."""
+    if isinstance(op, Operator):
+        return op
+    if not isinstance(op, str):
+        raise TypeError('an operator or its name is wanted, not %r' % (op,))
+    name = _SIGNS.get(op, op) if kind == 'index' else op
+    if name not in READY[kind]:
+        raise ValueError('no ready %s operator is called %r' % (kind, op))
+    return READY[kind][name]
+
+
+def find_semiring(op: Union[str, Semiring, Tuple[Union[str, Operator], Union[str, Operator]]]) -> Semiring:
+    """A semiring that is given as itself, by its name, or as a pair of operators. TypeError and ValueError as `find`."""
+    if isinstance(op, Semiring):
+        return op
+    if isinstance(op, tuple) and len(op) == 2:
+        return Semiring(*op)  # type: ignore[arg-type]
+    if not isinstance(op, str):
+        raise TypeError('a semiring or its name is wanted, not %r' % (op,))
+    try:
+        return semiring[op]
+    except KeyError:
+        raise ValueError('no semiring is called %r: two ready binary names, joined by _, are wanted' % op) from None

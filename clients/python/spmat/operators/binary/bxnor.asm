@@ -1,0 +1,5 @@
+; bitwise exclusive or, each bit turned
+mov64 r0, r1
+xor64 r0, r2
+xor64 r0, -1
+exit

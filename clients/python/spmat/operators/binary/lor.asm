@@ -1,0 +1,6 @@
+; 1 where x or y is not 0, else 0
+or64 r1, r2
+mov64 r0, 1
+jne64 r1, 0, 1
+mov64 r0, 0
+exit

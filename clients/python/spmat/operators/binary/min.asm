@@ -1,0 +1,5 @@
+; the lesser of x and y
+mov64 r0, r1
+jsle64 r1, r2, 1
+mov64 r0, r2
+exit

@@ -1,0 +1,5 @@
+; 1 where x is not y, else 0
+mov64 r0, 1
+jne64 r1, r2, 1
+mov64 r0, 0
+exit

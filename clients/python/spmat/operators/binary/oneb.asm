@@ -1,0 +1,3 @@
+; 1: the same as pair
+mov64 r0, 1
+exit

@@ -1,0 +1,3 @@
+; y
+mov64 r0, r2
+exit

@@ -1,0 +1,3 @@
+; x, so that select keeps what is not 0
+mov64 r0, r1
+exit

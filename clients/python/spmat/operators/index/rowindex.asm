@@ -1,0 +1,4 @@
+; i + t
+mov64 r0, r2
+add64 r0, r4
+exit

@@ -1,0 +1,3 @@
+; t
+mov64 r0, r4
+exit

@@ -1,0 +1,5 @@
+; 1 where x is greater than t, else 0
+mov64 r0, 1
+jsgt64 r1, r4, 1
+mov64 r0, 0
+exit

@@ -1,0 +1,5 @@
+; x without its sign; the least number is its own
+mov64 r0, r1
+jsge64 r0, 0, 1
+neg64 r0
+exit

@@ -1,0 +1,3 @@
+; x
+mov64 r0, r1
+exit

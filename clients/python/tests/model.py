@@ -1,0 +1,75 @@
+"""Matrices as finite maps of Python, {(row, column): value}, and the client's methods on them: what random calls are compared
+with."""
+
+
+def signed(value):
+    """The number within 64 bits that a value wraps to."""
+    return (int(value) + 2 ** 63) % 2 ** 64 - 2 ** 63
+
+
+def truncated(x, y):
+    """x / y toward zero; 0 where y is 0."""
+    return 0 if y == 0 else signed(abs(x) // abs(y) * (1 if (x < 0) == (y < 0) else -1))
+
+
+UNARY = {'identity': lambda x: x, 'one': lambda x: 1, 'ainv': lambda x: -x, 'abs': abs, 'bnot': lambda x: ~x,
+         'lnot': lambda x: x == 0}
+BINARY = {'plus': lambda x, y: x + y, 'minus': lambda x, y: x - y, 'times': lambda x, y: x * y, 'min': min, 'max': max,
+          'first': lambda x, y: x, 'second': lambda x, y: y, 'cdiv': truncated, 'ne': lambda x, y: x != y}
+ASSOCIATIVE = ('plus', 'times', 'min', 'max', 'first', 'second')
+INDEX = {'tril': lambda x, i, j, t: j <= i + t, 'triu': lambda x, i, j, t: j >= i + t, 'rowle': lambda x, i, j, t: i <= t,
+         'valuegt': lambda x, i, j, t: x > t, 'offdiag': lambda x, i, j, t: j != i + t, 'rowindex': lambda x, i, j, t: i + t}
+
+
+def fold(op, values):
+    out = values[0]
+    for value in values[1:]:
+        out = signed(BINARY[op](out, value))
+    return out
+
+
+def folded(op, terms):
+    """From lists of terms by position."""
+    return {position: fold(op, values) for position, values in terms.items()}
+
+
+def union(a, b, op):
+    return {p: signed(BINARY[op](a[p], b[p])) if p in a and p in b else a.get(p, b.get(p)) for p in {**a, **b}}
+
+
+def both(a, b, op):
+    return {p: signed(BINARY[op](a[p], b[p])) for p in a if p in b}
+
+
+def product(a, b, add, mul):
+    rows, terms = {}, {}
+    for (k, j), y in sorted(b.items()):
+        rows.setdefault(k, []).append((j, y))
+    for (i, k), x in sorted(a.items()):
+        for j, y in rows.get(k, ()):
+            terms.setdefault((i, j), []).append(signed(BINARY[mul](x, y)))
+    return folded(add, terms)
+
+
+def by_rows(a, op):
+    terms = {}
+    for (i, j), x in sorted(a.items()):
+        terms.setdefault((i, 0), []).append(x)
+    return folded(op, terms)
+
+
+def by_columns(a, op):
+    return transposed(by_rows(transposed(a), op))
+
+
+def transposed(a):
+    return {(j, i): x for (i, j), x in a.items()}
+
+
+def cut(a, keep):
+    return {p: x for p, x in a.items() if keep(p)}
+
+
+def updated(a, b, accum, keep, replace):
+    inside = cut(union(a, b, accum) if accum else b, keep)
+    return inside if replace else {**cut(a, lambda p: not keep(p)), **inside}

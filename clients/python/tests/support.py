@@ -1,0 +1,111 @@
+"""What the tests share: the program, TCP between a client and it, and a server whose replies a test writes."""
+import contextlib
+import importlib.util
+import os
+import shutil
+import socket
+import subprocess
+import threading
+import unittest
+
+TOP = os.path.normpath(os.path.join(os.path.dirname(os.path.abspath(__file__)), '..', '..', '..'))
+BANNER = '%%MatrixMarket matrix coordinate integer general\n'
+
+
+def program():
+    """The built program: the variable SPMAT, `spmat` on the PATH, or crates/spmat/out/spmat, in this order."""
+    found = os.environ.get('SPMAT') or shutil.which('spmat') or os.path.join(TOP, 'crates', 'spmat', 'out', 'spmat')
+    if not os.environ.get('SPMAT') and not os.path.exists(found):
+        raise FileNotFoundError('the tests want the built program: set SPMAT, or build it')
+    return found
+
+
+os.environ['SPMAT'] = program()
+
+
+def needs(*modules):
+    """Skips a test where a module isn't there, and says which."""
+    missing = [module for module in modules if importlib.util.find_spec(module) is None]
+    return unittest.skipIf(missing, 'no module ' + ', '.join(missing))
+
+
+class Listener:
+    """Accepts connections in a thread, each handled in one of its own; ends with the `with`."""
+
+    def __enter__(self):
+        self._listening = socket.create_server(('127.0.0.1', 0))
+        self.port = self._listening.getsockname()[1]
+        self._open = []
+        threading.Thread(target=self._accept, daemon=True).start()
+        return self
+
+    def __exit__(self, *_):
+        self._listening.close()
+        for connection in self._open:
+            connection.close()
+
+    def _accept(self):
+        while True:
+            try:
+                connection = self._listening.accept()[0]
+            except OSError:
+                return
+            self._open.append(connection)
+            threading.Thread(target=self._handle, args=(connection,), daemon=True).start()
+
+    def _handle(self, connection):
+        raise NotImplementedError
+
+
+class Relay(Listener):
+    """A connection is a session of `spmat run`; those above `seats` at a time get `no busy`."""
+
+    def __init__(self, seats=16, steps=1000):
+        self._seats = threading.Semaphore(seats)
+        self._words = ['run', '--steps', str(steps), '--workers', '1']
+
+    def _handle(self, connection):
+        if not self._seats.acquire(blocking=False):
+            with connection, contextlib.suppress(OSError):
+                connection.sendall(b'no busy\n')
+                connection.shutdown(socket.SHUT_WR)
+                connection.recv(1 << 16)
+            return
+        child = subprocess.Popen([os.environ['SPMAT']] + self._words, stdin=connection, stdout=connection)
+        child.wait()
+        self._seats.release()
+        with connection, contextlib.suppress(OSError):
+            connection.shutdown(socket.SHUT_RDWR)
+
+
+class Last(bytes):
+    """A reply after which the connection is closed."""
+
+
+class Scripted(Listener):
+    """Answers commands as `answer(words, body)` says; with None the connection is closed. `seen` has the commands' lines."""
+
+    def __init__(self, answer):
+        self._answer = answer
+        self.seen = []
+
+    def _handle(self, connection):
+        with connection, connection.makefile('rb') as source:
+            for line in source:
+                words = line.decode().split()
+                if not words:
+                    continue
+                body = source.read(int(words[-1])) if words[0] in ('matrix', 'asm', 'op') else None
+                self.seen.append(' '.join(words))
+                reply = self._answer(words, body)
+                if reply is None:
+                    return
+                connection.sendall(reply)
+                if isinstance(reply, Last):
+                    return
+
+
+def plausible(words, body):
+    """What a server might answer, without looking at anything."""
+    return {'budget': b'ok budget 100 0 0\n', 'quit': b'ok quit\n', 'run': b'ok run 0 0\n', 'asm': b'ok op 1 1\n',
+            'op': b'ok op 1 1\n', 'matrix': b'ok matrix 1 1 1\n', 'show': b'ok show 0\n'}.get(words[0], b'ok queued 1 1\n')

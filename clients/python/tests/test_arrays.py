@@ -1,0 +1,240 @@
+"""numpy, scipy.sparse and networkx, in and out. Each is skipped where its module isn't there."""
+import io
+import random
+import time
+import unittest
+
+from support import needs
+import spmat
+from spmat import market
+
+
+class Case(unittest.TestCase):
+    @classmethod
+    def setUpClass(cls):
+        cls.s = spmat.Session()
+
+    @classmethod
+    def tearDownClass(cls):
+        cls.s.close()
+
+
+@needs('numpy')
+class Numpy(Case):
+    def test_there_and_back(self):
+        import numpy
+        r = numpy.random.default_rng(1)
+        for least, most in ((0, 1), (-9, 10), (0, 10 ** 8), (-10 ** 9, 10 ** 12), (-2 ** 63, 2 ** 63 - 1)):
+            at = numpy.unique(r.integers(0, 1 << 40, 3000))
+            r.shuffle(at)
+            rows, columns = at >> 20, at & (1 << 20) - 1
+            values = r.integers(least, most, len(at), endpoint=True)
+            values[:2] = least, most
+            A = self.s.from_coo(rows, columns, values, 1 << 20, 1 << 20)
+            order = numpy.argsort(at)
+            for got, want in zip(A.to_coo(), (rows, columns, values)):
+                self.assertEqual(got.dtype, numpy.int64)
+                self.assertTrue((got == want[order]).all())
+            self.assertEqual(A.to_triples(), list(zip(*(part[order].tolist() for part in (rows, columns, values)))))
+            self.assertTrue(A.isequal(self.s.from_coo(rows.tolist(), columns.tolist(), values.tolist(), 1 << 20, 1 << 20)))
+
+    def test_without_leading_zeros(self):
+        """Where lines of one width are too long for a body, the zeros are taken out."""
+        import numpy
+        rows, columns, values = numpy.array([0, 99999, 7]), numpy.array([12345678, 0, 9]), numpy.array([0, -10, 2 ** 62])
+        triples = market.Triples(rows, columns, values, 100000, 12345679)
+        long = market.write(triples)
+        before, market.MOST_TEXT = market.MOST_TEXT, len(long) - 1
+        try:
+            short = market.write(triples)
+        finally:
+            market.MOST_TEXT = before
+        self.assertEqual(short.split(b'\n')[2:], [b'1 12345679 +0', b'100000 1 -10', b'8 10 +4611686018427387904', b''])
+        self.assertLess(len(short), len(long))
+        self.assertTrue(self.s.from_text(short).isequal(self.s.from_text(long)))
+
+    def test_kinds_of_arrays(self):
+        import numpy
+        s = self.s
+        for values in (numpy.array([1, 0, 5], numpy.uint8), numpy.array([1., 0., 5.]), numpy.array([1, 0, 5], object), [1, 0, 5],
+                       numpy.array([1, 0, 5], numpy.uint64)):
+            self.assertEqual(s.from_coo(numpy.arange(3), [0, 1, 0], values).to_triples(), [(0, 0, 1), (1, 1, 0), (2, 0, 5)])
+        self.assertEqual(s.from_coo(numpy.arange(3), numpy.zeros(3), 7).to_triples(), [(0, 0, 7), (1, 0, 7), (2, 0, 7)])
+        self.assertEqual(s.from_coo(numpy.array([0]), numpy.array([0]), numpy.array([True])).to_list(), [1])
+        self.assertEqual(s.from_coo([], numpy.array([]), []).shape, (0, 0))
+        table = numpy.array([[0, 1, 5], [2, 0, -7]])
+        self.assertEqual(s.from_triples(table, 3, 4).to_triples(), [tuple(row) for row in table.tolist()])
+        self.assertEqual(s.from_coo([numpy.int32(2)], [numpy.uint8(1)], [numpy.float32(3)]).to_triples(), [(2, 1, 3)])
+
+    def test_wrong_arrays(self):
+        import numpy
+        s, one = self.s, numpy.array([0])
+        before = s.connection.commands
+        for kind, value in ((ValueError, .5), (ValueError, 2. ** 63), (ValueError, -2. ** 63 - 2048), (ValueError, numpy.nan),
+                            (ValueError, numpy.inf), (ValueError, numpy.uint64(2 ** 63)), (TypeError, 'x'), (TypeError, 1j)):
+            with self.assertRaises(kind):
+                s.from_coo(one, one, numpy.array([value]))
+        for rows, columns, sizes in ((one - 1, one, ()), (one, one - 1, ()), (one + 5, one, (5, 5)), (one, one + 5, (5, 5)),
+                                     (one, numpy.arange(2), ()), (one.reshape(1, 1), one, ())):
+            with self.assertRaises(ValueError):
+                s.from_coo(rows, columns, 1, *sizes)
+        with self.assertRaises(ValueError):
+            s.from_dense(numpy.zeros((2, 2, 2)))
+        self.assertEqual(s.connection.commands, before)
+        with self.assertRaises(ValueError) as said:
+            s.from_coo(numpy.arange(4), numpy.arange(4), numpy.array([1, 2, 2.5, 3]))
+        self.assertIn('2.5 (entry 2)', str(said.exception))
+
+    def test_repeated_positions(self):
+        import numpy
+        r = random.Random(2)
+        for op in ('plus', 'minus', 'second'):
+            many = [(r.randrange(5), r.randrange(4), r.randrange(9)) for _ in range(60)]
+            rows, columns, values = (numpy.array(part) for part in zip(*many))
+            want = self.s.from_triples(many, 5, 4, dup_op=op).to_dict()
+            self.assertEqual(self.s.from_coo(rows, columns, values, 5, 4, dup_op=op).to_dict(), want)
+        with self.assertRaises(spmat.TextRefused):
+            self.s.from_coo(numpy.zeros(2), numpy.zeros(2), 1)
+
+    def test_tables(self):
+        import numpy
+        table = numpy.array([[1, 0, -3], [0, 5, 0]])
+        self.assertTrue((self.s.from_dense(table).to_dense() == table).all())
+        self.assertEqual(self.s.from_dense(table, 0).nvals, 3)
+        self.assertTrue((self.s.from_dense(table, 0).to_dense(9) == numpy.where(table == 0, 9, table)).all())
+        self.assertEqual(self.s.from_dense(numpy.array([4., 5.])).to_triples(), [(0, 0, 4), (1, 0, 5)])
+
+    def test_large_transpose(self):
+        import numpy
+        at = numpy.unique(numpy.random.default_rng(3).integers(0, 1 << 30, 20000))
+        A = self.s.from_coo(at >> 15, at & (1 << 15) - 1, numpy.arange(len(at)), 1 << 15, 1 << 15)
+        rows, columns, values = A.to_coo()
+        order = numpy.lexsort((rows, columns))
+        for got, want in zip(A.T.to_coo(), (columns[order], rows[order], values[order])):
+            self.assertTrue((got == want).all())
+
+
+@needs('numpy', 'scipy')
+class Scipy(Case):
+    def test_there_and_back(self):
+        import numpy
+        import scipy.sparse
+        M = scipy.sparse.random(50, 40, .1, random_state=1, data_rvs=lambda n: numpy.arange(n) - 70.)
+        for form in ('coo', 'csr', 'csc', 'lil', 'dok', 'bsr'):
+            A = self.s.from_scipy_sparse(M.asformat(form))
+            self.assertEqual((A.shape, A.nvals), ((50, 40), M.nnz))
+            back = A.to_scipy_sparse()
+            self.assertEqual((back.format, back.dtype), ('csr', numpy.int64))
+            self.assertTrue((back.toarray() == M.toarray()).all())
+        self.assertEqual(A.to_scipy_sparse('coo').format, 'coo')
+
+    def test_duplicates_and_the_callers_matrix(self):
+        import scipy.sparse
+        M = scipy.sparse.coo_matrix(([1, 2, 3], ([0, 0, 1], [1, 1, 0])), (2, 2))
+        self.assertEqual(self.s.from_scipy_sparse(M).to_dict(), {(0, 1): 3, (1, 0): 3})
+        self.assertEqual(M.nnz, 3)                         # it stays as it was
+
+    def test_values_that_are_not_whole(self):
+        import scipy.sparse
+        with self.assertRaises(ValueError):
+            self.s.from_scipy_sparse(scipy.sparse.coo_matrix([[.5]]))
+        with self.assertRaises(TypeError):
+            self.s.from_scipy_sparse(scipy.sparse.coo_matrix([[1j]]))
+
+    def test_files(self):
+        import numpy
+        import scipy.io
+        import scipy.sparse
+        M = scipy.sparse.random(30, 30, .2, random_state=1, data_rvs=lambda n: numpy.arange(n) - 70.)
+        for field, dtype in (('real', float), ('integer', int)):
+            M = M.astype(dtype)
+            for symmetry, what in (('general', M), ('symmetric', M + M.T), ('skew-symmetric', M - M.T)):
+                for thing in (what.tocoo(), what.toarray()):
+                    file = io.BytesIO()
+                    scipy.io.mmwrite(file, thing, field=field, symmetry=symmetry)
+                    file.seek(0)
+                    self.assertTrue((self.s.mmread(file).to_dense() == what.toarray()).all())
+        A, file = self.s.from_scipy_sparse(M), io.BytesIO()
+        A.mmwrite(file)
+        file.seek(0)
+        self.assertTrue((scipy.io.mmread(file).toarray() == M.toarray()).all())
+
+    def test_speed(self):
+        """A million entries from numpy are there in a third of the time that scipy.io.mmwrite takes to write them."""
+        import numpy
+        import scipy.io
+        import scipy.sparse
+        r = numpy.random.default_rng(1)
+        at = numpy.unique(r.integers(0, 1 << 40, 1_000_000))
+        rows, columns, values = at >> 20, at & (1 << 20) - 1, r.integers(-1000, 1000, len(at))
+
+        def least(times, call):
+            took = []
+            for _ in range(times):
+                begun = time.perf_counter()
+                call()
+                took.append(time.perf_counter() - begun)
+            return min(took)
+        ours = least(3, lambda: self.s.from_coo(rows, columns, values, 1 << 20, 1 << 20))
+        M = scipy.sparse.coo_matrix((values, (rows, columns)), (1 << 20, 1 << 20))
+        theirs = least(1, lambda: scipy.io.mmwrite(io.BytesIO(), M))
+        print('upload %.2f s, mmwrite %.2f s' % (ours, theirs), end=' ')
+        self.assertLess(3 * ours, theirs)
+
+
+@needs('networkx')
+class Networkx(Case):
+    def test_graphs(self):
+        import networkx
+        G = networkx.Graph([('a', 'b'), ('b', 'c'), ('c', 'c')])
+        A = self.s.from_networkx(G)
+        self.assertEqual((A.nodes, A.to_dict()), (['a', 'b', 'c'], {(0, 1): 1, (1, 0): 1, (1, 2): 1, (2, 1): 1, (2, 2): 1}))
+        self.assertTrue(networkx.is_isomorphic(A.to_networkx(directed=False), G))
+        self.assertEqual(set(A.to_networkx(directed=False).edges), set(G.edges))
+        D = networkx.gnp_random_graph(20, .2, seed=1, directed=True)
+        B = self.s.from_networkx(D)
+        self.assertEqual(set(B.to_dict()), set(D.edges))
+        self.assertEqual(set(B.to_networkx().edges), set(D.edges))
+        self.assertEqual(set(B.to_networkx().nodes), set(D.nodes))
+
+    def test_weights(self):
+        import networkx
+        G = networkx.DiGraph()
+        G.add_edge(0, 1, weight=5, cost=7)
+        G.add_edge(1, 2)
+        self.assertEqual(self.s.from_networkx(G).to_dict(), {(0, 1): 5, (1, 2): 1})
+        self.assertEqual(self.s.from_networkx(G, 'cost').to_dict(), {(0, 1): 7, (1, 2): 1})
+        self.assertEqual(self.s.from_networkx(G, None).to_dict(), {(0, 1): 1, (1, 2): 1})
+        self.assertEqual(self.s.from_networkx(G).to_networkx()[0][1], {'weight': 5})
+        self.assertEqual(self.s.from_networkx(G).to_networkx(weight='w', nodes='xyz')['x']['y'], {'w': 5})
+        G.add_edge(2, 0, weight=.5)
+        with self.assertRaises(ValueError):
+            self.s.from_networkx(G)
+
+    def test_nodelist(self):
+        import networkx
+        G = networkx.path_graph(4)
+        self.assertEqual(self.s.from_networkx(G, nodelist=[2, 1]).to_dict(), {(0, 1): 1, (1, 0): 1})
+        for wrong in ([1, 1], [1, 9]):
+            with self.assertRaises(ValueError):
+                self.s.from_networkx(G, nodelist=wrong)
+
+    def test_multigraphs(self):
+        import networkx
+        G = networkx.MultiGraph()
+        G.add_weighted_edges_from([(0, 1, 5), (0, 1, 7), (1, 1, 2), (1, 1, 3)])
+        with self.assertRaises(ValueError) as said:
+            self.s.from_networkx(G)
+        self.assertIn('dup_op=', str(said.exception))
+        self.assertEqual(self.s.from_networkx(G, dup_op='plus').to_dict(), {(0, 1): 12, (1, 0): 12, (1, 1): 5})
+        self.assertEqual(self.s.from_networkx(G, dup_op='min').to_dict(), {(0, 1): 5, (1, 0): 5, (1, 1): 2})
+
+    def test_out_of_range(self):
+        with self.assertRaises(spmat.DimensionMismatch):
+            self.s.full(1, 2).to_networkx()
+        with self.assertRaises(ValueError):
+            self.s.full(2, 2).to_networkx(nodes='abc')
+
+
+if __name__ == '__main__':
+    unittest.main()

@@ -1,0 +1,157 @@
+"""The command line: in this process, and as a process of its own where something is handed in by standard input."""
+import contextlib
+import io
+import os
+import subprocess
+import sys
+import tempfile
+import unittest
+
+import support
+from spmat.commands import main
+
+PACKAGE = os.path.join(support.TOP, 'clients', 'python')
+GRAPH = '%%MatrixMarket matrix coordinate pattern symmetric\n6 6 7\n2 1\n3 1\n3 2\n4 3\n5 4\n6 4\n6 5\n'
+SCRIPT = """# degrees
+matrix G < graph.mtx
+asm plus binary <<END
+mov64 r0, r1
+add64 r0, r2
+exit
+END
+
+reduce D plus G
+run
+show D > degrees.mtx
+budget
+quit
+"""
+COLUMN = '%%MatrixMarket matrix coordinate integer general\n6 1 6\n1 1 2\n2 1 2\n3 1 3\n4 1 3\n5 1 2\n6 1 2\n'
+
+
+class Commands(unittest.TestCase):
+    def setUp(self):
+        folder = tempfile.TemporaryDirectory()
+        self.addCleanup(folder.cleanup)
+        self.folder = folder.name
+        self.write('graph.mtx', GRAPH)
+
+    def write(self, name, text):
+        with open(os.path.join(self.folder, name), 'w') as file:
+            file.write(text)
+
+    def read(self, name):
+        with open(os.path.join(self.folder, name)) as file:
+            return file.read()
+
+    def run_words(self, *words, text=None):
+        if text is not None:
+            return subprocess.run([sys.executable, '-m', 'spmat', *words], cwd=self.folder, input=text, stdout=subprocess.PIPE,
+                                  stderr=subprocess.PIPE, text=True, timeout=60, env=dict(os.environ, PYTHONPATH=PACKAGE))
+        here = os.getcwd()
+        os.chdir(self.folder)
+        try:
+            with contextlib.redirect_stdout(io.StringIO()) as stdout, contextlib.redirect_stderr(io.StringIO()) as stderr:
+                try:
+                    status = main(list(words))
+                except SystemExit as ended:
+                    status = ended.code or 0
+        finally:
+            os.chdir(here)
+        return subprocess.CompletedProcess(words, status, stdout.getvalue(), stderr.getvalue())
+
+    def printed(self, *words, text=None):
+        done = self.run_words(*words, text=text)
+        self.assertEqual((done.returncode, done.stderr), (0, ''))
+        return done.stdout
+
+    def refused(self, *words, text=None):
+        done = self.run_words(*words, text=text)
+        self.assertEqual(done.returncode, 1)
+        self.assertEqual(done.stderr.count('\n'), 1, done.stderr)
+        return done.stderr
+
+    def test_numbers_columns_and_matrices(self):
+        self.assertEqual(self.printed('triangle-count', 'graph.mtx'), '2\n')
+        self.assertEqual(self.printed('degrees', 'graph.mtx'), '1 2\n2 2\n3 3\n4 3\n5 2\n6 2\n')
+        self.assertEqual(self.printed('degrees', 'graph.mtx', '--mtx'), COLUMN)
+        self.assertEqual(self.printed('k-truss', 'graph.mtx', '--k', '3').splitlines()[:2], ['1 2 1', '1 3 1'])
+
+    def test_vertices_count_from_1(self):
+        self.assertEqual(self.printed('bfs-levels', 'graph.mtx', '--source', '6'), '1 3\n2 3\n3 2\n4 1\n5 1\n6 0\n')
+        self.assertEqual(self.printed('bfs-parents', 'graph.mtx', '--undirected'), '1 1\n2 1\n3 1\n4 3\n5 4\n6 4\n')
+        self.assertEqual(self.printed('connected-components', 'graph.mtx'), ''.join('%d 1\n' % row for row in range(1, 7)))
+        self.assertIn('no vertex 7: they are 1 to 6', self.refused('bfs-levels', 'graph.mtx', '--source', '7'))
+
+    def test_fractions(self):
+        shares = self.printed('clustering', 'graph.mtx').splitlines()
+        self.assertEqual(shares[:3], ['1 1.000000000', '2 1.000000000', '3 0.333333333'])
+        ranks = [float(line.split()[1]) for line in self.printed('pagerank', 'graph.mtx', '--undirected').splitlines()]
+        self.assertAlmostEqual(sum(ranks), 1, places=6)
+
+    def test_standard_input_and_output_file(self):
+        self.assertEqual(self.printed('degrees', '-', '--output', 'd.txt', text=GRAPH), '')
+        self.assertEqual(self.read('d.txt').splitlines()[2], '3 3')
+
+    def test_faults_are_one_line(self):
+        self.assertIn('nothere.mtx', self.refused('degrees', 'nothere.mtx'))
+        self.assertIn('M6', self.refused('degrees', '-', text=GRAPH.replace('6 5\n', '9 5\n')))
+        self.assertIn('HOST:PORT', self.refused('degrees', 'graph.mtx', '--connect', 'here'))
+        self.assertIn('square', self.refused('degrees', '-', text=COLUMN))
+        self.assertIn('S8', self.refused('triangle-count', 'graph.mtx', '--steps', '3'))
+        self.assertEqual(self.run_words('nothing').returncode, 2)
+        self.assertEqual(self.run_words('k-core', 'graph.mtx').returncode, 2)
+
+    def test_help_has_examples(self):
+        self.assertIn('python3 -m spmat triangle-count', self.printed('--help'))
+        for command in ('degrees', 'bfs-levels', 'k-truss', 'spy', 'types', 'run'):
+            told = self.printed(command, '--help')
+            self.assertTrue('example' in told or 'matrix G < graph.mtx' in told, command)
+            self.assertNotIn('progress(', told)
+
+    def test_types(self):
+        lines = self.printed('types', 'binary.min').splitlines()
+        self.assertEqual(lines[0].split(), ['slot', 'instruction'] + ['R%d' % number for number in range(11)])
+        self.assertEqual(lines[1].split(), ['0', 'mov64', 'r0,', 'r1', '-', 'n', 'n'] + ['-'] * 7 + ['p0'])
+        self.write('bad.asm', 'mov64 r0, r1\nldx64 r0, r1, 0\nexit\n')
+        said = self.refused('types', 'bad.asm', '--kind', 'unary')
+        self.assertIn('V14', said)
+        self.assertIn("slot 1: 'ldx64 r0, r1, 0'", said)
+        self.assertIn('--kind', self.refused('types', 'bad.asm'))
+        self.assertIn('plus', self.refused('types', 'binary.nothing'))
+
+    def test_script(self):
+        self.write('session.txt', SCRIPT)
+        printed = self.printed('run', 'session.txt')
+        self.assertEqual(printed.splitlines()[:5], ['ok matrix 6 6 14', 'ok op 3 3', 'ok queued 1 24', 'ok run 1 24', 'D 6 1 6 24'])
+        self.assertEqual(printed.splitlines()[-1], 'ok quit')
+        self.assertEqual(self.read('degrees.mtx'), COLUMN)
+
+    def test_script_stops_where_it_is_refused(self):
+        self.write('session.txt', SCRIPT.replace('reduce D', 'foo\nreduce D'))
+        done = self.run_words('run', 'session.txt')
+        self.assertEqual((done.returncode, done.stdout), (1, 'ok matrix 6 6 14\nok op 3 3\n'))
+        self.assertIn('line 9: `foo` is refused: S1', done.stderr)
+        done = self.run_words('run', 'session.txt', '--keep-going')
+        self.assertEqual((done.returncode, done.stdout.splitlines()[-1]), (1, 'ok quit'))
+
+    def test_script_faults_name_their_line(self):
+        for text, words in (('budget\nmatrix G\n', 'line 2: `matrix` wants its body'), ('matrix G < nothere.mtx\n', 'line 1: '),
+                            ('asm f unary <<END\nexit\n', 'no line END'), ('budget < graph.mtx\n', '`budget` has no body'),
+                            ('budget > x\n', 'only the result of `show`')):
+            self.assertIn(words, self.refused('run', '-', text=text))
+
+    @support.needs('matplotlib', 'numpy')
+    def test_pictures(self):
+        for words in (['spy', 'graph.mtx'], ['degrees', 'graph.mtx'], ['bfs-levels', 'graph.mtx'], ['k-truss', 'graph.mtx', '--k', '3']):
+            self.printed(*words, '--plot', 'picture.png')
+            with open(os.path.join(self.folder, 'picture.png'), 'rb') as file:
+                self.assertEqual(file.read(8), b'\x89PNG\r\n\x1a\n')
+            os.remove(os.path.join(self.folder, 'picture.png'))
+
+    def test_no_progress_in_a_pipe(self):
+        self.assertEqual(self.run_words('bfs-levels', 'graph.mtx').stderr, '')
+
+
+if __name__ == '__main__':
+    unittest.main()

@@ -1,0 +1,106 @@
+"""Pictures: that they are written, for graphs small, large and empty, and show what is there. Skipped without matplotlib."""
+import collections
+import os
+import tempfile
+import unittest
+
+import graphs
+import support
+import spmat
+from spmat import algorithms, draw
+
+
+def ink(path, colour):
+    """The share of a picture's points that have a colour."""
+    from matplotlib import image
+    points = image.imread(path)[:, :, :3]
+    wanted = [int(colour[at:at + 2], 16) / 255 for at in (1, 3, 5)]
+    return (abs(points - wanted).max(axis=2) < .01).mean()
+
+
+@support.needs('matplotlib')
+class Pictures(unittest.TestCase):
+    def setUp(self):
+        self.session = spmat.Session(program=support.program())
+        self.folder = tempfile.TemporaryDirectory(prefix='spmat-pictures-')
+        self.path = os.path.join(self.folder.name, 'picture.png')
+
+    def tearDown(self):
+        self.session.close()
+        self.folder.cleanup()
+
+    def drawn(self, function, *more):
+        if os.path.exists(self.path):
+            os.remove(self.path)
+        function(*more, self.path)
+        with open(self.path, 'rb') as file:
+            self.assertEqual(file.read(8), b'\x89PNG\r\n\x1a\n')
+        return self.path
+
+    def test_every_graph(self):
+        for graph in (graphs.UNDIRECTED[0], graphs.UNDIRECTED[1], graphs.UNDIRECTED[5], graphs.DIRECTED[3]):
+            G = graph.matrix(self.session)
+            self.drawn(draw.spy, G)
+            self.drawn(draw.degree_histogram, G)
+            found = algorithms.bfs_levels(G, 0) if graph.count else self.session.from_coo([], [], [], 0, 1)
+            self.drawn(draw.levels, G, found)
+
+    def test_squares(self):
+        """Twice the entries have twice the ink."""
+        half = self.session.full(40, 40).select('tril', -1)
+        whole = half.ewise_add(half.T, 'first')
+        less, more = (ink(self.drawn(draw.spy, A), draw.INK) for A in (half, whole))
+        self.assertAlmostEqual(more / less, 2, delta=.05)
+        self.assertGreater(more, .3)
+        self.assertEqual(ink(self.drawn(draw.spy, self.session.from_coo([], [], [], 40, 40)), draw.INK), 0)
+
+    def test_raster(self):
+        rows, columns = [i * i % 700 for i in range(700)], [i * 37 % 300 for i in range(700)]
+        A = self.session.from_coo(rows, columns, 1, 700, 300, dup_op='first')
+        want = collections.Counter((i * 8 // 700, j * 5 // 300) for i, j in A.to_dict())
+        self.assertEqual(draw.raster(A, 8, 5).to_dict(), want)
+        self.assertEqual(draw.raster(A, 7000, 3000).to_dict(), A.apply('one').to_dict())
+        self.drawn(draw.spy, A)
+
+    def test_large_graphs(self):
+        """Circles for few levels, a line for many."""
+        tree = graphs.undirected('tree', 3280, [(i, (i - 1) // 3) for i in range(1, 3280)])
+        pairs = [(i, i + 1) for i in range(900) if i % 30 < 29] + [(i, i + 30) for i in range(870)]
+        grid = graphs.undirected('grid', 900, pairs)
+        for graph in (tree, grid):
+            G = graph.matrix(self.session)
+            found = algorithms.bfs_levels(G, 0, G)
+            at = {i: level for (i, _), level in found.to_dict().items()}
+            want = collections.Counter((at[i], at[j]) for i, j in graph.edges)
+            self.assertEqual(draw._between(G, at, max(at.values())), want)
+            self.drawn(draw.levels, G, found)
+            self.drawn(draw.degree_histogram, G)
+
+    def test_formats_and_bad_input(self):
+        G = graphs.UNDIRECTED[2].matrix(self.session)
+        for ending in ('svg', 'pdf'):
+            path = os.path.join(self.folder.name, 'picture.' + ending)
+            draw.spy(G, path)
+            self.assertGreater(os.path.getsize(path), 1000)
+        with self.assertRaises(ValueError):
+            draw.levels(G, G, self.path)
+        with self.assertRaises(ValueError):
+            draw.spy(G, os.path.join(self.folder.name, 'picture.of-no-kind'))
+
+    def test_pyplot_is_left_alone(self):
+        from matplotlib import pyplot
+        before = pyplot.get_fignums()
+        self.drawn(draw.spy, graphs.UNDIRECTED[3].matrix(self.session))
+        self.assertEqual(pyplot.get_fignums(), before)
+
+
+class WithoutMatplotlib(unittest.TestCase):
+    def test_the_rest_works(self):
+        """Nothing but the picture wants it: the module is there without it."""
+        with spmat.Session(program=support.program()) as session:
+            self.assertEqual(session.full(2, 2).nvals, 4)
+        self.assertTrue(callable(draw.spy))
+
+
+if __name__ == '__main__':
+    unittest.main()
