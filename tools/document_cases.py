@@ -1,9 +1,10 @@
-"""Cases that hold docs/protocol.md and docs/operators.md to the program: their examples, their shell functions, and each reply that
-their tables of rules show."""
+"""Cases that hold the documents to the program: examples, shell functions, and each reply that the tables of rules in
+docs/protocol.md and docs/operators.md show; and every code block of docs/examples.md and of the Python client's README."""
 import os
 import re
 import subprocess
 import tempfile
+from document_blocks import page_case
 from session_runs import SECONDS, Wrong, difference, run_session
 from sessions import TOP, assembly_command, matrix_command, matrix_text, operator_command, run_words, show_reply
 
@@ -87,6 +88,47 @@ def protocol_client(program):
         raise Wrong(difference(want, said))
 
 
+def dependent_jobs(program):
+    """A job doesn't see the result of one that waits: it is refused, or uses what stood there."""
+    jobs = code_block('product T plus times A A').encode()
+    ready = b''.join(assembly_command(name, text_of(['mov64 r0, r1', word + '64 r0, r2', 'exit']), 'binary')
+                     for name, word in (('plus', 'add'), ('times', 'mul')))
+    one, ten, both, square = (matrix_text(1, 1, [(1, 1, value)]) for value in (3, 10, 13, 9))
+    begin, begun = ready + matrix_command('A', one), b'ok op 3 3\nok op 3 3\nok matrix 1 1 1\n'
+    run_session(program, run_words(), begin + jobs, begun + b'ok queued 1 6\nno S4\nok run 1 3\nT 1 1 1 3\n')
+    run_session(program, run_words(), begin + matrix_command('T', ten) + jobs + b'show T\nshow D\n',
+                begun + b'ok matrix 1 1 1\nok queued 1 6\nok queued 2 3\nok run 2 6\nT 1 1 1 3\nD 1 1 1 3\n'
+                + show_reply(square) + show_reply(both))
+
+
+def length_too_small(program):
+    """A body that lacks its last byte may be a text too; the rest is a command that tells it."""
+    text = matrix_text(2, 2, [(2, 2, 66)]).rstrip(b'\n')
+    run_session(program, run_words(), b'matrix A %d\n' % (len(text) - 1) + text + b'\nshow A\n',
+                b'ok matrix 2 2 1\nno S1\n' + show_reply(matrix_text(2, 2, [(2, 2, 6)])))
+
+
+def byte_order_mark(program):
+    """A byte-order mark is refused, and what the page says takes it away."""
+    text = b'\xef\xbb\xbf' + matrix_text(1, 1, [(1, 1, 5)])
+    rest = subprocess.run(['sh', '-c', 'tail -c +4'], input=text, stdout=subprocess.PIPE, timeout=SECONDS).stdout
+    run_session(program, run_words(), matrix_command('A', text) + matrix_command('A', rest), b'no M1 1\nok matrix 1 1 1\n')
+
+
+def slots_of_lines(program):
+    """The shell function that counts slots agrees with `types`."""
+    text = text_of(['; a comment', 'mov64 r0, r1 # another', '', 'wide r2, 5', 'add64 r0, r2', 'exit'])
+    with tempfile.TemporaryDirectory(prefix='spmat-slots-') as folder:
+        with open(os.path.join(folder, 'a.asm'), 'wb') as file:
+            file.write(text)
+        counted = run_shell(code_block('slots()', OPERATORS) + 'slots a.asm', folder, program)
+    done = subprocess.run([program] + run_words(), input=assembly_command('a', text) + b'types a\n', stdout=subprocess.PIPE,
+                          timeout=SECONDS)
+    want, got = ([line.split()[0] for line in lines if line] for lines in (done.stdout.split(b'\n')[2:], counted.split(b'\n')))
+    if want != got or len(got) != 4:
+        raise Wrong('slots %r, counted %r' % (want, got))
+
+
 def matrix_rules(program):
     """Each example of a refused matrix text."""
     for row in tables('Rule | Fault | Example | Reply', PROTOCOL)[0]:
@@ -154,9 +196,15 @@ def worked_operators(program):
 
 
 DOCUMENT_CASES = {
+    'examples': page_case('docs/examples.md'),
+    'client-readme': page_case('clients/python/README.md'),
     'protocol-example': protocol_example,
     'protocol-operators': protocol_operators,
     'protocol-client': protocol_client,
+    'protocol-dependent-jobs': dependent_jobs,
+    'protocol-length-too-small': length_too_small,
+    'protocol-byte-order-mark': byte_order_mark,
+    'operators-slots': slots_of_lines,
     'protocol-matrix-rules': matrix_rules,
     'protocol-matrix-filters': matrix_filters,
     'operators-assembly-rules': assembly_rules,
