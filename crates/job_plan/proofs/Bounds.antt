@@ -22,7 +22,8 @@ use Rattle.entry_ops.specs.Forms as entry
 use Rattle.row_product.specs.Product.{term, term_calls, terms, mul_calls, mults_of, product_calls_at}
 use Rattle.job_plan.specs.Job.{Form, Job, Apply, Select, Union, Both, Product, Reduce}
 use Rattle.job_plan.specs.Kept.{IsForm, IsMask}
-use Rattle.job_plan.specs.Forms.{operation, count, of_passing, if_passing, same_shape}
+use Rattle.job_plan.specs.Forms.{operation, same_shape}
+use Rattle.job_plan.specs.Costing.{costing, count, of_passing, if_passing}
 use Rattle.job_plan.specs.Refusal.{has_shape, Passes}
 use Rattle.job_plan.specs.Meaning.{bound_in, column_count}
 use Rattle.job_plan.specs.Price.{row_price, price_in}
@@ -291,7 +292,7 @@ one_of f thunk a mask i g m p =
 row_within : (form : Form) (mask : Option Grid) (i : ℕ) → IsForm form → IsMask mask → (operation form).shapes ≡ true
     → has_shape (operation form).rows (operation form).columns mask ≡ true
     → bound_of (listed_under mask (operation form).columns (operation form).calls_at i)
-    ≤ (operation form).rounds mask i * (operation form).round
+    ≤ (costing form).rounds mask i * (costing form).round
 row_within (Apply f thunk a) mask i g m s p = one_of f thunk a mask i g.1 m p
 row_within (Select f thunk a) mask i g m s p = one_of f (Some thunk) a mask i g.1 m p
 row_within (Union f a b) mask i g m s p = joint_of f a b mask i g.1 g.2 m s p

@@ -8,7 +8,7 @@ use Rattle.csr_store.specs.Along.{summed}
 use Rattle.job_plan.specs.declared.error.JobError.{JobError}
 use Rattle.job_plan.specs.declared.error.JobError.TheVariants.{WrongKind, WrongShapes, WrongMask, ResultTooLarge, PriceTooHigh}
 use Rattle.job_plan.specs.Job.{Job}
-use Rattle.job_plan.specs.Forms.{operation}
+use Rattle.job_plan.specs.Costing.{costing}
 use Rattle.job_plan.specs.Meaning.{row_count}
 use Rattle.job_plan.specs.Price.{price_in, price_of}
 use Rattle.job_plan.specs.Refusal.{job_fault, price_limit, Passes, IsPriced}
@@ -61,21 +61,21 @@ pub low_price : (job : Job) → IsPriced job → price_of job ≤ price_limit
 low_price job p = let t = (all_pass _ _ _ _ _ p.faultless).4 in grind (arith, nat_tests)
 
 -- the price of rows, by their rounds
-pub price_by_rounds : (job : Job) (first n rounds round : ℕ) → rounds ≡ summed ((operation job.form).rounds job.mask) first n
-    → round ≡ (operation job.form).round → rounds * round ≡ price_in job first n
+pub price_by_rounds : (job : Job) (first n rounds round : ℕ) → rounds ≡ summed ((costing job.form).rounds job.mask) first n
+    → round ≡ (costing job.form).round → rounds * round ≡ price_in job first n
 price_by_rounds job first n rounds round e f =
-    rw (e, f) (sym (summed-times ((operation job.form).rounds job.mask) (operation job.form).round first n))
+    rw (e, f) (sym (summed-times ((costing job.form).rounds job.mask) (costing job.form).round first n))
 
 -- some of the rows take few rounds
 pub few_of_rows : (job : Job) (first last : ℕ) → Passes job → last ≤ row_count job
-    → summed ((operation job.form).rounds job.mask) first (last - first) ≤ limit
+    → summed ((costing job.form).rounds job.mask) first (last - first) ≤ limit
 few_of_rows job first last p l = go (last - first) refl
   where
-    go : (n : ℕ) → last - first ≡ n → summed ((operation job.form).rounds job.mask) first n ≤ limit
+    go : (n : ℕ) → last - first ≡ n → summed ((costing job.form).rounds job.mask) first n ≤ limit
     go zero e = omega arith
     go (suc n) e =
         let f = few_rounds job.form job.mask p.form p.small in
-        let s = summed-part ((operation job.form).rounds job.mask) first (suc n) (row_count job) (omega arith) in
+        let s = summed-part ((costing job.form).rounds job.mask) first (suc n) (row_count job) (omega arith) in
         omega arith
 
 pub fits : (a b : ℕ) → a ≤ limit → b ≤ 8192 → a * b < 2 ^ 64

@@ -8,7 +8,8 @@ use Rattle.csr_store.specs.Mask.{row_passes}
 use Rattle.csr_store.specs.Along.{summed}
 use Rattle.csr_store.proofs.ByRow.{row_start-zero, row_start-next, row_start-within}
 use Rattle.job_plan.specs.Job.{Form, Apply, Select, Union, Both, Product, Reduce}
-use Rattle.job_plan.specs.Forms.{operation, count, of_passing, if_passing}
+use Rattle.job_plan.specs.Forms.{operation}
+use Rattle.job_plan.specs.Costing.{costing, count, of_passing, if_passing}
 use Rattle.job_plan.specs.Kept.{IsForm}
 use Rattle.job_plan.proofs.Sums.{summed-le}
 
@@ -78,8 +79,8 @@ passing_if mask i n = elim (row_passes mask i) as (λ b. cond b n 0 ≤ n) [ tru
 below : (p : ℕ → ℕ) (a : Grid) (n : ℕ) → IsGrid a → ((i : ℕ) → p i ≤ count a i) → summed p 0 n ≤ limit
 below p a n g h = let s = summed-le p (count a) 0 n h in let f = few_entries a n g in omega arith
 
-pub few_rounds : (form : Form) (mask : Option Grid) → IsForm form → (operation form).entries mask ≤ limit
-    → summed ((operation form).rounds mask) 0 (operation form).rows ≤ limit
+pub few_rounds : (form : Form) (mask : Option Grid) → IsForm form → (costing form).entries mask ≤ limit
+    → summed ((costing form).rounds mask) 0 (operation form).rows ≤ limit
 few_rounds (Apply f thunk a) mask h e = below _ a a.rows h.1 (λ i. passing_le mask i (count a i))
 few_rounds (Select f thunk a) mask h e = below _ a a.rows h.1 (λ i. passing_le mask i (count a i))
 few_rounds (Union f a b) mask h e =

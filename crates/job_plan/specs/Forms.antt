@@ -1,13 +1,11 @@
 -- The six forms of jobs, in one table: GrB_apply, GrB_select, GrB_eWiseAdd (union), GrB_eWiseMult (both), GrB_mxm (product) and
 -- GrB_reduce of a matrix by rows, of the GraphBLAS C API Specification 2.0 ("Operations"). What stands at each position, and which
--- calls are made for it, is said in `Forms` of entry_ops and `Product` of row_product. Prices are this project's own.
-use Rattle.std.specs.Prelude.{ℕ, ◌+◌, ◌-◌, Bool, true, false, ◌&&◌, nat_eq, min, if◌then◌else◌, List, length, Option, None, Some}
-use Rattle.std.specs.FinMap as fin
+-- calls are made for it, is said in `Forms` of entry_ops and `Product` of row_product.
+use Rattle.std.specs.Prelude.{ℕ, Bool, true, false, ◌&&◌, nat_eq, List, Option, None, Some}
 use Rattle.bpf_insn.specs.declared.operands.Kind.{Kind}
 use Rattle.bpf_insn.specs.declared.operands.Kind.TheVariants.{Unary, Binary, Index}
 use Rattle.bpf_verify.specs.Accepted.{Accepted}
-use Rattle.csr_store.specs.Grid.{Grid, Position, row_of}
-use Rattle.csr_store.specs.Mask.{row_passes}
+use Rattle.csr_store.specs.Grid.{Grid, Position}
 use Rattle.bpf_run.specs.Calls.{Call}
 use Rattle.entry_ops.specs.Forms as entry
 use Rattle.row_product.specs.Product as by_row
@@ -35,19 +33,6 @@ kind_with (Some thunk) = Index
 abbrev pub same_shape : Grid → Grid → Bool
 same_shape a b = nat_eq a.rows b.rows && nat_eq a.columns b.columns
 
--- how many entries row i has
-abbrev pub count : Grid → ℕ → ℕ
-count a i = length (row_of a i)
-
--- n, but no more than pass of row i
-abbrev pub of_passing : Option Grid → ℕ → ℕ → ℕ
-of_passing None i n = n
-of_passing (Some mask) i n = min n (count mask i)
-
--- n, where something of row i passes
-abbrev pub if_passing : Option Grid → ℕ → ℕ → ℕ
-if_passing mask i n = if row_passes mask i then n else 0
-
 -- what is said of a form with its operators and operands
 pub record Operation : Type 0 where
   -- the operators are of the kinds that the form takes, and the operands have shapes that fit one another
@@ -58,11 +43,6 @@ pub record Operation : Type 0 where
   pub columns : ℕ
   pub value_at : Position → Option ℕ
   pub calls_at : Position → List Call
-  -- how many entries the result can have, of a form in which that may be more than a matrix holds; else 0
-  pub entries : Option Grid → ℕ
-  -- row i, under a mask, takes at most so many rounds of calls, each of at most so many steps
-  pub rounds : Option Grid → ℕ → ℕ
-  pub round : ℕ
 
 abbrev pub operation : Form → Operation
 operation (Apply f thunk a) = record {
@@ -72,9 +52,6 @@ operation (Apply f thunk a) = record {
   columns = a.columns;
   value_at = entry.apply_at f thunk a;
   calls_at = entry.apply_calls_at f thunk a;
-  entries = λ mask. 0;
-  rounds = λ mask i. of_passing mask i (count a i);
-  round = length f.insns;
 }
 operation (Select f thunk a) = record {
   kinds = is_of Index f;
@@ -83,9 +60,6 @@ operation (Select f thunk a) = record {
   columns = a.columns;
   value_at = entry.select_at f thunk a;
   calls_at = entry.select_calls_at f thunk a;
-  entries = λ mask. 0;
-  rounds = λ mask i. of_passing mask i (count a i);
-  round = length f.insns;
 }
 operation (Union f a b) = record {
   kinds = is_of Binary f;
@@ -94,9 +68,6 @@ operation (Union f a b) = record {
   columns = a.columns;
   value_at = entry.union_at f a b;
   calls_at = entry.joint_calls_at f a b;
-  entries = λ mask. fin.len a.cells + fin.len b.cells;
-  rounds = λ mask i. of_passing mask i (min (count a i) (count b i));
-  round = length f.insns;
 }
 operation (Both f a b) = record {
   kinds = is_of Binary f;
@@ -105,9 +76,6 @@ operation (Both f a b) = record {
   columns = a.columns;
   value_at = entry.both_at f a b;
   calls_at = entry.joint_calls_at f a b;
-  entries = λ mask. 0;
-  rounds = λ mask i. of_passing mask i (min (count a i) (count b i));
-  round = length f.insns;
 }
 operation (Product add mul a b) = record {
   kinds = is_of Binary add && is_of Binary mul;
@@ -116,9 +84,6 @@ operation (Product add mul a b) = record {
   columns = b.columns;
   value_at = by_row.product_at add mul a b;
   calls_at = by_row.product_calls_at add mul a b;
-  entries = λ mask. by_row.mults_under mask a b 0 a.rows;
-  rounds = λ mask i. if_passing mask i (by_row.mults_of b (row_of a i));
-  round = length mul.insns + length add.insns;
 }
 operation (Reduce f a) = record {
   kinds = is_of Binary f;
@@ -127,7 +92,4 @@ operation (Reduce f a) = record {
   columns = 1;
   value_at = entry.reduce_at f a;
   calls_at = entry.reduce_calls_at f a;
-  entries = λ mask. 0;
-  rounds = λ mask i. if_passing mask i (count a i - 1);
-  round = length f.insns;
 }

@@ -1,5 +1,6 @@
 pub mod Job
 pub mod Forms
+pub mod Costing
 pub mod Meaning
 pub mod Price
 pub mod Refusal

@@ -2,12 +2,12 @@
 use Rattle.std.specs.Prelude.{ℕ, ◌+◌, ◌*◌, ◌≤◌, List, [], ◌∷◌}
 use Rattle.csr_store.specs.Along.{summed}
 use Rattle.job_plan.specs.Job.{Job}
-use Rattle.job_plan.specs.Forms.{operation}
+use Rattle.job_plan.specs.Costing.{costing}
 use Rattle.job_plan.specs.Meaning.{row_count, steps_in, bound_in}
 
 -- of row i
 abbrev pub row_price : Job → ℕ → ℕ
-row_price job i = (operation job.form).rounds job.mask i * (operation job.form).round
+row_price job i = (costing job.form).rounds job.mask i * (costing job.form).round
 
 -- of the rows from `first` on, n of them
 abbrev pub price_in : Job → ℕ → ℕ → ℕ

@@ -7,6 +7,7 @@ use Rattle.job_plan.specs.declared.error.JobError.{JobError}
 use Rattle.job_plan.specs.declared.error.JobError.TheVariants.{WrongKind, WrongShapes, WrongMask, ResultTooLarge, PriceTooHigh}
 use Rattle.job_plan.specs.Job.{Job}
 use Rattle.job_plan.specs.Forms.{operation}
+use Rattle.job_plan.specs.Costing.{costing}
 use Rattle.job_plan.specs.Meaning.{row_count, column_count}
 use Rattle.job_plan.specs.Price.{price_of}
 use Rattle.job_plan.specs.Kept.{IsForm, IsMask}
@@ -25,7 +26,7 @@ job_fault job =
     if not (operation job.form).kinds then Some WrongKind
     else if not (operation job.form).shapes then Some WrongShapes
     else if not (has_shape (row_count job) (column_count job) job.mask) then Some WrongMask
-    else if nat_lt limit ((operation job.form).entries job.mask) then Some ResultTooLarge
+    else if nat_lt limit ((costing job.form).entries job.mask) then Some ResultTooLarge
     else if nat_lt price_limit (price_of job) then Some PriceTooHigh
     else None
 
@@ -36,7 +37,7 @@ pub record Passes (job : Job) : Type 0 where
   pub kinds : (operation job.form).kinds ≡ true
   pub shapes : (operation job.form).shapes ≡ true
   pub shape : has_shape (row_count job) (column_count job) job.mask ≡ true
-  pub small : (operation job.form).entries job.mask ≤ limit
+  pub small : (costing job.form).entries job.mask ≤ limit
 
 -- the job back, with its fault if it has one
 abbrev pub answered : Job → Option JobError → Result Job (Job × JobError)

@@ -6,7 +6,8 @@ ghost use Rattle.csr_store.specs.Grid.{limit, IsGrid, row_of};
 ghost use Rattle.csr_store.specs.Mask.{mask_of, HasShape};
 ghost use Rattle.row_product.specs.Product.{mults_of};
 ghost use Rattle.job_plan.specs.Kept.{form_of, IsForm, IsMask};
-ghost use Rattle.job_plan.specs.Forms.{operation, same_kind, is_of, same_shape, count, of_passing, if_passing};
+ghost use Rattle.job_plan.specs.Forms.{operation, same_kind, is_of, same_shape};
+ghost use Rattle.job_plan.specs.Costing.{costing, count, of_passing, if_passing};
 ghost use Rattle.job_plan.specs.Refusal.{has_shape};
 
 use crate::job::Form;
@@ -130,7 +131,7 @@ impl Form {
     pub(crate) fn entries(&self, mask: Option<&Matrix>) -> u64
         requires shapes { (operation (form_of self.now)).shapes ≡ true }
         requires mask { has_shape (operation (form_of self.now)).rows (operation (form_of self.now)).columns (mask_of mask) ≡ true }
-        ensures { result ≡ (operation (form_of self.now)).entries (mask_of mask.entry) }
+        ensures { result ≡ (costing (form_of self.now)).entries (mask_of mask.entry) }
     {
         match self {
             Form::Apply { .. } => 0,
@@ -147,7 +148,7 @@ impl Form {
         requires shapes { (operation (form_of self.now)).shapes ≡ true }
         requires mask { has_shape (operation (form_of self.now)).rows (operation (form_of self.now)).columns (mask_of mask) ≡ true }
         requires row { i < (operation (form_of self.now)).rows }
-        ensures { result ≡ (operation (form_of self.now)).rounds (mask_of mask.entry) i }
+        ensures { result ≡ (costing (form_of self.now)).rounds (mask_of mask.entry) i }
     {
         match self {
             Form::Apply { operand, .. } => of_passing(mask, i, count(operand, i)),
@@ -161,7 +162,7 @@ impl Form {
 
     /// How many instructions the operators of a round have.
     pub(crate) fn round(&self) -> u64
-        ensures round { result ≡ (operation (form_of self.now)).round }
+        ensures round { result ≡ (costing (form_of self.now)).round }
         ensures few { result ≤ 8192 }
     {
         match self {
@@ -179,8 +180,8 @@ impl Form {
         requires shapes { (operation (form_of self.now)).shapes ≡ true }
         requires mask { has_shape (operation (form_of self.now)).rows (operation (form_of self.now)).columns (mask_of mask) ≡ true }
         requires within { range.end ≤ (operation (form_of self.now)).rows }
-        requires few { summed ((operation (form_of self.now)).rounds (mask_of mask)) range.start (range.end - range.start) ≤ limit }
-        ensures { result ≡ summed ((operation (form_of self.now)).rounds (mask_of mask.entry)) range.start
+        requires few { summed ((costing (form_of self.now)).rounds (mask_of mask)) range.start (range.end - range.start) ≤ limit }
+        ensures { result ≡ summed ((costing (form_of self.now)).rounds (mask_of mask.entry)) range.start
             (range.end - range.start) }
     {
         match (self, mask) {
@@ -196,8 +197,8 @@ impl Form {
         requires shapes { (operation (form_of self.now)).shapes ≡ true }
         requires mask { has_shape (operation (form_of self.now)).rows (operation (form_of self.now)).columns (mask_of mask) ≡ true }
         requires within { range.end ≤ (operation (form_of self.now)).rows }
-        requires few { summed ((operation (form_of self.now)).rounds (mask_of mask)) range.start (range.end - range.start) ≤ limit }
-        ensures { result ≡ summed ((operation (form_of self.now)).rounds (mask_of mask.entry)) range.start
+        requires few { summed ((costing (form_of self.now)).rounds (mask_of mask)) range.start (range.end - range.start) ≤ limit }
+        ensures { result ≡ summed ((costing (form_of self.now)).rounds (mask_of mask.entry)) range.start
             (range.end - range.start) }
     {
         let mut rounds = 0;

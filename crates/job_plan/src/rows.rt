@@ -2,7 +2,7 @@
 ghost use Rattle.std.specs.Prelude.{◌≡◌, ◌≤◌, ◌<◌, ◌-◌, min};
 ghost use Rattle.csr_store.specs.Along.{summed};
 ghost use Rattle.csr_store.specs.Grid.{limit};
-ghost use Rattle.job_plan.specs.Forms.{count};
+ghost use Rattle.job_plan.specs.Costing.{count};
 
 use csr_store::Matrix;
 use std::ops::Range;

@@ -10,6 +10,7 @@ use Rattle.entry_ops.specs.Forms as entry
 use Rattle.job_plan.specs.declared.error.JobError.TheVariants.{WrongKind, WrongShapes, WrongMask, ResultTooLarge, PriceTooHigh}
 use Rattle.job_plan.specs.Job.{Job, Form, Apply, Select, Union, Both, Product, Reduce}
 use Rattle.job_plan.specs.Forms.{operation}
+use Rattle.job_plan.specs.Costing.{costing}
 use Rattle.job_plan.specs.Kept.{IsForm}
 use Rattle.job_plan.specs.Meaning.{row_count, column_count, rows_in}
 use Rattle.job_plan.specs.Price.{price_of}
@@ -29,7 +30,7 @@ pub record IsFaultless (job : Job) : Type 0 where
   pub kinds : (operation job.form).kinds ≡ true
   pub shapes : (operation job.form).shapes ≡ true
   pub mask : has_shape (row_count job) (column_count job) job.mask ≡ true
-  pub entries : (operation job.form).entries job.mask ≤ limit
+  pub entries : (costing job.form).entries job.mask ≤ limit
   pub price : price_of job ≤ price_limit
 
 no_fault : (a b c d e : Bool)
@@ -46,12 +47,12 @@ no_fault false b c d e h = absurd (cc)
 pub faultless : (job : Job) → IsPriced job → IsFaultless job
 faultless job p =
     let t = no_fault (operation job.form).kinds (operation job.form).shapes (has_shape (row_count job) (column_count job) job.mask)
-    (nat_lt limit ((operation job.form).entries job.mask)) (nat_lt price_limit (price_of job)) p.faultless in
+    (nat_lt limit ((costing job.form).entries job.mask)) (nat_lt price_limit (price_of job)) p.faultless in
     record {
       kinds = t.0;
       shapes = t.1;
       mask = t.2;
-      entries = ltb-false limit ((operation job.form).entries job.mask) t.3;
+      entries = ltb-false limit ((costing job.form).entries job.mask) t.3;
       price = ltb-false price_limit (price_of job) t.4;
     }
 
@@ -61,7 +62,7 @@ entries_in form mask = length (numbered 0 (rows_under mask (operation form).colu
     (operation form).rows))
 
 form_entries : (form : Form) (mask : Option Grid) → IsForm form → (operation form).shapes ≡ true
-    → (operation form).entries mask ≤ limit
+    → (costing form).entries mask ≤ limit
     → entries_in form mask ≤ limit
 form_entries (Apply f thunk a) mask h s e =
     let w = within_one a mask (entry.apply_at f thunk a) a.rows h.1 (applied_count f thunk a) in let l = h.1.entries_small in

@@ -1,32 +1,19 @@
 //! `spmat`, a server for jobs over sparse matrices whose operators are BPF code.
 //!
-//! The program is thin. Its modules in reading order:
-//!
-//! - `settings`: what it can be asked to do, and why that can't be told;
-//! - `grammar`: the command line as `clap` reads it, with what `--help` says;
-//! - `command_line`: the settings that the words of the command line give;
-//! - `serving`: one session on standard input and output, and sessions over TCP;
-//! - `ending`: with which status the process ends, and what it says on standard error.
+//! The program is thin: `command_line` reads its words and tells its end, and `serving` has its two commands, one session on standard
+//! input and output, and sessions over TCP.
 //!
 //! What a session reads, does and writes is the contract of `listener::serve_pass`, and how serving a listener ends that of
 //! `listener::serve_entrance`.
 #![tactic(auto)]
 
 ghost use Rattle.std.specs.Prelude.{◌≡◌, IfOk};
-ghost use Rattle.spmat.specs.InRange.{IsInRange};
+ghost use Rattle.command_line.specs.InRange.{IsInRange};
 
-mod command_line;
-mod ending;
-mod grammar;
 mod serving;
-mod settings;
-#[cfg(test)]
-mod tests;
 
-use crate::command_line::settings_of;
-use crate::ending::{Done, Failure, ending_of, finish};
 use crate::serving::{run, serve};
-use crate::settings::{Settings, SettingsFault};
+use command_line::{Done, Failure, Settings, SettingsFault, ending_of, finish, settings_of};
 use listener::Terms;
 use std::env;
 use std::io::ErrorKind;

@@ -1,7 +1,7 @@
 //! The two commands: one session on standard input and output, and sessions over TCP.
 ghost use Rattle.std.specs.Prelude.{◌≡◌, ◌≤◌, ◌^◌};
 
-use crate::ending::Failure;
+use command_line::Failure;
 use listener::{End, ListenFault, Room, ServeFault, Terms, serve_listener, serve_pass};
 use std::io;
 use std::net::{Ipv4Addr, Net, SocketAddr, TcpListener, TcpStream};

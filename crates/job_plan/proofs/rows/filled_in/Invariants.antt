@@ -1,5 +1,5 @@
 use Rattle.std.proofs.Common.{min}
-use Rattle.job_plan.specs.Forms.{count}
+use Rattle.job_plan.specs.Costing.{count}
 use Rattle.job_plan.proofs.Sums.{IsAdding}
 use Rattle.job_plan.proofs.rows.filled_in.Given as goal
 

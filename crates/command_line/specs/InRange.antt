@@ -1,0 +1,18 @@
+-- The numbers that the command line of the program takes (this project's own).
+use Rattle.std.specs.Prelude.{ℕ, ◌≤◌, ◌^◌, Option, IfSome}
+use Rattle.command_line.specs.declared.settings.Settings.{Settings}
+use Rattle.command_line.specs.declared.settings.Settings.TheVariants.{Run, Serve}
+
+-- none, or a number from 1 to the most
+abbrev pub IsWithin : ℕ → Option ℕ → Type 0
+IsWithin most number = IfSome number (λ n. (1 ≤ n) × (n ≤ most))
+
+-- a budget of at most 2^62 steps, and 1 to 64 workers
+abbrev pub HasRoom : ℕ → ℕ → Type 0
+HasRoom steps workers = (steps ≤ 2 ^ 62) × (1 ≤ workers) × (workers ≤ 64)
+
+-- these, and of a server a port from 1 to 65535, at most 1000000 sessions, and at most 1000000 seconds
+abbrev pub IsInRange : Settings → Type 0
+IsInRange (Run steps workers) = HasRoom steps workers
+IsInRange (Serve port steps workers sessions idle) =
+    HasRoom steps workers × (1 ≤ port) × (port ≤ 65535) × IsWithin 1000000 sessions × IsWithin 1000000 idle

@@ -1,0 +1,3 @@
+pub mod Words
+pub mod InRange
+pub mod Endings

@@ -1,0 +1,78 @@
+-- The command line of the program, as the parser of command lines reads it (this project's own):
+-- `spmat run --steps N --workers W` and `spmat serve --port P --steps N --workers W [--sessions K] [--idle SECONDS]`.
+use Rattle.std.specs.Prelude.{ℕ, ◌≡◌, ◌^◌, Bool, true, false, List, Option, Some, None, codes}
+use Rattle.std.specs.Str.Parse.{digits_value, without_leading_plus, IsNumeral}
+use Rattle.clap.specs.Words.{App, Row, Rule, Shape, Text, new_app, new_rule, with_rule, with_subcommand, one_of, subcommand_of}
+use Rattle.clap.specs.declared.builder.value_parser.ValueParser.{ValueParser}
+use Rattle.clap.specs.declared.builder.value_parser.ValueParser.TheVariants.{Unsigned}
+use Rattle.command_line.specs.declared.settings.Settings.{Settings}
+use Rattle.command_line.specs.declared.settings.Settings.TheVariants.{Run, Serve}
+
+-- an option `--NAME N`, which may have to be given
+abbrev pub number_option : Text → ValueParser → Bool → Rule
+number_option name numbers needed =
+    record (new_rule name) { long = Some name; value_names = 1; parser = Some numbers; required = needed }
+
+abbrev pub steps_option : Rule
+steps_option = number_option (codes "steps") (Unsigned 0 (2 ^ 62)) true
+
+abbrev pub workers_option : Rule
+workers_option = number_option (codes "workers") (Unsigned 1 64) true
+
+abbrev pub port_option : Rule
+port_option = number_option (codes "port") (Unsigned 1 65535) true
+
+abbrev pub sessions_option : Rule
+sessions_option = number_option (codes "sessions") (Unsigned 1 1000000) false
+
+abbrev pub idle_option : Rule
+idle_option = number_option (codes "idle") (Unsigned 1 1000000) false
+
+-- the command `run`
+abbrev pub run_command : App
+run_command = with_rule (with_rule (new_app (codes "run")) steps_option) workers_option
+
+-- the command `serve`
+abbrev pub serve_command : App
+serve_command =
+    let app = with_rule (with_rule (new_app (codes "serve")) port_option) steps_option in
+    with_rule (with_rule (with_rule app workers_option) sessions_option) idle_option
+
+-- the program, of which a command has to be given
+abbrev pub required_command : Shape → Shape
+required_command shape = record shape { subcommand_required = true }
+
+abbrev pub program : App
+program =
+    let app = new_app (codes "spmat") in
+    let top = record app { top = required_command app.top } in
+    with_subcommand (with_subcommand top run_command.top) serve_command.top
+
+-- a number that a text writes in decimal digits, before which a plus may stand
+abbrev pub IsNumberOf : Option Text → ℕ → Type 0
+IsNumberOf None n = ⊥
+IsNumberOf (Some text) n =
+    let digits = without_leading_plus text in
+    IsNumeral 10 digits × (n ≡ digits_value 10 digits)
+
+-- the number of a text where there is one, and none where there is none
+abbrev pub IsNumberIfAny : Option Text → Option ℕ → Type 0
+IsNumberIfAny text None = text ≡ None
+IsNumberIfAny text (Some n) = IsNumberOf text n
+
+-- the settings are of the command of this name, and have the numbers of the options among these rows
+abbrev pub IsAskedIn : Text → List Row → Settings → Type 0
+IsAskedIn name rows (Run steps workers) =
+    (name ≡ codes "run") × IsNumberOf (one_of (codes "steps") rows) steps × IsNumberOf (one_of (codes "workers") rows) workers
+IsAskedIn name rows (Serve port steps workers sessions idle) =
+    (name ≡ codes "serve") × IsNumberOf (one_of (codes "port") rows) port × IsNumberOf (one_of (codes "steps") rows) steps
+    × IsNumberOf (one_of (codes "workers") rows) workers × IsNumberIfAny (one_of (codes "sessions") rows) sessions
+    × IsNumberIfAny (one_of (codes "idle") rows) idle
+
+abbrev pub IsAskedBy : Option (Text × List Row) → Settings → Type 0
+IsAskedBy None settings = ⊥
+IsAskedBy (Some command) settings = IsAskedIn command.0 command.1 settings
+
+-- the settings are those that the words ask for: of the command that they name
+abbrev pub IsAsked : List Text → Settings → Type 0
+IsAsked words settings = IsAskedBy (subcommand_of program words) settings

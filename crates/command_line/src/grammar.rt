@@ -1,0 +1,132 @@
+//! The command line as `clap` reads it: its two commands, their options, and what `--help` says of them.
+ghost use Rattle.std.specs.Prelude.{◌≡◌, false, IfOk};
+ghost use Rattle.clap.specs.Words.{app_of, rule_of};
+ghost use Rattle.clap.specs.declared.builder.command.Command.TheViews.{out-Command};
+ghost use Rattle.command_line.specs.Words as line;
+
+use clap::builder::ValueParser;
+use clap::{Arg, Command, value_parser};
+use std::alloc::{AllocError, Global};
+
+/// The most steps that a budget opens with: 2^62.
+pub const MOST_STEPS: i64 = 4_611_686_018_427_387_904;
+
+/// The most workers that run the jobs of a session.
+pub const MOST_WORKERS: i64 = 64;
+
+/// The last port.
+pub const LAST_PORT: i64 = 65_535;
+
+/// The most sessions that can be asked for.
+pub const MOST_SESSIONS: i64 = 1_000_000;
+
+/// The most seconds that a session can be told to wait for its client.
+pub const MOST_SECONDS: i64 = 1_000_000;
+
+/// An option `--NAME N`, which may have to be given.
+fn number_option<'a>(
+    alloc: Global,
+    name: &'a str,
+    sign: &'a str,
+    help: &'a str,
+    numbers: ValueParser<'a>,
+    is_needed: bool,
+) -> Arg<'a>
+    ensures rule { rule_of result ≡ line.number_option name.entry.now numbers.entry is_needed }
+    ensures local { result.global ≡ false }
+{
+    Arg::new(alloc, name)
+        .long(name)
+        .value_name(sign)
+        .help(help)
+        .required(is_needed)
+        .value_parser(numbers)
+}
+
+/// The option `--steps N`.
+fn steps_option<'a>(alloc: Global, help: &'a str) -> Arg<'a>
+    ensures rule { rule_of result ≡ line.steps_option }
+    ensures local { result.global ≡ false }
+{
+    let numbers = value_parser!(u64).range(..=MOST_STEPS);
+    number_option(alloc, "steps", "N", help, numbers, true)
+}
+
+/// The option `--workers W`.
+fn workers_option<'a>(alloc: Global) -> Arg<'a>
+    ensures rule { rule_of result ≡ line.workers_option }
+    ensures local { result.global ≡ false }
+{
+    let help = "Workers that run the jobs of each batch: 1 to 64";
+    let numbers = value_parser!(u64).range(1..MOST_WORKERS + 1);
+    number_option(alloc, "workers", "W", help, numbers, true)
+}
+
+/// The option `--port P`.
+fn port_option<'a>(alloc: Global) -> Arg<'a>
+    ensures rule { rule_of result ≡ line.port_option }
+    ensures local { result.global ≡ false }
+{
+    let help = "Port of 127.0.0.1 to listen on: 1 to 65535";
+    let numbers = value_parser!(u64).range(1..LAST_PORT + 1);
+    number_option(alloc, "port", "P", help, numbers, true)
+}
+
+/// The option `--sessions K`.
+fn sessions_option<'a>(alloc: Global) -> Arg<'a>
+    ensures rule { rule_of result ≡ line.sessions_option }
+    ensures local { result.global ≡ false }
+{
+    let help = "End after so many sessions: 1 to 1000000; without it there is no end";
+    let numbers = value_parser!(u64).range(1..MOST_SESSIONS + 1);
+    number_option(alloc, "sessions", "K", help, numbers, false)
+}
+
+/// The option `--idle SECONDS`.
+fn idle_option<'a>(alloc: Global) -> Arg<'a>
+    ensures rule { rule_of result ≡ line.idle_option }
+    ensures local { result.global ≡ false }
+{
+    let help =
+        "End a session that waits so long for its client: 1 to 1000000; without it there is no end";
+    let numbers = value_parser!(u64).range(1..MOST_SECONDS + 1);
+    number_option(alloc, "idle", "SECONDS", help, numbers, false)
+}
+
+/// The command `run`.
+fn run_command<'a>(alloc: Global) -> Result<Command<'a>, AllocError>
+    ensures { IfOk result (λ command. (app_of command ≡ line.run_command) × ((out-Command command).has_globals ≡ false)) }
+{
+    let help = "Steps that the jobs of the session may spend: 0 to 4611686018427387904 (2^62)";
+    Command::new(alloc, "run")
+        .about("Serves one session on standard input and output")
+        .arg(steps_option(alloc, help))?
+        .arg(workers_option(alloc))
+}
+
+/// The command `serve`.
+fn serve_command<'a>(alloc: Global) -> Result<Command<'a>, AllocError>
+    ensures { IfOk result (λ command. (app_of command ≡ line.serve_command) × ((out-Command command).has_globals ≡ false)) }
+{
+    let help = "Steps that the jobs of all sessions may spend: 0 to 4611686018427387904 (2^62)";
+    Command::new(alloc, "serve")
+        .about("Serves up to 16 sessions at once over TCP, on one purse of steps")
+        .arg(port_option(alloc))?
+        .arg(steps_option(alloc, help))?
+        .arg(workers_option(alloc))?
+        .arg(sessions_option(alloc))?
+        .arg(idle_option(alloc))
+}
+
+/// The command line: `spmat run ..` or `spmat serve ..`.
+pub fn program<'a>(alloc: Global) -> Result<Command<'a>, AllocError>
+    ensures { IfOk result (λ command. app_of command ≡ line.program) }
+{
+    Command::new(alloc, "spmat")
+        .about(
+            "A server for jobs over sparse matrices of 64-bit integers, whose operators are BPF code",
+        )
+        .subcommand_required(true)
+        .subcommand(run_command(alloc)?)?
+        .subcommand(serve_command(alloc)?)
+}

@@ -1,0 +1,24 @@
+//! What the words of the command line ask for, and how the program tells its end.
+//!
+//! The contracts: `settings_of` gives the settings that words ask for, exactly where the parser of command lines takes them and their
+//! numbers are in range (`specs/Words.antt`, `specs/InRange.antt`); `ending_of` and `finish` give the exit status and the text on
+//! standard error of each end (`specs/Endings.antt`).
+//!
+//! Its modules in reading order:
+//!
+//! - `settings`: what the program can be asked to do, and why that can't be told;
+//! - `grammar`: the command line as `clap` reads it, with what `--help` says;
+//! - `words`: the settings that the words of the command line give;
+//! - `ending`: with which status the process ends, and what it says on standard error.
+#![tactic(auto)]
+
+mod ending;
+mod grammar;
+mod settings;
+#[cfg(test)]
+mod tests;
+mod words;
+
+pub use ending::{Done, Ending, Failure, Message, Status, ending_of, finish};
+pub use settings::{Settings, SettingsFault};
+pub use words::settings_of;

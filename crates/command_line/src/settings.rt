@@ -1,0 +1,52 @@
+//! What the program is asked to do, and why it can't be told.
+ghost use Rattle.std.specs.Prelude.{◌≡◌};
+ghost use Rattle.command_line.specs.declared.settings.SettingsFault.TheVariants.{Memory};
+
+use std::alloc::{AllocError, AllocFailed};
+use thiserror::Error;
+
+/// What the program is asked to do.
+#[derive(Clone, Copy, Debug, PartialEq, Eq)]
+pub enum Settings {
+    /// Serve one session on standard input and output, with a budget of so many steps.
+    Run {
+        steps: u64,
+        workers: u64,
+    },
+    /// Serve sessions on a port of this machine, all on one purse of so many steps: so many sessions, if a number is given, and
+    /// for so many seconds without a word of its client each, if a number is given.
+    Serve {
+        port: u16,
+        steps: u64,
+        workers: u64,
+        sessions: Option<u64>,
+        idle: Option<u64>,
+    },
+}
+
+/// Why the words of the command line gave no settings.
+#[derive(Debug, Drop, Error)]
+pub enum SettingsFault {
+    /// The words are refused, or ask for help: the text for standard error.
+    #[error("{0}")]
+    Words(String),
+    /// There was no memory to read them.
+    #[error("no memory")]
+    Memory,
+}
+
+impl<T: Drop> From<AllocFailed<T>> for SettingsFault {
+    ghost from_gives = { λ _ fault. fault ≡ Memory };
+
+    fn from(_: AllocFailed<T>) -> Self {
+        SettingsFault::Memory
+    }
+}
+
+impl From<AllocError> for SettingsFault {
+    ghost from_gives = { λ _ fault. fault ≡ Memory };
+
+    fn from(_: AllocError) -> Self {
+        SettingsFault::Memory
+    }
+}

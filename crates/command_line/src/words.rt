@@ -1,0 +1,140 @@
+//! The settings that the words of the command line give.
+ghost use Rattle.std.specs.Prelude.{◌≡◌, ◌≤◌, ℕ, Option, Some, true, is_some, codes, IfOk, IfSome, MatchResult, map};
+ghost use Rattle.clap.specs.Words.{found_of, kind_of, one_of, rows_of, takes};
+ghost use Rattle.command_line.specs.Words as line;
+ghost use Rattle.command_line.specs.Words.{IsAsked, IsAskedIn, IsNumberOf, IsNumberIfAny};
+ghost use Rattle.command_line.specs.InRange.{IsInRange, IsWithin};
+
+use crate::grammar::{LAST_PORT, MOST_SECONDS, MOST_SESSIONS, MOST_STEPS, MOST_WORKERS, program};
+use crate::settings::{Settings, SettingsFault};
+use clap::ArgMatches;
+use clap::error::ErrorKind;
+use std::alloc::Global;
+use std::convert::AsStr;
+
+/// The text where an option has no number, which `clap` would have to let pass.
+const NO_NUMBERS: &str =
+    "error: a number is missing or not in its range, as `--help` of the command tells them\n";
+
+/// The fault that an error of `clap` is: memory ran out, or the words are refused with its text.
+fn fault_of(alloc: Global, error: &clap::Error) -> SettingsFault
+    ensures { kind_of error.now ≡ ErrorKind.OutOfMemory → result ≡ SettingsFault.Memory }
+{
+    if error.kind() == ErrorKind::OutOfMemory {
+        return SettingsFault::Memory;
+    }
+    match format!(in alloc; "{error}") {
+        Ok(text) => SettingsFault::Words(text),
+        Err(_) => SettingsFault::Memory,
+    }
+}
+
+/// The number that an option has, where it lies in a range.
+fn number(matches: &ArgMatches<'_>, name: &str, least: u64, most: u64) -> Option<u64>
+    ensures given { IfSome result (λ n. (least ≤ n) × (n ≤ most) ×
+        IsNumberOf (one_of name.now (rows_of (found_of matches.now))) n) }
+    ensures taken { (n : ℕ) → IsNumberOf (one_of name.now (rows_of (found_of matches.now))) n →
+        least ≤ n → n ≤ most → result ≡ Some n }
+{
+    let number = matches.get_one::<u64>(name)?;
+    if least <= number && number <= most {
+        Some(number)
+    } else {
+        None
+    }
+}
+
+/// Whether an option is given.
+fn is_given(matches: &ArgMatches<'_>, name: &str) -> bool
+    ensures { result ≡ is_some (one_of name.now (rows_of (found_of matches.now))) }
+{
+    match matches.try_get_one::<u64>(name) {
+        Ok(None) => false,
+        Ok(Some(_)) => true,
+        Err(_) => true,
+    }
+}
+
+/// The number that an option has where it is given, if it lies in a range from 1.
+fn number_if_any(matches: &ArgMatches<'_>, name: &str, most: u64) -> Option<Option<u64>>
+    ensures given { IfSome result (λ o. IsWithin most o ×
+        IsNumberIfAny (one_of name.now (rows_of (found_of matches.now))) o) }
+    ensures taken { (o : Option ℕ) → IsNumberIfAny (one_of name.now (rows_of (found_of matches.now))) o →
+        IsWithin most o → result ≡ Some o }
+{
+    if !is_given(matches, name) {
+        return Some(None);
+    }
+    let number = number(matches, name, 1, most)?;
+    Some(Some(number))
+}
+
+/// The settings of `run`.
+fn run_settings(matches: &ArgMatches<'_>) -> Option<Settings>
+    ensures asked { IfSome result (λ s. IsAskedIn (codes "run") (rows_of (found_of matches.now)) s) }
+    ensures range { IfSome result (λ s. IsInRange s) }
+    ensures taken { (s : Settings) → IsAskedIn (codes "run") (rows_of (found_of matches.now)) s → IsInRange s →
+        result ≡ Some s }
+{
+    Some(Settings::Run {
+        steps: number(matches, "steps", 0, MOST_STEPS as u64)?,
+        workers: number(matches, "workers", 1, MOST_WORKERS as u64)?,
+    })
+}
+
+/// The settings of `serve`.
+fn serve_settings(matches: &ArgMatches<'_>) -> Option<Settings>
+    ensures asked { IfSome result (λ s. IsAskedIn (codes "serve") (rows_of (found_of matches.now)) s) }
+    ensures range { IfSome result (λ s. IsInRange s) }
+    ensures taken { (s : Settings) → IsAskedIn (codes "serve") (rows_of (found_of matches.now)) s → IsInRange s →
+        result ≡ Some s }
+{
+    let steps = number(matches, "steps", 0, MOST_STEPS as u64)?;
+    let workers = number(matches, "workers", 1, MOST_WORKERS as u64)?;
+    Some(Settings::Serve {
+        port: number(matches, "port", 1, LAST_PORT as u64)? as u16,
+        steps,
+        workers,
+        sessions: number_if_any(matches, "sessions", MOST_SESSIONS as u64)?,
+        idle: number_if_any(matches, "idle", MOST_SECONDS as u64)?,
+    })
+}
+
+/// The settings of the command that was named.
+fn settings_in(name: &str, matches: &ArgMatches<'_>) -> Option<Settings>
+    ensures asked { IfSome result (λ s. IsAskedIn name.now (rows_of (found_of matches.now)) s) }
+    ensures range { IfSome result (λ s. IsInRange s) }
+    ensures taken { (s : Settings) → IsAskedIn name.now (rows_of (found_of matches.now)) s → IsInRange s →
+        result ≡ Some s }
+{
+    match name {
+        "run" => run_settings(matches),
+        "serve" => serve_settings(matches),
+        _ => None,
+    }
+}
+
+/// Reads the words of the command line, of which the first is the program's own name.
+///
+/// # Errors
+///
+/// `Words` with the text of `clap`, where it refuses them or they ask for help, and `Memory`. Words that `clap` takes, with numbers
+/// in their ranges, are refused only where memory runs out.
+pub fn settings_of<'a, S: AsStr>(alloc: Global, words: &'a [S]) -> Result<Settings, SettingsFault>
+    ensures asked { IfOk result (λ s. IsAsked (map S.text words.now) s) }
+    ensures range { IfOk result (λ s. IsInRange s) }
+    ensures taken { (s : Settings) → takes line.program (map S.text words.now) ≡ true →
+        IsAsked (map S.text words.now) s → IsInRange s →
+        MatchResult result (λ t. t ≡ s) (λ fault. fault ≡ SettingsFault.Memory) }
+{
+    let matches = match program::<'a>(alloc)?.try_get_matches_from(words) {
+        Ok(matches) => matches,
+        Err(error) => return Err(fault_of(alloc, &error)),
+    };
+    if let Some((name, command)) = matches.subcommand() {
+        if let Some(settings) = settings_in(name, command) {
+            return Ok(settings);
+        }
+    }
+    Err(SettingsFault::Words(String::from_str(alloc, NO_NUMBERS)?))
+}

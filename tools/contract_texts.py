@@ -1,0 +1,105 @@
+"""The contracts that other crates see: what the clauses of exported functions say, and the views of exported types.
+
+An item is exported where it stands in a module that is public, or where lib.rt names it in a `pub use`.
+"""
+import glob
+import os
+import re
+from typing import Iterator, List, NamedTuple, Set
+
+from sessions import TOP
+
+CRATES = os.path.join(TOP, 'crates')
+FUNCTION = re.compile(r'^( *)(pub(?:\([a-z]+\))? )?(?:const )?fn (\w+)', re.M)
+BLOCK = re.compile(r'^(?:(?:pub(?:\(\w+\))? )?trait (\w+)|impl(?:<.*?>)? (?:(\w+)(?:<.*?>)? for )?(\w+))', re.M)
+ITEM = re.compile(r'^(?:pub(?:\(\w+\))? )?(?:struct|enum|trait) (\w+)', re.M)
+CLAUSE = re.compile(r'\{$|;$|^ *(?:requires|ensures) ', re.M)
+MEMBER = re.compile(r'^ +ghost (?!use|invariant)\w.*?;$', re.M | re.S)
+
+
+def read(path: str) -> str:
+    with open(path) as file:
+        return file.read()
+
+
+def crate_names() -> List[str]:
+    return sorted(os.path.basename(os.path.dirname(path)) for path in glob.glob(os.path.join(CRATES, '*', 'src')))
+
+
+class Block(NamedTuple):
+    """An impl block or a trait: where it begins, the trait and the type that it names, each '' where it names none."""
+    start: int
+    of_trait: str
+    of_type: str
+
+
+NO_BLOCK = Block(0, '', '')
+
+
+class Crate:
+    """The sources of one crate, and the names that it exports."""
+
+    def __init__(self, name: str) -> None:
+        folder = os.path.join(CRATES, name, 'src')
+        self.files = sorted(glob.glob(os.path.join(folder, '**', '*.rt'), recursive=True))
+        root = next(path for path in (os.path.join(folder, 'lib.rt'), os.path.join(folder, 'main.rt')) if os.path.exists(path))
+        text = read(root)
+        self.open = {root} | {os.path.join(folder, module + '.rt') for module in re.findall(r'^pub mod (\w+);', text, re.M)}
+        used = re.findall(r'^pub use [\w:]*?(?:\{([^}]*)\}|(\w+));', text, re.M)
+        self.exported = {item.strip() for listed, one in used for item in (listed or one).split(',')}
+        for path in self.open:
+            self.exported.update(ITEM.findall(read(path)))
+        self.own = {item for path in self.files for item in ITEM.findall(read(path))}
+
+    def sees(self, name: str) -> bool:
+        """Whether other crates see a type or trait: one of another crate they do."""
+        return name in self.exported or name not in self.own
+
+    def contracts(self, path: str) -> Iterator[str]:
+        """The signature and clauses of each function of a file that other crates can call."""
+        text = read(path)
+        blocks = blocks_of(text)
+        for head in FUNCTION.finditer(text):
+            block = block_at(blocks, head.start()) if head.group(1) else NO_BLOCK
+            if block.of_trait:
+                seen = self.sees(block.of_trait) and self.sees(block.of_type or block.of_trait)
+            elif block.of_type:
+                seen = head.group(2) == 'pub ' and self.sees(block.of_type)
+            else:
+                seen = head.group(2) == 'pub ' and (path in self.open or head.group(3) in self.exported)
+            if seen:
+                yield clauses_of(text[head.start():], head.group(1))
+
+    def views(self, path: str) -> Iterator[str]:
+        """The ghost members of a file's types and traits, but for invariants, that contracts of other crates see."""
+        text = read(path)
+        blocks = blocks_of(text)
+        for member in MEMBER.finditer(text):
+            block = block_at(blocks, member.start())
+            if self.sees(block.of_type) and self.sees(block.of_trait):
+                yield member.group(0)
+
+    def seen(self, path: str) -> Iterator[str]:
+        yield from self.contracts(path)
+        yield from self.views(path)
+
+
+def blocks_of(text: str) -> List[Block]:
+    return [Block(found.start(), found.group(1) or found.group(2) or '', found.group(3) or '') for found in BLOCK.finditer(text)]
+
+
+def block_at(blocks: List[Block], at: int) -> Block:
+    return next((block for block in reversed(blocks) if block.start < at), NO_BLOCK)
+
+
+def clauses_of(rest: str, indent: str) -> str:
+    """A function's text up to its body: a function with clauses has the brace of its body on a line of its own."""
+    first = CLAUSE.search(rest)
+    if not first or not first.group(0).lstrip().startswith(('requires', 'ensures')):
+        return rest[:first.start()] if first else rest
+    end = re.compile(r'^' + indent + r'\{$|^(?:' + indent + r')?\}$|\};$', re.M).search(rest)
+    return rest[:end.end() if end else len(rest)]
+
+
+def all_crates() -> List[Crate]:
+    return [Crate(name) for name in crate_names()]
