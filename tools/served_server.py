@@ -71,11 +71,13 @@ class Server:
         self.at_rest = (self.threads(), self.descriptors())
 
     def start(self, words: List[str]) -> None:
-        def limited() -> None:
+        def prepared() -> None:
             for what, most in self.limits.items():
                 resource.setrlimit(what, (most, most))
+            # a shell lets what it starts in the background ignore it
+            signal.signal(signal.SIGINT, signal.SIG_DFL)
         self.child = subprocess.Popen([self.program] + words, stdin=subprocess.DEVNULL, stdout=subprocess.PIPE,
-                                      stderr=subprocess.PIPE, bufsize=0, preexec_fn=limited)
+                                      stderr=subprocess.PIPE, bufsize=0, preexec_fn=prepared)
 
     def line_of_output(self) -> bytes:
         line = b''

@@ -119,8 +119,10 @@ class Programs(unittest.TestCase):
             self.assertEqual(s.budget(), (0, 0, 0))
 
 
+# a shell lets what it starts in the background ignore an interrupt, and Python then raises nothing
 INTERRUPTED = '''
-import spmat, sys
+import signal, spmat, sys
+signal.signal(signal.SIGINT, signal.default_int_handler)
 try:
     with spmat.Session() as s:
         A = s.full(128, 128)
