@@ -10,3 +10,4 @@ pub mod Marking
 pub mod Filling
 pub mod Meeting
 pub mod Barren
+pub mod Spreading

@@ -9,8 +9,9 @@
 //! addition to it waits (`tagged`), whether the mask's row allows it, and the columns that are touched. The rows of B that A's row
 //! names are added one after another, and the touched columns are then put in order, moved into the result and emptied. Where at
 //! least one column in 16 is touched, all columns are gone over in place of putting these in order. The columns' sums are made when a
-//! range has a term, never before. So the work is linear in the
-//! multiplications, the rows and the entries, but for the order of a row's columns; and the room is taken row by row.
+//! range has a term, never before, and not while the terms so far are few beside many columns: each row is then summed in lists that
+//! are as long as it has terms. So the work is linear in the multiplications, the rows and the entries, but for the order of a row's columns;
+//! and the room is taken row by row.
 //!
 //! Calls are made up to 64 together. Products wait until there are so many, and a row of B is gathered as many cells at a time as
 //! there is room for; an addition waits until there are so many, or one more falls on its column. Many cells of one row of B are
@@ -19,12 +20,15 @@
 //!
 //! Read `product`, `row` (one row), `sums` (rows of B added to the sums), `terms` (products that wait), `additions` (additions
 //! that wait), `tagged` (what is kept of a column), `emit` (sums into the result), `marks` (the mask's row) and `count`, over
-//! `specs/Sums.antt`, `specs/Terms.antt` and `specs/Emitted.antt`.
+//! `specs/Sums.antt`, `specs/Terms.antt` and `specs/Emitted.antt`; and `few` (rows of few terms) with `columns` (the columns of
+//! these terms), over `specs/Few.antt`.
 #![tactic(auto)]
 
 mod additions;
+mod columns;
 mod count;
 mod emit;
+mod few;
 mod marks;
 mod product;
 mod row;
