@@ -134,13 +134,6 @@ const SLOTS: [u64; 115] = [
     0x7a0a_e8ff_0403_0201,
 ];
 
-fn fault_of(alloc: Global, code: &[u8]) -> Option<Fault> {
-    match decode(alloc, code) {
-        Err(DecodeError::Fault(fault)) => Some(fault),
-        _ => None,
-    }
-}
-
 /// That a program is encoded to this code.
 fn expect_code(rt: &impl Abort, alloc: Global, program: &Program, code: &[u8]) -> Result<(), Fail> {
     let encoded = encode(alloc, program)?;
@@ -162,117 +155,11 @@ fn expect_program(
 }
 
 #[test]
-fn each_opcode_is_decoded_and_encoded(rt: HostRuntime) -> Result<(), Fail> {
-    for slot in &SLOTS {
-        expect_program(&rt, rt.alloc(), &slot.to_be_bytes(), 1, 1)?;
-    }
-    Ok(())
-}
-
-#[test]
 fn all_opcodes_are_one_program(rt: HostRuntime) -> Result<(), Fail> {
     let slots: &[u64] = &SLOTS;
     let mut code = code_of(rt.alloc(), slots)?;
     code.extend_from_slice(&code_of(rt.alloc(), &[0x1807_0000_0100_0000, 0x0000_0000_0200_0000])?)?;
     expect_program(&rt, rt.alloc(), &code, 116, 117)
-}
-
-#[test]
-fn the_table_has_116_opcodes(rt: HostRuntime) -> Result<(), Fail> {
-    let mut known = Vec::new(rt.alloc());
-    let mut outside = Vec::new(rt.alloc());
-    for opcode in 0..=255u8 {
-        match fault_of(rt.alloc(), &[opcode, 0, 0, 0, 0, 0, 0, 0]).map(|fault| fault.rule) {
-            Some(CodeRule::UnknownOpcode) => {}
-            Some(CodeRule::OutsideProfile) => outside.push(opcode)?,
-            _ => known.push(opcode)?,
-        }
-    }
-    let left_out = [0x20, 0x28, 0x30, 0x40, 0x48, 0x50, 0x85, 0xc3, 0xdb];
-    assert_eq!(rt; outside.as_slice(), left_out.as_slice());
-    assert_eq!(rt; known.len(), 116);
-    Ok(())
-}
-
-/// Slots with the rule that each breaks.
-const BROKEN: [(u64, CodeRule); 16] = [
-    (0xff00_0000_0000_0000, CodeRule::UnknownOpcode),
-    (0x8f00_0000_0000_0000, CodeRule::UnknownOpcode),
-    (0x8500_0000_0100_0000, CodeRule::OutsideProfile),
-    (0x1810_0000_0000_0000, CodeRule::OutsideProfile),
-    (0xbfb0_0000_0000_0000, CodeRule::RegisterAboveTen),
-    (0xbfb0_0100_0000_0000, CodeRule::RegisterAboveTen),
-    (0x3700_0200_0100_0000, CodeRule::UnusedField),
-    (0x9500_0000_0100_0000, CodeRule::UnusedField),
-    (0xd400_0000_1800_0000, CodeRule::UnusedField),
-    (0xbc10_2000_0000_0000, CodeRule::UnusedField),
-    (0x05b0_0000_0000_0000, CodeRule::UnusedField),
-    (0x1800_0000_0100_0000, CodeRule::BrokenWideLoad),
-    (0x180b_0000_0100_0000, CodeRule::RegisterAboveTen),
-    (0x181b_0000_0100_0000, CodeRule::OutsideProfile),
-    (0x8400_0000_0100_0000, CodeRule::UnusedField),
-    (0x8410_0000_0000_0000, CodeRule::UnusedField),
-];
-
-/// That the code of these slots is refused at a slot for a rule.
-fn expect_fault(
-    rt: &impl Abort,
-    alloc: Global,
-    slots: &[u64],
-    slot: u64,
-    rule: CodeRule,
-) -> Result<(), Fail> {
-    let code = code_of(alloc, slots)?;
-    let found = fault_of(alloc, &code);
-    assert_eq!(rt; found, Some(Fault { slot, rule }), "{slots:?}");
-    Ok(())
-}
-
-#[test]
-fn a_broken_slot_is_refused(rt: HostRuntime) -> Result<(), Fail> {
-    for (slot, rule) in &BROKEN {
-        expect_fault(&rt, rt.alloc(), &[*slot], 0, *rule)?;
-        expect_fault(
-            &rt,
-            rt.alloc(),
-            &[0x1800_0000_0100_0000, 0, *slot],
-            2,
-            *rule,
-        )?;
-    }
-    let twice = [0x1800_0000_0100_0000, 0x1800_0000_0000_0000];
-    expect_fault(&rt, rt.alloc(), &twice, 0, CodeRule::BrokenWideLoad)
-}
-
-/// The code of so many slots, each an `exit`.
-fn exits(alloc: Global, count: u64) -> Result<Vec<u8>, Fail> {
-    let mut code = Vec::new(alloc);
-    for _ in 0..count {
-        code.extend_from_slice(&EXIT.to_be_bytes())?;
-    }
-    Ok(code)
-}
-
-#[test]
-fn a_bad_length_is_refused(rt: HostRuntime) -> Result<(), Fail> {
-    let rule = CodeRule::BadLength;
-    let mut code = code_of(rt.alloc(), &[0xbf10_0000_0000_0000, 0x0700_0000_0100_0000])?;
-    code.pop();
-    assert_eq!(rt; fault_of(rt.alloc(), &code), Some(Fault { slot: 1, rule }));
-    expect_fault(&rt, rt.alloc(), &[], 0, rule)
-}
-
-#[test]
-fn the_longest_code_has_4096_slots(rt: HostRuntime) -> Result<(), Fail> {
-    let longest = exits(rt.alloc(), 4096)?;
-    expect_program(&rt, rt.alloc(), &longest, 4096, 4096)?;
-    let longer = exits(rt.alloc(), 4097)?;
-    let rule = CodeRule::BadLength;
-    assert_eq!(rt;
-        fault_of(rt.alloc(), &longer),
-        Some(Fault { slot: 4096, rule })
-    );
-    Ok(())
 }
 
 /// The value of a wide load, and 0 of any other instruction.

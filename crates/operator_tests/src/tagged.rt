@@ -1,8 +1,5 @@
-//! What programs give, by examples from outside and by arithmetic done by hand.
-mod arithmetic;
-mod conditions;
+//! The machine with tags: what a run comes to, and where it is stuck on programs that the verifier refuses.
 mod faults;
-mod stack;
 
 use crate::programs::{EXIT, MOVE, program};
 use bpf_insn::{CodeRule, Fault, Kind, Operands, Ran, Stepped, Tagged, run_tagged};
@@ -12,19 +9,6 @@ use std::test::Fail;
 
 fn unary(x: u64) -> Operands {
     Operands::Unary { x }
-}
-
-fn binary(x: u64, y: u64) -> Operands {
-    Operands::Binary { x, y }
-}
-
-fn index(x: u64, row: u64, column: u64, thunk: u64) -> Operands {
-    Operands::Index {
-        x,
-        row,
-        column,
-        thunk,
-    }
 }
 
 fn done(value: u64, steps: u64) -> Ran {
@@ -47,8 +31,9 @@ fn expect_end(
     Ok(())
 }
 
-/// Programs, each behind its name, with the operands, the value and the steps.
-const GIVEN: [(&str, &[u64], Operands, (u64, u64)); 16] = [
+/// Programs, each behind its name, with the operands, the value and the steps. The verifier refuses the last two, for a way that
+/// these operands don't go.
+const GIVEN: [(&str, &[u64], Operands, (u64, u64)); 4] = [
     (
         "add 1",
         &[MOVE, 0x0700_0000_0100_0000, EXIT],
@@ -56,77 +41,20 @@ const GIVEN: [(&str, &[u64], Operands, (u64, u64)); 16] = [
         (42, 3),
     ),
     (
-        "add 1, wrapping",
-        &[MOVE, 0x0700_0000_0100_0000, EXIT],
-        Operands::Unary {
-            x: 0x7fff_ffff_ffff_ffff,
+        "diagonal",
+        &[
+            0xb700_0000_0100_0000,
+            0x1d32_0100_0000_0000,
+            0xb700_0000_0000_0000,
+            EXIT,
+        ],
+        Operands::Index {
+            x: 7,
+            row: 3,
+            column: 4,
+            thunk: 0,
         },
-        (0x8000_0000_0000_0000, 3),
-    ),
-    (
-        "wide load",
-        &[0x1800_0000_0100_0000, 0x0000_0000_0100_0000, EXIT],
-        Operands::Unary { x: 5 },
-        (0x1_0000_0001, 2),
-    ),
-    (
-        "jump to the next slot",
-        &[0xb700_0000_0000_0000, 0x0500_0000_0000_0000, EXIT],
-        Operands::Unary { x: 5 },
-        (0, 3),
-    ),
-    (
-        "jump by offset",
-        &[
-            0xb700_0000_0500_0000,
-            0x0500_0100_0000_0000,
-            0xb700_0000_0600_0000,
-            EXIT,
-        ],
-        Operands::Unary { x: 5 },
-        (5, 3),
-    ),
-    (
-        "jump by imm",
-        &[
-            0xb700_0000_0500_0000,
-            0x0600_0000_0100_0000,
-            0xb700_0000_0600_0000,
-            EXIT,
-        ],
-        Operands::Unary { x: 5 },
-        (5, 3),
-    ),
-    (
-        "the stack's first bytes",
-        &[0x7b1a_00fe_0000_0000, 0x79a0_00fe_0000_0000, EXIT],
-        Operands::Unary {
-            x: 0x1234_5678_9abc_def0,
-        },
-        (0x1234_5678_9abc_def0, 3),
-    ),
-    (
-        "two halves stored",
-        &[
-            0x631a_fcff_0000_0000,
-            0x631a_f8ff_0000_0000,
-            0x79a0_f8ff_0000_0000,
-            EXIT,
-        ],
-        Operands::Unary { x: 1 },
-        (0x1_0000_0001, 4),
-    ),
-    (
-        "a moved place",
-        &[
-            0xbfa2_0000_0000_0000,
-            0x0702_0000_f8ff_ffff,
-            0x7b12_0000_0000_0000,
-            0x79a0_f8ff_0000_0000,
-            EXIT,
-        ],
-        Operands::Unary { x: 77 },
-        (77, 5),
+        (0, 4),
     ),
     (
         "jump not taken",
@@ -146,71 +74,6 @@ const GIVEN: [(&str, &[u64], Operands, (u64, u64)); 16] = [
         ],
         Operands::Binary { x: 0, y: 9 },
         (9, 4),
-    ),
-    (
-        "diagonal",
-        &[
-            0xb700_0000_0100_0000,
-            0x1d32_0100_0000_0000,
-            0xb700_0000_0000_0000,
-            EXIT,
-        ],
-        Operands::Index {
-            x: 7,
-            row: 3,
-            column: 3,
-            thunk: 0,
-        },
-        (1, 3),
-    ),
-    (
-        "diagonal",
-        &[
-            0xb700_0000_0100_0000,
-            0x1d32_0100_0000_0000,
-            0xb700_0000_0000_0000,
-            EXIT,
-        ],
-        Operands::Index {
-            x: 7,
-            row: 3,
-            column: 4,
-            thunk: 0,
-        },
-        (0, 4),
-    ),
-    (
-        "row",
-        &[0xbf20_0000_0000_0000, EXIT],
-        Operands::Index {
-            x: 1,
-            row: 2,
-            column: 3,
-            thunk: 4,
-        },
-        (2, 2),
-    ),
-    (
-        "column",
-        &[0xbf30_0000_0000_0000, EXIT],
-        Operands::Index {
-            x: 1,
-            row: 2,
-            column: 3,
-            thunk: 4,
-        },
-        (3, 2),
-    ),
-    (
-        "thunk",
-        &[0xbf40_0000_0000_0000, EXIT],
-        Operands::Index {
-            x: 1,
-            row: 2,
-            column: 3,
-            thunk: 4,
-        },
-        (4, 2),
     ),
 ];
 

@@ -1,10 +1,8 @@
-//! What is accepted and refused, by examples done by hand, and what is then known at the slots.
-mod faults;
-mod sizes;
+//! What comes back with a refusal, and what is known at the slots of an operator beyond what `types` tells.
 mod typing;
 
 use crate::programs::{EXIT, program};
-use bpf_insn::{CodeRule, Kind};
+use bpf_insn::{CodeRule, Fault, Kind};
 use bpf_verify::{Operator, Tag, VerifyError, verify};
 use std::alloc::Global;
 use std::process::Abort;
@@ -13,38 +11,35 @@ use std::test::Fail;
 /// `mov64 r0, 0`
 const ZERO: u64 = 0xb700_0000_0000_0000;
 
-/// The operator of these slots, or the slot and the rule of its fault. What comes back with a fault
-/// is the program.
-fn verdict(
-    rt: &impl Abort,
-    alloc: Global,
-    slots: &[u64],
-    kind: Kind,
-) -> Result<Result<Operator, (u64, CodeRule)>, Fail> {
-    let program = program(alloc, slots)?;
-    let (len, count) = (program.len(), program.slots());
-    match verify(alloc, program, kind) {
-        Ok(operator) => {
-            assert_eq!(rt; operator.len(), len);
-            assert_eq!(rt; operator.program().slots(), count);
-            assert_eq!(rt; operator.kind(), kind);
-            Ok(Ok(operator))
-        }
-        Err((program, error)) => {
-            assert_eq!(rt; program.len(), len);
-            assert_eq!(rt; program.slots(), count);
-            match error {
-                VerifyError::Fault(fault) => Ok(Err((fault.slot, fault.rule))),
-                VerifyError::Memory => Err(std::alloc::AllocError.into()),
-            }
-        }
-    }
-}
-
 /// The operator of these slots, which is not refused.
 fn accepted(rt: &impl Abort, alloc: Global, slots: &[u64], kind: Kind) -> Result<Operator, Fail> {
-    match verdict(rt, alloc, slots, kind)? {
+    match verify(alloc, program(alloc, slots)?, kind) {
         Ok(operator) => Ok(operator),
         Err(_) => panic!(rt; "refused"),
     }
+}
+
+#[test]
+fn an_operator_has_its_program(rt: HostRuntime) -> Result<(), Fail> {
+    let slots = [0x1800_0000_0100_0000, 0, EXIT];
+    let operator = accepted(&rt, rt.alloc(), &slots, Kind::Index)?;
+    assert_eq!(rt; operator.len(), 2);
+    assert_eq!(rt; operator.program().slots(), 3);
+    assert_eq!(rt; operator.kind(), Kind::Index);
+    Ok(())
+}
+
+#[test]
+fn a_refused_program_comes_back(rt: HostRuntime) -> Result<(), Fail> {
+    let slots = [0x1501_0100_0000_0000, ZERO, EXIT];
+    let Err((program, error)) = verify(rt.alloc(), program(rt.alloc(), &slots)?, Kind::Unary) else {
+        panic!(rt; "R0 is unset on one way");
+    };
+    assert_eq!(rt; (program.len(), program.slots()), (3, 3));
+    let fault = Fault {
+        slot: 2,
+        rule: CodeRule::UnsetRead,
+    };
+    assert!(rt; matches!(error, VerifyError::Fault(found) if found == fault));
+    Ok(())
 }

@@ -9,17 +9,13 @@ const COUNTS: [u64; 27] = [
     63, 64,
 ];
 
-/// How many calls of a long operator are gathered.
-const FEW_COUNTS: [u64; 2] = [1, 64];
-
-/// The operands of the lane of this number, among all pairs of these words; or those of lane 0, where all are alike.
-fn operands_at(kind: Kind, words: &[u64], lane: u64, alike: bool) -> Operands {
-    let count = words.len() as u64;
-    if alike || count == 0 {
+/// The operands of the lane of this number, among all pairs of words; or the same ones, where all are alike.
+fn operands_at(kind: Kind, lane: u64, alike: bool) -> Operands {
+    if alike {
         return operands_of(kind, 5, 6);
     }
-    let x = words[(lane % count) as usize];
-    let y = words[((lane / count).wrapping_add(lane) % count) as usize];
+    let x = WORDS[(lane % 12) as usize];
+    let y = WORDS[((lane / 12).wrapping_add(lane) % 12) as usize];
     operands_of(kind, x, y)
 }
 
@@ -66,67 +62,29 @@ fn expect_together(
 }
 
 /// The operands of so many lanes, all alike or all different.
-fn lanes_of(
-    alloc: Global,
-    kind: Kind,
-    words: &[u64],
-    count: u64,
-    alike: bool,
-) -> Result<Vec<Operands>, Fail> {
+fn lanes_of(alloc: Global, kind: Kind, count: u64, alike: bool) -> Result<Vec<Operands>, Fail> {
     let mut operands = Vec::new(alloc);
     for lane in 0..count {
         let number = lane.wrapping_mul(7).wrapping_add(count);
-        operands.push(operands_at(kind, words, number, alike))?;
+        operands.push(operands_at(kind, number, alike))?;
     }
     Ok(operands)
 }
 
 /// The same in each count, of lanes all alike and of lanes that differ.
-pub(super) fn expect_alike(
+pub(super) fn expect_together_in_all_counts(
     rt: &impl Abort,
     alloc: Global,
     tagged: &Program,
     prepared: &Prepared,
-    words: &[u64],
 ) -> Result<(), Fail> {
     let mut calls = Calls::new(alloc)?;
-    let counts = if prepared.len() < 100 {
-        COUNTS.as_slice()
-    } else {
-        FEW_COUNTS.as_slice()
-    };
-    for count in counts {
+    for count in COUNTS {
         for alike in [false, true] {
-            let operands = lanes_of(alloc, prepared.kind(), words, *count, alike)?;
+            let operands = lanes_of(alloc, prepared.kind(), count, alike)?;
             expect_together(rt, tagged, prepared, &mut calls, &operands);
         }
     }
-    Ok(())
-}
-
-/// That 64 calls of an operator of these slots that are made together give and cost what they do one by one.
-pub(super) fn expect_as_single(
-    rt: &impl Abort,
-    alloc: Global,
-    slots: &[u64],
-    words: &[u64],
-) -> Result<(), Fail> {
-    let operator = prepared(alloc, slots, Kind::Binary)?;
-    let kind = operator.kind();
-    let mut calls = Calls::new(alloc)?;
-    let operands = lanes_of(alloc, kind, words, 64, false)?;
-    gather_all(&mut calls, kind, &operands);
-    let steps = calls.make(&operator);
-    let mut sum = 0u64;
-    assert_eq!(rt; calls.values().len(), operands.len());
-    for (one, given) in operands.iter().zip(calls.values()) {
-        if one.kind() == kind {
-            let outcome = call(&operator, one);
-            assert_eq!(rt; *given, outcome.value);
-            sum = sum.wrapping_add(outcome.steps);
-        }
-    }
-    assert_eq!(rt; steps, sum);
     Ok(())
 }
 

@@ -23,19 +23,6 @@ fn expect_encoded(
 
 /// No size is refused where there is memory.
 #[test]
-fn programs_of_each_size_are_decoded_and_encoded(rt: HostRuntime) -> Result<(), Fail> {
-    let mut code = Vec::new(rt.alloc());
-    for slots in 1..=4096u64 {
-        code.extend_from_slice(&SLOTS[(slots % 115) as usize].to_be_bytes())?;
-        if slots % 8 == 0 {
-            expect_program(&rt, rt.alloc(), &code, slots, slots)?;
-        }
-    }
-    Ok(())
-}
-
-/// Nor where instructions are given.
-#[test]
 fn instructions_of_many_sizes_are_encoded(rt: HostRuntime) -> Result<(), Fail> {
     let mut code = Vec::new(rt.alloc());
     let mut insns = Vec::new(rt.alloc());
@@ -47,38 +34,5 @@ fn instructions_of_many_sizes_are_encoded(rt: HostRuntime) -> Result<(), Fail> {
             expect_encoded(&rt, rt.alloc(), insns.to_vec(rt.alloc())?, &code)?;
         }
     }
-    Ok(())
-}
-
-/// The code of 2,048 wide loads.
-fn wide_loads(alloc: Global) -> Result<Vec<u8>, Fail> {
-    let mut code = Vec::new(alloc);
-    for _ in 0..2048 {
-        code.extend_from_slice(&0x1800_0000_0700_0000u64.to_be_bytes())?;
-        code.extend_from_slice(&0x0000_0000_0900_0000u64.to_be_bytes())?;
-    }
-    Ok(code)
-}
-
-#[test]
-fn wide_loads_fill_a_program(rt: HostRuntime) -> Result<(), Fail> {
-    let code = wide_loads(rt.alloc())?;
-    expect_program(&rt, rt.alloc(), &code, 2048, 4096)?;
-    let wide = Insn::Wide {
-        dst: Reg::R0,
-        value: 0x9_0000_0007,
-    };
-    expect_encoded(&rt, rt.alloc(), vec![in rt.alloc(); wide; 2048]?, &code)
-}
-
-#[test]
-fn half_a_wide_load_is_refused_at_the_end(rt: HostRuntime) -> Result<(), Fail> {
-    let mut code = wide_loads(rt.alloc())?;
-    code.truncate(8 * 4095);
-    let rule = CodeRule::BrokenWideLoad;
-    assert_eq!(rt;
-        fault_of(rt.alloc(), &code),
-        Some(Fault { slot: 4094, rule })
-    );
     Ok(())
 }

@@ -1,4 +1,4 @@
-//! Each opcode with the least and the greatest of its fields, there and back.
+//! Opcodes with fields that the verifier refuses in every program, there and back: jumps back and far ahead, and R10 written.
 use bpf_insn::encode;
 use bpf_text::{assemble, disassemble};
 use std::alloc::{AllocError, Global};
@@ -26,77 +26,42 @@ const MOVES: &str = "movs8_32 movs16_32 movs8_64 movs16_64 movs32_64";
 
 const SINGLE: &str = "neg32 neg64 le16 le32 le64 be16 be32 be64 swap16 swap32 swap64";
 
-/// Mnemonics, with what may stand behind each: the least and the greatest of each field.
-const LINES: [(&str, &[&str]); 10] = [
-    (
-        OPERATIONS,
-        &[
-            " r0, r10",
-            " r10, r0",
-            " r9, -2147483648",
-            " r9, 2147483647",
-        ],
-    ),
+/// Mnemonics, with what may stand behind each.
+const LINES: [(&str, &[&str]); 8] = [
+    (OPERATIONS, &[" r10, r0", " r10, -2147483648"]),
     (
         CONDITIONS,
-        &[
-            " r0, r10, -32768",
-            " r10, -2147483648, 32767",
-            " r0, 2147483647, 0",
-        ],
+        &[" r0, r10, -32768", " r10, -2147483648, 32767"],
     ),
-    (MOVES, &[" r0, r10", " r10, r0"]),
-    (SINGLE, &[" r0", " r10"]),
+    (MOVES, &[" r10, r0"]),
+    (SINGLE, &[" r10"]),
     ("ja", &[" -32768", " 32767"]),
     ("ja32", &[" -2147483648", " 2147483647"]),
     (
         "ldx8 ldx16 ldx32 ldx64 ldsx8 ldsx16 ldsx32",
-        &[" r0, r10, -32768", " r10, r0, 32767"],
+        &[" r10, r0, 32767"],
     ),
-    (
-        "stx8 stx16 stx32 stx64",
-        &[" r0, -32768, r10", " r10, 32767, r0"],
-    ),
-    (
-        "st8 st16 st32 st64",
-        &[" r0, -32768, 2147483647", " r10, 32767, -2147483648"],
-    ),
-    (
-        "wide",
-        &[" r0, -9223372036854775808", " r10, 9223372036854775807"],
-    ),
+    ("wide", &[" r10, 9223372036854775807"]),
 ];
 
-/// Each opcode with the least and the greatest of each of its fields.
+/// All of these lines.
 fn all_lines(alloc: Global) -> Result<String, AllocError> {
     let mut text = String::new(alloc);
     for (mnemonics, operands) in &LINES {
         push_lines(&mut text, mnemonics, operands)?;
     }
-    text.push_str("exit\n")?;
     Ok(text)
 }
 
-/// The number of different bytes at the fronts of slots.
-fn count_of_opcodes(code: &[u8]) -> u64 {
-    let mut seen = [false; 256];
-    for (i, byte) in code.iter().enumerate() {
-        if i % 8 == 0 {
-            seen[usize::from(*byte)] = true;
-        }
-    }
-    seen.iter().filter(|seen| **seen).count() as u64
-}
-
 #[test]
-fn every_opcode_there_and_back(rt: HostRuntime) -> Result<(), Fail> {
+fn refused_lines_there_and_back(rt: HostRuntime) -> Result<(), Fail> {
     let text = all_lines(rt.alloc())?;
     let program = assemble(rt.alloc(), text.as_bytes())?;
     let written = disassemble(rt.alloc(), &program)?;
     assert_eq!(rt; written.as_str(), text.as_str());
 
-    // 116 opcodes, and the 0 of the second slot of a wide load
+    // a slot a line, and one more for the wide load
     let code = encode(rt.alloc(), &program)?;
-    assert_eq!(rt; count_of_opcodes(code.as_slice()), 117);
+    assert_eq!(rt; code.len(), 8 * (text.lines().count() + 1));
     Ok(())
 }

@@ -1,4 +1,4 @@
-//! What is known at the slots of an operator.
+//! What is known at the slots of an operator, where `types` has no line, and which bytes of the stack.
 use super::*;
 
 /// The tag of a register at a slot where a path leads.
@@ -7,56 +7,6 @@ fn tag(operator: &Operator, slot: u64, reg: usize) -> Option<Tag> {
         Some(tags) => tags.get(reg).copied(),
         None => None,
     }
-}
-
-/// R3 is the top of the stack where R1 is not 0, and else R2; R0 is written where both meet.
-const JOINING: [u64; 6] = [
-    0x1501_0200_0000_0000,
-    0xbfa3_0000_0000_0000,
-    0x0500_0100_0000_0000,
-    0xbf23_0000_0000_0000,
-    0xbf10_0000_0000_0000,
-    EXIT,
-];
-
-/// The tags at the entry of a binary operator.
-const AT_ENTRY: [Tag; 11] = [
-    Tag::Unset,
-    Tag::Number,
-    Tag::Number,
-    Tag::Unset,
-    Tag::Unset,
-    Tag::Unset,
-    Tag::Unset,
-    Tag::Unset,
-    Tag::Unset,
-    Tag::Unset,
-    Tag::Place(0),
-];
-
-/// That registers have these tags at a slot, where a path leads.
-fn expect_tags(rt: &impl Abort, operator: &Operator, slot: u64, tags: [Tag; 11]) {
-    assert_eq!(rt; operator.typing(slot), Some(tags));
-}
-
-#[test]
-fn branches_join(rt: HostRuntime) -> Result<(), Fail> {
-    let operator = accepted(&rt, rt.alloc(), &JOINING, Kind::Binary)?;
-    let mut tags = AT_ENTRY;
-    expect_tags(&rt, &operator, 0, tags);
-    tags[3] = Tag::Mixed;
-    expect_tags(&rt, &operator, 4, tags);
-    tags[0] = Tag::Number;
-    expect_tags(&rt, &operator, 5, tags);
-    Ok(())
-}
-
-#[test]
-fn one_branch_is_typed(rt: HostRuntime) -> Result<(), Fail> {
-    let operator = accepted(&rt, rt.alloc(), &JOINING, Kind::Binary)?;
-    assert_eq!(rt; tag(&operator, 2, 3), Some(Tag::Place(0)));
-    assert_eq!(rt; operator.typing(6), None);
-    Ok(())
 }
 
 /// A wide load, a jump over a slot to `exit`.
