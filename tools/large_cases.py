@@ -165,6 +165,26 @@ def shuffled_symmetric_matrix(program):
                 b'ok matrix %d %d %d\n' % (side, side, len(whole)) + show_reply(shown))
 
 
+def numbered(side, order):
+    """The entries of a full square matrix in an order; the value of each is its number by rows."""
+    return [(number // side + 1, number % side + 1, number) for number in order]
+
+
+def orders_of_a_million(program):
+    """A million entries by row, by column and in no order are one matrix; a symmetric text of half of them, and one of all."""
+    side, count = 1000, 1000000
+    orders = [range(count), [place % side * side + place // side for place in range(count)],
+              [place * 700001 % count for place in range(count)]]
+    shown = show_reply(matrix_text(side, side, numbered(side, range(count))))
+    input_ = b''.join(matrix_command('A', matrix_text(side, side, numbered(side, order))) + b'show A\n' for order in orders)
+    half = [entry for entry in numbered(side, range(count)) if entry[0] >= entry[1]]
+    text = matrix_text(side, side, half).replace(b'general', b'symmetric', 1)
+    whole = sorted([*half, *((column, row, value) for row, column, value in half if row > column)])
+    read = b'ok matrix %d %d %d\n' % (side, side, count)
+    run_session(program, run_words(), input_ + matrix_command('A', text) + b'show A\n',
+                (read + shown) * len(orders) + read + show_reply(matrix_text(side, side, whole)))
+
+
 def position_given_again_at_the_end(program):
     """The last line of a long text repeats the position of an early one."""
     entries = many_entries(30000)
@@ -278,6 +298,7 @@ LARGE_CASES = {
     'types-of-4096-slots': types_of_4096_slots,
     'branches-of-4096-slots': branches_of_4096_slots,
     'shuffled-symmetric-matrix': shuffled_symmetric_matrix,
+    'orders-of-a-million': orders_of_a_million,
     'position-given-again-at-the-end': position_given_again_at_the_end,
     'matrix-body-of-greatest-length': matrix_body_of_greatest_length,
     'matrix-body-of-comments': matrix_body_of_comments,

@@ -43,8 +43,12 @@ class Answer(NamedTuple):
 
 
 def answer_of(program: str, session: Session) -> Answer:
-    done = subprocess.run([program] + run_words(), input=session.data, stdout=subprocess.PIPE, stderr=subprocess.PIPE,
-                          timeout=SECONDS, preexec_fn=bounded, check=False)
+    """What a program makes of a session. One that doesn't end has no exit status, and so is wrong."""
+    try:
+        done = subprocess.run([program] + run_words(), input=session.data, stdout=subprocess.PIPE, stderr=subprocess.PIPE,
+                              timeout=SECONDS, preexec_fn=bounded, check=False)
+    except subprocess.TimeoutExpired as late:
+        return Answer(late.stdout or b'', b'not ended after %d seconds' % SECONDS, -1)
     return Answer(done.stdout, done.stderr, done.returncode)
 
 
