@@ -9,8 +9,6 @@
 #![tactic(auto)]
 
 mod hexadecimal;
-#[cfg(test)]
-mod job_tests;
 mod name;
 mod refusal;
 mod replies;
@@ -18,8 +16,6 @@ mod reply;
 mod request;
 mod rules;
 mod submission;
-#[cfg(test)]
-mod tests;
 mod words;
 
 pub use hexadecimal::{HexFault, unhex};
