@@ -98,8 +98,8 @@ def told_of(who: str, session: Session, answer: Answer) -> List[str]:
         return []
     lines = ['%s, %s, %s: %s' % (who, session.topic, each.what, line) for each, line in differences(session, answer.out)]
     if answer.status or answer.told or not lines:
-        lines.append('%s, %s: status %d, %d bytes of %d, %.200r' % (who, session.topic, answer.status, len(answer.out),
-                                                                  len(session.wanted), answer.told))
+        lines.insert(0, '%s, %s: status %d, %d bytes of %d, %.200r' % (who, session.topic, answer.status, len(answer.out),
+                                                                     len(session.wanted), answer.told))
     return lines
 
 

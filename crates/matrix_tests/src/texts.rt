@@ -17,7 +17,10 @@ fn assert_shown(
 
 #[test]
 fn errors_are_shown_with_their_line(rt: HostRuntime) -> Result<(), Fail> {
-    match read(rt.alloc(), b"%%MatrixMarket matrix coordinate integer general\n1 1\n") {
+    match read(
+        rt.alloc(),
+        b"%%MatrixMarket matrix coordinate integer general\n1 1\n",
+    ) {
         Ok(_) => panic!(rt; "a size line of two numbers"),
         Err(error) => assert_shown(&rt, rt.alloc(), error, "line 2: M3")?,
     }
