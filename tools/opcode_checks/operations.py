@@ -84,9 +84,10 @@ def wide_loads() -> Iterator[Made]:
 
 
 def sessions() -> Iterator[Session]:
-    laid, few = laid_out(EDGES), laid_out(WORDS, [1, 20, 64, 130])
+    laid, words, few = laid_out(EDGES), laid_out(WORDS), laid_out(WORDS, [1, 20, 64, 130])
     yield from sessions_of('arithmetic', laid, all_of('arithmetic'))
     yield from sessions_of('jumps', laid, all_of('jump'))
-    yield from sessions_of('loads', laid_out(WORDS), all_of('load'))
-    yield from sessions_of('stores', few, all_of('store'))
+    yield from sessions_of('loads', words, all_of('load'))
+    yield from sessions_of('stores of registers', words, (made for made in all_of('store') if made[0].startswith('stx')))
+    yield from sessions_of('stores of numbers', few, (made for made in all_of('store') if not made[0].startswith('stx')))
     yield from sessions_of('wide loads', laid_out([0, 1], [1, 64]), wide_loads())

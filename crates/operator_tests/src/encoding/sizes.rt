@@ -36,3 +36,23 @@ fn instructions_of_many_sizes_are_encoded(rt: HostRuntime) -> Result<(), Fail> {
     }
     Ok(())
 }
+
+/// The code of 2,048 wide loads.
+fn wide_loads(alloc: Global) -> Result<Vec<u8>, Fail> {
+    let mut code = Vec::new(alloc);
+    for _ in 0..2048 {
+        code.extend_from_slice(&0x1800_0000_0700_0000u64.to_be_bytes())?;
+        code.extend_from_slice(&0x0000_0000_0900_0000u64.to_be_bytes())?;
+    }
+    Ok(code)
+}
+
+#[test]
+fn wide_loads_fill_a_program(rt: HostRuntime) -> Result<(), Fail> {
+    let code = wide_loads(rt.alloc())?;
+    let wide = Insn::Wide {
+        dst: Reg::R0,
+        value: 0x9_0000_0007,
+    };
+    expect_encoded(&rt, rt.alloc(), vec![in rt.alloc(); wide; 2048]?, &code)
+}

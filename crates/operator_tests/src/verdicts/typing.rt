@@ -21,7 +21,7 @@ const UNREACHED: [u64; 5] = [
 #[test]
 fn what_no_path_reaches_is_not_typed(rt: HostRuntime) -> Result<(), Fail> {
     let operator = accepted(&rt, rt.alloc(), &UNREACHED, Kind::Unary)?;
-    for slot in [1, 3] {
+    for slot in [1, 3, 5] {
         assert_eq!(rt; operator.typing(slot), None);
     }
     assert_eq!(rt; operator.stored(1, -1), None);
