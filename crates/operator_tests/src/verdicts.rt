@@ -32,14 +32,20 @@ fn an_operator_has_its_program(rt: HostRuntime) -> Result<(), Fail> {
 #[test]
 fn a_refused_program_comes_back(rt: HostRuntime) -> Result<(), Fail> {
     let slots = [0x1501_0100_0000_0000, ZERO, EXIT];
-    let Err((program, error)) = verify(rt.alloc(), program(rt.alloc(), &slots)?, Kind::Unary) else {
-        panic!(rt; "R0 is unset on one way");
-    };
-    assert_eq!(rt; (program.len(), program.slots()), (3, 3));
-    let fault = Fault {
-        slot: 2,
-        rule: CodeRule::UnsetRead,
-    };
-    assert!(rt; matches!(error, VerifyError::Fault(found) if found == fault));
+    match verify(rt.alloc(), program(rt.alloc(), &slots)?, Kind::Unary) {
+        Ok(_) => panic!(rt; "R0 is unset on one way"),
+        Err((program, error)) => {
+            assert_eq!(rt; (program.len(), program.slots()), (3, 3));
+            assert_fault(&rt, error, 2, CodeRule::UnsetRead);
+        }
+    }
     Ok(())
+}
+
+/// An error is this fault.
+fn assert_fault(rt: &impl Abort, error: VerifyError, slot: u64, rule: CodeRule) {
+    match error {
+        VerifyError::Fault(fault) => assert_eq!(rt; fault, Fault { slot, rule }),
+        VerifyError::Memory => panic!(rt; "no memory"),
+    }
 }

@@ -60,8 +60,8 @@ fn refused_lines_there_and_back(rt: HostRuntime) -> Result<(), Fail> {
     let written = disassemble(rt.alloc(), &program)?;
     assert_eq!(rt; written.as_str(), text.as_str());
 
-    // a slot a line, and one more for the wide load
+    // 128 lines, and one more slot for the wide load
     let code = encode(rt.alloc(), &program)?;
-    assert_eq!(rt; code.len(), 8 * (text.lines().count() + 1));
+    assert_eq!(rt; code.len(), 8 * 129);
     Ok(())
 }
