@@ -109,7 +109,7 @@ def _words(said: str) -> str:
     return 'clang refused it:\n' + '\n'.join(kept[:12] or said.strip().split('\n')[:3]) + ('\n' + hints[0] if hints else '')
 
 
-@dataclass(frozen=True)
+@dataclass(frozen=True, repr=False)
 class FromC(Operator):
     """An operator from C. It knows the line of the source that each slot comes from, for refusals by a server."""
     source: Tuple[str, ...] = field(default=(), compare=False, repr=False)

@@ -21,13 +21,20 @@ def checked(rows: Any, columns: Any, values: Any, nrows: Optional[int] = None, n
     rows, columns = whole_list(rows, 'row'), whole_list(columns, 'column')
     values = whole_list(values, 'value') if _is_many(values) else [whole(values, 'value')] * len(rows)
     _same_length(rows, columns, values)
-    nrows = side(nrows, (max(rows) + 1) if rows else 0, 'nrows')
-    ncols = side(ncols, (max(columns) + 1) if columns else 0, 'ncols')
+    nrows = side(nrows, max(0, max(rows, default=-1) + 1), 'nrows')
+    ncols = side(ncols, max(0, max(columns, default=-1) + 1), 'ncols')
     for what, many, least, most in (('row', rows, 0, nrows - 1), ('column', columns, 0, ncols - 1), ('value', values, LEAST, MOST)):
         if many and not (least <= min(many) and max(many) <= most):
             at = next(at for at, number in enumerate(many) if not least <= number <= most)
-            raise ValueError('%s %d is not in %d to %d (entry %d)' % (what, many[at], least, most, at))
+            raise _outside(what, many[at], least, most, at)
     return Triples(rows, columns, values, nrows, ncols)
+
+
+def _outside(what: str, number: int, least: int, most: int, at: int) -> ValueError:
+    """What is said of a number out of range: of an index below 0 no more than that, as the least size that fits may be none."""
+    if least == 0 and number < 0:
+        return ValueError('%s %d is below 0 (entry %d)' % (what, number, at))
+    return ValueError('%s %d is not in %d to %d (entry %d)' % (what, number, least, most, at))
 
 
 def columns_of(triples: Any) -> Tuple[Any, Any, Any]:
@@ -95,12 +102,12 @@ def _checked_arrays(rows: Any, columns: Any, values: Any, nrows: Optional[int], 
     rows, columns = whole_array(rows, 'row'), whole_array(columns, 'column')
     values = whole_array(values, 'value') if _is_many(values) else numpy.full(len(rows), word(values, 'value'), numpy.int64)
     _same_length(rows, columns, values)
-    nrows = side(nrows, int(rows.max()) + 1 if len(rows) else 0, 'nrows')
-    ncols = side(ncols, int(columns.max()) + 1 if len(columns) else 0, 'ncols')
+    nrows = side(nrows, max(0, int(rows.max()) + 1) if len(rows) else 0, 'nrows')
+    ncols = side(ncols, max(0, int(columns.max()) + 1) if len(columns) else 0, 'ncols')
     for what, many, most in (('row', rows, nrows - 1), ('column', columns, ncols - 1)):
         if len(many) and not (many.min() >= 0 and many.max() <= most):
             at = int(((many < 0) | (many > most)).argmax())
-            raise ValueError('%s %d is not in 0 to %d (entry %d)' % (what, many[at], most, at))
+            raise _outside(what, many[at], 0, most, at)
     return Triples(rows, columns, values, nrows, ncols)
 
 
@@ -162,6 +169,8 @@ def full(nrows: int, ncols: int, value: int) -> Triples:
 
 def from_scipy(matrix: Any) -> Triples:
     """The triples of a scipy.sparse matrix or array; entries of one position are added up, as scipy has it."""
+    if not hasattr(matrix, 'tocoo'):
+        raise TypeError('a matrix of scipy.sparse is wanted, not %s: from_dense takes tables' % type(matrix).__name__)
     if len(matrix.shape) != 2:
         raise ValueError('two dimensions are wanted, not %d' % len(matrix.shape))
     coo = matrix.tocoo(copy=True)
@@ -172,6 +181,8 @@ def from_scipy(matrix: Any) -> Triples:
 def from_graph(graph: Any, weight: Optional[str], nodelist: Optional[Sequence[Any]]) -> Tuple[Triples, List[Any], bool]:
     """The triples of a networkx graph, its nodes by index, and whether positions may repeat (a multigraph). Entry (i, j) is the
     edge from node i to node j; an undirected edge stands both ways, a loop once. Edges that leave `nodelist` are left out."""
+    if not hasattr(graph, 'is_multigraph'):
+        raise TypeError('a graph of networkx is wanted, not %s' % type(graph).__name__)
     nodes = list(graph) if nodelist is None else list(nodelist)
     index: Dict[Any, int] = {node: at for at, node in enumerate(nodes)}
     if len(index) != len(nodes):

@@ -50,10 +50,10 @@ class Session:
     """One session of the server: `Session()` starts a process `spmat run` of its own, `Session.connect(host, port)` is one of
     `spmat serve`. Use it in a `with`, or close it.
 
-    `steps` is the budget, 0 to 2^62, `workers` 1 to 64 threads, `program` the words that start the program (without them the
-    variable SPMAT, then `spmat` on the PATH). `progress(what, done, of)` is called in long work: what is 'sent' or 'received'
-    (bytes of one matrix text) or 'jobs' (0 of n as a run begins, n of n as it ends); what it raises amid a command ends the
-    session.
+    `steps` is the budget, 0 to 2^62 (also 1e9), `workers` 1 to 64 threads, `program` the words that start the program (without
+    them the variable SPMAT, then `spmat` on the PATH). `progress(what, done, of)` is called in long work: what is 'sent' or
+    'received' (bytes of one matrix text) or 'jobs' (0 of n as a run begins, n of n as it ends); what it raises amid a command
+    ends the session.
 
     Methods of matrices queue jobs; what needs a result runs the queue first. Threads take turns: while one thread waits for a
     reply, others wait for it. Ctrl-C while a reply is awaited closes the session, and the process that it started is ended. A
@@ -66,7 +66,7 @@ class Session:
         self._begin(Connection.to_child(steps, workers, program, progress))
 
     @classmethod
-    def connect(cls, host: str = '127.0.0.1', port: int = 7000, timeout: Optional[float] = None,
+    def connect(cls, host: str = '127.0.0.1', port: int = 7171, timeout: Optional[float] = None,
                 progress: Optional[Progress] = None) -> Session:
         """A session of `spmat serve`. Raises OSError where nobody listens, and Busy where the server has as many sessions as it
         serves. `timeout` in seconds; where it passes amid a command the session is closed."""

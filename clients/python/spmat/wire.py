@@ -15,8 +15,9 @@ import subprocess
 import tempfile
 import threading
 import weakref
-from typing import BinaryIO, Callable, List, NamedTuple, Optional, Sequence, Union
+from typing import BinaryIO, Callable, List, NamedTuple, Optional, Sequence, Tuple, Union
 
+from .convert import whole
 from .errors import Closed, Near, SpmatError, refusal_of
 
 MOST_STEPS = 1 << 62
@@ -101,7 +102,12 @@ class Socket:
     """The bytes of a connection to `spmat serve`."""
 
     def __init__(self, host: str, port: int, timeout: Optional[float] = None) -> None:
-        self._socket = socket.create_connection((host, port), timeout)
+        if not 1 <= port <= 65535:
+            raise ValueError('a port is 1 to 65535, not %d' % port)
+        try:
+            self._socket = socket.create_connection((host, port), timeout)
+        except OSError as fault:
+            raise _placed(fault, host, port) from None
         self._socket.setsockopt(socket.IPPROTO_TCP, socket.TCP_NODELAY, 1)
         self.source: BinaryIO = self._socket.makefile('rb', PIECE)  # type: ignore[assignment]
 
@@ -132,12 +138,20 @@ class Socket:
 Channel = Union[Child, Socket]
 
 
-def check_settings(steps: int, workers: int) -> None:
-    """A ValueError where the program would refuse its words."""
-    if not 0 <= steps <= MOST_STEPS:
+def _placed(fault: OSError, host: str, port: int) -> OSError:
+    """The same fault, with the address in its words."""
+    words = 'no connection to %s, port %d: %s' % (host, port, fault.strerror or fault)
+    return type(fault)(words) if fault.errno is None else type(fault)(fault.errno, words)
+
+
+def checked_settings(steps: float, workers: float) -> Tuple[int, int]:
+    """The settings as whole numbers (1e9 is one). TypeError or ValueError where the program would refuse its words."""
+    many, threads = whole(steps, 'number of steps'), whole(workers, 'number of workers')
+    if not 0 <= many <= MOST_STEPS:
         raise ValueError('steps are 0 to %d (2^62)' % MOST_STEPS)
-    if not 1 <= workers <= MOST_WORKERS:
+    if not 1 <= threads <= MOST_WORKERS:
         raise ValueError('workers are 1 to %d' % MOST_WORKERS)
+    return many, threads
 
 
 class Connection:
@@ -157,7 +171,7 @@ class Connection:
     def to_child(cls, steps: int = MOST_STEPS, workers: int = 1, program: Optional[Program] = None,
                  progress: Optional[Progress] = None) -> Connection:
         """Starts `spmat run --steps STEPS --workers WORKERS`."""
-        check_settings(steps, workers)
+        steps, workers = checked_settings(steps, workers)
         return cls(Child(program_words(program) + ['run', '--steps', str(steps), '--workers', str(workers)]), progress)
 
     @classmethod

@@ -112,8 +112,18 @@ class Relayed(unittest.TestCase):
     def test_nobody_listens(self):
         with socket.create_server(('127.0.0.1', 0)) as taken:
             port = taken.getsockname()[1]
-        with self.assertRaises(ConnectionRefusedError):
+        with self.assertRaises(ConnectionRefusedError) as said:
             spmat.Session.connect(port=port)
+        self.assertIn('no connection to 127.0.0.1, port %d' % port, str(said.exception))
+
+    def test_addresses_that_are_none(self):
+        for port in (0, 65536, -1):
+            with self.assertRaises(ValueError) as said:
+                spmat.Session.connect(port=port)
+            self.assertIn('a port is 1 to 65535', str(said.exception))
+        with self.assertRaises(OSError) as said:
+            spmat.Session.connect('127.0.0.1:7171', 7171)      # the port belongs behind the comma
+        self.assertIn('no connection to 127.0.0.1:7171', str(said.exception))
 
     def test_closed_amid_a_session(self):
         def answer(words, body):

@@ -52,8 +52,8 @@ def main(words: Optional[List[str]] = None) -> int:
         print('spmat: interrupted', file=sys.stderr)
         return 1
     except OSError as fault:
-        named = '%s: %s' % (fault.filename, fault.strerror) if fault.filename and fault.strerror else str(fault)
-        print('spmat: ' + named, file=sys.stderr)
+        words = fault.strerror or str(fault)
+        print('spmat: ' + ('%s: %s' % (fault.filename, words) if fault.filename else words), file=sys.stderr)
         return 1
     except (SpmatError, ValueError, TypeError, ImportError) as fault:
         print('spmat: %s' % ' '.join(str(fault).split()), file=sys.stderr)

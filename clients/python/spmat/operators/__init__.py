@@ -7,6 +7,7 @@ two binary names. Wherever an operator is wanted its name does as well: `A.apply
 """
 from __future__ import annotations
 
+import difflib
 import os
 from dataclasses import dataclass, field
 from typing import Dict, Iterator, List, Optional, Tuple, Union
@@ -99,7 +100,12 @@ def asm(kind: str, text: str, name: Optional[str] = None) -> Operator:
 
 def code(kind: str, data: Union[str, bytes, bytearray], name: Optional[str] = None) -> Operator:
     """An operator from BPF code, 8 bytes a slot: bytes, or hexadecimal text. ValueError where the text isn't hexadecimal."""
-    return Operator(kind, code=bytes.fromhex(data) if isinstance(data, str) else bytes(data), name=name)
+    try:
+        return Operator(kind, code=bytes.fromhex(data) if isinstance(data, str) else bytes(data), name=name)
+    except ValueError as fault:
+        if 'hex' not in str(fault):
+            raise
+        raise ValueError('code is bytes, or text of two hexadecimal digits a byte: %s' % fault) from None
 
 
 class Ready:
@@ -169,8 +175,18 @@ def find(kind: str, op: Union[str, Operator]) -> Operator:
         raise TypeError('an operator or its name is wanted, not %r' % (op,))
     name = _SIGNS.get(op, op) if kind == 'index' else op
     if name not in READY[kind]:
-        raise ValueError('no ready %s operator is called %r' % (kind, op))
+        raise ValueError('no ready %s operator is called %r%s' % (kind, op, _instead(kind, op)))
     return READY[kind][name]
+
+
+def _instead(kind: str, name: str) -> str:
+    """What may have been meant by a name that no ready operator of a kind has: the kinds that know it, or names like it."""
+    others = [other for other in KINDS if other != kind and name in READY[other]]
+    if others:
+        bound = ': bind an operand by right= or left=' if kind == 'unary' and 'binary' in others else ''
+        return ', but %s one is%s' % (' and '.join(('an ' if other == 'index' else 'a ') + other for other in others), bound)
+    near = difflib.get_close_matches(name, READY[kind], 3)
+    return '; near it: ' + ', '.join(near) if near else ''
 
 
 def find_semiring(op: Union[str, Semiring, Tuple[Union[str, Operator], Union[str, Operator]]]) -> Semiring:
