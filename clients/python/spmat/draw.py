@@ -6,6 +6,7 @@ the counts. matplotlib (and numpy, which it brings) is imported when a picture i
 """
 from __future__ import annotations
 
+import errno
 import os
 from typing import Any, Dict, List, Optional, Sequence, Set, Tuple, Union
 
@@ -19,6 +20,23 @@ FEW_EDGES = 700
 FEW_LEVELS = 16            # .. and above that a circle a level, up to so many
 LABELS = 60                # vertices have labels up to so many
 INK, PALE, GREY, WARM = '#1f4e79', '#c9d3dd', '#5a6672', '#b5651d'
+
+
+def check(path: Path) -> None:
+    """Says before the work what would be said after it: ImportError where there is no matplotlib, ValueError where it knows no
+    format by the path's ending, FileNotFoundError where the path's folder isn't there."""
+    try:
+        figure, _ = _figure(1, 1)
+    except ImportError as fault:
+        raise ImportError('pictures want matplotlib, and there is none (%s): pip install matplotlib, or on Debian apt-get install '
+                          'python3-matplotlib' % fault) from None
+    known = figure.canvas.get_supported_filetypes()
+    ending = os.path.splitext(path)[1][1:].lower()
+    if ending and ending not in known:
+        raise ValueError('%s: a picture ends in .png, .svg, .pdf or another of %s' % (os.fspath(path), ', '.join(sorted(known))))
+    folder = os.path.dirname(path) or '.'
+    if not os.path.isdir(folder):
+        raise FileNotFoundError(errno.ENOENT, 'no such folder', os.fspath(folder))
 
 
 def _figure(width: float, height: float) -> Tuple[Any, Any]:
@@ -52,9 +70,36 @@ def raster(A: Matrix, rows: int = RASTER, columns: int = RASTER) -> Matrix:
     return P.mxm(A.apply('one'), 'plus_second').mxm(Q, 'plus_first')
 
 
-def spy(A: Matrix, path: Path, size: int = RASTER) -> None:
+def round_numbers(least: int, most: int) -> List[int]:
+    """1, 2 and 5 times the powers of ten from the least to the most, or the powers alone where those are more than eight; the two
+    ends where there are fewer than two."""
+    powers = [10 ** digits for digits in range(len(str(most)))]
+    for steps in ((1, 2, 5), (1,)):
+        found = [power * step for power in powers for step in steps if least <= power * step <= most]
+        if len(found) <= 8:
+            break
+    return found if len(found) > 1 else sorted({least, most})
+
+
+def _plain(axis: Any, least: int, most: int) -> None:
+    """Round numbers in digits on a logarithmic axis."""
+    from matplotlib.ticker import NullFormatter, NullLocator
+    axis.set_ticks(round_numbers(least, most), [format(number, ',') for number in round_numbers(least, most)])
+    axis.set_minor_locator(NullLocator())
+    axis.set_minor_formatter(NullFormatter())
+
+
+def _shades() -> Any:
+    """The colours of counts, without the lightest, which are hard to see on white."""
+    from matplotlib import colormaps
+    from matplotlib.colors import ListedColormap
+    return ListedColormap([colormaps['viridis_r'](.15 + .85 * at / 255) for at in range(256)])
+
+
+def spy(A: Matrix, path: Path, size: int = RASTER, first: int = 0) -> None:
     """Where the entries of a matrix stand: a square each, where it has up to `size` rows and columns; above that how many stand in
-    each cell of a raster of `size` by `size`. Row 0 is at the top. Runs: 1, or 3. ImportError where there is no matplotlib."""
+    each cell of a raster of `size` by `size`. The first row is at the top, and has the number `first`. Runs: 1, or 3. ImportError
+    where there is no matplotlib."""
     import numpy
     from matplotlib.colors import ListedColormap, LogNorm
     figure, axes = _figure(6, 6)
@@ -65,21 +110,23 @@ def spy(A: Matrix, path: Path, size: int = RASTER) -> None:
     table[rows, columns] = values
     least, most = (int(values.min()), int(values.max())) if len(values) else (1, 1)
     many = LogNorm(least, max(least + 1, most))
-    look = {'cmap': ListedColormap([INK])} if small else {'cmap': 'viridis_r', 'norm': many}
+    look = {'cmap': ListedColormap([INK])} if small else {'cmap': _shades(), 'norm': many}
+    left, right, bottom = first - .5, first + A.ncols - .5, first + A.nrows - .5
     if len(values):
-        image = axes.imshow(table, extent=(-.5, A.ncols - .5, A.nrows - .5, -.5), interpolation='nearest',
+        image = axes.imshow(table, extent=(left, right, bottom, left), interpolation='nearest',
                             aspect='equal' if 3 * min(A.shape) > max(A.shape) else 'auto', **look)
         if not small:
             cell = '%s by %s' % tuple(format(-(-side // cells), ',') for side, cells in zip(A.shape, shown.shape))
-            figure.colorbar(image, ax=axes, fraction=.046, pad=.03, label='entries in a cell of %s' % cell)
+            bar = figure.colorbar(image, ax=axes, fraction=.046, pad=.03, label='entries in a cell of %s' % cell)
+            _plain(bar.ax.yaxis, least, max(least + 1, most))
     axes.xaxis.tick_top()
     for axis, count in ((axes.xaxis, A.ncols), (axes.yaxis, A.nrows)):
         axis.get_major_locator().set_params(integer=True)
         axis.set_major_formatter(lambda place, _: format(int(place), ',') if place == int(place) else '')
     axes.tick_params(labelsize=8)
     if max(A.shape) <= FEW_ROWS:                                  # a line between squares
-        axes.vlines([j + .5 for j in range(A.ncols - 1)], -.5, A.nrows - .5, color='white', linewidth=1)
-        axes.hlines([i + .5 for i in range(A.nrows - 1)], -.5, A.ncols - .5, color='white', linewidth=1)
+        axes.vlines([left + j for j in range(1, A.ncols)], left, bottom, color='white', linewidth=1)
+        axes.hlines([left + i for i in range(1, A.nrows)], left, right, color='white', linewidth=1)
     axes.set_title('%s, %s, %s' % (_many(A.nrows, 'row'), _many(A.ncols, 'column'), _entries(A)), fontsize=10)
     figure.savefig(path, bbox_inches='tight')
 
@@ -99,6 +146,8 @@ def degree_histogram(A: Matrix, path: Path) -> None:
         axes.set_xlim(0, len(counts))
     else:
         axes.loglog(at, counts[at], 'o', markersize=3.5, color=INK, alpha=.8, markeredgewidth=0)
+        _plain(axes.xaxis, 1, int(at[-1]))
+        _plain(axes.yaxis, 1, int(counts.max()))
         axes.grid(True, which='major', alpha=.3)
         mean = A.nvals / A.nrows
         axes.axvline(mean, color=WARM, linewidth=1)

@@ -1,8 +1,10 @@
 """Pictures: that they are written, for graphs small, large and empty, and show what is there. Skipped without matplotlib."""
 import collections
 import os
+import sys
 import tempfile
 import unittest
+from unittest import mock
 
 import graphs
 import support
@@ -76,6 +78,26 @@ class Pictures(unittest.TestCase):
             self.drawn(draw.levels, G, found)
             self.drawn(draw.degree_histogram, G)
 
+    def test_numbers_of_rows(self):
+        """The first row has the number that is asked for; nothing else of the picture changes."""
+        from matplotlib.axes import Axes
+        A, seen = self.session.full(3, 2), []
+        real = Axes.imshow
+        with mock.patch.object(Axes, 'imshow', lambda axes, *more, **look: seen.append(look['extent']) or real(axes, *more, **look)):
+            draw.spy(A, self.path)
+            draw.spy(A, self.path, first=1)
+        self.assertEqual(seen, [(-.5, 1.5, 2.5, -.5), (.5, 2.5, 3.5, .5)])
+        self.assertGreater(ink(self.path, draw.INK), .2)
+
+    def test_check(self):
+        draw.check(self.path)
+        draw.check('picture')                          # matplotlib's own ending is added
+        for kind, path, words in ((ValueError, 'picture.of-no-kind', 'a picture ends in .png'),
+                                  (FileNotFoundError, os.path.join(self.folder.name, 'none', 'a.png'), 'no such folder')):
+            with self.assertRaises(kind) as said:
+                draw.check(path)
+            self.assertIn(words, str(said.exception))
+
     def test_formats_and_bad_input(self):
         G = graphs.UNDIRECTED[2].matrix(self.session)
         for ending in ('svg', 'pdf'):
@@ -94,7 +116,20 @@ class Pictures(unittest.TestCase):
         self.assertEqual(pyplot.get_fignums(), before)
 
 
+class RoundNumbers(unittest.TestCase):
+    def test_round_numbers(self):
+        for least, most, want in ((1, 8, [1, 2, 5]), (3, 4, [3, 4]), (1, 1, [1]), (1, 300, [1, 2, 5, 10, 20, 50, 100, 200]),
+                                  (2, 100000, [10, 100, 1000, 10000, 100000])):
+            self.assertEqual(draw.round_numbers(least, most), want)
+
+
 class WithoutMatplotlib(unittest.TestCase):
+    def test_what_is_said(self):
+        with mock.patch.dict(sys.modules, {'matplotlib': None, 'matplotlib.figure': None}):
+            with self.assertRaises(ImportError) as said:
+                draw.check('picture.png')
+        self.assertIn('pictures want matplotlib', str(said.exception))
+
     def test_the_rest_works(self):
         """Nothing but the picture wants it: the module is there without it."""
         with spmat.Session(program=support.program()) as session:

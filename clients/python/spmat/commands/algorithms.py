@@ -6,6 +6,7 @@ import inspect
 from typing import Any, Callable, Dict, List, NamedTuple, Optional
 
 from .. import algorithms
+from .. import draw as pictures
 from ..algorithms.counts import CLUSTERING_SCALE
 from ..algorithms.ranks import ONE
 from ..matrix import Matrix
@@ -112,6 +113,8 @@ def epilog(name: str, algorithm: Algorithm) -> str:
 
 def run(algorithm: Algorithm, options: argparse.Namespace) -> int:
     """Reads the graph, computes, writes the result and draws it."""
+    if getattr(options, 'plot', None):
+        pictures.check(options.plot)
     with common.progress_of(options) as progress, common.open_session(options, progress) as session:
         graph = common.read_graph(session, options)
         result = algorithm.call(graph, options, progress)
@@ -139,11 +142,10 @@ def write(algorithm: Algorithm, result: Any, options: argparse.Namespace) -> Non
 
 def draw(algorithm: Algorithm, graph: Matrix, result: Matrix, options: argparse.Namespace) -> None:
     """Draws the result into the file that the options name."""
-    from .. import draw as pictures
     graph.nodes = list(range(1, graph.nrows + 1))
     if algorithm.plot == 'degree_histogram':
         pictures.degree_histogram(graph, options.plot)
     elif algorithm.plot == 'levels':
         pictures.levels(graph, result, options.plot)
     else:
-        pictures.spy(result, options.plot)
+        pictures.spy(result, options.plot, first=1)

@@ -4,9 +4,11 @@ from __future__ import annotations
 import argparse
 from typing import Any
 
+from .. import draw
 from . import common
 
-EPILOG = """Up to 256 rows and columns each entry is a square. Above that it is the density in a raster, which the server counts.
+EPILOG = """Up to 256 rows and columns each entry is a square. Above that it is the density in a raster, which the server counts. Rows and
+columns count from 1.
 
 example:
   python3 -m spmat spy graph.mtx --plot spy.png"""
@@ -24,9 +26,9 @@ def add_commands(commands: Any) -> None:
 
 def run(options: argparse.Namespace) -> int:
     """Draws the matrix, and says its size."""
-    from .. import draw
+    draw.check(options.plot)
     with common.progress_of(options) as progress, common.open_session(options, progress) as session:
         matrix = common.read_graph(session, options)
-        draw.spy(matrix, options.plot)
+        draw.spy(matrix, options.plot, first=1)
         print('%d rows, %d columns, %d entries' % (matrix.nrows, matrix.ncols, matrix.nvals))
     return 0
