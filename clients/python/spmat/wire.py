@@ -115,7 +115,7 @@ class Socket:
         self._socket.sendall(piece)
 
     def fault(self) -> str:
-        return 'the server closed the connection'
+        return 'the server closed the connection: it has ended, or it ended this session (--idle)'
 
     def close(self, kill: bool = False) -> None:
         """Closes the connection; unless `kill`, once the server has: it gives the session's seat to others before."""

@@ -2,12 +2,15 @@
 import contextlib
 import io
 import os
+import signal
 import subprocess
 import sys
 import tempfile
+import time
 import unittest
 
 import support
+from test_ends import alive, gone
 from spmat.commands import main
 
 PACKAGE = os.path.join(support.TOP, 'clients', 'python')
@@ -148,6 +151,26 @@ class Commands(unittest.TestCase):
             with open(os.path.join(self.folder, 'picture.png'), 'rb') as file:
                 self.assertEqual(file.read(8), b'\x89PNG\r\n\x1a\n')
             os.remove(os.path.join(self.folder, 'picture.png'))
+
+    def test_terminated_amid_a_command(self):
+        """SIGTERM ends the program too, which may be amid a long batch."""
+        silent = "sh -c 'read line; echo ok budget 1 0 0; echo $$ > number; exec sleep 100'"
+        with subprocess.Popen([sys.executable, '-m', 'spmat', 'degrees', 'graph.mtx', '--program', silent], cwd=self.folder,
+                              env=dict(os.environ, PYTHONPATH=PACKAGE), stderr=subprocess.PIPE) as process:
+            end = time.monotonic() + 30
+            while not os.path.exists(os.path.join(self.folder, 'number')) or not self.read('number').strip():
+                self.assertLess(time.monotonic(), end)
+                time.sleep(.01)
+            child = int(self.read('number'))
+            self.assertTrue(alive(child))
+            process.terminate()
+            self.assertEqual((process.communicate(timeout=30)[1], process.returncode), (b'', 128 + signal.SIGTERM))
+        self.assertTrue(gone(child))
+
+    def test_a_karate_club(self):
+        """The graph of the README."""
+        levels = self.printed('bfs-levels', os.path.join(support.TOP, 'docs', 'karate.mtx'), '--source', '17').split('\n')
+        self.assertEqual([sum(line.endswith(' %d' % level) for line in levels) for level in range(7)], [1, 2, 3, 12, 8, 8, 0])
 
     def test_no_progress_in_a_pipe(self):
         self.assertEqual(self.run_words('bfs-levels', 'graph.mtx').stderr, '')
