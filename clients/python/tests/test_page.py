@@ -1,4 +1,4 @@
-"""The first lines of the README: what they print is what it says."""
+"""The first lines of the READMEs, the client's and the repository's: what they print is what is said."""
 import contextlib
 import io
 import os
@@ -11,8 +11,8 @@ import spmat
 
 
 class Page(unittest.TestCase):
-    def blocks(self):
-        with open(os.path.join(support.TOP, 'clients', 'python', 'README.md'), encoding='utf-8') as file:
+    def blocks(self, folder=os.path.join('clients', 'python')):
+        with open(os.path.join(support.TOP, folder, 'README.md'), encoding='utf-8') as file:
             page = file.read()
         return [re.sub('^    ', '', block, flags=re.M) for block in re.findall(r'(?:^    .*\n)+', page, re.M)]
 
@@ -35,6 +35,11 @@ class Page(unittest.TestCase):
         for lines, said in pairs:
             self.assertEqual(self.printed(lines), said)
         self.assertLessEqual(pairs[0][0].count('\n'), 10)
+
+    def test_what_the_repository_prints(self):
+        blocks = self.blocks('.')
+        lines, said = next(pair for pair in zip(blocks, blocks[1:]) if pair[0].startswith('import'))
+        self.assertEqual(self.printed(lines), said)
 
     def test_refusal(self):
         blocks = self.blocks()
