@@ -30,7 +30,8 @@ FLAGS = (['--target=bpfel', '-O2', '-mcpu=v4', '-g', '-ffreestanding', '-fno-jum
 KINDS = {1: 'unary', 2: 'binary', 4: 'index'}
 GET = 'On Debian: apt-get install clang-19. The variable SPMAT_CLANG names one that is not on the PATH.'
 HINTS = (
-    ("built-in function '__(mul|div|mod|udiv|umod)ti", '128-bit numbers have no code here: split the words, or use 64 bits'),
+    ("built-in function '__(mul|div|mod|udiv|umod)ti", '128-bit numbers have no code here: split the words, or use 64 bits. '
+     'clang makes one of a loop that it adds up by a formula: give the loop a constant count'),
     ('unable to allocate function return|only small returns|aggregate returns', 'the result has to be one number of 64 bits'),
     ("built-in function '__", 'floating point has no code here: scale to whole numbers (fixed point)'),
     ('stack arguments are not supported|too many arg', 'an operator has 1, 2 or 4 parameters'),

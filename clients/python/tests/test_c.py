@@ -227,6 +227,8 @@ REFUSED = [
     ('int64_t f(uint64_t x) { return x ? __builtin_ctzl(x) : 64; }', 'to a table'),
     ('int64_t f(int64_t x) { return x * 1.5; }', 'fixed point'),
     ('int64_t f(uint64_t x, uint64_t y) { return ((unsigned __int128)x * y) >> 64; }', '128-bit'),
+    ('int64_t f(int64_t x) {\n    int64_t s = 0;\n    for (int64_t i = 0; i < x; i++) s += i * i;\n    return s;\n}',
+     'a loop that it adds up by a formula: give the loop a constant count'),
     ('int64_t f(uint64_t x, uint64_t y) {\n    while (y) {\n        uint64_t t = x % y; x = y; y = t;\n    }\n    return x;\n}',
      r'a loop that was left \(line 2 of the C: while \(y\) \{\).*#pragma unroll'),
     ('int64_t f(int64_t x) { if (x) return 1; }', 'end each way through the function with `return`'),
