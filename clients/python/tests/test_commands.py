@@ -122,6 +122,8 @@ class Commands(unittest.TestCase):
         self.assertIn("slot 1: 'ldx64 r0, r1, 0'", said)
         self.assertIn('--kind', self.refused('types', 'bad.asm'))
         self.assertIn('plus', self.refused('types', 'binary.nothing'))
+        self.assertIn('the ready operator is binary.plus', self.refused('types', 'plus'))
+        self.assertIn('unary.nonzero or index.nonzero', self.refused('types', 'nonzero'))
 
     def test_script(self):
         self.write('session.txt', SCRIPT)
@@ -135,6 +137,7 @@ class Commands(unittest.TestCase):
         done = self.run_words('run', 'session.txt')
         self.assertEqual((done.returncode, done.stdout), (1, 'ok matrix 6 6 14\nok op 3 3\n'))
         self.assertIn('line 9: `foo` is refused: S1', done.stderr)
+        self.assertEqual(done.stderr.count('`foo`'), 1)
         done = self.run_words('run', 'session.txt', '--keep-going')
         self.assertEqual((done.returncode, done.stdout.splitlines()[-1]), (1, 'ok quit'))
 

@@ -39,6 +39,9 @@ def read_operator(options: argparse.Namespace) -> Operator:
         if ready not in READY[kind]:
             raise ValueError('no ready %s operator is called %r; there are %s' % (kind, ready, ', '.join(READY[kind])))
         return READY[kind][ready]
+    named = ['%s.%s' % (kind, name) for kind in KINDS if name in READY[kind]]
+    if named and not os.path.exists(name):
+        raise ValueError('no file %s; the ready operator is %s' % (name, ' or '.join(named)))
     with open(name) as file:
         text = file.read()
     if name.endswith('.c'):

@@ -115,7 +115,8 @@ def run_lines(lines: IO[str], folder: str, options: argparse.Namespace) -> int:
                 reply = session.connection.command(command.line, command.body, near(command))
             except Refused as fault:
                 refused += 1
-                print('line %d: `%s` is refused: %s' % (command.number, command.line, fault), file=sys.stderr)
+                why = type(fault)(fault.rule, fault.numbers, line=fault.line, detail=fault.detail)      # the command stands before it
+                print('line %d: `%s` is refused: %s' % (command.number, command.line, why), file=sys.stderr)
                 if not options.keep_going or session.connection.ended is not None:
                     break
             else:
