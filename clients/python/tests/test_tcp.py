@@ -24,14 +24,17 @@ class Served:
                                          stdout=subprocess.PIPE, stderr=subprocess.PIPE)
         line = self._process.stdout.readline()
         if line != b'listening %d\n' % self.port:
-            self.__exit__()
+            self._end(terminate=line != b'')               # without a word it ends by itself
             if self._process.returncode == 2:
                 raise unittest.SkipTest('the program has no `serve`')
             raise AssertionError('`serve` wrote %r and ended with status %d' % (line, self._process.returncode))
         return self
 
     def __exit__(self, *_):
-        if self._process.poll() is None and not self._process.stdout.peek():
+        self._end(terminate=True)
+
+    def _end(self, terminate):
+        if terminate:
             self._process.terminate()
         self._process.wait(10)
         self._process.stdout.close()
