@@ -61,7 +61,7 @@ class Session:
 
     `runs`, `jobs` and `connection.commands` count what was sent."""
 
-    def __init__(self, steps: int = MOST_STEPS, workers: int = 1, program: Optional[Program] = None,
+    def __init__(self, steps: float = MOST_STEPS, workers: int = 1, program: Optional[Program] = None,
                  progress: Optional[Progress] = None) -> None:
         self._begin(Connection.to_child(steps, workers, program, progress))
 

@@ -168,7 +168,7 @@ class Connection:
         self._last = weakref.finalize(self, channel.close, True)
 
     @classmethod
-    def to_child(cls, steps: int = MOST_STEPS, workers: int = 1, program: Optional[Program] = None,
+    def to_child(cls, steps: float = MOST_STEPS, workers: int = 1, program: Optional[Program] = None,
                  progress: Optional[Progress] = None) -> Connection:
         """Starts `spmat run --steps STEPS --workers WORKERS`."""
         steps, workers = checked_settings(steps, workers)

@@ -2,6 +2,7 @@
 import contextlib
 import io
 import os
+import pty
 import signal
 import subprocess
 import sys
@@ -101,6 +102,7 @@ class Commands(unittest.TestCase):
         self.assertIn('M6', self.refused('degrees', '-', text=GRAPH.replace('6 5\n', '9 5\n')))
         self.assertIn('HOST:PORT', self.refused('degrees', 'graph.mtx', '--connect', 'here'))
         self.assertIn('square', self.refused('degrees', '-', text=COLUMN))
+        self.assertIn('none: no such folder', self.refused('degrees', 'graph.mtx', '--output', 'none/d.txt'))
         self.assertIn('S8', self.refused('triangle-count', 'graph.mtx', '--steps', '3'))
         self.assertEqual(self.run_words('nothing').returncode, 2)
         self.assertEqual(self.run_words('k-core', 'graph.mtx').returncode, 2)
@@ -174,6 +176,30 @@ class Commands(unittest.TestCase):
         """The graph of the README."""
         levels = self.printed('bfs-levels', os.path.join(support.TOP, 'docs', 'karate.mtx'), '--source', '17').split('\n')
         self.assertEqual([sum(line.endswith(' %d' % level) for line in levels) for level in range(7)], [1, 2, 3, 12, 8, 8, 0])
+
+    def shown(self, *words):
+        """What a terminal is sent."""
+        end, its = pty.openpty()
+        with subprocess.Popen([sys.executable, '-m', 'spmat', *words], cwd=self.folder, stdin=subprocess.DEVNULL, stdout=its, stderr=its,
+                              env=dict(os.environ, PYTHONPATH=PACKAGE)):
+            os.close(its)
+            said = b''
+            with contextlib.suppress(OSError):             # the end, once the other side is closed
+                while True:
+                    said += os.read(end, 1 << 16)
+        os.close(end)
+        return said.decode()
+
+    def test_results_on_a_terminal(self):
+        """They begin their line, where the bar was."""
+        self.write('session.txt', SCRIPT)
+        for words, first in ((['degrees', 'graph.mtx'], '1 2'), (['triangle-count', 'graph.mtx'], '2'),
+                             (['bfs-levels', 'graph.mtx', '--mtx'], '%%MatrixMarket matrix coordinate integer general'),
+                             (['run', 'session.txt'], 'ok run 1 24')):
+            shown = self.shown(*words)
+            self.assertRegex(shown, '[\r\n]' + first + '\r\n', words)
+        self.assertIn('jobs      [', self.shown('degrees', 'graph.mtx'))
+        self.assertNotIn('jobs', self.shown('degrees', 'graph.mtx', '--quiet'))
 
     def test_no_progress_in_a_pipe(self):
         self.assertEqual(self.run_words('bfs-levels', 'graph.mtx').stderr, '')

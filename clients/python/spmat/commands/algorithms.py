@@ -3,7 +3,7 @@ from __future__ import annotations
 
 import argparse
 import inspect
-from typing import Any, Callable, Dict, List, NamedTuple, Optional
+from typing import Any, Callable, Dict, Iterable, List, NamedTuple, Optional
 
 from .. import algorithms
 from .. import draw as pictures
@@ -115,29 +115,27 @@ def run(algorithm: Algorithm, options: argparse.Namespace) -> int:
     """Reads the graph, computes, writes the result and draws it."""
     if getattr(options, 'plot', None):
         pictures.check(options.plot)
+    common.check_output(options)
     with common.progress_of(options) as progress, common.open_session(options, progress) as session:
         graph = common.read_graph(session, options)
         result = algorithm.call(graph, options, progress)
         if getattr(options, 'plot', None):
             draw(algorithm, graph, result, options)
-        write(algorithm, result, options)
+        lines = lines_of(algorithm, result, options)
+    common.write(options, lines)
     return 0
 
 
-def write(algorithm: Algorithm, result: Any, options: argparse.Namespace) -> None:
-    """Writes a number, a column or a matrix."""
+def lines_of(algorithm: Algorithm, result: Any, options: argparse.Namespace) -> Iterable[str]:
+    """A number, a column or a matrix as lines."""
     if isinstance(result, int):
-        with common.output(options) as stream:
-            stream.write('%d\n' % result)
-        return
+        return ['%d\n' % result]
     if algorithm.are_vertices:
         result = result.apply('plus', right=1)
     if algorithm.scale == 1 or options.mtx:
-        common.write_matrix(options, result)
-        return
+        return common.lines_of(options, result)
     rows, _, values = result.to_coo(arrays=False)
-    with common.output(options) as stream:
-        stream.writelines('%d %.9f\n' % (row + 1, value / algorithm.scale) for row, value in zip(rows, values))
+    return ('%d %.9f\n' % (row + 1, value / algorithm.scale) for row, value in zip(rows, values))
 
 
 def draw(algorithm: Algorithm, graph: Matrix, result: Matrix, options: argparse.Namespace) -> None:

@@ -3,8 +3,10 @@ from __future__ import annotations
 
 import argparse
 import contextlib
+import errno
+import os
 import sys
-from typing import IO, Iterator, Optional, TextIO
+from typing import Iterable, Iterator, Optional, TextIO
 
 from ..matrix import Matrix
 from ..session import Session
@@ -61,8 +63,9 @@ class Bar:
 
 
 @contextlib.contextmanager
-def progress_of(options: argparse.Namespace) -> Iterator[Optional[Progress]]:
-    """A progress bar where standard error is a terminal, else none."""
+def progress_of(options: argparse.Namespace) -> Iterator[Optional[Bar]]:
+    """A progress bar where standard error is a terminal, else none. Standard output may be the same terminal: write to it behind
+    this, or clear the bar before."""
     if options.quiet or not sys.stderr.isatty():
         yield None
         return
@@ -91,25 +94,29 @@ def read_graph(session: Session, options: argparse.Namespace) -> Matrix:
     return undirected(graph) if options.undirected else graph
 
 
-@contextlib.contextmanager
-def output(options: argparse.Namespace) -> Iterator[IO[str]]:
-    """Where the result goes."""
+def check_output(options: argparse.Namespace) -> None:
+    """Says before the work where the result can go nowhere: FileNotFoundError where its folder isn't there."""
+    folder = os.path.dirname(options.output or '')
+    if folder and not os.path.isdir(folder):
+        raise FileNotFoundError(errno.ENOENT, 'no such folder', folder)
+
+
+def write(options: argparse.Namespace, lines: Iterable[str]) -> None:
+    """Writes a result where it goes."""
     if options.output is None:
-        yield sys.stdout
+        sys.stdout.writelines(lines)
         sys.stdout.flush()
         return
     with open(options.output, 'w') as file:
-        yield file
+        file.writelines(lines)
 
 
-def write_matrix(options: argparse.Namespace, matrix: Matrix) -> None:
-    """Writes a result: as Matrix Market text, or a line an entry with its row and its column from 1, of a column the row alone."""
-    with output(options) as stream:
-        if options.mtx:
-            stream.write(matrix.to_text().decode())
-            return
-        rows, columns, values = matrix.to_coo(arrays=False)
-        if matrix.ncols == 1:
-            stream.writelines('%d %d\n' % (row + 1, value) for row, value in zip(rows, values))
-        else:
-            stream.writelines('%d %d %d\n' % (row + 1, column + 1, value) for row, column, value in zip(rows, columns, values))
+def lines_of(options: argparse.Namespace, matrix: Matrix) -> Iterable[str]:
+    """A matrix as lines: Matrix Market text, or one an entry with its row and its column from 1, of a column the row alone. Nothing
+    is asked of the server once they are handed out."""
+    if options.mtx:
+        return [matrix.to_text().decode()]
+    rows, columns, values = matrix.to_coo(arrays=False)
+    if matrix.ncols == 1:
+        return ('%d %d\n' % (row + 1, value) for row, value in zip(rows, values))
+    return ('%d %d %d\n' % (row + 1, column + 1, value) for row, column, value in zip(rows, columns, values))

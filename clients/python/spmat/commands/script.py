@@ -114,17 +114,25 @@ def run_lines(lines: IO[str], folder: str, options: argparse.Namespace) -> int:
             try:
                 reply = session.connection.command(command.line, command.body, near(command))
             except Refused as fault:
+                clear(progress)
                 refused += 1
                 why = type(fault)(fault.rule, fault.numbers, line=fault.line, detail=fault.detail)      # the command stands before it
                 print('line %d: `%s` is refused: %s' % (command.number, command.line, why), file=sys.stderr)
                 if not options.keep_going or session.connection.ended is not None:
                     break
             else:
+                clear(progress)
                 tell(command, reply)
             if command.line.split()[0] == 'quit':
                 session.connection.end('the script has ended it')
                 break
     return 1 if refused else 0
+
+
+def clear(progress: Optional[common.Bar]) -> None:
+    """Takes the bar away, where there is one."""
+    if progress is not None:
+        progress.clear()
 
 
 def near(command: Command) -> Any:
