@@ -192,14 +192,14 @@ class Commands(unittest.TestCase):
 
     def test_results_on_a_terminal(self):
         """They begin their line, where the bar was."""
-        self.write('session.txt', SCRIPT)
-        for words, first in ((['degrees', 'graph.mtx'], '1 2'), (['triangle-count', 'graph.mtx'], '2'),
-                             (['bfs-levels', 'graph.mtx', '--mtx'], '%%MatrixMarket matrix coordinate integer general'),
-                             (['run', 'session.txt'], 'ok run 1 24')):
+        self.write('long.mtx', GRAPH + ('%' + 1000 * '-' + '\n') * 1100)      # enough to be sent in pieces
+        self.write('session.txt', 'matrix G < long.mtx\nfoo\n')
+        for words, bar, first in ((['triangle-count', 'graph.mtx'], 'jobs', '2'),
+                                  (['run', 'session.txt'], 'sent', 'ok matrix 6 6 14')):
             shown = self.shown(*words)
+            self.assertIn(bar + '      [', shown)
             self.assertRegex(shown, '[\r\n]' + first + '\r\n', words)
-        self.assertIn('jobs      [', self.shown('degrees', 'graph.mtx'))
-        self.assertNotIn('jobs', self.shown('degrees', 'graph.mtx', '--quiet'))
+        self.assertEqual(self.shown('triangle-count', 'graph.mtx', '--quiet'), '2\r\n')
 
     def test_no_progress_in_a_pipe(self):
         self.assertEqual(self.run_words('bfs-levels', 'graph.mtx').stderr, '')
