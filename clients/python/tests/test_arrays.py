@@ -1,5 +1,6 @@
 """numpy, scipy.sparse and networkx, in and out. Each is skipped where its module isn't there."""
 import io
+import os
 import random
 import time
 import unittest
@@ -160,7 +161,8 @@ class Scipy(Case):
         self.assertTrue((scipy.io.mmread(file).toarray() == M.toarray()).all())
 
     def test_speed(self):
-        """A million entries from numpy are there in a third of the time that scipy.io.mmwrite takes to write them."""
+        """A million entries from numpy are there in a third of the time that scipy.io.mmwrite takes to write them: processor time,
+        the server's with it, since on a busy machine nothing can be said of the clock's."""
         import numpy
         import scipy.io
         import scipy.sparse
@@ -168,17 +170,23 @@ class Scipy(Case):
         at = numpy.unique(r.integers(0, 1 << 40, 1_000_000))
         rows, columns, values = at >> 20, at & (1 << 20) - 1, r.integers(-1000, 1000, len(at))
 
+        server = self.s.connection._channel.process.pid
+
+        def spent():
+            with open('/proc/%d/stat' % server) as file:
+                ticks = file.read().rsplit(')', 1)[1].split()[11:13]
+            return time.process_time() + sum(map(int, ticks)) / os.sysconf('SC_CLK_TCK')
+
         def least(times, call):
             took = []
             for _ in range(times):
-                begun = time.perf_counter()
+                begun = spent()
                 call()
-                took.append(time.perf_counter() - begun)
+                took.append(spent() - begun)
             return min(took)
         ours = least(3, lambda: self.s.from_coo(rows, columns, values, 1 << 20, 1 << 20))
         M = scipy.sparse.coo_matrix((values, (rows, columns)), (1 << 20, 1 << 20))
         theirs = least(1, lambda: scipy.io.mmwrite(io.BytesIO(), M))
-        print('upload %.2f s, mmwrite %.2f s' % (ours, theirs), end=' ')
         self.assertLess(3 * ours, theirs)
 
 
