@@ -15,6 +15,7 @@ from test_ends import alive, gone
 from spmat.commands import main
 
 PACKAGE = os.path.join(support.TOP, 'clients', 'python')
+KARATE = os.path.join(support.TOP, 'docs', 'karate.mtx')
 GRAPH = '%%MatrixMarket matrix coordinate pattern symmetric\n6 6 7\n2 1\n3 1\n3 2\n4 3\n5 4\n6 4\n6 5\n'
 SCRIPT = """# degrees
 matrix G < graph.mtx
@@ -174,14 +175,14 @@ class Commands(unittest.TestCase):
 
     def test_a_karate_club(self):
         """The graph of the README."""
-        levels = self.printed('bfs-levels', os.path.join(support.TOP, 'docs', 'karate.mtx'), '--source', '17').split('\n')
+        levels = self.printed('bfs-levels', KARATE, '--source', '17').split('\n')
         self.assertEqual([sum(line.endswith(' %d' % level) for line in levels) for level in range(7)], [1, 2, 3, 12, 8, 8, 0])
 
     def shown(self, *words):
         """What a terminal is sent."""
         end, its = pty.openpty()
-        with subprocess.Popen([sys.executable, '-m', 'spmat', *words], cwd=self.folder, stdin=subprocess.DEVNULL, stdout=its, stderr=its,
-                              env=dict(os.environ, PYTHONPATH=PACKAGE)):
+        with subprocess.Popen([sys.executable, '-m', 'spmat', *words], cwd=self.folder, stdin=subprocess.DEVNULL, stdout=its,
+                              stderr=its, env=dict(os.environ, PYTHONPATH=PACKAGE)):
             os.close(its)
             said = b''
             with contextlib.suppress(OSError):             # the end, once the other side is closed

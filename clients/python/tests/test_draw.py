@@ -83,7 +83,11 @@ class Pictures(unittest.TestCase):
         from matplotlib.axes import Axes
         A, seen = self.session.full(3, 2), []
         real = Axes.imshow
-        with mock.patch.object(Axes, 'imshow', lambda axes, *more, **look: seen.append(look['extent']) or real(axes, *more, **look)):
+
+        def look_at(axes, *more, **look):
+            seen.append(look['extent'])
+            return real(axes, *more, **look)
+        with mock.patch.object(Axes, 'imshow', look_at):
             draw.spy(A, self.path)
             draw.spy(A, self.path, first=1)
         self.assertEqual(seen, [(-.5, 1.5, 2.5, -.5), (.5, 2.5, 3.5, .5)])

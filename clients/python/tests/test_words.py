@@ -16,7 +16,8 @@ class Words(unittest.TestCase):
 
     def test_names_of_operators(self):
         for kind, name, words in (
-                ('unary', 'plus', "no ready unary operator is called 'plus', but a binary one is: bind an operand by right= or left="),
+                ('unary', 'plus',
+                 "no ready unary operator is called 'plus', but a binary one is: bind an operand by right= or left="),
                 ('binary', 'abs', "no ready binary operator is called 'abs', but a unary one is"),
                 ('binary', 'nonzero', "no ready binary operator is called 'nonzero', but a unary and an index one is"),
                 ('unary', 'tril', "no ready unary operator is called 'tril', but an index one is"),

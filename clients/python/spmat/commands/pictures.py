@@ -7,8 +7,8 @@ from typing import Any
 from .. import draw
 from . import common
 
-EPILOG = """Up to 256 rows and columns each entry is a square. Above that it is the density in a raster, which the server counts. Rows and
-columns count from 1.
+EPILOG = """Up to 256 rows and columns each entry is a square. Above that it is the density in a raster, which the server counts.
+Rows and columns count from 1.
 
 example:
   python3 -m spmat spy graph.mtx --plot spy.png"""

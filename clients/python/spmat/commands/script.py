@@ -116,8 +116,8 @@ def run_lines(lines: IO[str], folder: str, options: argparse.Namespace) -> int:
             except Refused as fault:
                 clear(progress)
                 refused += 1
-                why = type(fault)(fault.rule, fault.numbers, line=fault.line, detail=fault.detail)      # the command stands before it
-                print('line %d: `%s` is refused: %s' % (command.number, command.line, why), file=sys.stderr)
+                bare = type(fault)(fault.rule, fault.numbers, line=fault.line, detail=fault.detail)   # the command stands before it
+                print('line %d: `%s` is refused: %s' % (command.number, command.line, bare), file=sys.stderr)
                 if not options.keep_going or session.connection.ended is not None:
                     break
             else:
