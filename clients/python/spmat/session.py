@@ -253,6 +253,8 @@ class Session:
 
     def upload(self, op: Operator) -> str:
         """The name of an operator in this session. It is uploaded at its first use; what the server refuses is OperatorRefused."""
+        if not isinstance(op, Operator):
+            raise TypeError('an operator is wanted, such as spmat.binary.plus, not %r' % (op,))
         with self._turn():
             if op not in self._operators:
                 if len(op.body) > MOST_OPERATOR:

@@ -29,7 +29,8 @@ class Words(unittest.TestCase):
         self.assertIn('two hexadecimal digits a byte', self.said(ValueError, spmat.code, 'unary', '9x'))
         self.assertIn('a kind is unary', self.said(ValueError, spmat.code, 'Unary', '95'))
 
-    def test_operators_from_c_are_short(self):
+    def test_operators_in_few_words(self):
+        self.assertEqual(repr(spmat.unary), '<ready unary operators: %s>' % ', '.join(spmat.unary))
         self.assertEqual(repr(FromC('binary', code=bytes(80), name='gap')), '<binary operator gap>')
 
     def test_settings(self):
@@ -53,6 +54,9 @@ class Words(unittest.TestCase):
         with spmat.Session() as s:
             self.assertIn('from_dense', self.said(TypeError, s.from_scipy_sparse, [[1]]))
             self.assertIn('a graph of networkx is wanted, not int', self.said(TypeError, s.from_networkx, 5))
+            self.assertIn('a matrix of a session', self.said(TypeError, spmat.algorithms.bfs_levels, [[1]], 0))
+            for call in (s.dis, s.types):
+                self.assertIn("an operator is wanted, such as spmat.binary.plus, not 'plus'", self.said(TypeError, call, 'plus'))
 
 
 if __name__ == '__main__':

@@ -14,7 +14,10 @@ NOT_THIS_ROW = asm('index', 'mov64 r0, 1\njne64 r2, r4, 1\nmov64 r0, 0\nexit\n')
 
 
 def order(graph: Matrix, transpose: Optional[Matrix] = None) -> int:
-    """The number of vertices. Raises ValueError where the matrix isn't square, or its transpose is of another size."""
+    """The number of vertices. Raises TypeError where the graph is no matrix, ValueError where it isn't square, or its transpose is
+    of another size."""
+    if not isinstance(graph, Matrix):
+        raise TypeError('a graph is a matrix of a session, as from_coo or from_networkx makes it, not %s' % type(graph).__name__)
     if graph.nrows != graph.ncols:
         raise ValueError('a graph is a square matrix; this one has %d rows and %d columns' % (graph.nrows, graph.ncols))
     if transpose is not None and transpose.shape != graph.shape:

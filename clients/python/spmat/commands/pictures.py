@@ -30,5 +30,6 @@ def run(options: argparse.Namespace) -> int:
     with common.progress_of(options) as progress, common.open_session(options, progress) as session:
         matrix = common.read_graph(session, options)
         draw.spy(matrix, options.plot, first=1)
-    print('%d rows, %d columns, %d entries' % (matrix.nrows, matrix.ncols, matrix.nvals))
+        size = matrix.nrows, matrix.ncols, matrix.nvals
+    print('%d rows, %d columns, %d entries' % size)
     return 0

@@ -115,6 +115,9 @@ class Ready:
         self._kind = kind
         self._known: Dict[str, Operator] = {}
 
+    def __repr__(self) -> str:
+        return '<ready %s operators: %s>' % (self._kind, ', '.join(self))
+
     def _file(self, name: str) -> str:
         return os.path.join(_FOLDER, self._kind, name + '.asm')
 
