@@ -88,6 +88,23 @@ class Commands(unittest.TestCase):
         self.assertEqual(self.printed('connected-components', 'graph.mtx'), ''.join('%d 1\n' % row for row in range(1, 7)))
         self.assertIn('no vertex 7: they are 1 to 6', self.refused('bfs-levels', 'graph.mtx', '--source', '7'))
 
+    def test_graphs_of_another_kind(self):
+        """What is for undirected graphs says so, in place of a number that means nothing."""
+        head = '%%MatrixMarket matrix coordinate pattern general\n'
+        self.write('round.mtx', head + '3 3 3\n1 2\n2 3\n3 1\n')
+        self.write('loop.mtx', head + '3 3 7\n1 1\n1 2\n2 1\n2 3\n3 2\n3 1\n1 3\n')
+        for words in (['triangle-count'], ['triangles'], ['clustering'], ['k-truss', '--k', '3'], ['k-core', '--k', '2'],
+                      ['maximal-independent-set']):
+            self.assertIn('an edge leads one way alone: --undirected', self.refused(*words, 'round.mtx'))
+            self.assertNotEqual(self.printed(*words, 'round.mtx', '--undirected'), '')
+            if words[0] in ('triangle-count', 'maximal-independent-set'):
+                self.printed(*words, 'loop.mtx')
+            else:
+                self.assertIn('from a vertex to itself: --undirected', self.refused(*words, 'loop.mtx'))
+        self.assertEqual(self.printed('triangle-count', 'round.mtx', '--undirected'), '1\n')
+        self.assertEqual(self.printed('triangle-count', 'loop.mtx'), '1\n')
+        self.assertEqual(self.printed('bfs-levels', 'round.mtx'), '1 0\n2 1\n3 2\n')
+
     def test_fractions(self):
         shares = self.printed('clustering', 'graph.mtx').splitlines()
         self.assertEqual(shares[:3], ['1 1.000000000', '2 1.000000000', '3 0.333333333'])

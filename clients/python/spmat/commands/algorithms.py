@@ -12,12 +12,14 @@ from ..algorithms.ranks import ONE
 from ..matrix import Matrix
 from . import common
 
+BOTH_WAYS, WITHOUT_LOOPS = common.Wanted.BOTH_WAYS, common.Wanted.WITHOUT_LOOPS
 Call = Callable[[Matrix, argparse.Namespace, Optional[common.Progress]], Any]
 
 
 class Algorithm(NamedTuple):
     """A command: what it gives in a few words, its function, what calls it, the options beside those of every graph, what a value
-    is counted in (1 where it is a whole number), whether a value is a vertex, and what draws the result."""
+    is counted in (1 where it is a whole number), whether a value is a vertex, what draws the result, and which graphs
+    it is for."""
     gives: str
     function: Callable[..., Any]
     call: Call
@@ -25,6 +27,7 @@ class Algorithm(NamedTuple):
     scale: int = 1
     are_vertices: bool = False
     plot: Optional[str] = None
+    wanted: common.Wanted = common.Wanted.ANY
 
 
 def transposed(graph: Matrix, options: argparse.Namespace) -> Optional[Matrix]:
@@ -42,10 +45,12 @@ def start(graph: Matrix, options: argparse.Namespace) -> int:
 ALGORITHMS: Dict[str, Algorithm] = {
     'degrees': Algorithm('edges that leave each vertex', algorithms.degrees, lambda g, o, p: algorithms.degrees(g),
                          plot='degree_histogram'),
-    'triangle-count': Algorithm('the number of triangles', algorithms.triangle_count, lambda g, o, p: algorithms.triangle_count(g)),
-    'triangles': Algorithm('triangles at each vertex', algorithms.triangles, lambda g, o, p: algorithms.triangles(g)),
+    'triangle-count': Algorithm('the number of triangles', algorithms.triangle_count, lambda g, o, p: algorithms.triangle_count(g),
+                                wanted=BOTH_WAYS),
+    'triangles': Algorithm('triangles at each vertex', algorithms.triangles, lambda g, o, p: algorithms.triangles(g),
+                           wanted=WITHOUT_LOOPS),
     'clustering': Algorithm('local clustering of each vertex', algorithms.clustering, lambda g, o, p: algorithms.clustering(g),
-                            scale=CLUSTERING_SCALE),
+                            scale=CLUSTERING_SCALE, wanted=WITHOUT_LOOPS),
     'bfs-levels': Algorithm('edges from a vertex to each other one', algorithms.bfs_levels, lambda g, o, p: algorithms.bfs_levels(
         g, start(g, o), transposed(g, o), p), ['source'], plot='levels'),
     'bfs-parents': Algorithm('the tree of a breadth-first search', algorithms.bfs_parents, lambda g, o, p: algorithms.bfs_parents(
@@ -60,14 +65,14 @@ ALGORITHMS: Dict[str, Algorithm] = {
     'transitive-closure': Algorithm('which vertices reach which', algorithms.transitive_closure,
                                     lambda g, o, p: algorithms.transitive_closure(g, p), plot='spy'),
     'k-truss': Algorithm('edges that stand in k - 2 triangles or more', algorithms.k_truss,
-                         lambda g, o, p: algorithms.k_truss(g, o.k, p), ['k'], plot='spy'),
+                         lambda g, o, p: algorithms.k_truss(g, o.k, p), ['k'], plot='spy', wanted=WITHOUT_LOOPS),
     'k-core': Algorithm('vertices with k neighbours or more', algorithms.k_core,
-                        lambda g, o, p: algorithms.k_core(g, o.k, p), ['k']),
+                        lambda g, o, p: algorithms.k_core(g, o.k, p), ['k'], wanted=WITHOUT_LOOPS),
     'pagerank': Algorithm('the PageRank of each vertex', algorithms.pagerank, lambda g, o, p: algorithms.pagerank(
         g, transposed(g, o), o.damping, o.tolerance, progress=p), ['damping', 'tolerance'], scale=ONE),
     'maximal-independent-set': Algorithm(
         'vertices of which no two are neighbours', algorithms.maximal_independent_set,
-        lambda g, o, p: algorithms.maximal_independent_set(g, o.seed, p), ['seed']),
+        lambda g, o, p: algorithms.maximal_independent_set(g, o.seed, p), ['seed'], wanted=BOTH_WAYS),
 }
 OPTIONS: Dict[str, Dict[str, Any]] = {
     'source': dict(type=int, default=1, metavar='V', help='the vertex to begin with, from 1 (default: 1)'),
@@ -117,7 +122,7 @@ def run(algorithm: Algorithm, options: argparse.Namespace) -> int:
         pictures.check(options.plot)
     common.check_output(options)
     with common.progress_of(options) as progress, common.open_session(options, progress) as session:
-        graph = common.read_graph(session, options)
+        graph = common.read_graph(session, options, algorithm.wanted)
         result = algorithm.call(graph, options, progress)
         if getattr(options, 'plot', None):
             draw(algorithm, graph, result, options)

@@ -3,16 +3,27 @@ from __future__ import annotations
 
 import argparse
 import contextlib
+import enum
 import errno
+import io
 import os
 import sys
 from typing import Iterable, Iterator, Optional, TextIO
 
+from .. import files
 from ..matrix import Matrix
 from ..session import Session
 from ..wire import MOST_STEPS, MOST_WORKERS, Progress
 
 BAR = 30        # characters of a progress bar
+UNDIRECTED = ': --undirected takes the graph without directions, weights and loops'
+
+
+class Wanted(enum.Enum):
+    """Which graphs an algorithm is for: of others its result would mean nothing."""
+    ANY = 'any'
+    BOTH_WAYS = 'each edge leads both ways'
+    WITHOUT_LOOPS = 'each edge leads both ways, and none from a vertex to itself'
 
 
 def add_session_options(command: argparse.ArgumentParser) -> None:
@@ -86,12 +97,24 @@ def open_session(options: argparse.Namespace, progress: Optional[Progress] = Non
     return Session.connect(host or '127.0.0.1', int(port), progress=progress)
 
 
-def read_graph(session: Session, options: argparse.Namespace) -> Matrix:
-    """The graph of the file that the options name."""
+def read_graph(session: Session, options: argparse.Namespace, wanted: Wanted = Wanted.ANY) -> Matrix:
+    """The graph of the file that the options name. ValueError where it isn't of the wanted kind."""
     from ..algorithms import undirected
-    source = sys.stdin.buffer if options.graph == '-' else options.graph
-    graph = session.mmread(source, dup_op=options.dup_op)
-    return undirected(graph) if options.undirected else graph
+    text = files.load(sys.stdin.buffer if options.graph == '-' else options.graph)
+    graph = session.mmread(io.BytesIO(text), dup_op=options.dup_op)
+    if options.undirected:
+        return undirected(graph)
+    if graph.nrows == graph.ncols:
+        check_kind(graph, wanted, files.kind_of(text).symmetry == 'symmetric')
+    return graph
+
+
+def check_kind(graph: Matrix, wanted: Wanted, symmetric: bool) -> None:
+    """A ValueError where a graph isn't of the wanted kind; `symmetric` where its file says so."""
+    if wanted is not Wanted.ANY and not symmetric and graph.ewise_mult(graph.T, 'pair').nvals < graph.nvals:
+        raise ValueError('an undirected graph is wanted, and here an edge leads one way alone' + UNDIRECTED)
+    if wanted is Wanted.WITHOUT_LOOPS and graph.select('diag').nvals:
+        raise ValueError('a graph without loops is wanted, and here is an edge from a vertex to itself' + UNDIRECTED)
 
 
 def check_output(options: argparse.Namespace) -> None:
