@@ -67,6 +67,17 @@ def straight(slots: int) -> bytes:
     return operator_command('f', RESULT_IS_OPERAND + add(1) * (slots - 2) + EXIT)
 
 
+def few_calls(slots: int) -> bytes:
+    """A long operator on so few entries that each is called by itself, many times."""
+    few = matrix('A', [(1, column, column) for column in range(1, 7)], 1, 6)
+    return straight(slots) + few + b'apply B f A\n' * 6 + b'run\n'
+
+
+def flat_product(rows: int) -> bytes:
+    """A product of so many rows with nothing but the last, whose price is that of all its chunks."""
+    return SUM + matrix('A', [(rows, 1, 1)], rows, 1) + matrix('B', [(1, 1, 1)], 1, 1) + b'product C plus plus A B\nrun\n'
+
+
 def names(count: int) -> bytes:
     numbers = range(count)
     return b''.join(matrix('n%d' % number, [], 1, 1) for number in numbers) + b''.join(b'show n%d\n' % number for number in numbers)
@@ -98,6 +109,8 @@ SESSIONS: Dict[str, Tuple[Callable[[int], bytes], int]] = {
     'rows with nothing': (lambda n: SHORT + matrix('A', [(n, 1, 1)], n, 1) + b'apply B inc A\nrun\nshow B\n', 200000),
     'an operator of branches': (branches, 2048),
     'a straight operator': (straight, 2048),
+    'few calls of a long operator': (few_calls, 2048),
+    'product, rows with nothing': (flat_product, 20000),
     'names': (names, 1000),
     'jobs in batches': (many_jobs, 2000),
     'budget': (lambda n: b'budget\n' * n, 5000),
