@@ -29,11 +29,13 @@ JOBS = [
 
 
 class Held(NamedTuple):
-    """A session, what its bytes are counted by, and how many commands are refused."""
+    """A session, what its bytes are counted by, how many commands are refused, the status that it ends with, and its workers."""
     what: str
     session: bytes
     units: int
     refused: int = 0
+    status: int = 0
+    workers: int = 1
 
 
 def operands() -> bytes:
@@ -67,6 +69,7 @@ def size_sessions() -> List[Held]:
         Held('a row that is selected from, joined and reduced',
              rows + b'select B all A 0\nunion C plus A A\nreduce D plus A\nrun\n', MANY_ROWS),
         Held('a text that declares 16,777,216 entries and has one', OPERATORS + matrix_command('A', promised), 1, 1),
+        Held('a body of 268,435,456 bytes of which one comes', OPERATORS + b'matrix A 268435456\n%', 1, 1, 3),
         Held('an entry that is shown, and mapped behind that',
              matrix_command('A', large) + OPERATORS + b'show A\napply B inc A\nrun\n', COUNT),
         Held('an entry that is shown, and another that is read behind that',
@@ -74,13 +77,24 @@ def size_sessions() -> List[Held]:
     ]
 
 
+def long_rows() -> Held:
+    """Eight chunks, each with one row that names all rows of B, on as many workers: what each keeps for a row of the result goes by
+    its columns, and not by the multiplications, of which there are as many as B has entries."""
+    named, columns = 64, 4096
+    a = [(chunk * 256 + 1, row, 1) for chunk in range(8) for row in range(1, named + 1)]
+    b = [(row, column, 1) for row in range(1, named + 1) for column in range(1, columns + 1)]
+    session = matrix_command('A', matrix_text(2048, named, a)) + matrix_command('B', matrix_text(named, columns, b)) + OPERATORS
+    return Held('an entry that eight workers multiply', session + b'product C plus second A B\nrun\n', len(b), workers=8)
+
+
 def bytes_of(program: str, sessions: List[Held]) -> List[Tuple[str, float]]:
     with Witness() as witness:
-        return [(each.what, most_held(witness, program, each.session, each.refused) / each.units) for each in sessions]
+        return [(each.what, most_held(witness, program, each.session, each.refused, each.status, each.workers) / each.units)
+                for each in sessions]
 
 
 def all_bytes(program: str) -> List[Tuple[str, float]]:
-    return bytes_of(program, job_sessions() + size_sessions())
+    return bytes_of(program, job_sessions() + size_sessions() + [long_rows()])
 
 
 def all_requests(program: str) -> List[Tuple[str, float]]:
