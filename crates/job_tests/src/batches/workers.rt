@@ -303,3 +303,52 @@ fn failing_chunk(rt: HostRuntime) -> Result<(), Fail> {
     assert!(rt; first.is_ok() || second.is_ok());
     Ok(())
 }
+
+/// Counts how many chunks were entered and left.
+#[derive(Drop)]
+struct Passed {
+    entered: AtomicU64,
+    left: AtomicU64,
+}
+
+impl Passed {
+    fn new() -> Passed {
+        Passed {
+            entered: AtomicU64::new(0),
+            left: AtomicU64::new(0),
+        }
+    }
+}
+
+impl Gate for Passed {
+    fn enter(&self, _chunk: u64) {
+        self.entered.fetch_add(1, SeqCst);
+    }
+
+    fn leave(&self, _chunk: u64) {
+        self.left.fetch_add(1, SeqCst);
+    }
+}
+
+/// Whether the square's one chunk was left just where it is complete: once where the batch was answered, and never where it failed
+/// before its last call.
+fn is_left_when_complete(gate: &Passed, answer: &Result<BatchAnswer, BatchFault>) -> bool {
+    let entered = gate.entered.load(SeqCst);
+    let left = gate.left.load(SeqCst);
+    match answer {
+        Ok(_) => entered == 1 && left == 1,
+        Err(fault) => fault.spent == 768 && left <= entered || left == 0,
+    }
+}
+
+// This one too: a chunk that fails is entered and not left.
+
+#[test]
+fn gate_left_when_the_chunk_is_complete(rt: HostRuntime) -> Result<(), Fail> {
+    let alloc = rt.alloc();
+    let plan = square_again(&rt, alloc)?;
+    let gate = Passed::new();
+    let answer = run_batch(&rt, alloc, &plan, 1, &gate);
+    assert!(rt; is_left_when_complete(&gate, &answer));
+    Ok(())
+}
