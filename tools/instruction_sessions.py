@@ -73,6 +73,18 @@ def few_calls(slots: int) -> bytes:
     return straight(slots) + few + b'apply B f A\n' * 6 + b'run\n'
 
 
+def scattered(rows: int, columns: int, of_row: int) -> List[Entry]:
+    """So many entries in each row, at random columns."""
+    chance = random.Random(rows)
+    return [(row + 1, column + 1, chance.randint(-9, 9)) for row in range(rows) for column in sorted(chance.sample(range(columns), of_row))]
+
+
+def crowded_product(rows: int) -> bytes:
+    """A product whose rows have entries in most of their columns, which come in no order."""
+    a, b = matrix('A', scattered(rows, 256, 16), rows, 256), matrix('B', scattered(256, 1024, 64), 256, 1024)
+    return SUM + a + b + b'product C plus plus A B\nrun\n'
+
+
 def flat_product(rows: int) -> bytes:
     """A product of so many rows with nothing but the last, whose price is that of all its chunks."""
     return SUM + matrix('A', [(rows, 1, 1)], rows, 1) + matrix('B', [(1, 1, 1)], 1, 1) + b'product C plus plus A B\nrun\n'
@@ -105,6 +117,7 @@ SESSIONS: Dict[str, Tuple[Callable[[int], bytes], int]] = {
     'product': (lambda n: SUM + square('A', n) + b'product B plus plus A A\nrun\n', 5000),
     'product, long rows': (lambda n: SUM + matrix('I', [(1, 1, 1), (1, 2, 1)], 1, 2) + two_lines('W', n)
                            + b'product B plus plus I W\nrun\n', 10000),
+    'product, crowded rows': (crowded_product, 64),
     'product under a mask': (lambda n: SUM + square('A', n) + b'product B plus plus A A mask A\nrun\n', 5000),
     'rows with nothing': (lambda n: SHORT + matrix('A', [(n, 1, 1)], n, 1) + b'apply B inc A\nrun\nshow B\n', 200000),
     'an operator of branches': (branches, 2048),
