@@ -11,6 +11,8 @@ use std::sync::{Arc, Wait};
 use std::test::Fail;
 use std::thread::Threads;
 
+mod passes;
+mod seats;
 mod workers;
 
 /// The operator of these slots, with several owners.
