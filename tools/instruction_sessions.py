@@ -70,13 +70,14 @@ def straight(slots: int) -> bytes:
 def few_calls(slots: int) -> bytes:
     """A long operator on so few entries that each is called by itself, many times."""
     few = matrix('A', [(1, column, column) for column in range(1, 7)], 1, 6)
-    return straight(slots) + few + b'apply B f A\n' * 6 + b'run\n'
+    return straight(slots) + few + b'apply B f A\n' * 40 + b'run\n'
 
 
 def scattered(rows: int, columns: int, of_row: int) -> List[Entry]:
     """So many entries in each row, at random columns."""
     chance = random.Random(rows)
-    return [(row + 1, column + 1, chance.randint(-9, 9)) for row in range(rows) for column in sorted(chance.sample(range(columns), of_row))]
+    return [(row + 1, column + 1, chance.randint(-9, 9)) for row in range(rows)
+            for column in sorted(chance.sample(range(columns), of_row))]
 
 
 def crowded_product(rows: int) -> bytes:

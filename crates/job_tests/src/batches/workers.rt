@@ -337,11 +337,11 @@ fn is_left_when_complete(gate: &Passed, answer: &Result<BatchAnswer, BatchFault>
     let left = gate.left.load(SeqCst);
     match answer {
         Ok(_) => entered == 1 && left == 1,
-        Err(fault) => fault.spent == 768 && left <= entered || left == 0,
+        Err(fault) => left == 0 || (left == entered && fault.spent == 768),
     }
 }
 
-// This one too: a chunk that fails is entered and not left.
+// Run this one so as well: a chunk that fails is entered and not left.
 
 #[test]
 fn gate_left_when_the_chunk_is_complete(rt: HostRuntime) -> Result<(), Fail> {
