@@ -2,7 +2,9 @@
 use Rattle.std.proofs.Common.{◌≡◌, ◌≤◌, ◌<◌, ◌+◌, ℕ, true, List, [], ◌∷◌, ◌++◌, length, inl, inr, refl, sym, ap, ◌∙◌, subst, arith}
 use Rattle.csr_store.specs.Grid.{Grid, IsGrid}
 use Rattle.std.specs.FinMap.{len}
+use Rattle.std.specs.Str.Lines.{lines}
 use Rattle.matrix_market.specs.Market.{IsTextOf}
+use Rattle.matrix_market.specs.Refusal.{HasSizes}
 use Rattle.command_text.specs.Words.{is_name, kind_of_word}
 use Rattle.workspace.specs.State.{State, bound}
 use Rattle.workspace.specs.Found.{is_named, form_named, mask_named, form_found, mask_found, joined, job_found}
@@ -10,10 +12,11 @@ use Rattle.job_plan.specs.Job.{Job}
 use Rattle.job_plan.specs.Price.{price_of, total_price}
 use Rattle.job_plan.specs.Refusal.{job_fault, answered}
 use Rattle.job_plan.specs.declared.error.JobError.{JobError}
-use Rattle.command_text.specs.Requests.{Submission}
+use Rattle.command_text.specs.Requests.{Submission, Header, MatrixHeader, OpHeader, AsmHeader, with_body}
 use Rattle.command_text.specs.Replies.{matrix_text, refusal_text, queued_text}
-use Rattle.workspace.specs.Turn.{MatrixTurn, OperatorTurn, TakesOperator, SubmitTurn, Prices, Submits, TakesAssembly, AssemblyTurn}
-use Rattle.workspace.specs.Binds.{BindsCode, BindsAssembly}
+use Rattle.command_text.specs.declared.rules.SessionRule.TheVariants.{MalformedName}
+use Rattle.workspace.specs.Turn.{Turn, Refuses, MatrixTurn, TakesMatrix, TakesOperator, TakesDigits, TakesKind, SubmitTurn, Prices, Submits, TakesAssembly, TakesKindOfAssembly}
+use Rattle.workspace.specs.Binds.{Binds, BindsMatrix, BindsText, BindsCode, BindsDigits, BindsAssembly, BindsLines}
 use Rattle.hex.specs.Hex.{decode_of}
 use Rattle.command_text.specs.Hexadecimal.{without_gaps}
 use Rattle.bpf_insn.specs.declared.operands.Kind.{Kind}
@@ -24,12 +27,35 @@ use Rattle.step_purse.specs.declared.dealings.Reply.TheVariants.{Took, NotEnough
 use Rattle.command_text.specs.declared.refusal.Refusal.TheVariants as no
 use Rattle.std.proofs.Common.{Ok, Err, Some, None, Option, Result, Bool, false, IsTrue, ◌&&◌, nat_lt}
 use Rattle.std.proofs.lemmas.Bool.Decides.{nat_tests}
+use Rattle.std.proofs.lemmas.List.{append-nil}
+use Rattle.std.specs.Prelude.{MatchBool, ◌⊎◌}
+
+-- a text of a matrix has the matrix's sizes
+text_sizes : (text : List ℕ) (g : Grid) → IsTextOf text g → HasSizes text
+text_sizes text g is =
+    let all : length (lines text) ≡ length is.others + 1 = ap length is.lines_are ∙ omega arith in
+    record {
+      first = is.first;
+      others = is.others;
+      behind = [];
+      cut = is.lines_are ∙ sym (append-nil (is.first ∷ is.others));
+      banner = is.banner;
+      banner_is = is.banner_is;
+      size = is.size;
+      size_is = is.size_is;
+      faultless = λ k from to. is.faultless k from (omega (arith, all));
+    }
 
 -- a matrix was taken and bound
 pub matrix_taken : (old new : State) (word name body reply : List ℕ) (g : Grid) → is_name word ≡ true → name ≡ word → IsGrid g → IsTextOf body g
-    → reply ≡ matrix_text g.rows g.columns (len g.cells) → new ≡ record old { matrices = bound old.matrices name g } → MatrixTurn old word body [] reply new
+    → reply ≡ matrix_text g.rows g.columns (len g.cells) → new ≡ record old { matrices = bound old.matrices name g } → BindsMatrix old word body reply new
 matrix_taken old new word name body reply g named same is text r n =
-    inr (rw named (inl (g, is, text, refl, r, n ∙ ap (λ t. record old { matrices = bound old.matrices t g }) same)))
+    rw named (inr (inl (g, is, text, refl, r, n ∙ ap (λ t. record old { matrices = bound old.matrices t g }) same)))
+
+-- there was no memory for the matrix of a text
+pub matrix_memory : (old new : State) (word body reply : List ℕ) (g : Grid) → is_name word ≡ true → IsTextOf body g → reply ≡ refusal_text no.Memory → new ≡ old
+    → BindsMatrix old word body reply new
+matrix_memory old new word body reply g named text r n = rw named (inl (text_sizes body g text, (refl, r, n)))
 
 total_more : (js : List Job) (j : Job) → total_price (js ++ j ∷ []) ≡ total_price js + price_of j
 total_more [] j = omega arith
@@ -118,18 +144,59 @@ submit_memory old s job reply named found room r = rw (named, found, room) (inl 
 
 -- an operator's code was taken, of the kind and under the name that the words say
 pub operator_taken : (old new : State) (word kind_word name body code reply : List ℕ) (kind : Kind) → Some kind ≡ kind_of_word kind_word → is_name word ≡ true → name ≡ word → decode_of (without_gaps body) ≡ Ok code
-    → BindsCode old name kind code reply new → OperatorTurn old word kind_word body [] reply new
+    → BindsCode old name kind code reply new → BindsDigits old word (kind_of_word kind_word) body reply new
 operator_taken old new word kind_word name body code reply kind k n e d b =
     elim b [
-      | inl w ↦ inl w
-      | inr w ↦ inr (rw (sym k, n, d) (subst (λ x. TakesOperator old x kind code [] reply new) e w))
+      | inl w ↦ rw (sym k, n) (inl w.2)
+      | inr w ↦ rw (sym k, n) (inr (rw d (subst (λ x. TakesOperator old x kind code [] reply new) e w)))
     ]
 
 -- an assembly text was taken, of the kind and under the name that the words say
 pub assembly_taken : (old new : State) (word kind_word name body reply : List ℕ) (kind : Kind) → Some kind ≡ kind_of_word kind_word → is_name word ≡ true → name ≡ word
-    → BindsAssembly old name kind body reply new → AssemblyTurn old word kind_word body [] reply new
+    → BindsAssembly old name kind body reply new → BindsLines old word (kind_of_word kind_word) body reply new
 assembly_taken old new word kind_word name body reply kind k n e b =
-    elim b [
-      | inl w ↦ inl w
-      | inr w ↦ inr (rw (sym k, n) (subst (λ x. TakesAssembly old x kind body [] reply new) e w))
-    ]
+    rw (sym k, n) (subst (λ x. BindsAssembly old x kind body reply new) e b)
+
+-- ---- what binds a name makes its turn
+
+module _ (old new : State) (name body reply : List ℕ) where
+  abbrev refused_memory : Type 0
+  refused_memory = Refuses no.Memory old [] reply new
+
+  abbrev malformed : Type 0
+  malformed = Refuses (no.Session MalformedName) old [] reply new
+
+  matrix_turn : BindsMatrix old name body reply new → MatrixTurn old name body [] reply new
+  matrix_turn b =
+      elim (is_name name) as (λ v. MatchBool v (BindsText old name body reply new) malformed → refused_memory ⊎ MatchBool v (TakesMatrix old name body [] reply new) malformed) [
+        | true ↦ λ x. elim x [
+          | inl w ↦ inl w.1
+          | inr w ↦ inr w
+        ]
+        | false ↦ λ x. inr x
+      ] b
+
+  digits_turn : (kind : Option Kind) → BindsDigits old name kind body reply new → refused_memory ⊎ TakesKind old name kind body [] reply new
+  digits_turn None b = inr b
+  digits_turn (Some kind) b =
+      let taken = TakesDigits old name kind (decode_of (without_gaps body)) [] reply new in
+      elim (is_name name) as (λ v. MatchBool v (refused_memory ⊎ taken) malformed → refused_memory ⊎ MatchBool v taken malformed) [
+        | true ↦ λ x. x
+        | false ↦ λ x. inr x
+      ] b
+
+  lines_turn : (kind : Option Kind) → BindsLines old name kind body reply new → refused_memory ⊎ TakesKindOfAssembly old name kind body [] reply new
+  lines_turn None b = inr b
+  lines_turn (Some kind) b =
+      elim (is_name name) as (λ v. MatchBool v (BindsAssembly old name kind body reply new) malformed → refused_memory ⊎ MatchBool v (TakesAssembly old name kind body [] reply new) malformed) [
+        | true ↦ λ x. elim x [
+          | inl w ↦ inl w.2
+          | inr w ↦ inr w
+        ]
+        | false ↦ λ x. inr x
+      ] b
+
+pub binds_turn : (old new : State) (header : Header) (body reply : List ℕ) → Binds old header body reply new → Turn old (with_body header body) [] reply new
+binds_turn old new (MatrixHeader name) body reply b = matrix_turn old new name body reply b
+binds_turn old new (OpHeader name kind) body reply b = digits_turn old new name body reply (kind_of_word kind) b
+binds_turn old new (AsmHeader name kind) body reply b = lines_turn old new name body reply (kind_of_word kind) b

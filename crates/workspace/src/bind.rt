@@ -1,9 +1,9 @@
 //! The commands `matrix`, `op` and `asm`, which bind a name to what their body says.
-ghost use Rattle.std.specs.Prelude.{◌≡◌, []};
+ghost use Rattle.std.specs.Prelude.{◌≡◌};
 ghost use Rattle.command_text.specs.ReplyText.{whole};
 ghost use Rattle.workspace.specs.Workspace.{state_of};
-ghost use Rattle.workspace.specs.Binds.{BindsCode, BindsProgram, BindsAssembly};
-ghost use Rattle.workspace.specs.Turn.{MatrixTurn, OperatorTurn, AssemblyTurn};
+ghost use Rattle.command_text.specs.Words.{kind_of_word};
+ghost use Rattle.workspace.specs.Binds.{BindsMatrix, BindsCode, BindsProgram, BindsAssembly, BindsDigits, BindsLines};
 
 use crate::workspace::Workspace;
 use bpf_insn::{DecodeError, Kind, Program, decode};
@@ -18,8 +18,7 @@ use std::alloc::Global;
 
 /// `matrix NAME LEN`: reads the body as matrix text, and binds the name to the matrix.
 pub fn matrix(alloc: Global, workspace: &mut Workspace, name: &[u8], body: &[u8], reply: &mut Reply)
-    ensures turn { MatrixTurn (state_of workspace.old) name.now body.now [] (whole reply.new)
-        (state_of workspace.new) }
+    ensures binds { BindsMatrix (state_of workspace.old) name.now body.now (whole reply.new) (state_of workspace.new) }
     ensures queue { (state_of workspace.new).queue ≡ (state_of workspace.old).queue }
 {
     let Some(name) = as_name(name) else {
@@ -47,7 +46,7 @@ fn take_program(
     program: Program,
     reply: &mut Reply,
 )
-    ensures turn { BindsProgram (state_of workspace.old) name.now kind program (whole reply.new)
+    ensures binds { BindsProgram (state_of workspace.old) name.now kind program (whole reply.new)
         (state_of workspace.new) }
     ensures queue { (state_of workspace.new).queue ≡ (state_of workspace.old).queue }
 {
@@ -72,7 +71,7 @@ fn take_code(
     code: &[u8],
     reply: &mut Reply,
 )
-    ensures turn { BindsCode (state_of workspace.old) name.now kind code.now (whole reply.new)
+    ensures binds { BindsCode (state_of workspace.old) name.now kind code.now (whole reply.new)
         (state_of workspace.new) }
     ensures queue { (state_of workspace.new).queue ≡ (state_of workspace.old).queue }
 {
@@ -92,8 +91,8 @@ pub fn operator(
     body: Vec<u8>,
     reply: &mut Reply,
 )
-    ensures turn { OperatorTurn (state_of workspace.old) name.now kind.now body.items []
-        (whole reply.new) (state_of workspace.new) }
+    ensures binds { BindsDigits (state_of workspace.old) name.now (kind_of_word kind.now) body.items (whole reply.new)
+        (state_of workspace.new) }
     ensures queue { (state_of workspace.new).queue ≡ (state_of workspace.old).queue }
 {
     let Some(kind) = parse_kind(kind) else {
@@ -118,7 +117,7 @@ fn take_assembly(
     text: &[u8],
     reply: &mut Reply,
 )
-    ensures turn { BindsAssembly (state_of workspace.old) name.now kind text.now (whole reply.new)
+    ensures binds { BindsAssembly (state_of workspace.old) name.now kind text.now (whole reply.new)
         (state_of workspace.new) }
     ensures queue { (state_of workspace.new).queue ≡ (state_of workspace.old).queue }
 {
@@ -138,8 +137,8 @@ pub fn assembly(
     body: &[u8],
     reply: &mut Reply,
 )
-    ensures turn { AssemblyTurn (state_of workspace.old) name.now kind.now body.now []
-        (whole reply.new) (state_of workspace.new) }
+    ensures binds { BindsLines (state_of workspace.old) name.now (kind_of_word kind.now) body.now (whole reply.new)
+        (state_of workspace.new) }
     ensures queue { (state_of workspace.new).queue ≡ (state_of workspace.old).queue }
 {
     let Some(kind) = parse_kind(kind) else {

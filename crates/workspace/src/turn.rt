@@ -6,6 +6,7 @@ ghost use Rattle.command_text.specs.Readings.{command_of, header_of};
 ghost use Rattle.step_budget.specs.Budget.{Deals};
 ghost use Rattle.step_purse.specs.declared.dealings.Dealing.{Dealing};
 ghost use Rattle.job_plan.specs.Price.{total_price};
+ghost use Rattle.workspace.specs.Binds.{Binds};
 ghost use Rattle.workspace.specs.Turn.{Turn};
 ghost use Rattle.workspace.specs.Workspace.{state_of};
 
@@ -20,7 +21,8 @@ use std::sync::Wait;
 use std::thread::Threads;
 use step_budget::Steps;
 
-/// Answers a command with its body.
+/// Answers a command with its body. The command makes its turn; and that there is no memory is told only where no refusal stands that
+/// goes before: of KIND, of NAME, of `matrix` those of the lines up to the sizes, and of `asm` those of all lines.
 pub fn answer_with_body(
     alloc: Global,
     workspace: &mut Workspace,
@@ -30,6 +32,8 @@ pub fn answer_with_body(
 )
     ensures turn { Turn (state_of workspace.old) (with_body (header_of header.entry) body.items) []
         (whole reply.new) (state_of workspace.new) }
+    ensures binds { Binds (state_of workspace.old) (header_of header.entry) body.items (whole reply.new)
+        (state_of workspace.new) }
     ensures queue { (state_of workspace.new).queue ≡ (state_of workspace.old).queue }
 {
     match header {
