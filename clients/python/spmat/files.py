@@ -39,10 +39,14 @@ def load(source: Any) -> bytes:
         if isinstance(text, str):
             raise TypeError('open the file in binary: open(path, "rb")')
     else:
-        ending = os.path.splitext(os.fspath(source))[1]
-        with _OPENERS.get(ending, open)(source, 'rb') as file:
+        with opener_of(source)(source, 'rb') as file:
             text = file.read()
     return bytes(text[3:] if text[:3] == b'\xef\xbb\xbf' else text)
+
+
+def opener_of(path: Any) -> Callable[..., Any]:
+    """What opens a path by its ending, as `open` does."""
+    return _OPENERS.get(os.path.splitext(os.fspath(path))[1], open)
 
 
 def is_plain(text: bytes) -> bool:
@@ -89,7 +93,7 @@ def parse(text: bytes) -> Tuple[Triples, str]:
     count = rest[0] if rest else _cells(kind.symmetry, nrows, ncols)
     if count > MOST_SIDE:
         raise refused('M4', text, number, '%d values' % count)
-    triples = _quickly(kind, text[lines.at:], count, nrows, ncols) or _slowly(kind, lines, count, nrows, ncols)
+    triples = read_quickly(kind, text[lines.at:], count, nrows, ncols) or _slowly(kind, lines, count, nrows, ncols)
     return _lowered(triples, kind.symmetry), kind.symmetry
 
 
@@ -204,7 +208,7 @@ def _slowly(kind: Kind, lines: _Lines, count: int, nrows: int, ncols: int) -> Tr
             i, j = next(places)
             value = _value(text, number, fields[0], kind) if len(fields) == 1 else None
         else:
-            i, j, value = _entry(kind, text, number, fields, nrows, ncols)
+            i, j, value = read_entry(kind, text, number, fields, nrows, ncols)
         if value is None:
             raise refused('M5', text, number)
         rows.append(i)
@@ -215,7 +219,8 @@ def _slowly(kind: Kind, lines: _Lines, count: int, nrows: int, ncols: int) -> Tr
     return Triples(rows, columns, values, nrows, ncols)
 
 
-def _entry(kind: Kind, text: bytes, number: int, fields: List[bytes], nrows: int, ncols: int) -> Tuple[int, int, int]:
+def read_entry(kind: Kind, text: bytes, number: int, fields: List[bytes], nrows: int, ncols: int) -> Tuple[int, int, int]:
+    """The row, column and value of an entry's fields, which stand in line `number` of a text; refused with its line otherwise."""
     if len(fields) != (2 if kind.field == 'pattern' else 3):
         raise refused('M5', text, number)
     i, j = (_index(text, number, field, 'M5') for field in fields[:2])
@@ -227,7 +232,7 @@ def _entry(kind: Kind, text: bytes, number: int, fields: List[bytes], nrows: int
     return i - 1, j - 1, value
 
 
-def _quickly(kind: Kind, body: bytes, count: int, nrows: int, ncols: int) -> Optional[Triples]:
+def read_quickly(kind: Kind, body: bytes, count: int, nrows: int, ncols: int) -> Optional[Triples]:
     """All lines at once by numpy; None where it isn't there, the text is short, or something is unusual or wrong."""
     numpy = find_numpy() if len(body) > FEW else None
     each = 1 if kind.array else 2 if kind.field == 'pattern' else 3

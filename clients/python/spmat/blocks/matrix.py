@@ -1,0 +1,312 @@
+"""Matrices in row blocks."""
+from __future__ import annotations
+
+from typing import TYPE_CHECKING, Any, Callable, Iterable, List, Optional, Sequence, Tuple, Union
+
+from .. import convert
+from ..errors import refusal
+from ..mask import Mask
+from ..matrix import Matrix, Op, Ring, _applied, _of_kind
+from ..operators import binary, find_semiring, indexunary
+from . import cuts, moves, products, tasks
+from .cuts import Cut
+from .place import Counts
+
+if TYPE_CHECKING:
+    from .sessions import Sessions
+
+MaskLike = Union['BlockMatrix', Mask, None]
+HELD = 16                                          # whole matrices that a result holds, so that it is soon made again
+
+
+class BlockMatrix:
+    """A matrix in row blocks, each in one of several sessions. A `Sessions` makes them; nothing changes one.
+
+    A block is a matrix of the whole's shape that has the entries of its own rows alone. So a job is the same command at each block,
+    index operators see true rows and columns, and entries, prices and steps of all blocks together are those of one session's job.
+    Methods, operators and masks are those of `spmat.Matrix`, and so are the operations of the GraphBLAS that its docstrings name; what
+    follows says where blocks make a difference.
+
+    `nrows`, `ncols`, `shape`, `cut` (where the rows are cut), `name`, `nodes`. Other matrices and masks that are cut elsewhere are cut
+    anew, by text and without steps. A method answers at once, and a product of matrices once it is made. Wrong shapes and kinds are
+    found where the method is called, and what a session refuses where the result is looked at: the same exceptions, which name the
+    block in words and as `block`. BudgetExceeded also tells what all sessions have spent (`spent_in_all`); BlockFailed stands for
+    what is no refusal."""
+
+    def __init__(self, sessions: 'Sessions', futures: Sequence[Any], cut: Cut, ncols: int, name: Optional[str] = None,
+                 holds: Iterable[Any] = ()) -> None:
+        self.sessions, self.futures, self.cut, self.ncols, self.name = sessions, list(futures), cut, ncols, name
+        self.nodes: Optional[List[Any]] = None
+        self.holds = tuple(dict.fromkeys(holds))[-HELD:] if sessions.engine.recovers else ()
+        self._counts: Optional[List[Counts]] = None
+        self._whole: Any = None
+        self._transposed: Optional['BlockMatrix'] = None
+
+    def __reduce__(self) -> Any:
+        raise TypeError('a matrix belongs to its sessions, and can not be pickled: pickle to_coo(), or write a file')
+
+    def __repr__(self) -> str:
+        return '<BlockMatrix %s%dx%d, %d blocks>' % (self.name + ' ' if self.name else '', *self.shape, self.cut.blocks)
+
+    # -- what it is
+
+    @property
+    def nrows(self) -> int:
+        """Rows of the whole."""
+        return self.cut.nrows
+
+    @property
+    def shape(self) -> Tuple[int, int]:
+        """Rows and columns of the whole."""
+        return self.nrows, self.ncols
+
+    @property
+    def session(self) -> 'Sessions':
+        """The sessions, which cut what they make at this matrix's rows where it has as many: what algorithms ask of `Matrix.session`."""
+        return self.sessions.cut_as(self.cut)
+
+    def counts(self) -> List[Counts]:
+        """The sizes, entries, price and steps of each block, once all are made."""
+        if self._counts is None:
+            labels = [self.cut.label(k) for k in range(self.cut.blocks)]
+            told = [self.sessions.submit(k, label, tasks.told, future) for k, (label, future) in enumerate(zip(labels, self.futures))]
+            self._counts = self.sessions.results(told, labels)
+        return self._counts
+
+    @property
+    def nvals(self) -> int:
+        """The number of entries of all blocks."""
+        return sum(counts.nvals for counts in self.counts())
+
+    @property
+    def price(self) -> int:
+        """Of a job's result the most steps that the job could take, at all blocks together; 0 of what is no job's result."""
+        return sum(counts.price for counts in self.counts())
+
+    @property
+    def steps(self) -> int:
+        """Of a job's result the steps that the job took, at all blocks together."""
+        return sum(counts.steps for counts in self.counts())
+
+    def wait(self) -> 'BlockMatrix':
+        """This matrix, once all its blocks are made."""
+        self.counts()
+        return self
+
+    new = wait
+
+    @property
+    def S(self) -> Mask:
+        """The mask of the positions that are stored here; see `Matrix.S`."""
+        return Mask(self)  # type: ignore[arg-type]
+
+    @property
+    def V(self) -> Mask:
+        """The mask of the positions whose value isn't 0; see `Matrix.V`."""
+        return Mask(self, value=True)  # type: ignore[arg-type]
+
+    # -- jobs at each block
+
+    def apply(self, op: Op, right: Optional[int] = None, *, left: Optional[int] = None, mask: MaskLike = None,
+              name: Optional[str] = None) -> 'BlockMatrix':
+        """Each entry's answer. In the GraphBLAS GrB_apply."""
+        found, thunk = _applied(op, right, left)
+        return self.job('apply', [], [found, thunk] if found.kind == 'index' else [found], mask=mask, name=name)
+
+    def select(self, op: Op, thunk: int = 0, *, mask: MaskLike = None, name: Optional[str] = None) -> 'BlockMatrix':
+        """The entries for which an index operator's answer isn't 0. In the GraphBLAS GrB_select."""
+        return self.job('select', [], [_of_kind('index', op, 'select'), convert.word(thunk, 'thunk')], mask=mask, name=name)
+
+    def ewise_add(self, other: 'BlockMatrix', op: Op = 'plus', *, mask: MaskLike = None, name: Optional[str] = None) -> 'BlockMatrix':
+        """op(x, y) where both have an entry, else a copy. In the GraphBLAS GrB_eWiseAdd; here `union`."""
+        self.check_shape('union', other, self.shape)
+        return self.job('ewise_add', [other], [_of_kind('binary', op, 'union')], mask=mask, name=name)
+
+    def ewise_mult(self, other: 'BlockMatrix', op: Op = 'times', *, mask: MaskLike = None, name: Optional[str] = None) -> 'BlockMatrix':
+        """op(x, y) where both have an entry. In the GraphBLAS GrB_eWiseMult; here `both`."""
+        self.check_shape('both', other, self.shape)
+        return self.job('ewise_mult', [other], [_of_kind('binary', op, 'both')], mask=mask, name=name)
+
+    def reduce_rowwise(self, op: Op = 'plus', *, mask: MaskLike = None, name: Optional[str] = None) -> 'BlockMatrix':
+        """A column: the fold of each row that isn't empty. In the GraphBLAS GrB_reduce by rows."""
+        return self.job('reduce_rowwise', [], [_of_kind('binary', op, 'reduce')], 1, mask=mask, name=name)
+
+    def dup(self, *, mask: MaskLike = None, name: Optional[str] = None) -> 'BlockMatrix':
+        """A copy; under a mask what of it lies there. Price and steps are those of the last of its jobs, as `Matrix` has it."""
+        return self.job('dup', [], [], mask=mask, name=name)
+
+    def without(self, mask: Union['BlockMatrix', Mask], *, name: Optional[str] = None) -> 'BlockMatrix':
+        """The entries outside a mask; see `Matrix.without`."""
+        where = self._mask(mask, self.shape)
+        if where is None:
+            raise TypeError('a mask is wanted')
+        return self.dup(mask=~where, name=name)
+
+    def update(self, other: 'BlockMatrix', accum: Optional[Op] = None, mask: MaskLike = None, replace: bool = False, *,
+               name: Optional[str] = None) -> 'BlockMatrix':
+        """What the GraphBLAS writes C<M, accum> = other; see `Matrix.update`."""
+        self.check_shape('union', other, self.shape)
+        op = None if accum is None else _of_kind('binary', accum, 'union')
+        return self.job('update', [other], [op], mask=mask, name=name, replace=replace)
+
+    def isequal(self, other: 'BlockMatrix') -> bool:
+        """Whether both have the same sizes, positions and values. No job where sizes or numbers of entries differ; else 2 jobs at
+        each block."""
+        _check_blocks(other)
+        if self.shape != other.shape or self.nvals != other.nvals:
+            return False
+        differ = self.ewise_mult(other, binary.ne)
+        return differ.nvals == self.nvals and differ.select(indexunary.nonzero).nvals == 0
+
+    def job(self, method: str, others: Sequence['BlockMatrix'], args: Sequence[Any], ncols: Optional[int] = None, *,
+            mask: MaskLike = None, name: Optional[str] = None, **options: Any) -> 'BlockMatrix':
+        """A method of Matrix at each block. The result has this matrix's rows and cut."""
+        width = self.ncols if ncols is None else ncols
+        where = self._mask(mask, (self.nrows, width))
+        there = [self, *(moves.recut(other, self.cut) for other in others)]
+        held = self.masked(where)
+        futures = [self.sessions.submit(k, self.cut.label(k), tasks.job, method, [matrix.futures[k] for matrix in there], held[k],
+                                        list(args), options) for k in range(self.cut.blocks)]
+        holds = [future for matrix in (*there, *([where.matrix] if where else [])) for future in matrix.holds]
+        return BlockMatrix(self.sessions, futures, self.cut, width, name, holds)
+
+    def masked(self, where: Optional[Mask]) -> List[Optional[tasks.MaskPiece]]:
+        """A mask at each block, cut as this matrix."""
+        if where is None:
+            return [None] * self.cut.blocks
+        matrix = moves.recut(where.matrix, self.cut)  # type: ignore[arg-type]
+        return [(future, where.value, where.complement) for future in matrix.futures]
+
+    def _mask(self, mask: MaskLike, shape: Tuple[int, int]) -> Optional[Mask]:
+        if mask is None:
+            return None
+        where = mask if isinstance(mask, Mask) else Mask(mask)  # type: ignore[arg-type]
+        _check_blocks(where.matrix)
+        self._check_sessions(where.matrix)  # type: ignore[arg-type]
+        if where.matrix.shape != shape:
+            raise refusal('J9', detail='the result is %dx%d, the mask %dx%d' % (*shape, *where.matrix.shape))
+        return where
+
+    def check_shape(self, form: str, other: 'BlockMatrix', shape: Tuple[int, Optional[int]]) -> None:
+        """DimensionMismatch where another matrix isn't of this shape, where None stands for any."""
+        _check_blocks(other)
+        self._check_sessions(other)
+        if any(want is not None and want != got for want, got in zip(shape, other.shape)):
+            raise refusal('J5', command=form, detail='%dx%d and %dx%d' % (*self.shape, *other.shape))
+
+    def _check_sessions(self, other: 'BlockMatrix') -> None:
+        if other.sessions.settings.token != self.sessions.settings.token:
+            raise ValueError('a matrix of other sessions')
+
+    # -- products and folds
+
+    def mxm(self, other: 'BlockMatrix', op: Ring = 'plus_times', *, mask: MaskLike = None, associative: Optional[bool] = None,
+            name: Optional[str] = None) -> 'BlockMatrix':
+        """The product over a semiring; see `Matrix.mxm`. In the GraphBLAS GrB_mxm.
+
+        The whole of `other` goes to each session: right for every operator, since the terms of a position are folded in one place.
+        Its text has to be one that a session takes (268,435,456 bytes), and is sent once while `other` is held.
+
+        With `associative=True`, the caller's word that ADD is associative, no session has more of `other` than one block at a time:
+        each block's product is joined to those before by union with ADD, in the order of k. ((t1 t2) t3) t4 becomes (t1 t2) (t3 t4),
+        so an ADD that isn't associative, as `minus`, gives other values; it need not commute. It makes as many calls of ADD, so
+        the steps are the same where all calls of ADD take as many. `Sessions(associative=[..])` says it of operators for all
+        products whose `other` is wider than one column.
+
+        It waits until the blocks are made, unless `other` is a column, so that TooLarge is raised here: each block may make
+        16,777,216 multiplications (with `associative`, of each block of `other`)."""
+        self.check_shape('product', other, (self.ncols, None))
+        ring = find_semiring(op)
+        for part in (ring.add, ring.mul):
+            _of_kind('binary', part, 'product')
+        where = self._mask(mask, (self.nrows, other.ncols))
+        if associative is None:
+            associative = other.ncols > 1 and ring.add in self.sessions.associative
+        form = products.by_blocks if associative else products.with_whole
+        made = form(self, other, ring, where, name)
+        return made if other.ncols == 1 and not associative else made.wait()
+
+    def mxv(self, vector: 'BlockMatrix', op: Ring = 'plus_times', *, mask: MaskLike = None,
+            name: Optional[str] = None) -> 'BlockMatrix':
+        """`mxm` with a column, which goes to each session. In the GraphBLAS GrB_mxv."""
+        self.check_shape('product', vector, (self.ncols, 1))
+        return self.mxm(vector, op, mask=mask, associative=False, name=name)
+
+    def vxm(self, matrix: 'BlockMatrix', op: Ring = 'plus_times', *, mask: MaskLike = None,
+            name: Optional[str] = None) -> 'BlockMatrix':
+        """`mxm` of this row with a matrix. In the GraphBLAS GrB_vxm."""
+        if self.nrows != 1:
+            raise refusal('J5', command='product', detail='vxm is of a row, and this is %dx%d' % self.shape)
+        return self.mxm(matrix, op, mask=mask, name=name)
+
+    def reduce_columnwise(self, op: Op = 'plus', *, mask: MaskLike = None, associative: Optional[bool] = None,
+                          name: Optional[str] = None) -> 'BlockMatrix':
+        """A row: the fold of each column that isn't empty; see `Matrix.reduce_columnwise`. It is a product of a row of ones with this
+        matrix, so `associative` is as for `mxm`: without it the whole goes to the one session that has the row."""
+        ones = self.sessions.full(1, self.nrows)
+        return ones.mxm(self, (_of_kind('binary', op, 'product'), binary.second), mask=mask, associative=associative, name=name)
+
+    def reduce_scalar(self, op: Op = 'plus') -> Optional[int]:
+        """The fold of all entries as a number, or None where there are none; the operator has to be associative. Each session
+        folds its own rows, and a number a block goes on."""
+        return products.fold_all(self, _of_kind('binary', op, 'reduce'))[0]
+
+    @property
+    def T(self) -> 'BlockMatrix':
+        """The transpose, by text and without steps: each block's lines are sorted at its worker, and each block of the transpose gets
+        some of each. A square matrix's is cut at the same rows, another's by entries. It is kept while this matrix is held."""
+        if self._transposed is None:
+            self._transposed = moves.transposed(self)
+            self._transposed.nodes = self.nodes
+        return self._transposed
+
+    def diag(self) -> 'BlockMatrix':
+        """Of a matrix the column of the entries on its diagonal, as `Matrix.diag`; of a column or a row the square matrix with these
+        on its diagonal, by the client."""
+        if 1 not in self.shape:
+            return self.select(indexunary.diag).reduce_rowwise(binary.first)
+        rows, columns, values = self.to_coo()
+        at = rows if self.ncols == 1 else columns
+        return self.sessions.from_coo(at, at, values, max(self.shape), max(self.shape))
+
+    # -- where it is cut, and what it holds
+
+    def recut(self, cut: Union[Cut, Sequence[int]]) -> 'BlockMatrix':
+        """The same matrix, cut at other rows: by text, without steps. This matrix where it is cut so already."""
+        return moves.recut(self, cuts.checked(cut.bounds if isinstance(cut, Cut) else cut, self.nrows))
+
+    def checkpoint(self) -> 'BlockMatrix':
+        """The same matrix on texts that stand by themselves: should a worker be lost, nothing that came before is computed again.
+        The texts lie in the sessions' `folder` where there is one, else with the engine's scheduler. For long loops whose result
+        stands on all rounds; a product's result needs none of it (docs/scaling.md)."""
+        return moves.checkpoint(self)
+
+    def texts(self) -> Iterable[bytes]:
+        """The lines of the entries of each block, in order, one block at a time."""
+        return (lines for lines, _ in moves.lines(self))
+
+    def to_text(self) -> bytes:
+        """The canonical Matrix Market text of the whole; TooLarge where a session wouldn't take it. `mmwrite` has no such limit."""
+        return cuts.text_of(*self.shape, list(moves.lines(self)))
+
+    def mmwrite(self, target: Any) -> None:
+        """Writes the text block by block to a path, or to a file opened in binary; one block's text is held at a time."""
+        if not hasattr(target, 'write'):
+            with open(target, 'wb') as file:
+                return self.mmwrite(file)
+        target.write(cuts.head(*self.shape, self.nvals))
+        for lines in self.texts():
+            target.write(lines)
+
+    to_coo: Callable[..., Tuple[Any, Any, Any]] = Matrix.to_coo
+    to_triples: Callable[..., List[Tuple[int, int, int]]] = Matrix.to_triples
+    to_dict: Callable[..., Any] = Matrix.to_dict
+    to_list: Callable[..., List[Any]] = Matrix.to_list
+    to_dense: Callable[..., Any] = Matrix.to_dense
+    to_scipy_sparse: Callable[..., Any] = Matrix.to_scipy_sparse
+    to_networkx: Callable[..., Any] = Matrix.to_networkx
+
+
+def _check_blocks(other: Any) -> None:
+    if not isinstance(other, BlockMatrix):
+        raise TypeError('a matrix in blocks is wanted, not %r' % (other,))

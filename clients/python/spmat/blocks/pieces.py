@@ -1,0 +1,289 @@
+"""Matrices that come by pieces: files, and edges as a generator gives them. No more than a block of them is held.
+
+What comes is counted by rows and laid into a file of this machine; then it is known where to cut, and each block is read back and made
+a text of. Where rows come in ascending order, a block lies in one piece of that file; else the entries are laid into a file for each
+block first.
+"""
+from __future__ import annotations
+
+import abc
+import array
+import hashlib
+import itertools
+import os
+import tempfile
+import uuid
+from typing import Any, BinaryIO, Iterable, Iterator, List, Optional, Sequence, Tuple
+
+from .. import convert, files, market
+from ..errors import Refused, refusal
+from ..market import Triples
+from .cuts import Cut
+
+PIECE = 1 << 23                                    # bytes of a file that are read at a time
+CHUNK = 1 << 16                                    # edges of a generator that are taken at a time
+WIDTH = 24                                         # bytes of an entry in a spool: three words
+
+
+def put(folder: str, text: bytes) -> Tuple[str, bytes]:
+    """Writes a text into a new file of a folder; its path, and what tells its content."""
+    path = os.path.join(folder, uuid.uuid4().hex + '.mtx')
+    with open(path, 'wb') as file:
+        file.write(text)
+    return path, hashlib.blake2b(text, digest_size=32).digest()
+
+
+class Spooled(abc.ABC):
+    """Entries whose rows are counted, and that are given block by block. To be used in a `with`."""
+    nrows: int
+    ncols: int
+    counts: Any                                    # the number of entries of each row
+
+    def __enter__(self) -> Any:
+        return self
+
+    def __exit__(self, *_: Any) -> None:
+        self.close()
+
+    def close(self) -> None:
+        """Gives back what it took."""
+
+    @abc.abstractmethod
+    def blocks(self, cut: Cut) -> Iterator[Triples]:
+        """The entries of each block, in order."""
+
+    def texts(self, cut: Cut) -> Iterator[bytes]:
+        """The text of each block, in order: TooLarge where one is longer, or has more entries, than a session takes."""
+        for block, triples in enumerate(self.blocks(cut)):
+            if len(triples.rows) > market.MOST_SIDE:
+                raise refusal('M4', detail='%d entries in %s' % (len(triples.rows), cut.label(block)))
+            text = market.write(triples)
+            if len(text) > market.MOST_TEXT:
+                raise refusal('S7', detail='the text of %s has %d bytes' % (cut.label(block), len(text)))
+            yield text
+
+
+class Held(Spooled):
+    """Entries that the caller holds already."""
+
+    def __init__(self, triples: Triples) -> None:
+        self.nrows, self.ncols = triples.nrows, triples.ncols
+        self.counts = _counted(_no_counts(self.nrows, market.is_array(triples.rows)), triples.rows)
+        self._triples = triples
+
+    def blocks(self, cut: Cut) -> Iterator[Triples]:
+        rows, columns, values, nrows, ncols = self._triples
+        ends = [0, *_ends(self.counts)]
+        bounds = [ends[bound] for bound in cut.bounds]
+        if market.is_array(rows):
+            import numpy
+            order = numpy.argsort(rows, kind='stable')
+            for at in itertools.starmap(slice, zip(bounds, bounds[1:])):
+                yield Triples(rows[order[at]], columns[order[at]], values[order[at]], nrows, ncols)
+            return
+        order = sorted(range(len(rows)), key=rows.__getitem__)
+        for first, end in zip(bounds, bounds[1:]):
+            part = order[first:end]
+            yield Triples([rows[k] for k in part], [columns[k] for k in part], [values[k] for k in part], nrows, ncols)
+
+
+class Spool(Spooled):
+    """Entries in a file of this machine."""
+
+    def __init__(self, nrows: int, ncols: int) -> None:
+        self.nrows, self.ncols = nrows, ncols
+        self.counts = _no_counts(nrows, market.find_numpy() is not None)
+        self._file: BinaryIO = tempfile.TemporaryFile()  # type: ignore[assignment]
+        self._ascends, self._last = True, 0
+
+    def close(self) -> None:
+        self._file.close()
+
+    def take(self, edges: Iterable[Any]) -> 'Spool':
+        """Adds edges of a generator: (row, column, value), or chunks that are arrays with these as columns."""
+        several = iter(edges)
+        while True:
+            first = next(several, None)
+            if first is None:
+                return self
+            if market.is_array(first) and first.ndim == 2:
+                many: Any = first
+            else:
+                many = list(itertools.chain([first], itertools.islice(several, CHUNK - 1)))
+            self.add(convert.checked(*convert.columns_of(many), self.nrows, self.ncols))
+
+    def add(self, triples: Triples) -> None:
+        """Adds entries, which are within the sizes."""
+        rows = triples.rows
+        if len(rows) == 0:
+            return
+        self.counts = _counted(self.counts, rows)
+        self._file.write(_packed(triples))
+        if self._ascends:
+            self._ascends = self._last <= rows[0] and _ascends(rows)
+            self._last = rows[-1]
+
+    def blocks(self, cut: Cut) -> Iterator[Triples]:
+        ends = [0, *_ends(self.counts)]
+        sizes = [ends[end] - ends[first] for first, end in cut.ranges()]
+        if self._ascends:
+            self._file.seek(0)
+            for size in sizes:
+                yield self._unpacked(self._file.read(size * WIDTH))
+            return
+        yield from self._sorted_out(cut)
+
+    def _sorted_out(self, cut: Cut) -> Iterator[Triples]:
+        """The blocks, by a file for each."""
+        parts = [tempfile.TemporaryFile() for _ in range(cut.blocks)]
+        try:
+            self._file.seek(0)
+            for piece in iter(lambda: self._file.read(PIECE // WIDTH * WIDTH), b''):
+                with Held(self._unpacked(piece)) as held:
+                    for part, triples in zip(parts, held.blocks(cut)):
+                        part.write(_packed(triples))
+            for part in parts:
+                part.seek(0)
+                yield self._unpacked(part.read())
+        finally:
+            for part in parts:
+                part.close()
+
+    def _unpacked(self, data: bytes) -> Triples:
+        numpy = market.find_numpy()
+        if numpy is not None:
+            table = numpy.frombuffer(data, numpy.int64).reshape(-1, 3)
+            return Triples(*(table[:, k].copy() for k in range(3)), self.nrows, self.ncols)
+        words = array.array('q', data)
+        return Triples(words[0::3].tolist(), words[1::3].tolist(), words[2::3].tolist(), self.nrows, self.ncols)
+
+
+def _packed(triples: Triples) -> bytes:
+    if market.is_array(triples.rows):
+        import numpy
+        return numpy.column_stack(triples[:3]).astype(numpy.int64, copy=False).tobytes()
+    return array.array('q', itertools.chain.from_iterable(zip(*triples[:3]))).tobytes()
+
+
+def _ascends(rows: Any) -> bool:
+    if market.is_array(rows):
+        return bool((rows[1:] >= rows[:-1]).all())
+    return all(a <= b for a, b in zip(rows, rows[1:]))
+
+
+def _no_counts(nrows: int, arrays: bool) -> Any:
+    if arrays:
+        import numpy
+        return numpy.zeros(nrows, numpy.int64)
+    return array.array('q', bytes(8 * nrows))
+
+
+def _counted(counts: Any, rows: Sequence[int]) -> Any:
+    """The counts with those of more rows."""
+    if market.is_array(counts):
+        import numpy
+        return counts + numpy.bincount(numpy.asarray(rows, numpy.int64), minlength=len(counts)) if len(rows) else counts
+    for row in rows:
+        counts[row] += 1
+    return counts
+
+
+def _ends(counts: Any) -> List[int]:
+    return counts.cumsum().tolist() if market.is_array(counts) else list(itertools.accumulate(counts))
+
+
+# -- Matrix Market files
+
+def spool_of(source: Any) -> Spooled:
+    """The entries of a file, which is read by pieces; an `array` file at once."""
+    if hasattr(source, 'read'):
+        return _File(source).spool()
+    opener = files.opener_of(source)
+    with opener(source, 'rb') as file:
+        return _File(file).spool()
+
+
+class _File:
+    """A Matrix Market file that is read by pieces."""
+
+    def __init__(self, file: Any) -> None:
+        self._file, self._number = file, 0
+        first = self._line()
+        self._first = first[3:] if first[:3] == b'\xef\xbb\xbf' else first
+        self._kind = files.kind_of(self._first)
+
+    def spool(self) -> Spooled:
+        if self._kind.array:
+            triples, symmetry = files.parse(self._first + self._file.read())
+            return Held(files.mirrored(triples, symmetry))
+        self.nrows, self.ncols, self._count = self._sizes()
+        spool = Spool(self.nrows, self.ncols)
+        try:
+            self._fill(spool)
+        except BaseException:
+            spool.close()
+            raise
+        return spool
+
+    def _line(self) -> bytes:
+        line = self._file.readline()
+        if isinstance(line, str):
+            raise TypeError('open the file in binary: open(path, "rb")')
+        self._number += 1 if line else 0
+        return line
+
+    def _sizes(self) -> Tuple[int, int, int]:
+        """What the size line says; there may be more entries than one session takes."""
+        while True:
+            line = self._line()
+            if not line:
+                raise self._refused('M3', self._number + 1, b'')
+            fields = line.split()
+            if fields and not fields[0].startswith(b'%'):
+                break
+        if len(fields) != 3 or not all(field.isdigit() for field in fields):
+            raise self._refused('M3', self._number, line)
+        nrows, ncols, count = map(int, fields)
+        if max(nrows, ncols) > market.MOST_SIDE:
+            raise self._refused('M4', self._number, line)
+        if self._kind.symmetry != 'general' and nrows != ncols:
+            raise self._refused('M12', self._number, line)
+        return nrows, ncols, count
+
+    def _fill(self, spool: Spool) -> None:
+        had = 0
+        while True:
+            piece = self._file.read(PIECE)
+            if not piece:
+                break
+            piece += self._file.readline()
+            lines = piece.count(b'\n') + (not piece.endswith(b'\n'))
+            triples: Optional[Triples] = None
+            if had + lines <= self._count:
+                triples = files.read_quickly(self._kind, piece, lines, self.nrows, self.ncols)
+            if triples is None:
+                triples = self._slowly(piece, self._count - had)
+            had += len(triples.rows)
+            self._number += lines
+            spool.add(files.mirrored(triples, self._kind.symmetry))
+        if had < self._count:
+            raise self._refused('M9', self._number + 1, b'')
+
+    def _slowly(self, piece: bytes, left: int) -> Triples:
+        """Line by line, so that the first that breaks a rule is named."""
+        out: List[Tuple[int, int, int]] = []
+        for number, line in enumerate(piece.splitlines(), self._number + 1):
+            fields = line.split()
+            if not fields or fields[0].startswith(b'%'):
+                continue
+            if len(out) == left:
+                raise self._refused('M10', number, line)
+            try:
+                out.append(files.read_entry(self._kind, line, 1, fields, self.nrows, self.ncols))
+            except Refused as fault:
+                raise self._refused(fault.rule, number, line, fault.detail) from None
+        rows, columns, values = map(list, zip(*out)) if out else ([], [], [])
+        return Triples(rows, columns, values, self.nrows, self.ncols)
+
+    def _refused(self, rule: str, number: int, line: bytes, detail: str = '') -> Refused:
+        return refusal(rule, [number], files.COMMAND, market.line_at(line, 1), detail)
