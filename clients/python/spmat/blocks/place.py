@@ -49,13 +49,18 @@ class Settings:
 def version_of(program: Optional[Program] = None) -> Tuple[str, str]:
     """What tells a version here: that of this package, and the SHA-256 of the program's file. The program has no command that says
     its version; its file says more, since two builds of one source may differ as well. Where the program is started by several words
-    (a shell, a wrapper), each word that is a file counts, and each other word as it stands."""
+    (a shell, a wrapper), each word that is a file counts, and each other word as it stands. FileNotFoundError where the first is
+    none."""
     from .. import __version__
     said = hashlib.sha256()
-    for word in program_words(program):
+    for number, word in enumerate(program_words(program)):
         path = shutil.which(word) or word
-        said.update(b'%d ' % len(word) if not os.path.isfile(path) else b'file ')
-        said.update(_file_digest(path) if os.path.isfile(path) else word.encode())
+        if os.path.isfile(path):
+            said.update(b'file ' + _file_digest(path))
+        elif number == 0:
+            raise FileNotFoundError('no program %s' % word)
+        else:
+            said.update(b'word %d %s' % (len(word), word.encode()))
     return __version__, said.hexdigest()
 
 

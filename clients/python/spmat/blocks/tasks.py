@@ -178,6 +178,8 @@ def scalar(store: Store, piece: Piece, op: Operator) -> Folded:
     column = store.matrix(piece)
     if column.nvals == 0:
         return None, 0, 0
+    if column.nrows == 1:
+        return column.to_coo(arrays=False)[2][0], 0, 0
     one = store.session.ones(column.nrows).mxm(column, Semiring(op, binary.second))
     return one.to_coo(arrays=False)[2][0], one.price or 0, one.steps or 0
 

@@ -1,0 +1,404 @@
+"""Matrices in row blocks over threads give the bytes, the prices and the steps of one session, and refusals name the block."""
+import random
+import unittest
+
+import graphs
+import model
+import support
+import spmat
+from spmat import algorithms, blocks
+
+COUNTS = (1, 2, 5)
+
+
+def entries(seed, nrows, ncols, many, rows=None):
+    """Random entries, in some rows alone where these are given."""
+    random_ = random.Random(seed)
+    rows = range(nrows) if rows is None else rows
+    return {(random_.choice(rows), random_.randrange(ncols)): random_.randrange(-4, 5) for _ in range(many)} if nrows and ncols else {}
+
+
+def one_long_row(seed):
+    """A row with most of the entries, and others with a few."""
+    return {**entries(seed, 30, 40, 25), **entries(seed + 1, 30, 40, 150, [17])}
+
+
+# The sizes, the entries of A and B, and those of K, which A and B are multiplied by.
+CASES = {
+    'random': (40, 30, entries(1, 40, 30, 220), entries(2, 40, 30, 200), entries(3, 30, 25, 150)),
+    'empty blocks': (60, 20, entries(4, 60, 20, 60, [21, 22, 50]), entries(5, 60, 20, 60), entries(6, 20, 9, 60)),
+    'more blocks than rows': (3, 8, entries(7, 3, 8, 12), entries(8, 3, 8, 12), entries(9, 8, 4, 16)),
+    'one row': (1, 50, entries(10, 1, 50, 30), entries(11, 1, 50, 20), entries(12, 50, 6, 90)),
+    'one row with most entries': (30, 40, one_long_row(13), entries(15, 30, 40, 90), entries(16, 40, 10, 100)),
+    'no entries': (12, 5, {}, entries(17, 12, 5, 10), {}),
+    'no rows': (0, 5, {}, {}, entries(18, 5, 3, 6)),
+}
+HASTY = spmat.asm('binary', 'mov64 r0, r1\njsgt64 r1, r2, 1\nmov64 r0, r2\nadd64 r0, 1\nexit\n')     # not associative, its steps differ
+
+# Each form by one method: of A, B, K and a mask of the result's shape.
+FORMS = {
+    'apply': lambda A, B, K, mask: A.apply('abs', mask=mask),
+    'apply with a number right': lambda A, B, K, mask: A.apply('minus', right=3, mask=mask),
+    'apply with a number left': lambda A, B, K, mask: A.apply('minus', left=3, mask=mask),
+    'apply with an index': lambda A, B, K, mask: A.apply('rowindex', right=7, mask=mask),
+    'select': lambda A, B, K, mask: A.select('tril', -1, mask=mask),
+    'select by row': lambda A, B, K, mask: A.select('rowgt', 1, mask=mask),
+    'union': lambda A, B, K, mask: A.ewise_add(B, HASTY, mask=mask),
+    'both': lambda A, B, K, mask: A.ewise_mult(B, 'minus', mask=mask),
+    'dup': lambda A, B, K, mask: A.dup(mask=mask),
+    'update': lambda A, B, K, mask: A.update(B, 'minus', mask),
+    'update and replace': lambda A, B, K, mask: A.update(B, None, mask, True),
+    'product': lambda A, B, K, mask: A.mxm(K, (HASTY, spmat.binary.minus), mask=mask),
+    'reduce': lambda A, B, K, mask: A.reduce_rowwise(HASTY, mask=mask),
+    'fold of columns': lambda A, B, K, mask: A.reduce_columnwise(HASTY, mask=mask),
+}
+MASKS = {'none': lambda M: None, 'S': lambda M: M.S, '~V': lambda M: ~M.V, 'V': lambda M: M.V, '~S': lambda M: ~M.S, 'itself': lambda M: M}
+FEW = ('none', 'S', '~V')                          # masks for all cases; the others for the first
+
+
+class Pair:
+    """The same matrices in one session and in several."""
+
+    def __init__(self, one, many, case):
+        nrows, ncols, a, b, k = CASES[case]
+        wide = max([j for _, j in k], default=0) + 1
+        self.sides = []
+        for s in (one, many):
+            A = s.from_triples([(*at, x) for at, x in a.items()], nrows, ncols)
+            here = s if s is one else A.session                    # the others cut as A is
+            self.sides.append((A, here.from_triples([(*at, x) for at, x in b.items()], nrows, ncols),
+                               s.from_triples([(*at, x) for at, x in k.items()], ncols, wide)))
+        self.one, self.many = one, many
+
+    def mask(self, form, seed):
+        """A mask of the result's shape, on either side."""
+        shape = FORMS[form](*self.sides[0], None).wait().shape
+        triples = [(*at, x) for at, x in entries(seed, *shape, 3 + shape[0] * shape[1] // 3).items()]
+        return [s.from_triples(triples, *shape) for s in (self.one, self.many)]
+
+
+class Same(unittest.TestCase):
+    def each(self, look):
+        for count in COUNTS:
+            with spmat.Session() as one, blocks.Sessions(count) as many:
+                look(one, many, count)
+
+    def test_forms_and_masks(self):
+        def look(one, many, count):
+            for case in CASES:
+                pair = Pair(one, many, case)
+                for number, form in enumerate(FORMS):
+                    masks = pair.mask(form, number)
+                    for kind, mask in MASKS.items():
+                        if kind not in FEW and case != 'random':
+                            continue
+                        before = [one.budget().spent, many.budget().spent]
+                        want = FORMS[form](*pair.sides[0], mask(masks[0])).wait()
+                        got = FORMS[form](*pair.sides[1], mask(masks[1])).wait()
+                        with self.subTest(sessions=count, case=case, form=form, mask=kind):
+                            self.assertEqual(got.to_text(), want.to_text())
+                            self.assertEqual(got.nvals, want.nvals)
+                            self.assertEqual((got.price, got.steps), (want.price or 0, want.steps or 0))
+                            self.assertEqual(one.budget().spent - before[0], many.budget().spent - before[1])
+        self.each(look)
+
+    def test_what_is_read(self):
+        def look(one, many, count):
+            for case in CASES:
+                (A, B, K), (X, Y, Z) = Pair(one, many, case).sides
+                with self.subTest(sessions=count, case=case):
+                    self.assertEqual((X.shape, X.nvals, X.to_dict()), (A.shape, A.nvals, A.to_dict()))
+                    self.assertEqual(X.to_triples(), A.to_triples())
+                    self.assertEqual(X.to_coo(arrays=False), A.to_coo(arrays=False))
+                    self.assertEqual(X.T.to_text(), A.T.to_text())
+                    self.assertIs(X.T, X.T)
+                    self.assertEqual(X.diag().to_text(), A.diag().to_text())
+                    self.assertEqual(X.without(Y).to_text(), A.without(B).to_text())
+                    self.assertTrue(X.isequal(X.apply('identity')))
+                    self.assertEqual(X.isequal(Y), A.isequal(B))
+                    self.assertFalse(X.isequal(Z.T if X.shape != Z.T.shape else Z))
+        self.each(look)
+
+    def test_fold_of_all(self):
+        """The value and what is spent."""
+        def look(one, many, count):
+            for case in CASES:
+                (A, _, _), (X, _, _) = Pair(one, many, case).sides
+                for op in ('plus', 'times', 'first', 'second'):                 # all calls take as many steps
+                    before = [one.budget().spent, many.budget().spent]
+                    with self.subTest(sessions=count, case=case, op=op):
+                        self.assertEqual(X.reduce_scalar(op), A.reduce_scalar(op))
+                        self.assertEqual(one.budget().spent - before[0], many.budget().spent - before[1])
+                self.assertEqual(X.reduce_scalar('min'), A.reduce_scalar('min'))
+        self.each(look)
+
+    def test_products_by_blocks(self):
+        """For an associative ADD the same values and steps; `first` doesn't commute."""
+        def look(one, many, count):
+            for case in CASES:
+                (A, _, K), (X, _, Z) = Pair(one, many, case).sides
+                M, W = A.mxm(K).select('rowle', 20), X.mxm(Z).select('rowle', 20)
+                for ring in ('plus_times', 'times_plus', 'first_minus', 'second_minus'):
+                    for mask in (False, True):
+                        with self.subTest(sessions=count, case=case, ring=ring, mask=mask):
+                            want = A.mxm(K, ring, mask=M.S if mask else None).wait()
+                            got = X.mxm(Z, ring, mask=W.S if mask else None, associative=True)
+                            self.assertEqual(got.to_text(), want.to_text())
+                            self.assertEqual(got.steps, want.steps)
+                self.assertEqual(X.mxm(Z, 'min_plus', associative=True).to_text(), A.mxm(K, 'min_plus').to_text())
+                self.assertEqual(X.reduce_columnwise('plus', associative=True).to_text(), A.reduce_columnwise('plus').to_text())
+        self.each(look)
+
+    def test_products_by_blocks_change_others(self):
+        """`minus` isn't associative: cut into blocks, 8 - (4 - 2) - .. is another number, and the whole gives the right one."""
+        row = [(0, k, 1) for k in range(4)]
+        column = [(k, 0, x) for k, x in enumerate((8, 4, 2, 1))]
+        with blocks.Sessions(2) as s:
+            A, B = s.from_triples(row, 1, 4), s.from_triples(column, 4, 1)
+            halves = B.recut([0, 2, 4])
+            self.assertEqual(A.mxm(halves, 'minus_times').to_list(), [8 - 4 - 2 - 1])
+            self.assertEqual(A.mxm(halves, 'minus_times', associative=True).to_list(), [(8 - 4) - (2 - 1)])
+            self.assertEqual(A.mxm(halves, 'plus_times', associative=True).to_list(), [15])
+
+    def test_said_once_for_all_products(self):
+        with spmat.Session() as one, blocks.Sessions(3, associative=['plus']) as many:
+            (A, _, K), (X, _, Z) = Pair(one, many, 'random').sides
+            product = X.mxm(Z)
+            self.assertEqual(product.to_text(), A.mxm(K).to_text())
+            self.assertGreater(product.price, A.mxm(K).wait().price)            # unions were queued as well
+            self.assertEqual(X.mxm(Z, 'minus_times').price, A.mxm(K, 'minus_times').wait().price)
+            self.assertEqual(X.mxm(Z, associative=False).price, A.mxm(K).wait().price)
+
+    def test_more_blocks_than_sessions(self):
+        with spmat.Session() as one, blocks.Sessions(2, blocks=7) as many:
+            (A, B, K), (X, Y, Z) = Pair(one, many, 'random').sides
+            self.assertEqual(X.cut.blocks, 7)
+            self.assertEqual(X.mxm(Z, 'minus_times').to_text(), A.mxm(K, 'minus_times').to_text())
+            self.assertEqual(X.ewise_add(Y, 'minus').T.to_text(), A.ewise_add(B, 'minus').T.to_text())
+
+
+class Cuts(unittest.TestCase):
+    def test_by_entries(self):
+        self.assertEqual(blocks.cuts.by_entries([1] * 10, 3).bounds, (0, 3, 7, 10))
+        self.assertEqual(blocks.cuts.by_entries([1, 1, 100, 1, 1], 3).bounds, (0, 2, 3, 5))
+        self.assertEqual(blocks.cuts.by_entries([0, 0, 9, 0], 4).blocks, 4)
+        self.assertEqual(blocks.cuts.by_entries([], 3).bounds, (0, 0, 0, 0))
+        for seed in range(200):
+            random_ = random.Random(seed)
+            counts = [random_.randrange(9) * (random_.random() < .6) for _ in range(random_.randrange(1, 40))]
+            count = random_.randrange(1, 9)
+            cut = blocks.cuts.by_entries(counts, count)
+            blocks.cuts.checked(cut.bounds, len(counts))
+            self.assertEqual(cut.blocks, count)
+            sizes = [sum(counts[first:end]) for first, end in cut.ranges()]
+            self.assertLessEqual(max(sizes), sum(counts) / count + max(counts), counts)
+
+    def test_a_matrix_is_cut_by_entries(self):
+        with blocks.Sessions(3) as s:
+            X = s.from_triples([(0, j, 1) for j in range(50)] + [(i, 0, 1) for i in range(1, 101)], 101, 50)
+            self.assertEqual([counts.nvals for counts in X.counts()], [50, 50, 50])
+
+    def test_other_cuts_are_cut_anew(self):
+        """Operands and masks that are cut elsewhere."""
+        with spmat.Session() as one, blocks.Sessions(3) as many:
+            (A, B, K), (X, Y, Z) = Pair(one, many, 'random').sides
+            for bounds in ([0, 40], [0, 0, 13, 40, 40], [0, 5, 6, 7, 40], [0, 20, 40]):
+                U = Y.recut(bounds)
+                self.assertEqual((U.cut.bounds, U.to_text()), (tuple(bounds), B.to_text()))
+                before = many.budget().spent
+                self.assertEqual(Y.recut(bounds).to_text(), B.to_text())
+                self.assertEqual(many.budget().spent, before)                   # no steps
+                self.assertEqual(X.ewise_add(U, 'minus').to_text(), A.ewise_add(B, 'minus').to_text())
+                self.assertEqual(U.ewise_mult(X, 'minus').to_text(), B.ewise_mult(A, 'minus').to_text())
+                self.assertEqual(X.dup(mask=~U.S).to_text(), A.dup(mask=~B.S).to_text())
+                self.assertEqual(X.mxm(Z.recut([0, 1, 30])).to_text(), A.mxm(K).to_text())
+                self.assertEqual(X.update(U, 'plus', U.V).to_text(), A.update(B, 'plus', B.V).to_text())
+
+    def test_wrong_cuts(self):
+        with blocks.Sessions(2) as s:
+            X = s.from_triples([(0, 0, 1)], 4, 4)
+            for bounds in ([0, 5], [1, 4], [0, 3, 2, 4], [0], [], [4, 0]):
+                with self.assertRaisesRegex(ValueError, 'ascends from 0 to the 4 rows'):
+                    X.recut(bounds)
+
+    def test_checkpoint(self):
+        with blocks.Sessions(3) as s:
+            X = s.from_triples([(i, i * 7 % 40, i) for i in range(40)], 40, 40)
+            Y = X.ewise_add(X.T, 'plus').checkpoint()
+            self.assertEqual(Y.to_text(), X.ewise_add(X.T, 'plus').to_text())
+            self.assertEqual((Y.cut, Y.price), (X.cut, 0))
+
+
+class Algorithms(unittest.TestCase):
+    """Unchanged, and as in one session: results and what is spent."""
+
+    def each(self, many_graphs, *functions):
+        for count in (2, 5):
+            with spmat.Session() as one, blocks.Sessions(count) as many:
+                for graph in many_graphs:
+                    for function in functions:
+                        before = [one.budget().spent, many.budget().spent]
+                        want, got = function(graph.matrix(one), graph), function(graph.matrix(many), graph)
+                        with self.subTest(graph=graph.name, function=function.__name__, sessions=count):
+                            self.assertEqual(got if isinstance(got, int) else got.to_text(),
+                                             want if isinstance(want, int) else want.to_text())
+                            self.assertEqual(one.budget().spent - before[0], many.budget().spent - before[1])
+
+    def test_of_directed_graphs(self):
+        def bfs_levels(G, graph):
+            return algorithms.bfs_levels(G, 0)
+
+        def bfs_parents(G, graph):
+            return algorithms.bfs_parents(G, 0)
+
+        def sssp(G, graph):
+            return algorithms.sssp(G, 0)
+
+        def components(G, graph):
+            return algorithms.connected_components(G)
+
+        def pagerank(G, graph):
+            return algorithms.pagerank(G, damping=.6, tolerance=.001)
+
+        def closure(G, graph):
+            return algorithms.transitive_closure(G)
+        self.each(graphs.DIRECTED[::2], bfs_levels, bfs_parents, sssp, components, pagerank, closure)
+
+    def test_of_undirected_graphs(self):
+        def triangle_count(G, graph):
+            return algorithms.triangle_count(G)
+
+        def truss(G, graph):
+            return algorithms.k_truss(G, 3)
+
+        def core(G, graph):
+            return algorithms.k_core(G, 2)
+
+        def independent(G, graph):
+            return algorithms.maximal_independent_set(G)
+
+        def clustering(G, graph):
+            return algorithms.clustering(G)
+        self.each([graph for graph in graphs.UNDIRECTED if graph.count > 1], triangle_count, truss, core, independent, clustering)
+
+    def test_known_answers(self):
+        with blocks.Sessions(3) as s:
+            for graph in graphs.UNDIRECTED[2:]:
+                near, G = graph.near(), graph.matrix(s)
+                self.assertEqual(algorithms.triangle_count(G), sum(graphs.triangles(near)) // 3)
+                self.assertEqual({i: x for (i, _), x in algorithms.bfs_levels(G, 1, G).to_dict().items()}, graphs.levels(near, 1))
+
+    def test_a_product_that_is_too_large_for_one_job(self):
+        """Each block may cost as much as one session's job; beyond that, the algorithms make the product by halves."""
+        dear = spmat.asm('binary', 'mov64 r0, r1\njeq64 r1, r1, 4000\n' + 4000 * 'mov64 r0, r2\n' + 'exit\n')   # and takes 3 steps
+        with spmat.Session() as one, blocks.Sessions(2) as many:
+            with self.assertRaisesRegex(spmat.TooLarge, 'J8'):
+                one.full(1200, 32).mxm(one.full(32, 32), ('plus', dear))
+            B = many.full(32, 32)
+            self.assertEqual(many.full(1200, 32).mxm(B, ('plus', dear)).nvals, 1200 * 32)
+            larger = many.full(2400, 32)
+            with self.assertRaisesRegex(spmat.TooLarge, 'J8.*block 0 of 2, rows 0 to 1199'):
+                larger.mxm(B, ('plus', dear))
+            made = algorithms.common.product(larger, B, spmat.Semiring('plus', dear))
+            self.assertEqual((made.nvals, made.reduce_scalar('plus')), (2400 * 32, 2400 * 32 * 32))
+
+
+class Refusals(unittest.TestCase):
+    def test_found_where_the_method_is_called(self):
+        with blocks.Sessions(2) as s, blocks.Sessions(2) as other, spmat.Session() as one:
+            X = s.from_triples([(0, 0, 1), (3, 2, 1)], 4, 3)
+            for call in (lambda: X.ewise_add(X.T), lambda: X.mxm(X), lambda: X.mxv(X), lambda: X.vxm(X), lambda: X.apply('abs', mask=X.T.S)):
+                with self.assertRaises(spmat.DimensionMismatch):
+                    call()
+            for call in (lambda: X.apply(spmat.binary.plus), lambda: X.select(spmat.binary.plus), lambda: X.ewise_add(X, spmat.unary.abs)):
+                with self.assertRaises(spmat.DomainMismatch):
+                    call()
+            A = one.from_triples([(0, 0, 1)], 4, 3)
+            for call in (lambda: X.ewise_add(A), lambda: X.apply('abs', mask=A), lambda: X.isequal(A), lambda: X.without(None)):
+                with self.assertRaises(TypeError):
+                    call()
+            with self.assertRaisesRegex(ValueError, 'other sessions'):
+                X.ewise_add(other.full(4, 3))
+            with self.assertRaisesRegex(ValueError, 'no ready unary'):
+                X.apply('nosuch')
+
+    def test_the_block_is_named(self):
+        with blocks.Sessions(3) as s:
+            X = s.from_triples([(i, i, i) for i in range(9)], 9, 9)
+            wrong = spmat.asm('unary', 'ldx64 r0, r1, 0\nexit', 'f')
+            with self.assertRaisesRegex(spmat.OperatorRefused, r'V14.*block 0 of 3, rows 0 to 2') as caught:
+                X.apply(wrong).nvals
+            self.assertEqual(caught.exception.block, 'block 0 of 3, rows 0 to 2')
+            self.assertEqual((caught.exception.rule, caught.exception.at), ('V14', 0))
+            self.assertEqual(X.apply('abs').nvals, 9)                           # the sessions go on
+
+    def test_budget(self):
+        """Each session has its own; the one of a block that wants too much stops the job."""
+        with blocks.Sessions(3, steps=1000) as s:
+            X = s.from_triples([(i, 0, 1) for i in range(4)] + [(9, j, 1) for j in range(300)], 10, 300)
+            self.assertEqual(s.budget(), spmat.Budget(3000, 0, 0))
+            self.assertEqual(X.cut.rows(1), (9, 10))
+            Y = X.apply('identity')
+            self.assertEqual((Y.price, Y.steps, s.budget()), (608, 608, spmat.Budget(2392, 0, 608)))
+            self.assertEqual(sorted(budget.spent for budget in s.budgets().values()), [0, 8, 600])
+            with self.assertRaisesRegex(spmat.BudgetExceeded, 'block 1 of 3, rows 9 to 9; all sessions have spent') as caught:
+                Y.apply('identity').nvals
+            self.assertEqual((caught.exception.price, caught.exception.left), (600, 400))
+            self.assertEqual(caught.exception.spent_in_all, s.budget().spent)
+            self.assertIn(s.budget().spent, (608, 616))
+            self.assertEqual(s.budget().reserved, 0)
+
+    def test_a_session_that_is_lost(self):
+        with blocks.Sessions(2) as s:
+            X = s.from_triples([(i, i, i) for i in range(8)], 8, 8)
+            place = next(store for key, store in s.engine._stores.items() if key[1] == 1)
+            place.session.connection._channel.process.kill()
+            with self.assertRaisesRegex(blocks.BlockFailed, 'block 1 of 2, rows 4 to 7: Closed: the program ended') as caught:
+                X.apply('abs').nvals
+            self.assertEqual(caught.exception.block, 'block 1 of 2, rows 4 to 7')
+
+    def test_little_memory(self):
+        """One block's product wants more than its process may take."""
+        limited = ['sh', '-c', 'ulimit -v 60000; exec "$0" "$@"', support.program()]
+        with blocks.Sessions(2, program=limited) as s:
+            A = s.from_triples([(0, 0, 1)] + [(i, j, 1) for i in range(2000, 4000) for j in range(2)], 4000, 2).recut([0, 2000, 4000])
+            B = s.full(2, 4000)
+            with self.assertRaisesRegex((spmat.OutOfMemory, blocks.BlockFailed), 'block 1 of 2, rows 2000 to 3999'):
+                A.mxm(B).nvals
+
+    def test_settings(self):
+        for wrong in ({'steps': -1}, {'workers': 0}, {'blocks': 0}, {'engine': 0}, {'engine': 65}):
+            with self.assertRaises(ValueError):
+                blocks.Sessions(**wrong)
+        with self.assertRaises(FileNotFoundError):
+            blocks.Sessions(2, program='/no/such/program')
+
+    def test_pickling(self):
+        import pickle
+        with blocks.Sessions(2) as s:
+            with self.assertRaisesRegex(TypeError, 'belongs to its sessions'):
+                pickle.dumps(s.full(3, 3))
+
+
+class Steps(unittest.TestCase):
+    def test_random_calls(self):
+        """Sequences of calls beside finite maps of Python."""
+        with blocks.Sessions(3) as s:
+            for seed in range(60):
+                random_ = random.Random(seed)
+                n = random_.randrange(1, 7)
+                a = entries(seed, n, n, random_.randrange(12))
+                X = s.from_triples([(*at, x) for at, x in a.items()], n, n)
+                for _ in range(6):
+                    b, op = entries(seed + 1000, n, n, random_.randrange(12)), random_.choice(list(model.BINARY))
+                    Y = s.from_triples([(*at, x) for at, x in b.items()], n, n)     # cut elsewhere
+                    X, a = random_.choice((
+                        lambda: (X.ewise_add(Y, op), model.union(a, b, op)), lambda: (X.ewise_mult(Y, op), model.both(a, b, op)),
+                        lambda: (X.mxm(Y, op + '_plus'), model.product(a, b, op, 'plus')), lambda: (X.T, model.transposed(a)),
+                        lambda: (X.dup(mask=~Y.S), model.cut(a, lambda p: p not in b)),
+                        lambda: (X.recut(Y.cut), a)))()
+                self.assertEqual(X.to_dict(), a, seed)
+
+
+if __name__ == '__main__':
+    unittest.main()
