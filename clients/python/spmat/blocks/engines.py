@@ -14,7 +14,7 @@ import uuid
 from typing import Any, Callable, Dict, List, Sequence, Tuple
 
 from . import tasks
-from .errors import AtBlock
+from .errors import AtBlock, without_frames
 from .place import Settings, Store, close_store, store_of, version_of
 
 Version = Tuple[str, str]
@@ -158,9 +158,11 @@ class Dask(Engine):
     def results(self, futures: Sequence[Any], labels: Sequence[str]) -> List[Any]:
         try:
             return self._client.gather(list(futures))
-        except AtBlock:
-            raise
+        except AtBlock as at:
+            at.__traceback__ = None                # the client keeps the exception, whose frames would keep the futures
+            raise AtBlock(at.label, without_frames(at.fault)) from None
         except Exception as fault:
+            fault.__traceback__ = None
             failed = [label for future, label in zip(futures, labels) if future.status in ('error', 'cancelled', 'lost')]
             raise AtBlock((failed or list(labels))[0], fault) from fault
 

@@ -28,7 +28,7 @@ class BlockMatrix:
     follows says where blocks make a difference.
 
     `nrows`, `ncols`, `shape`, `cut` (where the rows are cut), `name`, `nodes`. Other matrices and masks that are cut elsewhere are cut
-    anew, by text and without steps. A method answers at once, and a product of matrices once it is made. Wrong shapes and kinds are
+    anew, by text and without steps. A method answers at once, and a product once it is made. Wrong shapes and kinds are
     found where the method is called, and what a session refuses where the result is looked at: the same exceptions, which name the
     block in words and as `block`. BudgetExceeded also tells what all sessions have spent (`spent_in_all`); BlockFailed stands for
     what is no refusal."""
@@ -213,8 +213,9 @@ class BlockMatrix:
         the steps are the same where all calls of ADD take as many. `Sessions(associative=[..])` says it of operators for all
         products whose `other` is wider than one column.
 
-        It waits until the blocks are made, unless `other` is a column, so that TooLarge is raised here: each block may make
-        16,777,216 multiplications (with `associative`, of each block of `other`)."""
+        It waits until the blocks are made, so that TooLarge is raised here: each block may make 16,777,216 multiplications (with
+        `associative`, of each block of `other`). By `Threads` it doesn't wait where `other` is a column, whose product isn't too
+        large; by an engine that loses workers it does, so that the caller holds what a lost block is made of again."""
         self.check_shape('product', other, (self.ncols, None))
         ring = find_semiring(op)
         for part in (ring.add, ring.mul):
@@ -224,7 +225,8 @@ class BlockMatrix:
             associative = other.ncols > 1 and ring.add in self.sessions.associative
         form = products.by_blocks if associative else products.with_whole
         made = form(self, other, ring, where, name)
-        return made if other.ncols == 1 and not associative else made.wait()
+        waits = other.ncols != 1 or associative or self.sessions.engine.recovers
+        return made.wait() if waits else made
 
     def mxv(self, vector: 'BlockMatrix', op: Ring = 'plus_times', *, mask: MaskLike = None,
             name: Optional[str] = None) -> 'BlockMatrix':

@@ -100,7 +100,10 @@ class Sessions:
             fault, cause = named(at.label, at.fault), at.fault
         if isinstance(fault, BudgetExceeded):
             fault = in_all(fault, self.budget().spent)
-        raise fault from (cause if cause is not fault else None)
+        try:
+            raise fault from (cause if cause is not fault else None)
+        finally:
+            del fault, cause                       # no circle of exception and frame, which would keep futures
 
     # -- matrices in
 

@@ -1,0 +1,261 @@
+"""Row blocks over processes of Dask's `distributed`: the answers of one session, also where a worker is killed amid the work."""
+import collections
+import contextlib
+import gc
+import logging
+import os
+import shutil
+import signal
+import stat
+import tempfile
+import unittest
+
+import graphs
+import support
+import test_blocks
+import spmat
+from spmat import algorithms, blocks
+from spmat.blocks import tasks
+
+WORKERS = 3
+GRAPH = graphs.UNDIRECTED[-1]
+
+
+def computed_again(dask_scheduler):
+    """How often tasks of each kind were computed more than once, by what the scheduler wrote down."""
+    ends = collections.Counter(entry[0] for entry in dask_scheduler.transition_log if entry[1:3] == ('processing', 'memory'))
+    out = collections.Counter()
+    for key, many in ends.items():
+        if str(key).startswith('spmat_') and many > 1:
+            out[str(key).split('-')[0]] += many - 1
+    return dict(out)
+
+
+def uploads_of(store):
+    """How many texts a worker's session took in because they weren't there."""
+    return store.uploads
+
+
+def use_program(path):
+    """Has a worker find another program."""
+    os.environ['SPMAT'] = path
+
+
+@support.needs('distributed')
+class Dask(unittest.TestCase):
+    @classmethod
+    def setUpClass(cls):
+        cls.ends = contextlib.ExitStack()
+        cls.addClassCleanup(lambda: cls.ends.close())
+        cls.start()
+
+    @classmethod
+    def start(cls):
+        """A cluster for all tests: to start one takes as long as all of them."""
+        import dask
+        from distributed import Client, LocalCluster
+        cls.ends.close()
+        cls.ends.enter_context(dask.config.set({'distributed.scheduler.allowed-failures': 1,
+                                                'distributed.scheduler.work-stealing': False}))
+        cls.cluster = cls.ends.enter_context(LocalCluster(n_workers=WORKERS, threads_per_worker=1, dashboard_address=None,
+                                                          silence_logs=logging.CRITICAL))
+        cls.client = cls.ends.enter_context(Client(cls.cluster))
+
+    def setUp(self):
+        from distributed import TimeoutError
+        try:                                                           # until those that were killed have been started anew
+            self.client.wait_for_workers(WORKERS, timeout=15)
+        except TimeoutError:
+            self.start()
+        gc.collect()                                                   # what earlier tests held
+        self.one = spmat.Session()
+        self.addCleanup(self.one.close)
+
+    @contextlib.contextmanager
+    def sessions(self, engine=None, **settings):
+        with blocks.Sessions(engine or blocks.Dask(self.client), **settings) as s:
+            yield s
+
+    def kill(self, place, engine):
+        """Kills the worker of a place."""
+        address = engine._addresses[place]
+        pid = self.client.run(os.getpid, workers=[address])[address]
+        os.kill(pid, signal.SIGKILL)
+
+    def test_forms(self):
+        with self.sessions() as many:
+            for case in ('random', 'more blocks than rows', 'one row with most entries'):
+                pair = test_blocks.Pair(self.one, many, case)
+                for number, form in enumerate(('apply with an index', 'union', 'product', 'reduce', 'update')):
+                    masks = pair.mask(form, number)
+                    for kind in ('none', 'S', '~V'):
+                        mask = test_blocks.MASKS[kind]
+                        want = test_blocks.FORMS[form](*pair.sides[0], mask(masks[0])).wait()
+                        got = test_blocks.FORMS[form](*pair.sides[1], mask(masks[1]))
+                        with self.subTest(case=case, form=form, mask=kind):
+                            self.assertEqual((got.to_text(), got.price, got.steps), (want.to_text(), want.price, want.steps))
+                (A, B, K), (X, Y, Z) = pair.sides
+                self.assertEqual(X.T.to_text(), A.T.to_text())
+                self.assertEqual(X.mxm(Z, 'first_plus', associative=True).to_text(), A.mxm(K, 'first_plus').to_text())
+                self.assertEqual(X.ewise_add(Y.recut([0, X.nrows]), 'minus').to_text(), A.ewise_add(B, 'minus').to_text())
+                self.assertEqual(X.reduce_scalar('plus'), A.reduce_scalar('plus'))
+            self.assertEqual(len(many.budgets()), WORKERS)
+
+    def test_algorithms(self):
+        """The same, with results taken out as text at each task, too."""
+        for settings in ({}, {'texts': True}):
+            with self.sessions(**settings) as many:
+                before = self.one.budget().spent
+                G, X = GRAPH.matrix(self.one), GRAPH.matrix(many)
+                self.assertEqual(algorithms.triangle_count(X), algorithms.triangle_count(G))
+                for function in (lambda M: algorithms.bfs_levels(M, 0, M), lambda M: algorithms.connected_components(M, M),
+                                 lambda M: algorithms.sssp(M, 0, M), lambda M: algorithms.pagerank(M, M, damping=.4, tolerance=.1)):
+                    self.assertEqual(function(X).to_text(), function(G).to_text())
+                self.assertEqual(many.budget().spent, self.one.budget().spent - before)
+
+    def test_where_the_operands_are_nothing_moves(self):
+        """Two whole matrices of one content are taken in once by each session."""
+        with self.sessions() as s:
+            X = GRAPH.matrix(s)
+            Y = X.apply('identity')
+            before = self.uploads(s)
+            X.mxm(X, mask=X).nvals
+            self.assertEqual(self.uploads(s) - before, WORKERS)
+            X.mxm(X, 'min_plus', mask=X).nvals
+            X.mxm(Y, mask=X).nvals                                     # made anew, and of the same content
+            self.assertEqual(self.uploads(s) - before, WORKERS)
+
+    def uploads(self, sessions):
+        return sum(sessions.engine.everywhere(sessions.settings, uploads_of).values())
+
+    # -- a worker is killed
+
+    def test_killed_amid_bfs(self):
+        want = algorithms.bfs_levels(GRAPH.matrix(self.one), 0).to_text()
+        with self.sessions() as s:
+            again = self.client.run_on_scheduler(computed_again)
+            levels = []
+
+            def progress(word, number, of):
+                levels.append(number)
+                if number == 2:
+                    self.kill(1, s.engine)
+            got = algorithms.bfs_levels(GRAPH.matrix(s), 0, progress=progress).to_text()
+            self.assertEqual(got, want)
+            self.assertGreater(max(levels), 2)
+            self.assert_again(again, 'spmat_source', 'spmat_job')
+
+    def test_killed_amid_triangle_count(self):
+        """When the lower triangles are there and the products are asked for."""
+        from distributed import wait
+        test = self
+
+        class Killing(blocks.Dask):
+            killed = 0
+
+            def submit(self, settings, place, label, function, *args):
+                amid = function is tasks.job and args[0] == 'mxm' and place == 1 and not self.killed
+                if amid:
+                    wait(args[1])
+                future = super().submit(settings, place, label, function, *args)
+                if amid:
+                    test.kill(place, self)
+                    self.killed += 1
+                return future
+        want = algorithms.triangle_count(GRAPH.matrix(self.one))
+        with self.sessions(Killing(self.client)) as s:
+            again = self.client.run_on_scheduler(computed_again)
+            self.assertEqual(algorithms.triangle_count(GRAPH.matrix(s)), want)
+            self.assertEqual(s.engine.killed, 1)
+            self.assert_again(again, 'spmat_source', 'spmat_job')
+
+    def assert_again(self, before, *kinds):
+        after = self.client.run_on_scheduler(computed_again)
+        for kind in kinds:
+            self.assertGreater(after.get(kind, 0), before.get(kind, 0), after)
+
+    def test_what_is_computed_again(self):
+        """Rounds that a product's operand went through are not: however many there were, it is a few tasks."""
+        with self.sessions() as s:
+            before = sum(self.client.run_on_scheduler(computed_again).values())
+            G = GRAPH.matrix(s)
+
+            def progress(word, number, of):
+                if number == of - 1:
+                    self.kill(1, s.engine)
+            got = algorithms.pagerank(G, G, damping=.6, tolerance=.001, progress=progress).to_text()
+            again = sum(self.client.run_on_scheduler(computed_again).values()) - before
+            self.assertEqual(got, algorithms.pagerank(GRAPH.matrix(self.one), damping=.6, tolerance=.001).to_text())
+            self.assertGreater(again, 0)
+            self.assertLess(again, 50)                                 # of some 200
+
+    def test_checkpoint(self):
+        """In a folder that all workers see: what came before is not computed again."""
+        with tempfile.TemporaryDirectory() as folder, self.sessions(folder=folder) as s:
+            X = GRAPH.matrix(s)
+            self.assertEqual(len(os.listdir(folder)), WORKERS)         # the blocks that came from here
+            Y = X.apply('plus', right=1).apply('times', right=3).checkpoint()
+            del X
+            again = self.client.run_on_scheduler(computed_again)
+            self.kill(1, s.engine)
+            self.assertEqual(Y.apply('minus', right=3).reduce_scalar('plus'), 3 * sum(GRAPH.edges.values()))
+            after = self.client.run_on_scheduler(computed_again)
+            self.assertGreater(after.get('spmat_read', 0), again.get('spmat_read', 0))
+            self.assertEqual(after.get('spmat_job', 0), again.get('spmat_job', 0))
+        self.assertFalse(os.path.exists(folder))
+
+    def test_killed_again_and_again(self):
+        """A session whose opening kills its worker, as where the system has no memory left."""
+        with self.sessions(program=['sh', '-c', 'kill -9 $PPID'], blocks=1) as s:
+            with self.assertRaisesRegex(blocks.BlockFailed, 'block 0 of 1, rows 0 to 2: KilledWorker'):
+                s.from_triples([(0, 0, 1)], 3, 3)
+
+    # -- limits and versions
+
+    def test_little_memory(self):
+        limited = ['sh', '-c', 'ulimit -v 60000; exec "$0" "$@"', support.program()]
+        with self.sessions(program=limited) as s:
+            A = s.from_triples([(0, 0, 1)] + [(i, j, 1) for i in range(2000, 4000) for j in range(2)], 4000, 2).recut([0, 2000, 4000])
+            with self.assertRaisesRegex((spmat.OutOfMemory, blocks.BlockFailed), 'block 1 of 2, rows 2000 to 3999'):
+                A.mxm(s.full(2, 4000)).nvals
+            self.assertEqual(A.select('rowle', 1999).nvals, 1)         # the others go on
+
+    def test_budget(self):
+        with self.sessions(steps=1000) as s:
+            X = s.from_triples([(i, 0, 1) for i in range(4)] + [(9, j, 1) for j in range(300)], 10, 300)
+            Y = X.apply('identity')
+            self.assertEqual((Y.steps, s.budget()), (608, spmat.Budget(2392, 0, 608)))
+            with self.assertRaisesRegex(spmat.BudgetExceeded, 'block 1 of 3, rows 9 to 9; all sessions have spent') as caught:
+                Y.apply('identity').nvals
+            self.assertEqual((caught.exception.price, caught.exception.left), (600, 400))
+            self.assertEqual(caught.exception.block, 'block 1 of 3, rows 9 to 9')
+            self.assertIn(caught.exception.spent_in_all, (608, 616))
+
+    def test_versions(self):
+        """A worker whose program is another file is refused at the start, by name, and at its first task where it comes later."""
+        with tempfile.TemporaryDirectory() as folder:
+            other = shutil.copy(support.program(), os.path.join(folder, 'spmat'))
+            with open(other, 'ab') as file:
+                file.write(b'\0')
+            os.chmod(other, os.stat(other).st_mode | stat.S_IXUSR)
+            address = sorted(self.client.scheduler_info()['workers'])[-1]
+            self.client.run(use_program, other, workers=[address])
+            try:
+                with self.assertRaisesRegex(blocks.VersionMismatch, 'different versions.*' + address):
+                    blocks.Sessions(blocks.Dask(self.client))
+            finally:
+                self.client.run(use_program, support.program(), workers=[address])
+        with self.sessions() as s:
+            s.settings.__dict__['version'] = (spmat.__version__, 'another')
+            with self.assertRaisesRegex(blocks.VersionMismatch, 'this worker has another version'):
+                s.full(3, 3).nvals
+
+    def test_no_workers(self):
+        from distributed import Client, LocalCluster
+        with LocalCluster(n_workers=0, processes=False, dashboard_address=':0') as cluster, Client(cluster) as client:
+            with self.assertRaisesRegex(ValueError, 'no workers yet'):
+                blocks.Dask(client)
+
+
+if __name__ == '__main__':
+    unittest.main()
