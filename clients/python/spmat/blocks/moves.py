@@ -2,8 +2,6 @@
 text, and costs no step."""
 from __future__ import annotations
 
-import os
-import uuid
 from typing import TYPE_CHECKING, Any, Iterator, List
 
 from . import cuts, tasks
@@ -86,7 +84,7 @@ def checkpoint(matrix: 'BlockMatrix') -> 'BlockMatrix':
             text = cuts.text_of(*matrix.shape, sessions.results([_lines(matrix, block, *matrix.cut.rows(block))], [label]))
             futures.append(sessions.submit(block, label, tasks.source, text))
         else:
-            path = os.path.join(sessions.folder, uuid.uuid4().hex + '.mtx')
+            path = sessions.new_file()
             digest, = sessions.results([sessions.submit(block, label, tasks.write, matrix.futures[block], path)], [label])
             futures.append(sessions.submit(block, label, tasks.read, path, digest))
     out = _like(matrix, futures, matrix.cut, matrix.ncols)

@@ -10,9 +10,7 @@ import abc
 import array
 import hashlib
 import itertools
-import os
 import tempfile
-import uuid
 from typing import Any, BinaryIO, Iterable, Iterator, List, Optional, Sequence, Tuple
 
 from .. import convert, files, market
@@ -23,14 +21,23 @@ from .cuts import Cut
 PIECE = 1 << 23                                    # bytes of a file that are read at a time
 CHUNK = 1 << 16                                    # edges of a generator that are taken at a time
 WIDTH = 24                                         # bytes of an entry in a spool: three words
+ENTRIES = 1 << 18                                  # entries that are sorted out at a time
 
 
-def put(folder: str, text: bytes) -> Tuple[str, bytes]:
-    """Writes a text into a new file of a folder; its path, and what tells its content."""
-    path = os.path.join(folder, uuid.uuid4().hex + '.mtx')
+def put(path: str, text: bytes) -> bytes:
+    """Writes a text into a file; what tells its content."""
     with open(path, 'wb') as file:
         file.write(text)
-    return path, hashlib.blake2b(text, digest_size=32).digest()
+    return hashlib.blake2b(text, digest_size=32).digest()
+
+
+def got(path: str, digest: bytes) -> bytes:
+    """The text that was written there. ValueError where the file has changed since."""
+    with open(path, 'rb') as file:
+        text = file.read()
+    if hashlib.blake2b(text, digest_size=32).digest() != digest:
+        raise ValueError('the file %s has changed since it was written' % path)
+    return text
 
 
 class Spooled(abc.ABC):
@@ -138,7 +145,7 @@ class Spool(Spooled):
         parts = [tempfile.TemporaryFile() for _ in range(cut.blocks)]
         try:
             self._file.seek(0)
-            for piece in iter(lambda: self._file.read(PIECE // WIDTH * WIDTH), b''):
+            for piece in iter(lambda: self._file.read(ENTRIES * WIDTH), b''):
                 with Held(self._unpacked(piece)) as held:
                     for part, triples in zip(parts, held.blocks(cut)):
                         part.write(_packed(triples))

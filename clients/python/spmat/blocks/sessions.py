@@ -1,8 +1,11 @@
 """Several sessions as one: matrices in, and the budgets."""
 from __future__ import annotations
 
+import contextlib
 import copy
 import dataclasses
+import os
+import uuid
 from typing import Any, Callable, Dict, Iterable, List, Optional, Sequence, Tuple, Union
 
 from .. import convert, market
@@ -42,6 +45,7 @@ class Sessions:
         if self.blocks < 1:
             raise ValueError('1 block at least, not %d' % self.blocks)
         self.folder = folder
+        self.files: List[str] = []                 # what was written there
         self.associative = frozenset(find('binary', op) for op in associative)
         self.cut: Optional[Cut] = None
         settings = Settings(steps, workers, program, texts)
@@ -64,8 +68,11 @@ class Sessions:
         return '<Sessions of %s, %d blocks>' % (type(self.engine).__name__, self.blocks)
 
     def close(self) -> None:
-        """Ends the sessions. Their matrices are gone."""
+        """Ends the sessions. Their matrices are gone, and so are the files that they wrote into `folder`."""
         self.engine.close(self.settings)
+        while self.files:
+            with contextlib.suppress(FileNotFoundError):
+                os.remove(self.files.pop())
 
     def cut_as(self, cut: Cut) -> 'Sessions':
         """The same sessions, which cut new matrices of as many rows at these rows."""
@@ -193,5 +200,12 @@ class Sessions:
     def _put(self, block: int, label: str, text: bytes) -> Any:
         if self.folder is None:
             return self.submit(block, label, tasks.source, text)
-        path, digest = pieces.put(self.folder, text)
-        return self.submit(block, label, tasks.read, path, digest)
+        path = self.new_file()
+        return self.submit(block, label, tasks.read, path, pieces.put(path, text))
+
+    def new_file(self) -> str:
+        """The path of a file in `folder` that isn't there yet, and that `close` removes."""
+        assert self.folder is not None
+        path = os.path.join(self.folder, uuid.uuid4().hex + '.mtx')
+        self.files.append(path)
+        return path

@@ -5,7 +5,6 @@ An engine may run a task again, on any worker, and gets the same.
 from __future__ import annotations
 
 import bisect
-import hashlib
 from typing import Any, Callable, Dict, List, Optional, Sequence, Tuple
 
 from .. import convert, market
@@ -14,7 +13,7 @@ from ..market import Triples
 from ..mask import Mask
 from ..operators import Operator, Semiring, binary
 from ..session import Budget
-from . import cuts
+from . import cuts, pieces
 from .errors import AtBlock
 from .place import Counts, Piece, Store
 
@@ -48,19 +47,12 @@ def source(store: Store, text: bytes) -> Piece:
 
 def read(store: Store, path: str, digest: bytes) -> Piece:
     """A block from a file that holds its text. ValueError where the file has changed since it was written."""
-    with open(path, 'rb') as file:
-        text = file.read()
-    if hashlib.blake2b(text, digest_size=32).digest() != digest:
-        raise ValueError('the file %s has changed since it was written' % path)
-    return source(store, text)
+    return source(store, pieces.got(path, digest))
 
 
 def write(store: Store, piece: Piece, path: str) -> bytes:
     """Writes a block's text into a file; what `read` wants of it."""
-    text = piece.text()
-    with open(path, 'wb') as file:
-        file.write(text)
-    return hashlib.blake2b(text, digest_size=32).digest()
+    return pieces.put(path, piece.text())
 
 
 def full(store: Store, first: int, end: int, shape: Tuple[int, int], value: int) -> Piece:
