@@ -1,0 +1,184 @@
+#!/usr/bin/env python3
+"""scaling.py [--entries N] [--workers W..] [--only WORD..] [--busy]
+
+Measures what it costs to be in blocks: the triangle count and a breadth-first search of a power-law graph by one session with 1, 2 and 4
+worker threads, by as many sessions over `Threads`, and by as many worker processes over Dask, with results taken out of the sessions
+only where others want them, and at each task (`texts`). All in one run, so that ratios are of one machine in one state.
+
+Prints a table in Markdown. Seconds are what passes; ratios are to one session with one worker thread. `in` and `out` are the texts
+that went into and out of all sessions, `between` what workers sent one another, in MB of 1,000,000 bytes; `program` is the peak memory
+of the largest process `spmat`, `python` that of the largest worker process (of this process, where there is none). Needs numpy and
+Linux, and `distributed` for Dask. The answers of all are compared.
+"""
+from __future__ import annotations
+
+import argparse
+import contextlib
+import os
+import platform
+import sys
+import tempfile
+import time
+from typing import Any, Callable, Dict, Iterator, List, NamedTuple, Optional
+
+HERE = os.path.dirname(os.path.abspath(__file__))
+sys.path[:0] = [HERE, os.path.join(HERE, '..')]
+import spmat  # noqa: E402
+from spmat import algorithms, blocks, market  # noqa: E402
+
+ALPHA = 0.6                                        # the weight of the vertex of rank r is r to the power of -ALPHA
+
+
+class Moved(NamedTuple):
+    """Bytes into and out of one session, and the peak memory of its program and of the process that holds it."""
+    sent: int
+    received: int
+    program: int
+    python: int
+    between: int = 0
+
+
+class Row(NamedTuple):
+    """One configuration's seconds by part, what moved, and its answers."""
+    name: str
+    seconds: Dict[str, float]
+    moved: List[Moved]
+    answers: List[Any]
+
+
+def power_law_graph(entries: int, path: str) -> int:
+    """Writes an undirected graph of so many entries, whose degrees follow a power law, and answers its vertex of highest degree. It is
+    the same each time."""
+    import numpy
+    count = 1 << max(4, (entries // 16).bit_length())
+    chance = numpy.random.default_rng(7)
+    ends = numpy.cumsum(numpy.arange(1, count + 1) ** -ALPHA)
+    label = chance.permutation(count)
+    keys = numpy.zeros(0, numpy.int64)
+    while len(keys) < entries // 2:
+        i, j = (label[numpy.searchsorted(ends, chance.random(entries // 4) * ends[-1])] for _ in range(2))
+        pairs = numpy.minimum(i, j)[i != j] * count + numpy.maximum(i, j)[i != j]
+        keys = numpy.unique(numpy.concatenate((keys, pairs)))
+    keys = chance.permutation(keys)[:entries // 2]
+    rows = numpy.concatenate((keys // count, keys % count))
+    columns = numpy.concatenate((keys % count, keys // count))
+    order = numpy.argsort(rows * count + columns)
+    with open(path, 'wb') as file:
+        file.write(market.write(market.Triples(rows[order], columns[order], numpy.ones(len(rows), numpy.int64), count, count)))
+    return int(numpy.bincount(rows).argmax())
+
+
+def peak_memory(pid: Any = 'self') -> int:
+    """The most bytes that a process had resident."""
+    with open('/proc/%s/status' % pid, encoding='ascii', errors='replace') as file:
+        return next(int(line.split()[1]) * 1024 for line in file if line.startswith('VmHWM'))
+
+
+def moved_by(session: spmat.Session) -> Moved:
+    """What went into and out of a session."""
+    connection = session.connection
+    return Moved(connection.sent, connection.received, peak_memory(connection._channel.process.pid), peak_memory())  # type: ignore
+
+
+def moved_at(store: Any) -> Moved:
+    """What went into and out of a worker's session."""
+    return moved_by(store.session)
+
+
+def sent_between(dask_worker: Any) -> int:
+    """What a worker of Dask has sent to others."""
+    return dask_worker.transfer_outgoing_bytes_total
+
+
+def timed(seconds: Dict[str, float], part: str, work: Callable[[], Any]) -> Any:
+    began = time.perf_counter()
+    out = work()
+    seconds[part] = time.perf_counter() - began
+    return out
+
+
+def measure(name: str, s: Any, path: str, source: int, moved: Callable[[], List[Moved]]) -> Row:
+    """Reads the graph, counts its triangles, and searches it."""
+    seconds: Dict[str, float] = {}
+    G = timed(seconds, 'read', lambda: s.mmread(path).wait())
+    triangles = timed(seconds, 'triangles', lambda: algorithms.triangle_count(G))
+    levels = timed(seconds, 'levels', lambda: algorithms.bfs_levels(G, source, G).wait())
+    return Row(name, seconds, moved(), [triangles, levels.nvals, levels.reduce_scalar('plus')])
+
+
+def one_session(workers: int, path: str, source: int) -> Row:
+    with spmat.Session(workers=workers) as s:
+        return measure('one session, %d workers' % workers, s, path, source, lambda: [moved_by(s)])
+
+
+def by_threads(count: int, path: str, source: int) -> Row:
+    with blocks.Sessions(count) as s:
+        return measure('Threads, %d sessions' % count, s, path, source,
+                       lambda: list(s.engine.everywhere(s.settings, moved_at).values()))
+
+
+@contextlib.contextmanager
+def cluster(count: int) -> Iterator[Any]:
+    """Worker processes of this machine, of one thread each."""
+    import dask
+    from distributed import Client, LocalCluster
+    with dask.config.set({'distributed.scheduler.work-stealing': False}), \
+            LocalCluster(n_workers=count, threads_per_worker=1, dashboard_address=None, memory_limit=0) as workers, \
+            Client(workers) as client:
+        yield client
+
+
+def by_dask(count: int, path: str, source: int, texts: bool = False) -> Row:
+    with tempfile.TemporaryDirectory() as folder, cluster(count) as client, \
+            blocks.Sessions(blocks.Dask(client), folder=folder, texts=texts) as s:
+        def moved() -> List[Moved]:
+            between = client.run(sent_between)
+            return [one._replace(between=between[worker])
+                    for worker, one in s.engine.everywhere(s.settings, moved_at).items()]
+        return measure('Dask, %d workers%s' % (count, ', `texts`' if texts else ''), s, path, source, moved)
+
+
+def table(rows: List[Row]) -> str:
+    """The rows in Markdown."""
+    parts = list(rows[0].seconds)
+    heads = ['', *('%s, s' % part for part in parts), *('%s, ratio' % part for part in parts[1:]), 'in', 'out', 'between', 'program',
+             'python']
+    lines = [heads, ['---'] * len(heads)]
+    for row in rows:
+        ratios = ['%.2f' % (row.seconds[part] / rows[0].seconds[part]) for part in parts[1:]]
+        sums = [sum(one[k] for one in row.moved) for k in (0, 1, 4)]
+        peaks = [max(one[k] for one in row.moved) for k in (2, 3)]
+        lines.append([row.name, *('%.2f' % row.seconds[part] for part in parts), *ratios, *('%.1f' % (size / 1e6) for size in sums + peaks)])
+    return '\n'.join('| %s |' % ' | '.join(line) for line in lines)
+
+
+def main() -> None:
+    asked = argparse.ArgumentParser(description=__doc__.split('\n')[0])
+    asked.add_argument('--entries', type=int, default=4_000_000)
+    asked.add_argument('--workers', type=int, nargs='+', default=[1, 2, 4])
+    asked.add_argument('--only', nargs='+', default=['one', 'threads', 'dask', 'texts'], choices=['one', 'threads', 'dask', 'texts'])
+    asked.add_argument('--busy', action='store_true', help='say in the heading that the machine was busy')
+    given = asked.parse_args()
+    kinds: Dict[str, Callable[..., Row]] = {'one': one_session, 'threads': by_threads, 'dask': by_dask,
+                                            'texts': lambda *words: by_dask(*words, texts=True)}
+    with tempfile.TemporaryDirectory() as folder:
+        path = os.path.join(folder, 'graph.mtx')
+        source = power_law_graph(given.entries, path)
+        print('%d entries, %.1f MB of text, %d processors, load %.1f%s, Python %s' % (
+            given.entries, os.path.getsize(path) / 1e6, os.cpu_count() or 1, os.getloadavg()[0],
+            ' (a busy machine)' if given.busy else '', platform.python_version()), flush=True)
+        rows: List[Row] = []
+        for kind in ['one'] + [kind for kind in given.only if kind != 'one']:
+            for count in given.workers if kind in given.only else [1]:
+                row: Optional[Row] = kinds[kind](count, path, source)
+                assert row is not None
+                rows.append(row)
+                print(row.name, {part: round(seconds, 2) for part, seconds in row.seconds.items()}, row.answers, file=sys.stderr, flush=True)
+                if row.answers != rows[0].answers:
+                    sys.exit('%s answers %s, and %s answers %s' % (row.name, row.answers, rows[0].name, rows[0].answers))
+    print(table(rows))
+
+
+if __name__ == '__main__':
+    import scaling                                 # by this name workers find what is asked of them
+    scaling.main()
