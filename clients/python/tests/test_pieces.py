@@ -11,7 +11,7 @@ from unittest import mock
 import support
 import spmat
 from spmat import blocks
-from spmat.blocks import cuts, pieces
+from spmat.blocks import pieces
 
 BANNER = support.BANNER.encode()
 
@@ -42,7 +42,7 @@ class Files(unittest.TestCase):
         """Sorted and in any order, by pieces of a few lines and whole, with numpy where it is there."""
         for size in (1, 50, 700, 1 << 23):
             with mock.patch.object(pieces, 'PIECE', size), mock.patch.object(pieces, 'ENTRIES', 1 + size // 24):
-                for seed, (nrows, ncols, many) in enumerate(((30, 20, 200), (1, 50, 30), (2, 1, 2), (400, 400, 3000))):
+                for seed, (nrows, ncols, many) in enumerate(((30, 20, 200), (1, 50, 30), (2, 1, 2), (60, 60, 500))):
                     a = entries(seed, nrows, ncols, many)
                     for order in (sorted, shuffled):
                         text = text_of(a, nrows, ncols, order)
@@ -196,20 +196,6 @@ class Others(unittest.TestCase):
         self.assertEqual(X.nodes, list(graph))
         self.assertEqual(spmat.algorithms.triangle_count(X), sum(networkx.triangles(graph).values()) // 3)
         self.assertEqual(set(X.to_networkx(directed=False).edges), set(graph.edges))
-
-
-class Texts(unittest.TestCase):
-    def test_lines_of(self):
-        """Every range of rows of random texts."""
-        for seed in range(60):
-            random_ = random.Random(seed)
-            n = random_.randrange(1, 12)
-            a = entries(seed, n, 30, random_.randrange(40))
-            text = text_of(a, n, 30)
-            for first in range(n + 1):
-                for end in range(first, n + 1):
-                    want = b''.join(b'%d %d %d\n' % (i + 1, j + 1, a[i, j]) for i, j in sorted(a) if first <= i < end)
-                    self.assertEqual(cuts.lines_of(text, first, end), (want, want.count(b'\n')))
 
 
 if __name__ == '__main__':

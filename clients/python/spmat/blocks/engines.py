@@ -11,6 +11,7 @@ import asyncio
 import concurrent.futures
 import time
 import uuid
+import warnings
 from typing import Any, Callable, Dict, List, Sequence, Tuple
 
 from . import tasks
@@ -120,6 +121,9 @@ class Dask(Engine):
     """The workers of a `distributed.Client` that the caller made, of whatever cluster: processes of this machine, SSH, Kubernetes.
     Each worker process has one session. The client stays the caller's, who closes it.
 
+    Where blocks are about as large, let each task stay with its block: `distributed.scheduler.work-stealing: false`, else workers that
+    wait for others take tasks from these, and the text of what they are made of.
+
     A worker that is lost loses nothing: the scheduler computes its tasks again on others, from the tasks before them. A block
     that fails so again and again (`distributed.scheduler.allowed-failures`) ends as BlockFailed."""
 
@@ -152,8 +156,10 @@ class Dask(Engine):
 
     def submit(self, settings: Settings, place: int, label: str, function: Callable[..., Any], *args: Any) -> Any:
         key = 'spmat_%s-%s' % (function.__name__, uuid.uuid4().hex)
-        return self._client.submit(_on_worker, settings, label, function, list(args), key=key, pure=False,
-                                   workers=[self._address(place)], allow_other_workers=True)
+        with warnings.catch_warnings():            # a block's text in a task is what the task is made of again
+            warnings.filterwarnings('ignore', 'Large object of size')
+            return self._client.submit(_on_worker, settings, label, function, list(args), key=key, pure=False,
+                                       workers=[self._address(place)], allow_other_workers=True)
 
     def results(self, futures: Sequence[Any], labels: Sequence[str]) -> List[Any]:
         try:

@@ -17,7 +17,7 @@ from dataclasses import dataclass, field
 from typing import Any, Dict, List, NamedTuple, Optional, Tuple
 
 from ..matrix import Matrix
-from ..session import Budget, Session
+from ..session import Session
 from ..wire import MOST_STEPS, Program, program_words
 from .errors import VersionMismatch
 
@@ -118,7 +118,7 @@ class Store:
         if settings.version is not None and version_of(settings.program) != settings.version:
             raise VersionMismatch('this worker has another version than the others: %s, and %s is expected'
                                   % (_words(version_of(settings.program)), _words(settings.version)))
-        self.settings = settings
+        self.settings, self.name = settings, uuid.uuid4().hex
         self.session = Session(settings.steps, settings.workers, settings.program)
         self._lock = threading.Lock()
         self._here: 'weakref.WeakKeyDictionary[Piece, Matrix]' = weakref.WeakKeyDictionary()
@@ -146,10 +146,6 @@ class Store:
         counts = Counts(matrix.nrows, matrix.ncols, matrix.nvals, matrix.price or 0, matrix.steps or 0)
         piece = Piece(counts, matrix)
         return piece.keep_text() if self.settings.texts else piece
-
-    def budget(self) -> Budget:
-        """What this session's budget holds."""
-        return self.session.budget()
 
     def close(self) -> None:
         """Ends the session."""

@@ -85,8 +85,11 @@ class Sessions:
     # -- what is told
 
     def budgets(self) -> Dict[str, Budget]:
-        """What the budget of each session holds, by the names of the workers that are there."""
-        return self.engine.everywhere(self.settings, tasks.budget)
+        """What the budget of each session holds, by the name of its worker; of workers in one process, which share one, the first."""
+        found: Dict[str, Tuple[str, Budget]] = {}
+        for worker, (session, budget) in self.engine.everywhere(self.settings, tasks.budget).items():
+            found.setdefault(session, (worker, budget))
+        return dict(found.values())
 
     def budget(self) -> Budget:
         """What the budgets of all sessions hold together. What a lost worker had spent isn't in it."""
@@ -123,6 +126,10 @@ class Sessions:
                      dup_op: Optional[Op] = None, name: Optional[str] = None) -> BlockMatrix:
         """A matrix from (row, column, value), held at once; `from_edges` takes them as they come."""
         return self.from_coo(*convert.columns_of(triples), nrows, ncols, dup_op=dup_op, name=name)
+
+    def from_dense(self, rows: Any, missing: Optional[int] = None, *, name: Optional[str] = None) -> BlockMatrix:
+        """A matrix from a table; see `Session.from_dense`."""
+        return self._from(convert.from_dense(rows, missing), None, name)
 
     def from_scipy_sparse(self, matrix: Any, *, name: Optional[str] = None) -> BlockMatrix:
         """A matrix from one of scipy.sparse; see `Session.from_scipy_sparse`."""

@@ -186,6 +186,6 @@ def scalars(store: Store, many: Sequence[Folded], op: Operator) -> Folded:
     return one.to_coo(arrays=False)[2][0], price + (one.price or 0), steps + (one.steps or 0)
 
 
-def budget(store: Store) -> Budget:
-    """What this worker's session has left, reserved and spent."""
-    return store.budget()
+def budget(store: Store) -> Tuple[str, Budget]:
+    """This session's name, and what it has left, reserved and spent."""
+    return store.name, store.session.budget()
