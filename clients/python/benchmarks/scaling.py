@@ -148,7 +148,8 @@ def table(rows: List[Row]) -> str:
         ratios = ['%.2f' % (row.seconds[part] / rows[0].seconds[part]) for part in parts[1:]]
         sums = [sum(one[k] for one in row.moved) for k in (0, 1, 4)]
         peaks = [max(one[k] for one in row.moved) for k in (2, 3)]
-        lines.append([row.name, *('%.2f' % row.seconds[part] for part in parts), *ratios, *('%.1f' % (size / 1e6) for size in sums + peaks)])
+        lines.append([row.name, *('%.2f' % row.seconds[part] for part in parts), *ratios,
+                      *('%.1f' % (size / 1e6) for size in sums + peaks)])
     return '\n'.join('| %s |' % ' | '.join(line) for line in lines)
 
 
@@ -173,7 +174,7 @@ def main() -> None:
                 row: Optional[Row] = kinds[kind](count, path, source)
                 assert row is not None
                 rows.append(row)
-                print(row.name, {part: round(seconds, 2) for part, seconds in row.seconds.items()}, row.answers, file=sys.stderr, flush=True)
+                print(row.name, ', '.join('%s %.2f' % part for part in row.seconds.items()), row.answers, file=sys.stderr, flush=True)
                 if row.answers != rows[0].answers:
                     sys.exit('%s answers %s, and %s answers %s' % (row.name, row.answers, rows[0].name, rows[0].answers))
     print(table(rows))

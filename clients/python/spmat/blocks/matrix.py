@@ -1,12 +1,12 @@
 """Matrices in row blocks."""
 from __future__ import annotations
 
-from typing import TYPE_CHECKING, Any, Callable, Iterable, List, Optional, Sequence, Tuple, Union
+from typing import TYPE_CHECKING, Any, Iterable, List, Optional, Sequence, Tuple, Union
 
 from .. import convert
 from ..errors import refusal
-from ..mask import Mask
-from ..matrix import Matrix, Op, Ring, _applied, _of_kind
+from ..mask import Mask, as_mask
+from ..matrix import MaskLike, Matrix, Op, Ring, _applied, _of_kind
 from ..operators import binary, find_semiring, indexunary
 from . import cuts, moves, products, tasks
 from .cuts import Cut
@@ -15,11 +15,10 @@ from .place import Counts
 if TYPE_CHECKING:
     from .sessions import Sessions
 
-MaskLike = Union['BlockMatrix', Mask, None]
 HELD = 16                                          # whole matrices that a result holds, so that it is soon made again
 
 
-class BlockMatrix:
+class BlockMatrix(Matrix):
     """A matrix in row blocks, each in one of several sessions. A `Sessions` makes them; nothing changes one.
 
     A block is a matrix of the whole's shape that has the entries of its own rows alone. So a job is the same command at each block,
@@ -35,8 +34,9 @@ class BlockMatrix:
 
     def __init__(self, sessions: 'Sessions', futures: Sequence[Any], cut: Cut, ncols: int, name: Optional[str] = None,
                  holds: Iterable[Any] = ()) -> None:
-        self.sessions, self.futures, self.cut, self.ncols, self.name = sessions, list(futures), cut, ncols, name
-        self.nodes: Optional[List[Any]] = None
+        # no session of its own holds it, so nothing of Matrix is set up
+        self.sessions, self.futures, self.cut = sessions, list(futures), cut
+        self.nrows, self.ncols, self.name, self.nodes = cut.nrows, ncols, name or 'in blocks', None
         self.holds = tuple(dict.fromkeys(holds))[-HELD:] if sessions.engine.recovers else ()
         self._counts: Optional[List[Counts]] = None
         self._whole: Any = None
@@ -46,22 +46,12 @@ class BlockMatrix:
         raise TypeError('a matrix belongs to its sessions, and can not be pickled: pickle to_coo(), or write a file')
 
     def __repr__(self) -> str:
-        return '<BlockMatrix %s%dx%d, %d blocks>' % (self.name + ' ' if self.name else '', *self.shape, self.cut.blocks)
+        return '<BlockMatrix %s %dx%d, %d blocks>' % (self.name, *self.shape, self.cut.blocks)
 
     # -- what it is
 
     @property
-    def nrows(self) -> int:
-        """Rows of the whole."""
-        return self.cut.nrows
-
-    @property
-    def shape(self) -> Tuple[int, int]:
-        """Rows and columns of the whole."""
-        return self.nrows, self.ncols
-
-    @property
-    def session(self) -> 'Sessions':
+    def session(self) -> 'Sessions':  # type: ignore[override]
         """The sessions, which cut what they make at this matrix's rows where it has as many: what algorithms ask of `Matrix.session`."""
         return self.sessions.cut_as(self.cut)
 
@@ -79,12 +69,12 @@ class BlockMatrix:
         return sum(counts.nvals for counts in self.counts())
 
     @property
-    def price(self) -> int:
+    def price(self) -> int:  # type: ignore[override]
         """Of a job's result the most steps that the job could take, at all blocks together; 0 of what is no job's result."""
         return sum(counts.price for counts in self.counts())
 
     @property
-    def steps(self) -> int:
+    def steps(self) -> int:  # type: ignore[override]
         """Of a job's result the steps that the job took, at all blocks together."""
         return sum(counts.steps for counts in self.counts())
 
@@ -96,14 +86,9 @@ class BlockMatrix:
     new = wait
 
     @property
-    def S(self) -> Mask:
-        """The mask of the positions that are stored here; see `Matrix.S`."""
-        return Mask(self)  # type: ignore[arg-type]
-
-    @property
-    def V(self) -> Mask:
-        """The mask of the positions whose value isn't 0; see `Matrix.V`."""
-        return Mask(self, value=True)  # type: ignore[arg-type]
+    def waits(self) -> bool:
+        """Whether it isn't known yet that all blocks are made."""
+        return self._counts is None
 
     # -- jobs at each block
 
@@ -117,12 +102,12 @@ class BlockMatrix:
         """The entries for which an index operator's answer isn't 0. In the GraphBLAS GrB_select."""
         return self.job('select', [], [_of_kind('index', op, 'select'), convert.word(thunk, 'thunk')], mask=mask, name=name)
 
-    def ewise_add(self, other: 'BlockMatrix', op: Op = 'plus', *, mask: MaskLike = None, name: Optional[str] = None) -> 'BlockMatrix':
+    def ewise_add(self, other: Matrix, op: Op = 'plus', *, mask: MaskLike = None, name: Optional[str] = None) -> 'BlockMatrix':
         """op(x, y) where both have an entry, else a copy. In the GraphBLAS GrB_eWiseAdd; here `union`."""
         self.check_shape('union', other, self.shape)
         return self.job('ewise_add', [other], [_of_kind('binary', op, 'union')], mask=mask, name=name)
 
-    def ewise_mult(self, other: 'BlockMatrix', op: Op = 'times', *, mask: MaskLike = None, name: Optional[str] = None) -> 'BlockMatrix':
+    def ewise_mult(self, other: Matrix, op: Op = 'times', *, mask: MaskLike = None, name: Optional[str] = None) -> 'BlockMatrix':
         """op(x, y) where both have an entry. In the GraphBLAS GrB_eWiseMult; here `both`."""
         self.check_shape('both', other, self.shape)
         return self.job('ewise_mult', [other], [_of_kind('binary', op, 'both')], mask=mask, name=name)
@@ -135,24 +120,24 @@ class BlockMatrix:
         """A copy; under a mask what of it lies there. Price and steps are those of the last of its jobs, as `Matrix` has it."""
         return self.job('dup', [], [], mask=mask, name=name)
 
-    def without(self, mask: Union['BlockMatrix', Mask], *, name: Optional[str] = None) -> 'BlockMatrix':
+    def without(self, mask: Union[Matrix, Mask], *, name: Optional[str] = None) -> 'BlockMatrix':
         """The entries outside a mask; see `Matrix.without`."""
         where = self._mask(mask, self.shape)
         if where is None:
             raise TypeError('a mask is wanted')
         return self.dup(mask=~where, name=name)
 
-    def update(self, other: 'BlockMatrix', accum: Optional[Op] = None, mask: MaskLike = None, replace: bool = False, *,
+    def update(self, other: Matrix, accum: Optional[Op] = None, mask: MaskLike = None, replace: bool = False, *,
                name: Optional[str] = None) -> 'BlockMatrix':
         """What the GraphBLAS writes C<M, accum> = other; see `Matrix.update`."""
         self.check_shape('union', other, self.shape)
         op = None if accum is None else _of_kind('binary', accum, 'union')
         return self.job('update', [other], [op], mask=mask, name=name, replace=replace)
 
-    def isequal(self, other: 'BlockMatrix') -> bool:
+    def isequal(self, other: Matrix) -> bool:
         """Whether both have the same sizes, positions and values. No job where sizes or numbers of entries differ; else 2 jobs at
         each block."""
-        _check_blocks(other)
+        self._check_sessions(other)
         if self.shape != other.shape or self.nvals != other.nvals:
             return False
         differ = self.ewise_mult(other, binary.ne)
@@ -178,29 +163,29 @@ class BlockMatrix:
         return [(future, where.value, where.complement) for future in matrix.futures]
 
     def _mask(self, mask: MaskLike, shape: Tuple[int, int]) -> Optional[Mask]:
-        if mask is None:
+        where = as_mask(mask)
+        if where is None:
             return None
-        where = mask if isinstance(mask, Mask) else Mask(mask)  # type: ignore[arg-type]
-        _check_blocks(where.matrix)
-        self._check_sessions(where.matrix)  # type: ignore[arg-type]
+        self._check_sessions(where.matrix)
         if where.matrix.shape != shape:
             raise refusal('J9', detail='the result is %dx%d, the mask %dx%d' % (*shape, *where.matrix.shape))
         return where
 
-    def check_shape(self, form: str, other: 'BlockMatrix', shape: Tuple[int, Optional[int]]) -> None:
+    def check_shape(self, form: str, other: Matrix, shape: Tuple[int, Optional[int]]) -> None:
         """DimensionMismatch where another matrix isn't of this shape, where None stands for any."""
-        _check_blocks(other)
         self._check_sessions(other)
         if any(want is not None and want != got for want, got in zip(shape, other.shape)):
             raise refusal('J5', command=form, detail='%dx%d and %dx%d' % (*self.shape, *other.shape))
 
-    def _check_sessions(self, other: 'BlockMatrix') -> None:
+    def _check_sessions(self, other: Any) -> None:
+        if not isinstance(other, BlockMatrix):
+            raise TypeError('a matrix in blocks is wanted, not %r' % (other,))
         if other.sessions.settings.token != self.sessions.settings.token:
             raise ValueError('a matrix of other sessions')
 
     # -- products and folds
 
-    def mxm(self, other: 'BlockMatrix', op: Ring = 'plus_times', *, mask: MaskLike = None, associative: Optional[bool] = None,
+    def mxm(self, other: Matrix, op: Ring = 'plus_times', *, mask: MaskLike = None, associative: Optional[bool] = None,
             name: Optional[str] = None) -> 'BlockMatrix':
         """The product over a semiring; see `Matrix.mxm`. In the GraphBLAS GrB_mxm.
 
@@ -228,13 +213,13 @@ class BlockMatrix:
         waits = other.ncols != 1 or associative or self.sessions.engine.recovers
         return made.wait() if waits else made
 
-    def mxv(self, vector: 'BlockMatrix', op: Ring = 'plus_times', *, mask: MaskLike = None,
+    def mxv(self, vector: Matrix, op: Ring = 'plus_times', *, mask: MaskLike = None,
             name: Optional[str] = None) -> 'BlockMatrix':
         """`mxm` with a column, which goes to each session. In the GraphBLAS GrB_mxv."""
         self.check_shape('product', vector, (self.ncols, 1))
         return self.mxm(vector, op, mask=mask, associative=False, name=name)
 
-    def vxm(self, matrix: 'BlockMatrix', op: Ring = 'plus_times', *, mask: MaskLike = None,
+    def vxm(self, matrix: Matrix, op: Ring = 'plus_times', *, mask: MaskLike = None,
             name: Optional[str] = None) -> 'BlockMatrix':
         """`mxm` of this row with a matrix. In the GraphBLAS GrB_vxm."""
         if self.nrows != 1:
@@ -299,16 +284,3 @@ class BlockMatrix:
         target.write(cuts.head(*self.shape, self.nvals))
         for lines in self.texts():
             target.write(lines)
-
-    to_coo: Callable[..., Tuple[Any, Any, Any]] = Matrix.to_coo
-    to_triples: Callable[..., List[Tuple[int, int, int]]] = Matrix.to_triples
-    to_dict: Callable[..., Any] = Matrix.to_dict
-    to_list: Callable[..., List[Any]] = Matrix.to_list
-    to_dense: Callable[..., Any] = Matrix.to_dense
-    to_scipy_sparse: Callable[..., Any] = Matrix.to_scipy_sparse
-    to_networkx: Callable[..., Any] = Matrix.to_networkx
-
-
-def _check_blocks(other: Any) -> None:
-    if not isinstance(other, BlockMatrix):
-        raise TypeError('a matrix in blocks is wanted, not %r' % (other,))

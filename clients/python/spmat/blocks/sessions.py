@@ -13,7 +13,7 @@ from ..errors import BudgetExceeded
 from ..market import Triples
 from ..operators import Operator, find
 from ..session import Budget
-from ..wire import MOST_STEPS, Program, check_settings
+from ..wire import MOST_STEPS, MOST_WORKERS, Program
 from . import cuts, pieces, tasks
 from .cuts import Cut
 from .engines import Engine, Threads
@@ -39,7 +39,7 @@ class Sessions:
     def __init__(self, engine: Union[Engine, int, None] = None, *, steps: int = MOST_STEPS, workers: int = 1,
                  program: Optional[Program] = None, blocks: Optional[int] = None, folder: Optional[str] = None,
                  associative: Iterable[Op] = (), texts: bool = False) -> None:
-        check_settings(steps, workers)
+        _check_settings(steps, workers)
         self.engine = engine if isinstance(engine, Engine) else Threads() if engine is None else Threads(engine)
         self.blocks = self.engine.places if blocks is None else convert.whole(blocks, 'number of blocks')
         if self.blocks < 1:
@@ -216,3 +216,9 @@ class Sessions:
         path = os.path.join(self.folder, uuid.uuid4().hex + '.mtx')
         self.files.append(path)
         return path
+
+
+def _check_settings(steps: int, workers: int) -> None:
+    """A ValueError here where each session would raise one."""
+    if not 0 <= steps <= MOST_STEPS or not 1 <= workers <= MOST_WORKERS:
+        raise ValueError('steps are 0 to %d (2^62), workers 1 to %d' % (MOST_STEPS, MOST_WORKERS))
