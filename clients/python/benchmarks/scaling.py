@@ -122,7 +122,7 @@ def cluster(count: int) -> Iterator[Any]:
     """Worker processes of this machine, of one thread each."""
     import dask
     from distributed import Client, LocalCluster
-    with dask.config.set({'distributed.scheduler.work-stealing': False}), \
+    with dask.config.set({'distributed.scheduler.work-stealing': False, 'distributed.scheduler.active-memory-manager.start': False}), \
             LocalCluster(n_workers=count, threads_per_worker=1, dashboard_address=None, memory_limit=0) as workers, \
             Client(workers) as client:
         yield client

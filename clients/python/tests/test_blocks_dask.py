@@ -56,7 +56,8 @@ class Dask(unittest.TestCase):
         from distributed import Client, LocalCluster
         cls.ends.close()
         cls.ends.enter_context(dask.config.set({'distributed.scheduler.allowed-failures': 1,
-                                                'distributed.scheduler.work-stealing': False}))
+                                                'distributed.scheduler.work-stealing': False,
+                                                'distributed.scheduler.active-memory-manager.start': False}))
         cls.cluster = cls.ends.enter_context(LocalCluster(n_workers=WORKERS, threads_per_worker=1, dashboard_address=None,
                                                           silence_logs=logging.CRITICAL))
         cls.client = cls.ends.enter_context(Client(cls.cluster))

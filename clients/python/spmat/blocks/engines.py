@@ -121,8 +121,10 @@ class Dask(Engine):
     """The workers of a `distributed.Client` that the caller made, of whatever cluster: processes of this machine, SSH, Kubernetes.
     Each worker process has one session. The client stays the caller's, who closes it.
 
-    Where blocks are about as large, let each task stay with its block: `distributed.scheduler.work-stealing: false`, else workers that
-    wait for others take tasks from these, and the text of what they are made of.
+    Two settings save text that goes to and fro, and work when a worker is lost; results are right without them, too.
+    `distributed.scheduler.work-stealing: false` has each task stay with its block, where else workers that wait take tasks from
+    others. `distributed.scheduler.active-memory-manager.start: false` leaves a whole matrix with all workers that used it, where else
+    all copies but one are dropped after some seconds, sent once more, and made again where that one is lost.
 
     A worker that is lost loses nothing: the scheduler computes its tasks again on others, from the tasks before them. A block
     that fails so again and again (`distributed.scheduler.allowed-failures`) ends as BlockFailed."""

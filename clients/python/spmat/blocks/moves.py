@@ -29,15 +29,15 @@ def lines(matrix: 'BlockMatrix') -> Iterator[tasks.Lines]:
 
 
 def whole(matrix: 'BlockMatrix') -> Any:
-    """The future of the whole matrix as one piece. It is joined at one worker and goes from there to those that want it, each of which
-    has a copy then; it is kept while the matrix is held."""
+    """The future of the whole matrix as one piece. It is joined at one worker, in turn, and goes from there to those that want it, each
+    of which has a copy then. It is kept while the matrix is held."""
     if matrix._whole is None:
         if matrix.cut.blocks == 1:
             matrix._whole = matrix.futures[0]
         else:
             parts = [_lines(matrix, block, first, end) for block, (first, end) in enumerate(matrix.cut.ranges())]
-            matrix._whole = matrix.sessions.submit(0, 'the whole of a %dx%d matrix' % matrix.shape, tasks.assembled, matrix.shape,
-                                                   parts)
+            matrix._whole = matrix.sessions.submit(next(matrix.sessions.turns), 'the whole of a %dx%d matrix' % matrix.shape,
+                                                   tasks.assembled, matrix.shape, parts)
     return matrix._whole
 
 

@@ -4,6 +4,7 @@ from __future__ import annotations
 import contextlib
 import copy
 import dataclasses
+import itertools
 import os
 import uuid
 from typing import Any, Callable, Dict, Iterable, List, Optional, Sequence, Tuple, Union
@@ -47,6 +48,7 @@ class Sessions:
         self.folder = folder
         self.files: List[str] = []                 # what was written there
         self.associative = frozenset(find('binary', op) for op in associative)
+        self.turns = itertools.count()             # which place is the next to join a whole
         self.cut: Optional[Cut] = None
         settings = Settings(steps, workers, program, texts)
         self.settings = dataclasses.replace(settings, version=self._version(settings))
