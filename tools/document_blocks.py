@@ -16,8 +16,8 @@ from sessions import TOP
 
 PYTHON = ('import', 'from')
 SHELL = ('send()', 'export', 'python3', 'printf', 'PATH', 'cd', 'tools/', '{')
-# Blocks that run elsewhere: the gate runs the package's tests itself.
-ELSEWHERE = ('python3 -m unittest',)
+# Blocks that run elsewhere: the gate runs the package's tests itself, and these run what wants Dask.
+ELSEWHERE = ('python3 -m unittest', 'from distributed')
 
 
 class Block(NamedTuple):

@@ -1,5 +1,5 @@
 """Cases that hold the documents to the program: examples, shell functions, and each reply that the tables of rules in
-docs/protocol.md and docs/operators.md show; and every code block of docs/examples.md and of the Python client's README."""
+docs/protocol.md and docs/operators.md show; and every code block of docs/examples.md, docs/scaling.md and the Python client's README."""
 import os
 import re
 import subprocess
@@ -197,6 +197,7 @@ def worked_operators(program):
 
 DOCUMENT_CASES = {
     'examples': page_case('docs/examples.md'),
+    'scaling': page_case('docs/scaling.md'),
     'client-readme': page_case('clients/python/README.md'),
     'protocol-example': protocol_example,
     'protocol-operators': protocol_operators,

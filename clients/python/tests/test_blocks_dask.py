@@ -4,9 +4,12 @@ import contextlib
 import gc
 import logging
 import os
+import re
 import shutil
 import signal
 import stat
+import subprocess
+import sys
 import tempfile
 import unittest
 
@@ -39,6 +42,23 @@ def uploads_of(store):
 def use_program(path):
     """Has a worker find another program."""
     os.environ['SPMAT'] = path
+
+
+@support.needs('distributed')
+class Page(unittest.TestCase):
+    def test_the_cluster_of_the_page(self):
+        """The block of docs/scaling.md that makes a cluster prints what it says."""
+        with open(os.path.join(support.TOP, 'docs', 'scaling.md'), encoding='utf-8') as file:
+            shown = [re.sub('^    ', '', block, flags=re.M) for block in re.findall(r'(?:^    .*\n)+', file.read(), re.M)]
+        lines, said = next(pair for pair in zip(shown, shown[1:]) if pair[0].startswith('from distributed'))
+        with tempfile.TemporaryDirectory() as folder:
+            path = os.path.join(folder, 'example.py')
+            with open(path, 'w', encoding='utf-8') as file:
+                file.write(lines)
+            client = os.path.dirname(os.path.dirname(os.path.abspath(spmat.__file__)))
+            printed = subprocess.run([sys.executable, path], stdout=subprocess.PIPE, stderr=subprocess.DEVNULL, check=True, timeout=100,
+                                     env=dict(os.environ, PYTHONPATH=client)).stdout.decode()
+        self.assertEqual(printed, said)
 
 
 @support.needs('distributed')
