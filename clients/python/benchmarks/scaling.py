@@ -138,19 +138,17 @@ def by_dask(count: int, path: str, source: int, texts: bool = False) -> Row:
         return measure('Dask, %d workers%s' % (count, ', `texts`' if texts else ''), s, path, source, moved)
 
 
-def table(rows: List[Row]) -> str:
-    """The rows in Markdown."""
-    parts = list(rows[0].seconds)
-    heads = ['', *('%s, s' % part for part in parts), *('%s, ratio' % part for part in parts[1:]), 'in', 'out', 'between', 'program',
-             'python']
-    lines = [heads, ['---'] * len(heads)]
-    for row in rows:
-        ratios = ['%.2f' % (row.seconds[part] / rows[0].seconds[part]) for part in parts[1:]]
-        sums = [sum(one[k] for one in row.moved) for k in (0, 1, 4)]
-        peaks = [max(one[k] for one in row.moved) for k in (2, 3)]
-        lines.append([row.name, *('%.2f' % row.seconds[part] for part in parts), *ratios,
-                      *('%.1f' % (size / 1e6) for size in sums + peaks)])
-    return '\n'.join('| %s |' % ' | '.join(line) for line in lines)
+PARTS = ('read', 'triangles', 'levels')
+HEADS = ('', *('%s, s' % part for part in PARTS), *('%s, ratio' % part for part in PARTS[1:]), 'in', 'out', 'between', 'program', 'python')
+
+
+def line_of(row: Row, first: Row) -> str:
+    """A row of the table in Markdown, with its ratios to the first."""
+    ratios = ['%.2f' % (row.seconds[part] / first.seconds[part]) for part in PARTS[1:]]
+    sums = [sum(one[k] for one in row.moved) for k in (0, 1, 4)]
+    peaks = [max(one[k] for one in row.moved) for k in (2, 3)]
+    cells = [row.name, *('%.2f' % row.seconds[part] for part in PARTS), *ratios, *('%.1f' % (size / 1e6) for size in sums + peaks)]
+    return '| %s |' % ' | '.join(cells)
 
 
 def main() -> None:
@@ -168,16 +166,15 @@ def main() -> None:
         print('%d entries, %.1f MB of text, %d processors, load %.1f%s, Python %s' % (
             given.entries, os.path.getsize(path) / 1e6, os.cpu_count() or 1, os.getloadavg()[0],
             ' (a busy machine)' if given.busy else '', platform.python_version()), flush=True)
-        rows: List[Row] = []
+        print('| %s |\n|%s' % (' | '.join(HEADS), ' --- |' * len(HEADS)), flush=True)
+        first: Optional[Row] = None
         for kind in ['one'] + [kind for kind in given.only if kind != 'one']:
             for count in given.workers if kind in given.only else [1]:
-                row: Optional[Row] = kinds[kind](count, path, source)
-                assert row is not None
-                rows.append(row)
-                print(row.name, ', '.join('%s %.2f' % part for part in row.seconds.items()), row.answers, file=sys.stderr, flush=True)
-                if row.answers != rows[0].answers:
-                    sys.exit('%s answers %s, and %s answers %s' % (row.name, row.answers, rows[0].name, rows[0].answers))
-    print(table(rows))
+                row = kinds[kind](count, path, source)
+                first = first or row
+                print(line_of(row, first), flush=True)
+                if row.answers != first.answers:
+                    sys.exit('%s answers %s, and %s answers %s' % (row.name, row.answers, first.name, first.answers))
 
 
 if __name__ == '__main__':
