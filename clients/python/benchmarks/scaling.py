@@ -5,10 +5,12 @@ Measures what it costs to be in blocks: the triangle count and a breadth-first s
 worker threads, by as many sessions over `Threads`, and by as many worker processes over Dask, with results taken out of the sessions
 only where others want them, and at each task (`texts`). All in one run, so that ratios are of one machine in one state.
 
-Prints a table in Markdown. Seconds are what passes; ratios are to one session with one worker thread. `in` and `out` are the texts
-that went into and out of all sessions, `between` what workers sent one another, in MB of 1,000,000 bytes; `program` is the peak memory
-of the largest process `spmat`, `python` that of the largest worker process (of this process, where there is none). Needs numpy and
-Linux, and `distributed` for Dask. The answers of all are compared.
+Prints a table in Markdown, a row as it is measured. Seconds are what passes; ratios are to one session with one worker thread. Then come
+seconds of processors, which a busy machine changes less: of all processes `spmat` together, of the one with most, of the worker processes
+(0 where there are none), and of this process, which is the client and Dask's scheduler. `in` and `out` are the texts that went into and out
+of all sessions, `between` what workers sent one another, in MB of 1,000,000 bytes; `program` is the peak memory of the largest process
+`spmat`, `python` that of the largest worker process (of this process, where there is none). Needs numpy and Linux, and `distributed` for
+Dask. The answers of all are compared.
 """
 from __future__ import annotations
 
@@ -30,20 +32,26 @@ ALPHA = 0.6                                        # the weight of the vertex of
 
 
 class Moved(NamedTuple):
-    """Bytes into and out of one session, and the peak memory of its program and of the process that holds it."""
+    """Bytes into and out of one session, the peak memory of its program and of the process that holds it, and the seconds of a
+    processor that both took."""
     sent: int
     received: int
     program: int
     python: int
+    program_busy: float
+    python_busy: float
     between: int = 0
 
 
 class Row(NamedTuple):
-    """One configuration's seconds by part, what moved, and its answers."""
+    """One configuration's seconds by part, what moved, its answers, and the seconds of a processor that its worker processes and this
+    process took."""
     name: str
     seconds: Dict[str, float]
     moved: List[Moved]
     answers: List[Any]
+    workers_busy: float
+    here_busy: float
 
 
 def power_law_graph(entries: int, path: str) -> int:
@@ -74,10 +82,18 @@ def peak_memory(pid: Any = 'self') -> int:
         return next(int(line.split()[1]) * 1024 for line in file if line.startswith('VmHWM'))
 
 
+def busy(pid: Any = 'self') -> float:
+    """The seconds of a processor that a process took."""
+    with open('/proc/%s/stat' % pid, encoding='ascii', errors='replace') as file:
+        fields = file.read().rsplit(')', 1)[1].split()
+    return (int(fields[11]) + int(fields[12])) / os.sysconf('SC_CLK_TCK')
+
+
 def moved_by(session: spmat.Session) -> Moved:
     """What went into and out of a session."""
     connection = session.connection
-    return Moved(connection.sent, connection.received, peak_memory(connection._channel.process.pid), peak_memory())  # type: ignore
+    program = connection._channel.process.pid  # type: ignore
+    return Moved(connection.sent, connection.received, peak_memory(program), peak_memory(), busy(program), busy())
 
 
 def moved_at(store: Any) -> Moved:
@@ -97,13 +113,16 @@ def timed(seconds: Dict[str, float], part: str, work: Callable[[], Any]) -> Any:
     return out
 
 
-def measure(name: str, s: Any, path: str, source: int, moved: Callable[[], List[Moved]]) -> Row:
-    """Reads the graph, counts its triangles, and searches it."""
+def measure(name: str, s: Any, path: str, source: int, moved: Callable[[], List[Moved]], apart: bool = False) -> Row:
+    """Reads the graph, counts its triangles, and searches it. `apart` says whether workers are processes of their own."""
     seconds: Dict[str, float] = {}
+    before, here = sum(one.python_busy for one in moved()), busy()
     G = timed(seconds, 'read', lambda: s.mmread(path).wait())
     triangles = timed(seconds, 'triangles', lambda: algorithms.triangle_count(G))
     levels = timed(seconds, 'levels', lambda: algorithms.bfs_levels(G, source, G).wait())
-    return Row(name, seconds, moved(), [triangles, levels.nvals, levels.reduce_scalar('plus')])
+    here, after = busy() - here, moved()
+    workers = sum(one.python_busy for one in after) - before if apart else 0.0
+    return Row(name, seconds, after, [triangles, levels.nvals, levels.reduce_scalar('plus')], workers, here)
 
 
 def one_session(workers: int, path: str, source: int) -> Row:
@@ -135,19 +154,23 @@ def by_dask(count: int, path: str, source: int, texts: bool = False) -> Row:
             between = client.run(sent_between)
             return [one._replace(between=between[worker])
                     for worker, one in s.engine.everywhere(s.settings, moved_at).items()]
-        return measure('Dask, %d workers%s' % (count, ', `texts`' if texts else ''), s, path, source, moved)
+        return measure('Dask, %d workers%s' % (count, ', `texts`' if texts else ''), s, path, source, moved, True)
 
 
 PARTS = ('read', 'triangles', 'levels')
-HEADS = ('', *('%s, s' % part for part in PARTS), *('%s, ratio' % part for part in PARTS[1:]), 'in', 'out', 'between', 'program', 'python')
+HEADS = ('', *('%s, s' % part for part in PARTS), *('%s, ratio' % part for part in PARTS[1:]), 'programs, s', 'most, s', 'workers, s',
+         'here, s', 'in', 'out', 'between', 'program', 'python')
 
 
 def line_of(row: Row, first: Row) -> str:
     """A row of the table in Markdown, with its ratios to the first."""
     ratios = ['%.2f' % (row.seconds[part] / first.seconds[part]) for part in PARTS[1:]]
-    sums = [sum(one[k] for one in row.moved) for k in (0, 1, 4)]
-    peaks = [max(one[k] for one in row.moved) for k in (2, 3)]
-    cells = [row.name, *('%.2f' % row.seconds[part] for part in PARTS), *ratios, *('%.1f' % (size / 1e6) for size in sums + peaks)]
+    sizes = [sum(column) for column in zip(*((one.sent, one.received, one.between) for one in row.moved))]
+    peaks = [max(column) for column in zip(*((one.program, one.python) for one in row.moved))]
+    programs = [one.program_busy for one in row.moved]
+    cells = [row.name, *('%.2f' % row.seconds[part] for part in PARTS), *ratios,
+             *('%.1f' % number for number in (sum(programs), max(programs), row.workers_busy, row.here_busy)),
+             *('%.1f' % (size / 1e6) for size in sizes + peaks)]
     return '| %s |' % ' | '.join(cells)
 
 
