@@ -181,7 +181,7 @@ class Dask(Engine):
         return self._client.run(_apart, version_of, settings.program)
 
     def close(self, settings: Settings) -> None:
-        self._client.run(_apart, close_store, settings)
+        self._client.run(_apart, close_store, settings, on_error='ignore')
 
 
 def _on_worker(settings: Settings, label: str, function: Callable[..., Any], args: Sequence[Any]) -> Any:

@@ -8,10 +8,11 @@ from __future__ import annotations
 
 import abc
 import array
+import bisect
 import hashlib
 import itertools
 import tempfile
-from typing import Any, BinaryIO, Iterable, Iterator, List, Optional, Sequence, Tuple
+from typing import Any, BinaryIO, Iterable, Iterator, List, Optional, Tuple
 
 from .. import convert, files, market
 from ..errors import Refused, refusal
@@ -41,10 +42,14 @@ def got(path: str, digest: bytes) -> bytes:
 
 
 class Spooled(abc.ABC):
-    """Entries whose rows are counted, and that are given block by block. To be used in a `with`."""
+    """Entries whose rows can be counted, and that are given block by block. To be used in a `with`."""
     nrows: int
     ncols: int
-    counts: Any                                    # the number of entries of each row
+
+    @property
+    @abc.abstractmethod
+    def counts(self) -> Any:
+        """The number of entries of each row."""
 
     def __enter__(self) -> Any:
         return self
@@ -75,23 +80,27 @@ class Held(Spooled):
 
     def __init__(self, triples: Triples) -> None:
         self.nrows, self.ncols = triples.nrows, triples.ncols
-        self.counts = _counted(_no_counts(self.nrows, market.is_array(triples.rows)), triples.rows)
         self._triples = triples
+
+    @property
+    def counts(self) -> Any:
+        return _counted(_no_counts(self.nrows), self._triples.rows)
 
     def blocks(self, cut: Cut) -> Iterator[Triples]:
         rows, columns, values, nrows, ncols = self._triples
-        ends = [0, *_ends(self.counts)]
-        bounds = [ends[bound] for bound in cut.bounds]
         if market.is_array(rows):
             import numpy
             order = numpy.argsort(rows, kind='stable')
+            bounds = numpy.searchsorted(rows[order], cut.bounds).tolist()
             for at in itertools.starmap(slice, zip(bounds, bounds[1:])):
                 yield Triples(rows[order[at]], columns[order[at]], values[order[at]], nrows, ncols)
             return
         order = sorted(range(len(rows)), key=rows.__getitem__)
+        ascending = [rows[k] for k in order]
+        bounds = [bisect.bisect_left(ascending, bound) for bound in cut.bounds]
         for first, end in zip(bounds, bounds[1:]):
             part = order[first:end]
-            yield Triples([rows[k] for k in part], [columns[k] for k in part], [values[k] for k in part], nrows, ncols)
+            yield Triples(ascending[first:end], [columns[k] for k in part], [values[k] for k in part], nrows, ncols)
 
 
 class Spool(Spooled):
@@ -99,12 +108,16 @@ class Spool(Spooled):
 
     def __init__(self, nrows: int, ncols: int) -> None:
         self.nrows, self.ncols = nrows, ncols
-        self.counts = _no_counts(nrows, market.find_numpy() is not None)
+        self._counts = _no_counts(nrows)
         self._file: BinaryIO = tempfile.TemporaryFile()  # type: ignore[assignment]
         self._ascends, self._last = True, 0
 
     def close(self) -> None:
         self._file.close()
+
+    @property
+    def counts(self) -> Any:
+        return self._counts
 
     def take(self, edges: Iterable[Any]) -> 'Spool':
         """Adds edges of a generator: (row, column, value), or chunks that are arrays with these as columns."""
@@ -124,19 +137,17 @@ class Spool(Spooled):
         rows = triples.rows
         if len(rows) == 0:
             return
-        self.counts = _counted(self.counts, rows)
+        self._counts = _counted(self._counts, rows)
         self._file.write(_packed(triples))
         if self._ascends:
             self._ascends = self._last <= rows[0] and _ascends(rows)
             self._last = rows[-1]
 
     def blocks(self, cut: Cut) -> Iterator[Triples]:
-        ends = [0, *_ends(self.counts)]
-        sizes = [ends[end] - ends[first] for first, end in cut.ranges()]
         if self._ascends:
             self._file.seek(0)
-            for size in sizes:
-                yield self._unpacked(self._file.read(size * WIDTH))
+            for first, end in cut.ranges():
+                yield self._unpacked(self._file.read(_total(self._counts[first:end]) * WIDTH))
             return
         yield from self._sorted_out(cut)
 
@@ -178,25 +189,27 @@ def _ascends(rows: Any) -> bool:
     return all(a <= b for a, b in zip(rows, rows[1:]))
 
 
-def _no_counts(nrows: int, arrays: bool) -> Any:
-    if arrays:
-        import numpy
-        return numpy.zeros(nrows, numpy.int64)
-    return array.array('q', bytes(8 * nrows))
+def _no_counts(nrows: int) -> Any:
+    numpy = market.find_numpy()
+    return array.array('q', bytes(8 * nrows)) if numpy is None else numpy.zeros(nrows, numpy.int64)
 
 
-def _counted(counts: Any, rows: Sequence[int]) -> Any:
+def _counted(counts: Any, rows: Any) -> Any:
     """The counts with those of more rows."""
-    if market.is_array(counts):
+    if market.is_array(counts) and len(rows):
         import numpy
-        return counts + numpy.bincount(numpy.asarray(rows, numpy.int64), minlength=len(counts)) if len(rows) else counts
-    for row in rows:
-        counts[row] += 1
+        many = numpy.asarray(rows, numpy.int64)
+        least = int(many.min())
+        more = numpy.bincount(many - least)
+        counts[least:least + len(more)] += more
+    elif len(rows):
+        for row in rows:
+            counts[row] += 1
     return counts
 
 
-def _ends(counts: Any) -> List[int]:
-    return counts.cumsum().tolist() if market.is_array(counts) else list(itertools.accumulate(counts))
+def _total(counts: Any) -> int:
+    return int(counts.sum()) if market.is_array(counts) else sum(counts)
 
 
 # -- Matrix Market files

@@ -89,7 +89,11 @@ class Sessions:
     def budgets(self) -> Dict[str, Budget]:
         """What the budget of each session holds, by the name of its worker; of workers in one process, which share one, the first."""
         found: Dict[str, Tuple[str, Budget]] = {}
-        for worker, (session, budget) in self.engine.everywhere(self.settings, tasks.budget).items():
+        try:
+            told = self.engine.everywhere(self.settings, tasks.budget)
+        except AtBlock as at:
+            raise named(at.label, at.fault) from None
+        for worker, (session, budget) in told.items():
             found.setdefault(session, (worker, budget))
         return dict(found.values())
 
@@ -111,7 +115,8 @@ class Sessions:
         except AtBlock as at:
             fault, cause = named(at.label, at.fault), at.fault
         if isinstance(fault, BudgetExceeded):
-            fault = in_all(fault, self.budget().spent)
+            with contextlib.suppress(Exception):   # a worker that is lost meanwhile can't be asked
+                fault = in_all(fault, self.budget().spent)
         try:
             raise fault from (cause if cause is not fault else None)
         finally:
@@ -178,13 +183,13 @@ class Sessions:
         futures = [self.submit(k, cut.label(k), *task(first, end)) for k, (first, end) in enumerate(cut.ranges())]
         return BlockMatrix(self, futures, cut, ncols, name)
 
-    def _cut(self, nrows: int, counts: Optional[Sequence[int]], given: Optional[Sequence[int]] = None) -> Cut:
+    def _cut(self, nrows: int, spool: Optional['pieces.Spooled'], given: Optional[Sequence[int]] = None) -> Cut:
         """Where a new matrix is cut: as the caller says, as the matrix that these sessions cut after, or by entries."""
         if given is not None:
             return cuts.checked(given.bounds if isinstance(given, Cut) else given, nrows)
         if self.cut is not None and self.cut.nrows == nrows:
             return self.cut
-        return cuts.evenly(nrows, self.blocks) if counts is None else cuts.by_entries(counts, self.blocks)
+        return cuts.evenly(nrows, self.blocks) if spool is None else cuts.by_entries(spool.counts, self.blocks)
 
     def _from(self, triples: Triples, dup_op: Optional[Op] = None, name: Optional[str] = None) -> BlockMatrix:
         if dup_op is not None:
@@ -200,7 +205,7 @@ class Sessions:
 
     def _spooled(self, spool: 'pieces.Spooled', given: Optional[Sequence[int]], name: Optional[str]) -> BlockMatrix:
         """A matrix of what lies in a spool, block by block."""
-        cut = self._cut(spool.nrows, spool.counts, given)
+        cut = self._cut(spool.nrows, spool, given)
         futures = []
         for block, text in enumerate(spool.texts(cut)):
             futures.append(self._put(block, cut.label(block), text))
