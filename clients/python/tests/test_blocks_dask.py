@@ -208,7 +208,7 @@ class Dask(unittest.TestCase):
             again = sum(self.client.run_on_scheduler(computed_again).values()) - before
             self.assertEqual(got, algorithms.pagerank(GRAPH.matrix(self.one), damping=.6, tolerance=.001).to_text())
             self.assertGreater(again, 0)
-            self.assertLess(again, 50)                                 # of some 200
+            self.assertLess(again, 50)                                 # of some 250
 
     def test_checkpoint(self):
         """In a folder that all workers see: what came before is not computed again."""
