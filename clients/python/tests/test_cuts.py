@@ -34,7 +34,7 @@ class Cuts(unittest.TestCase):
         """Operands and masks that are cut elsewhere."""
         with spmat.Session() as one, blocks.Sessions(3) as many:
             (A, B, K), (X, Y, Z) = Pair(one, many, 'random').sides
-            for bounds in ([0, 40], [0, 0, 13, 40, 40], [0, 5, 6, 7, 40], [0, 20, 40]):
+            for bounds in ([0, 40], [0, 0, 13, 40, 40], [0, 5, 6, 7, 40], [0, 20, 40], [0, 5, 33, 40], [0, 40, 40, 40]):
                 U = Y.recut(bounds)
                 self.assertEqual((U.cut.bounds, U.to_text()), (tuple(bounds), B.to_text()))
                 before = many.budget().spent
