@@ -287,7 +287,7 @@ fn work_late<H: Threads + Sync>(
         seats,
         &|seat: BoardSeat| -> Ended
             requires { MayDrawAt board.now seat × (board.now.prices ≡ prices_of plan.now) }
-            ensures { IsSeatOf board.now result.seat }
+            ensures { IsSeatOf board.entry.now result.seat }
         { work_at(alloc, plan, board, seat) },
     )
 }
