@@ -18,6 +18,7 @@ SIDE = 1 << 12
 MOST_SLOTS = 4096
 MOST_WORKERS = 64
 CHUNK_ROWS = 256
+MOST_TRIES = 5
 LINE_BYTES = 1 << 20
 
 BANNER = b'%%MatrixMarket matrix coordinate integer general\n'
@@ -244,26 +245,35 @@ def threads_of(child: subprocess.Popen, seen: Set[int]) -> None:
         time.sleep(0.002)
 
 
+def threads_seen(program: str, height: int, jobs: int, workers: int) -> int:
+    """In how many threads a batch ran at once, of so many jobs over so many rows with a long operator."""
+    code = RESULT_IS_OPERAND + add(1) * (MOST_SLOTS - 2) + EXIT
+    full, seen = Full(height, 40, lambda column: 0), set()
+    input_ = b''.join(full.command(b'A')) + operator_command('f', code)
+    input_ += b''.join(b'apply B%d f A\n' % number for number in range(jobs)) + b'run\n'
+    with subprocess.Popen([program] + run_words(workers=workers), stdin=subprocess.PIPE, stdout=subprocess.PIPE) as child:
+        watch = threading.Thread(target=threads_of, args=(child, seen))
+        watch.start()
+        said = child.communicate(input_)[0]
+        watch.join()
+    expect('refusals', 0, said.count(b'no '))
+    return max(seen)
+
+
 def workers_of_a_batch(program: str) -> None:
     """A batch of 64 chunks has 64 threads where so many workers are asked for, one of one job as one of several; a batch of two
-    chunks has two, and with one worker there is one."""
+    chunks has two, and with one worker there is one. On a busy machine some may find no chunk left when they begin, so that fewer are
+    seen; never more."""
     rows = MOST_WORKERS * CHUNK_ROWS
-    code = RESULT_IS_OPERAND + add(1) * (MOST_SLOTS - 2) + EXIT
-    columns = 40
     for height, jobs, workers, most in ((rows, 1, MOST_WORKERS, MOST_WORKERS), (rows // 4, 4, MOST_WORKERS, MOST_WORKERS),
                                         (rows // 64, 2, MOST_WORKERS, 2), (rows, 1, 40, 40), (rows // 16, 4, 3, 3),
                                         (rows // 16, 2, 1, 1)):
-        full, seen = Full(height, columns, lambda column: 0), set()
-        input_ = b''.join(full.command(b'A')) + operator_command('f', code)
-        input_ += b''.join(b'apply B%d f A\n' % number for number in range(jobs)) + b'run\n'
-        with subprocess.Popen([program] + run_words(workers=workers), stdin=subprocess.PIPE, stdout=subprocess.PIPE) as child:
-            watch = threading.Thread(target=threads_of, args=(child, seen))
-            watch.start()
-            said = child.communicate(input_)[0]
-            watch.join()
-        expect('refusals', 0, said.count(b'no '))
-        if max(seen) != most:
-            raise Wrong('%d jobs of %d chunks on %d workers ran in %d threads' % (jobs, height // CHUNK_ROWS, workers, max(seen)))
+        for _ in range(MOST_TRIES):
+            seen = threads_seen(program, height, jobs, workers)
+            if seen >= most:
+                break
+        if seen != most:
+            raise Wrong('%d jobs of %d chunks on %d workers ran in %d threads' % (jobs, height // CHUNK_ROWS, workers, seen))
 
 
 LIMIT_CASES: Dict[str, Callable[[str], None]] = {
