@@ -191,7 +191,7 @@ class Quick(unittest.TestCase):
             lines.next_line('M3')
             before, files.FEW = files.FEW, 0
             try:
-                self.assertIsNotNone(files._quickly(kind, text[lines.at:], text.count(b'\n') - 2, 2, columns))
+                self.assertIsNotNone(files.read_quickly(kind, text[lines.at:], text.count(b'\n') - 2, 2, columns))
             finally:
                 files.FEW = before
 
