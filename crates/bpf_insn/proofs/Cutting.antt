@@ -8,8 +8,9 @@ use Rattle.bpf_insn.specs.declared.insn.Insn.{Insn}
 use Rattle.bpf_insn.specs.declared.rule.CodeRule.{CodeRule}
 use Rattle.bpf_insn.specs.Spelling.{spelling, Fits}
 use Rattle.bpf_insn.specs.Broken.{IsBrokenAtFront}
-use Rattle.bpf_insn.specs.Code.{BeginsWith}
-use Rattle.bpf_insn.specs.Program.{slots_of, slot_count, insns_of, cells_of, layout, IsLaid, IsProgram}
+use Rattle.bpf_insn.specs.inner.Code.{BeginsWith}
+use Rattle.bpf_insn.specs.Program.{slots_of, slot_count, insns_of, IsProgram}
+use Rattle.bpf_insn.specs.inner.Program.{cells_of, layout, IsLaid}
 use Rattle.bpf_insn.specs.Code.{code_of, IsBroken, Spells, has_bad_length}
 use Rattle.bpf_insn.proofs.Laying.{layout-laid}
 use Rattle.bpf_insn.proofs.Layouts.{code_of-one, layout-one, insns_of-layout, all-append, length-code_of, length-layout}

@@ -3,7 +3,8 @@ use Rattle.std.proofs.Common.{◌≡◌, ◌<◌, ◌≤◌, ◌+◌, ℕ, List,
 use Rattle.std.proofs.lemmas.List.{take_all, take_more}
 use Rattle.std.specs.Prelude.{Option, None}
 use Rattle.bpf_insn.specs.declared.insn.Insn.{Insn}
-use Rattle.bpf_insn.specs.Program.{insns_of, layout}
+use Rattle.bpf_insn.specs.Program.{insns_of}
+use Rattle.bpf_insn.specs.inner.Program.{layout}
 use Rattle.bpf_insn.specs.Code.{code_of}
 use Rattle.bpf_insn.proofs.Layouts.{insns_of-append, code_of-append, insns_of-layout}
 

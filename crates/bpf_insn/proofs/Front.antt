@@ -3,7 +3,7 @@ use Rattle.std.proofs.Common.{◌≡◌, ◌≤◌, ◌*◌, ℕ, arith, List, �
 use Rattle.bpf_insn.specs.declared.insn.Insn.{Insn}
 use Rattle.bpf_insn.specs.declared.slot.Slot.{Slot}
 use Rattle.bpf_insn.specs.Spelling.{spelling, slot_bytes, Fits}
-use Rattle.bpf_insn.specs.Code.{BeginsWith}
+use Rattle.bpf_insn.specs.inner.Code.{BeginsWith}
 use Rattle.bpf_insn.specs.Program.{slots_of}
 use Rattle.std.proofs.lemmas.List.{take-append-drop}
 

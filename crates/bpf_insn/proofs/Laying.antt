@@ -10,7 +10,8 @@ use Rattle.bpf_insn.specs.declared.insn.AluOp.TheVariants.{Add}
 use Rattle.bpf_insn.specs.declared.insn.Operand.TheVariants.{Imm}
 use Rattle.bpf_insn.specs.declared.reg.Reg.TheVariants.{R0}
 use Rattle.bpf_insn.specs.Spelling.{Fits}
-use Rattle.bpf_insn.specs.Program.{slots_of, slot_count, cells_of, layout, IsLaid, IsProgram}
+use Rattle.bpf_insn.specs.Program.{slots_of, slot_count, IsProgram}
+use Rattle.bpf_insn.specs.inner.Program.{cells_of, layout, IsLaid}
 use Rattle.bpf_insn.proofs.Layouts.{slot_count-one, slots_of-some, layout-one, insns_of-layout, all-append}
 
 -- what stands past the end of a list of instructions

@@ -5,7 +5,8 @@ use Rattle.std.specs.Prelude.{Option, Some, None}
 use Rattle.std.specs.List.{AllByRecursion}
 use Rattle.bpf_insn.specs.declared.insn.Insn.{Insn}
 use Rattle.bpf_insn.specs.Spelling.{spelling, Fits}
-use Rattle.bpf_insn.specs.Program.{slots_of, slot_count, insns_of, cells_of, layout}
+use Rattle.bpf_insn.specs.Program.{slots_of, slot_count, insns_of}
+use Rattle.bpf_insn.specs.inner.Program.{cells_of, layout}
 use Rattle.bpf_insn.specs.Code.{code_of}
 
 pub insns_of-append : (a b : List (Option Insn)) → insns_of (a ++ b) ≡ insns_of a ++ insns_of b

@@ -1,6 +1,6 @@
 -- Which bytes are the code of which program, and where bytes are at fault. RFC 9669, section 3, has code as slots in a row;
 -- the limit of 4,096 slots, and how a fault is named, are this project's own.
-use Rattle.std.specs.Prelude.{ℕ, ◌≡◌, ◌≤◌, ◌*◌, ◌/◌, ◌%◌, List, ◌++◌, length, drop, min, Bool, true, false, ◌==◌, ◌||◌, not, nat_lt, ◌⊎◌}
+use Rattle.std.specs.Prelude.{ℕ, ◌≡◌, ◌/◌, ◌%◌, List, ◌++◌, length, min, Bool, true, false, ◌==◌, ◌||◌, not, nat_lt, ◌⊎◌}
 use Rattle.std.specs.List.{AllByRecursion, flat_map}
 use Rattle.bpf_insn.specs.declared.insn.Insn.{Insn}
 use Rattle.bpf_insn.specs.declared.rule.CodeRule.{CodeRule}
@@ -10,7 +10,7 @@ use Rattle.bpf_insn.specs.declared.fault.DecodeError.{DecodeError}
 use Rattle.bpf_insn.specs.declared.fault.DecodeError.TheVariants as errors
 use Rattle.bpf_insn.specs.Spelling.{spelling, Fits}
 use Rattle.bpf_insn.specs.Broken.{IsBrokenAtFront}
-use Rattle.bpf_insn.specs.Program.{slots_of, slot_count, IsProgram}
+use Rattle.bpf_insn.specs.Program.{slot_count, IsProgram}
 
 -- the spellings of the instructions, one after the other
 abbrev pub code_of : List Insn → List ℕ
@@ -20,12 +20,6 @@ code_of is = flat_map spelling is
 pub record Spells (code : List ℕ) (is : List Insn) : Type 0 where
   pub program : IsProgram is
   pub same : code ≡ code_of is
-
--- the bytes begin with the instruction
-pub record BeginsWith (bytes : List ℕ) (i : Insn) : Type 0 where
-  pub fits : Fits i
-  pub spelled : bytes ≡ spelling i ++ drop (8 * slots_of i) bytes
-  pub whole : 8 * slots_of i ≤ length bytes
 
 -- no slot, half a slot, or more than 4,096 slots
 abbrev pub has_bad_length : ℕ → Bool

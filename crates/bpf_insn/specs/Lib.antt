@@ -11,3 +11,4 @@ pub mod Effects
 pub mod Machine
 pub mod Stepping
 pub mod Run
+pub mod inner

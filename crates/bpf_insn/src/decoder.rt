@@ -3,8 +3,10 @@ ghost use Rattle.std.specs.Prelude.{◌+◌, ◌++◌, is_some, ◌≡◌, ◌�
 ghost use Rattle.std.specs.Int.{w32, to_le_bytes};
 ghost use Rattle.bpf_insn.specs.declared.insn.Insn.{Insn};
 ghost use Rattle.bpf_insn.specs.Broken.{IsBrokenAtFront};
-ghost use Rattle.bpf_insn.specs.Program.{slots_of, cells_of};
-ghost use Rattle.bpf_insn.specs.Code.{Spells, BeginsWith, ExplainsRefusal, IsBroken, HasOneReading, has_bad_length};
+ghost use Rattle.bpf_insn.specs.Program.{slots_of};
+ghost use Rattle.bpf_insn.specs.inner.Program.{cells_of};
+ghost use Rattle.bpf_insn.specs.Code.{Spells, ExplainsRefusal, IsBroken, HasOneReading, has_bad_length};
+ghost use Rattle.bpf_insn.specs.inner.Code.{BeginsWith};
 
 use crate::build::{insn_of, wide_of};
 use crate::check::check;

@@ -1,7 +1,8 @@
 //! Programs: the instructions of code, by the slots in which they begin.
 ghost use Rattle.std.specs.Prelude.{◌≡◌, ◌+◌, ◌<◌, ◌≤◌, ◌++◌, [], length, vec_len, vec_capacity, None, unwrap_or, slice_get, option_copied, IfOk, IfErr, IfSome, IfNone};
 ghost use Rattle.std.specs.List.{AllByRecursion};
-ghost use Rattle.bpf_insn.specs.Program.{slots_of, slot_count, cells_of, layout, insn_at, insns_of, IsLaid, IsProgram, ExplainsInsnsRefusal};
+ghost use Rattle.bpf_insn.specs.Program.{slots_of, slot_count, insn_at, insns_of, IsProgram, ExplainsInsnsRefusal};
+ghost use Rattle.bpf_insn.specs.inner.Program.{cells_of, layout, IsLaid};
 ghost use Rattle.bpf_insn.specs.Spelling.{Fits};
 
 use crate::fault::{Fault, InsnsError};
@@ -23,7 +24,8 @@ pub struct Program {
 impl Model for Program {
     ghost use Rattle.std.specs.Prelude.{◌≡◌, List, length};
     ghost use Rattle.bpf_insn.specs.declared.insn.Insn.{Insn};
-    ghost use Rattle.bpf_insn.specs.Program.{insns_of, IsLaid};
+    ghost use Rattle.bpf_insn.specs.Program.{insns_of};
+    ghost use Rattle.bpf_insn.specs.inner.Program.{IsLaid};
 
     ghost Value = { List Insn };
 

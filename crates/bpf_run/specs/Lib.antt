@@ -1,13 +1,5 @@
 pub mod Meaning
 pub mod Calls
 pub mod Fold
-pub mod Micro
-pub mod Flat
-pub mod Columns
-pub mod Lanes
-pub mod Slots
-pub mod Ran
-pub mod Gathering
-pub mod Even
-pub mod Short
 pub mod Naming
+pub mod inner

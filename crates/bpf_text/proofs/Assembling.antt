@@ -10,7 +10,7 @@ use Rattle.bpf_text.specs.declared.rule.AsmRule.{AsmRule}
 use Rattle.bpf_text.specs.declared.rule.AsmRule.TheVariants.{BadLength}
 use Rattle.bpf_text.specs.Lines.{is_statement}
 use Rattle.bpf_text.specs.Text.{AreFaultless, IsTextOf, IsTextFault, IsLowestBroken}
-use Rattle.bpf_text.specs.Reading.{Lists, Reads, Gives}
+use Rattle.bpf_text.specs.inner.Reading.{Lists, Reads, Gives}
 use Rattle.bpf_text.proofs.Listings.{no_slots}
 use Rattle.bpf_text.proofs.Standing.{faultless_skipped, faultless_more, stand_fits}
 

@@ -20,7 +20,7 @@ use Rattle.bpf_text.specs.Rule.{rule_number}
 use Rattle.bpf_text.specs.Forms.{form_of, operands_of, argument_of_operand}
 use Rattle.bpf_text.specs.Lines.{is_statement, mnemonic_in, arguments_in}
 use Rattle.bpf_text.specs.Text.{Names, StandsFor, kinds, is_unknown, Misnames, Breaks, IsLowestBroken}
-use Rattle.bpf_text.specs.Reading.{IsLowestMisnamed}
+use Rattle.bpf_text.specs.inner.Reading.{IsLowestMisnamed}
 use Rattle.bpf_text.proofs.Mnemonics.{mnemonic-injective}
 use Rattle.bpf_text.proofs.Statements.{no_unknown, known_operands}
 

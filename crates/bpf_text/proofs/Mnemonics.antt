@@ -22,9 +22,37 @@ use Rattle.bpf_text.specs.declared.names.Stem.{Stem}
 use Rattle.bpf_text.specs.declared.names.Stem.TheVariants as stems
 use Rattle.bpf_text.specs.declared.form.Form.{Form}
 use Rattle.bpf_text.specs.declared.form.Form.TheVariants.{Alu, Neg, Movsx, End, Ja, Ja32, Jump, Exit, Ldx, Ldsx, Stx, St, Wide}
-use Rattle.bpf_text.specs.Names.{width_name, operation_name, condition_name, extension_name, order_name, end_size_name, size_name, signed_size_name, stem_name}
+use Rattle.bpf_text.specs.Names.{
+  width_name,
+  operation_name,
+  condition_name,
+  extension_name,
+  order_name,
+  end_size_name,
+  size_name,
+  signed_size_name,
+}
+use Rattle.bpf_text.specs.inner.Names.{stem_name}
 use Rattle.bpf_text.specs.Forms.{mnemonic}
-use Rattle.bpf_text.specs.Tables.{named, all_widths, all_operations, all_conditions, all_extensions, all_orders, all_end_sizes, all_sizes, all_signed_sizes, all_stems, count_of_letters, form_of_stem, form_of_stem_found, form_of_order_found, form_of_condition_found, form_of_operation_found, form_of_parts}
+use Rattle.bpf_text.specs.Tables.{named}
+use Rattle.bpf_text.specs.inner.Tables.{
+  all_widths,
+  all_operations,
+  all_conditions,
+  all_extensions,
+  all_orders,
+  all_end_sizes,
+  all_sizes,
+  all_signed_sizes,
+  all_stems,
+  count_of_letters,
+  form_of_stem,
+  form_of_stem_found,
+  form_of_order_found,
+  form_of_condition_found,
+  form_of_operation_found,
+  form_of_parts,
+}
 use Rattle.bpf_text.proofs.Tables.{option_map-some, named_has_name}
 
 -- What is found has the mnemonic.

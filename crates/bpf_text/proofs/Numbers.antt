@@ -3,7 +3,7 @@ use Rattle.std.proofs.Common.{◌≡◌, ◌≤◌, ◌<◌, ◌+◌, ◌-◌, �
 use Rattle.std.proofs.lemmas.List.{at_drop_more, drop_all}
 use Rattle.std.specs.Char.{is_ascii_digit}
 use Rattle.bpf_text.specs.Lines.{digits_after, decimal_in}
-use Rattle.bpf_text.specs.Numbers.{held, held_number}
+use Rattle.bpf_text.specs.inner.Numbers.{held, held_number}
 
 held_step : (n m d : ℕ) → held n ≡ held m → held (n * 10 + d) ≡ held (m * 10 + d)
 held_step n m d e = omega arith

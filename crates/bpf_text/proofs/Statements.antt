@@ -20,7 +20,7 @@ use Rattle.bpf_text.specs.declared.rule.AsmRule.TheVariants.{LineTooLong, Unknow
 use Rattle.bpf_text.specs.Rule.{rule_number}
 use Rattle.bpf_text.specs.Forms.{form_of, mnemonic, operands_of}
 use Rattle.bpf_text.specs.Text.{is_register, kinds, is_unknown, Misnames}
-use Rattle.bpf_text.specs.Reading.{cleared, IsLowestMisnamed}
+use Rattle.bpf_text.specs.inner.Reading.{cleared, IsLowestMisnamed}
 use Rattle.bpf_text.proofs.Mnemonics.{mnemonic-injective}
 
 -- an instruction of each form

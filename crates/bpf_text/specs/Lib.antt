@@ -5,7 +5,4 @@ pub mod Lines
 pub mod Text
 pub mod Canonical
 pub mod Tables
-pub mod Cuts
-pub mod Numbers
-pub mod Arguments
-pub mod Reading
+pub mod inner

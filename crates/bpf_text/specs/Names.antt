@@ -19,8 +19,6 @@ use Rattle.bpf_insn.specs.declared.insn.SignedSize.{SignedSize}
 use Rattle.bpf_insn.specs.declared.insn.SignedSize.TheVariants as signed_sizes
 use Rattle.bpf_insn.specs.declared.reg.Reg.{Reg}
 use Rattle.bpf_insn.specs.declared.reg.Reg.TheVariants as regs
-use Rattle.bpf_text.specs.declared.names.Stem.{Stem}
-use Rattle.bpf_text.specs.declared.names.Stem.TheVariants as stems
 
 -- how many bits an operation works on, or a jump compares
 abbrev pub width_name : Width → List ℕ
@@ -104,15 +102,3 @@ register_name regs.R7 = codes "r7"
 register_name regs.R8 = codes "r8"
 register_name regs.R9 = codes "r9"
 register_name regs.R10 = codes "r10"
-
--- the other letters of mnemonics
-abbrev pub stem_name : Stem → List ℕ
-stem_name stems.Neg = codes "neg"
-stem_name stems.Movs = codes "movs"
-stem_name stems.Ja = codes "ja"
-stem_name stems.Exit = codes "exit"
-stem_name stems.Ldx = codes "ldx"
-stem_name stems.Ldsx = codes "ldsx"
-stem_name stems.Stx = codes "stx"
-stem_name stems.St = codes "st"
-stem_name stems.Wide = codes "wide"

@@ -2,10 +2,10 @@
 ghost use Rattle.std.specs.Prelude.{◌≡◌, ◌≢◌, ◌≤◌, ◌∷◌, [], List, Some, None, length, map, MatchOption};
 ghost use Rattle.bpf_text.specs.declared.argument.Argument.{Argument};
 ghost use Rattle.bpf_text.specs.Lines as spec;
-ghost use Rattle.bpf_text.specs.Numbers.{held_number};
-ghost use Rattle.bpf_text.specs.Arguments.{list_of};
+ghost use Rattle.bpf_text.specs.inner.Numbers.{held_number};
+ghost use Rattle.bpf_text.specs.inner.Arguments.{list_of};
 ghost use Rattle.bpf_text.specs.Text.{is_unknown};
-ghost use Rattle.bpf_text.specs.Reading.{cleared};
+ghost use Rattle.bpf_text.specs.inner.Reading.{cleared};
 ghost use Rattle.std.specs.List.{list_any};
 
 use crate::line::{Separator, cut, first_word, is_blank_text};

@@ -8,7 +8,7 @@ ghost use Rattle.bpf_insn.specs.declared.reg.Reg.{Reg};
 ghost use Rattle.bpf_insn.specs.Spelling.{Fits, OperandFits};
 ghost use Rattle.bpf_text.specs.declared.argument.Argument.TheVariants as argument;
 ghost use Rattle.bpf_text.specs.Forms.{form_of, operands_of, argument_of_operand};
-ghost use Rattle.bpf_text.specs.Arguments.{list_of};
+ghost use Rattle.bpf_text.specs.inner.Arguments.{list_of};
 
 use crate::argument::{Argument, Arguments};
 use crate::form::Form;

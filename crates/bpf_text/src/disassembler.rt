@@ -1,7 +1,7 @@
 //! The disassembler: from a program to its text.
 ghost use Rattle.std.specs.Prelude.{◌≡◌, ◌++◌, ◌∷◌, [], IfOk, OnOk, string_bytes};
 ghost use Rattle.std.specs.List.{flat_map};
-ghost use Rattle.bpf_text.specs.Arguments.{list_of};
+ghost use Rattle.bpf_text.specs.inner.Arguments.{list_of};
 ghost use Rattle.bpf_text.specs.Forms.{mnemonic, operands_of, argument_of_operand};
 ghost use Rattle.bpf_text.specs.Canonical.{canonical_line, canonical_text, operand_list, operand_text, further_text, IsOnlyTextOf, CanonicalTextsStand};
 

@@ -2,7 +2,7 @@
 ghost use Rattle.std.specs.Prelude.{◌≡◌, ◌≢◌, ◌≤◌, ◌++◌, length, MatchOption};
 ghost use Rattle.bpf_text.specs.declared.form.Form.{Form};
 ghost use Rattle.bpf_text.specs.Forms.{form_of, mnemonic};
-ghost use Rattle.bpf_text.specs.Tables as tables;
+ghost use Rattle.bpf_text.specs.inner.Tables as tables;
 
 use crate::names;
 use crate::names::Stem;

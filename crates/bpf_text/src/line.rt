@@ -3,7 +3,7 @@ ghost use Rattle.std.specs.Prelude.{◌≡◌, ◌<◌, ◌∷◌, [], length, M
 ghost use Rattle.std.specs.List.{before_first, after_first, slice_split};
 ghost use Rattle.std.specs.Str.Lines.{lines, strip_carriage_return};
 ghost use Rattle.bpf_text.specs.Lines as spec;
-ghost use Rattle.bpf_text.specs.Cuts.{separates};
+ghost use Rattle.bpf_text.specs.inner.Cuts.{separates};
 
 /// The most bytes that a line has, its line end not counted.
 pub const MOST_BYTES: usize = 1024;

@@ -21,7 +21,7 @@ impl Listing {
     ghost use Rattle.std.specs.Prelude.{◌+◌, ◌<◌, ◌∷◌, ◌++◌, [], List, MatchResult, IfSome, IsTrue, ◌↔◌};
     ghost use Rattle.bpf_insn.specs.declared.insn.Insn.{Insn};
     ghost use Rattle.bpf_text.specs.Text.{IsLowestBroken};
-    ghost use Rattle.bpf_text.specs.Reading.{Lists, Reads};
+    ghost use Rattle.bpf_text.specs.inner.Reading.{Lists, Reads};
 
     /// No instructions.
     pub fn new(alloc: Global) -> Listing

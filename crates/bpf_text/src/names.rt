@@ -2,7 +2,9 @@
 //! of registers. Each table is written once, and read in both directions.
 ghost use Rattle.std.specs.Prelude.{◌≡◌};
 ghost use Rattle.bpf_text.specs.Names as spec;
-ghost use Rattle.bpf_text.specs.Tables as tables;
+ghost use Rattle.bpf_text.specs.inner.Names as inner;
+ghost use Rattle.bpf_text.specs.Tables.{all_registers, named};
+ghost use Rattle.bpf_text.specs.inner.Tables as tables;
 
 use bpf_insn::{AluOp, ByteOrder, Cond, EndSize, Extension, Reg, SignedSize, Size, Width};
 
@@ -107,7 +109,7 @@ pub fn width_name(width: Width) -> &'static str
 
 /// The width that has the name.
 pub fn width_named(name: &[u8]) -> Option<Width>
-    ensures { result ≡ tables.named spec.width_name tables.all_widths name.now }
+    ensures { result ≡ named spec.width_name tables.all_widths name.now }
 {
     WIDTHS
         .iter()
@@ -139,7 +141,7 @@ pub fn operation_name(operation: AluOp) -> &'static str
 
 /// The operation that has the name.
 pub fn operation_named(name: &[u8]) -> Option<AluOp>
-    ensures { result ≡ tables.named spec.operation_name tables.all_operations name.now }
+    ensures { result ≡ named spec.operation_name tables.all_operations name.now }
 {
     OPERATIONS
         .iter()
@@ -168,7 +170,7 @@ pub fn condition_name(condition: Cond) -> &'static str
 
 /// The condition that has the name.
 pub fn condition_named(name: &[u8]) -> Option<Cond>
-    ensures { result ≡ tables.named spec.condition_name tables.all_conditions name.now }
+    ensures { result ≡ named spec.condition_name tables.all_conditions name.now }
 {
     CONDITIONS
         .iter()
@@ -191,7 +193,7 @@ pub fn extension_name(extension: Extension) -> &'static str
 
 /// The extension that has the name.
 pub fn extension_named(name: &[u8]) -> Option<Extension>
-    ensures { result ≡ tables.named spec.extension_name tables.all_extensions name.now }
+    ensures { result ≡ named spec.extension_name tables.all_extensions name.now }
 {
     EXTENSIONS
         .iter()
@@ -212,7 +214,7 @@ pub fn order_name(order: ByteOrder) -> &'static str
 
 /// The order of bytes that has the name.
 pub fn order_named(name: &[u8]) -> Option<ByteOrder>
-    ensures { result ≡ tables.named spec.order_name tables.all_orders name.now }
+    ensures { result ≡ named spec.order_name tables.all_orders name.now }
 {
     ORDERS
         .iter()
@@ -233,7 +235,7 @@ pub fn end_size_name(end_size: EndSize) -> &'static str
 
 /// The size that has the name.
 pub fn end_size_named(name: &[u8]) -> Option<EndSize>
-    ensures { result ≡ tables.named spec.end_size_name tables.all_end_sizes name.now }
+    ensures { result ≡ named spec.end_size_name tables.all_end_sizes name.now }
 {
     END_SIZES
         .iter()
@@ -255,7 +257,7 @@ pub fn size_name(size: Size) -> &'static str
 
 /// The size that has the name.
 pub fn size_named(name: &[u8]) -> Option<Size>
-    ensures { result ≡ tables.named spec.size_name tables.all_sizes name.now }
+    ensures { result ≡ named spec.size_name tables.all_sizes name.now }
 {
     SIZES
         .iter()
@@ -276,7 +278,7 @@ pub fn signed_size_name(signed_size: SignedSize) -> &'static str
 
 /// The size that has the name.
 pub fn signed_size_named(name: &[u8]) -> Option<SignedSize>
-    ensures { result ≡ tables.named spec.signed_size_name tables.all_signed_sizes name.now }
+    ensures { result ≡ named spec.signed_size_name tables.all_signed_sizes name.now }
 {
     SIGNED_SIZES.iter().copied().find(|signed_size| signed_size_name(*signed_size).as_bytes()
         == name)
@@ -303,7 +305,7 @@ pub fn register_name(register: Reg) -> &'static str
 
 /// The register that has the name.
 pub fn register_named(name: &[u8]) -> Option<Reg>
-    ensures { result ≡ tables.named spec.register_name tables.all_registers name.now }
+    ensures { result ≡ named spec.register_name all_registers name.now }
 {
     REGISTERS
         .iter()
@@ -313,7 +315,7 @@ pub fn register_named(name: &[u8]) -> Option<Reg>
 
 /// The name of a stem.
 pub fn stem_name(stem: Stem) -> &'static str
-    ensures { result.now ≡ spec.stem_name stem }
+    ensures { result.now ≡ inner.stem_name stem }
 {
     match stem {
         Stem::Neg => "neg",
@@ -330,7 +332,7 @@ pub fn stem_name(stem: Stem) -> &'static str
 
 /// The stem that has the name.
 pub fn stem_named(name: &[u8]) -> Option<Stem>
-    ensures { result ≡ tables.named spec.stem_name tables.all_stems name.now }
+    ensures { result ≡ named inner.stem_name tables.all_stems name.now }
 {
     STEMS
         .iter()

@@ -2,11 +2,11 @@
 ghost use Rattle.std.specs.Prelude.{◌≡◌, ◌≢◌, ◌≤◌, List, Some, length, map, IfOk, IfErr, MatchResult};
 ghost use Rattle.bpf_insn.specs.declared.insn.Insn.{Insn};
 ghost use Rattle.bpf_insn.specs.Spelling.{Fits};
-ghost use Rattle.bpf_text.specs.Arguments.{list_of};
+ghost use Rattle.bpf_text.specs.inner.Arguments.{list_of};
 ghost use Rattle.bpf_text.specs.Forms.{form_of, mnemonic, operands_of};
 ghost use Rattle.bpf_text.specs.Lines.{argument_in, operand_texts_of};
 ghost use Rattle.bpf_text.specs.Text.{Names, IsShort, IsLowestBroken};
-ghost use Rattle.bpf_text.specs.Reading.{Gives, IsLowestMisnamed};
+ghost use Rattle.bpf_text.specs.inner.Reading.{Gives, IsLowestMisnamed};
 
 use crate::argument::Arguments;
 use crate::build::build;

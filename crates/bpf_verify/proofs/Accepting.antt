@@ -21,7 +21,7 @@ use Rattle.bpf_verify.specs.Holds.{Agrees, HoldsOf, IsCovered}
 use Rattle.bpf_verify.specs.declared.error.VerifyError.{VerifyError}
 use Rattle.bpf_verify.specs.declared.error.VerifyError.TheVariants as errors
 use Rattle.bpf_verify.specs.Accepted.{IsAccepted, IsTyping, OfPaths, ExplainsRefusal, entry_tags}
-use Rattle.bpf_verify.specs.Pass.{IsClean, TellsSlot, IsExact, ExplainsTyping}
+use Rattle.bpf_verify.specs.inner.Pass.{IsClean, TellsSlot, IsExact, ExplainsTyping}
 use Rattle.bpf_verify.proofs.SlotPass.{clean_of}
 use Rattle.bpf_verify.proofs.Telling.{Leaves, Marks}
 use Rattle.bpf_verify.proofs.Showing.{breaks_none}

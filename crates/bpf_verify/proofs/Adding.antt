@@ -6,7 +6,7 @@ use Rattle.bpf_verify.specs.declared.facts.Facts.{Facts}
 use Rattle.bpf_verify.specs.Tags.{Known}
 use Rattle.bpf_verify.specs.Paths.{IsIn, Tells}
 use Rattle.bpf_verify.specs.Table.{known_at}
-use Rattle.bpf_verify.specs.Pass.{IsMerged, Adds, AddsAll, TellsSlot}
+use Rattle.bpf_verify.specs.inner.Pass.{IsMerged, Adds, AddsAll, TellsSlot}
 use Rattle.bpf_verify.proofs.Telling.{all_same, slot_same, merged_slot}
 
 same_place : (m n : ℕ) → pos m ≡ pos n → m ≡ n

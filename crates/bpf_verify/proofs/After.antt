@@ -17,7 +17,7 @@ use Rattle.bpf_verify.specs.declared.tag.Tag.{Tag}
 use Rattle.bpf_verify.specs.declared.tag.Tag.TheVariants.{Unset, Number, Place, Mixed}
 use Rattle.bpf_verify.specs.Tags.{Known, tag, is_unset_tag, is_mixed_tag, breaks, moved_tag, written_tag, new_tags, bytes_of, bytes_from, first_byte, stores, after}
 use Rattle.bpf_verify.specs.Paths.{IsIn, TellsTag, TellsByte, Tells}
-use Rattle.bpf_verify.specs.Pass.{IsAfter}
+use Rattle.bpf_verify.specs.inner.Pass.{IsAfter}
 use Rattle.bpf_verify.proofs.Telling.{tag_same, byte_same, Leaves, Marks}
 
 -- ---- tests over lists

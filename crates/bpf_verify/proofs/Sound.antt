@@ -32,7 +32,8 @@ use Rattle.bpf_verify.specs.Tags.{Known, tag, after}
 use Rattle.bpf_verify.specs.Paths.{IsIn, targets, IsPath, IsKnown, IsWay}
 use Rattle.bpf_verify.specs.Holds.{Agrees, HoldsOf}
 use Rattle.bpf_verify.specs.Accepted.{entry_tags, IsSound}
-use Rattle.bpf_verify.specs.Pass.{IsClean, IsGoodTarget}
+use Rattle.bpf_verify.specs.Pass.{IsGoodTarget}
+use Rattle.bpf_verify.specs.inner.Pass.{IsClean}
 use Rattle.bpf_verify.proofs.SlotPass.{begins_inside}
 use Rattle.bpf_verify.proofs.Stepping.{eleven_on}
 use Rattle.bpf_verify.proofs.Agreeing.{reads_set, reads_numbers, reads_places, stays_inside, loads_stored, holds_after}

@@ -21,7 +21,18 @@ use Rattle.bpf_verify.specs.declared.facts.Facts.{Facts}
 use Rattle.bpf_verify.specs.Tags.{Known, tag, is_mixed_tag, moved_tag, breaks, BreaksNone, new_tags, written_tag, after}
 use Rattle.bpf_verify.specs.Paths.{IsIn, targets, MayLead, IsPath, IsKnown, IsWay, IsShown, NothingShown, TellsTag, TellsByte, Tells}
 use Rattle.bpf_verify.specs.Table.{known_at}
-use Rattle.bpf_verify.specs.Pass.{IsAfter, AddsAll, IsGoodTarget, IsClean, IsLastBelow, IsWayBelow, TellsSlot, IsExactBelow, IsExact, IsEntry}
+use Rattle.bpf_verify.specs.Pass.{IsGoodTarget}
+use Rattle.bpf_verify.specs.inner.Pass.{
+  IsAfter,
+  AddsAll,
+  IsClean,
+  IsLastBelow,
+  IsWayBelow,
+  TellsSlot,
+  IsExactBelow,
+  IsExact,
+  IsEntry,
+}
 use Rattle.bpf_verify.proofs.Telling.{Leaves, Marks, all_same, slot_same}
 use Rattle.bpf_verify.proofs.After.{any_in, After, after_all, length_new, same_or_not, set_here, set_there}
 use Rattle.bpf_verify.proofs.Adding.{adds_all}

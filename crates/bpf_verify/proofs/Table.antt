@@ -5,7 +5,7 @@ use Rattle.std.proofs.lemmas.Option.{slice_get-get_or}
 use Rattle.bpf_verify.specs.declared.facts.Facts.{Facts}
 use Rattle.bpf_verify.specs.Tags.{Known}
 use Rattle.bpf_verify.specs.Table.{known, known_in, known_at}
-use Rattle.bpf_verify.specs.Pass.{IsMerged, Adds}
+use Rattle.bpf_verify.specs.inner.Pass.{IsMerged, Adds}
 
 get_set_same : (xs : List (Option Facts)) (k : ℕ) (x : Option Facts) → k < length xs → slice_get (slice_set xs k x) k ≡ Some x
 get_set_same [] k x h = absurd (omega arith)

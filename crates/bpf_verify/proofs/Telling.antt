@@ -8,7 +8,7 @@ use Rattle.bpf_verify.specs.declared.tag.Tag.{Tag}
 use Rattle.bpf_verify.specs.declared.tag.Tag.TheVariants.{Unset, Number, Place, Mixed}
 use Rattle.bpf_verify.specs.Tags.{Known, tag}
 use Rattle.bpf_verify.specs.Paths.{TellsTag, TellsByte, Tells}
-use Rattle.bpf_verify.specs.Pass.{joined, IsJoined, IsMerged, TellsSlot}
+use Rattle.bpf_verify.specs.inner.Pass.{joined, IsJoined, IsMerged, TellsSlot}
 
 -- ---- a tag of the tags of two families
 

@@ -5,3 +5,4 @@ pub mod Holds
 pub mod Table
 pub mod Accepted
 pub mod Pass
+pub mod inner

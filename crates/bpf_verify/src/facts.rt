@@ -5,7 +5,7 @@ ghost use Rattle.bpf_insn.specs.Rule.{IsLowest};
 ghost use Rattle.bpf_insn.specs.Reads.{written_reg};
 ghost use Rattle.bpf_verify.specs.Tags.{tag, breaks, BreaksNone, leaves_stack, new_tags, written_tag, stores};
 ghost use Rattle.bpf_verify.specs.Table.{known, is_marked};
-ghost use Rattle.bpf_verify.specs.Pass.{joined, IsAfter, IsJoined};
+ghost use Rattle.bpf_verify.specs.inner.Pass.{joined, IsAfter, IsJoined};
 
 use crate::marks::Marks;
 use crate::tag::Tag;

@@ -4,7 +4,7 @@ ghost use Rattle.bpf_verify.specs.Accepted.{Accepted, IsAccepted, IsAcceptable, 
 ghost use Rattle.bpf_insn.specs.Effects.{byte_at};
 ghost use Rattle.bpf_verify.specs.Table.{known_in};
 ghost use Rattle.bpf_verify.specs.Tags.{Known};
-ghost use Rattle.bpf_verify.specs.Pass.{IsEntry};
+ghost use Rattle.bpf_verify.specs.inner.Pass.{IsEntry};
 
 use crate::error::VerifyError;
 use crate::facts::Facts;

@@ -5,3 +5,4 @@ pub mod Readings
 pub mod ReplyText
 pub mod Replies
 pub mod Lines
+pub mod inner

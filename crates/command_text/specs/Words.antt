@@ -1,6 +1,30 @@
 -- The words of a command line, after this project's session protocol: blanks are spaces and tabs alone, and every other byte is
 -- part of a word.
-use Rattle.std.specs.Prelude.{ℕ, ◌≡◌, ◌+◌, ◌-◌, ◌*◌, ◌^◌, ◌==◌, ◌||◌, ◌&&◌, nat_lt, nat_le, Bool, true, false, if◌then◌else◌, List, [], ◌∷◌, length, filter, Option, Some, None, codes}
+use Rattle.std.specs.Prelude.{
+  ℕ,
+  ◌+◌,
+  ◌-◌,
+  ◌*◌,
+  ◌^◌,
+  ◌==◌,
+  ◌||◌,
+  ◌&&◌,
+  nat_lt,
+  nat_le,
+  Bool,
+  true,
+  false,
+  if◌then◌else◌,
+  List,
+  [],
+  ◌∷◌,
+  length,
+  filter,
+  Option,
+  Some,
+  None,
+  codes,
+}
 use Rattle.std.specs.List.{slice_split, list_all}
 use Rattle.std.specs.Str.{bytes_eq}
 use Rattle.bpf_insn.specs.declared.operands.Kind.{Kind}
@@ -17,31 +41,6 @@ is_some_text (b ∷ bs) = true
 -- the words of a line
 abbrev pub words : List ℕ → List (List ℕ)
 words line = filter is_some_text (slice_split is_blank line)
-
--- a text that is empty or begins with a word
-abbrev pub IsAtWord : List ℕ → Type 0
-IsAtWord [] = Unit {0}
-IsAtWord (b ∷ bs) = is_blank b ≡ false
-
--- no word, or more than one
-abbrev pub IsNotOne : List (List ℕ) → Type 0
-IsNotOne [] = Unit {0}
-IsNotOne (word ∷ []) = ⊥
-IsNotOne (word ∷ next ∷ more) = Unit {0}
-
--- fewer than three words, or more
-abbrev pub IsNotThree : List (List ℕ) → Type 0
-IsNotThree (first ∷ second ∷ third ∷ []) = ⊥
-IsNotThree _ = Unit {0}
-
--- they are fewer than three
-abbrev pub HasFewer : List (List ℕ) → Type 0
-HasFewer (first ∷ second ∷ third ∷ words) = ⊥
-HasFewer _ = Unit {0}
-
-abbrev pub is_one : List (List ℕ) → Bool
-is_one (word ∷ []) = true
-is_one _ = false
 
 -- a decimal digit
 abbrev pub is_digit : ℕ → Bool

@@ -1,6 +1,7 @@
 //! What the line of a job asks for.
 ghost use Rattle.std.specs.Prelude.{◌≡◌, ℕ, List, [], ◌∷◌, Some, MatchOption};
-ghost use Rattle.command_text.specs.Words.{words, HasFewer, is_one};
+ghost use Rattle.command_text.specs.Words.{words};
+ghost use Rattle.command_text.specs.inner.Words.{HasFewer, is_one};
 ghost use Rattle.command_text.specs.Requests as spec;
 ghost use Rattle.command_text.specs.Readings.{request_of, form_of, lent_name};
 

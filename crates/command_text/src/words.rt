@@ -1,7 +1,8 @@
 //! The words of a command line.
 ghost use Rattle.std.specs.Prelude.{◌≡◌, ◌<◌, ◌≤◌, ◌∷◌, [], length, take, drop, MatchOption};
 ghost use Rattle.command_text.specs.Words as spec;
-ghost use Rattle.command_text.specs.Words.{words, IsAtWord, IsNotOne, IsNotThree};
+ghost use Rattle.command_text.specs.Words.{words};
+ghost use Rattle.command_text.specs.inner.Words.{IsAtWord, IsNotOne, IsNotThree};
 
 use bpf_insn::Kind;
 

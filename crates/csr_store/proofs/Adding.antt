@@ -3,7 +3,8 @@ use Rattle.std.proofs.Common.{◌≡◌, ◌≤◌, ◌<◌, ◌+◌, ◌^◌, �
 use Rattle.std.specs.FinMap.{entries, insert, from_entries, is_sorted}
 use Rattle.csr_store.specs.Grid.{Grid, IsGrid, pos_cmp, Cell, limit}
 use Rattle.csr_store.specs.ByRows.{grid}
-use Rattle.csr_store.specs.ByRows.{by_rows, ends_of, Within, Closes, Starts, AreStarts, IsFilling}
+use Rattle.csr_store.specs.ByRows.{by_rows, ends_of}
+use Rattle.csr_store.specs.inner.ByRows.{Within, Closes, Starts, AreStarts, IsFilling}
 use Rattle.csr_store.proofs.Filling.{Ready, ready_there, filling_there, filling_sorted, same_grid, filling_more, added, behind}
 
 abbrev pub grid_of : ℕ → ℕ → List ℕ → List Cell → Grid

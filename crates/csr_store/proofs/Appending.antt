@@ -6,7 +6,8 @@ use Rattle.csr_store.specs.Grid.{Cell}
 use Rattle.csr_store.specs.Ascending.{Ascends}
 use Rattle.csr_store.specs.Added.{ComeBehind, kept_where}
 use Rattle.csr_store.proofs.Along.{ascends-weaken}
-use Rattle.csr_store.specs.Run.{Run, Row, IsRow, AreRows, AreEnds, ended_rows, open_row}
+use Rattle.csr_store.specs.Run.{Run, Row}
+use Rattle.csr_store.specs.inner.Run.{IsRow, AreRows, AreEnds, ended_rows, open_row}
 use Rattle.csr_store.proofs.Runs.{ends_below, ends_push, all_push, row_push, run}
 
 ended_append : (from : ℕ) (ends : List ℕ) (cells more : Row) → AreEnds from ends (from + length cells) → ended_rows from ends (cells ++ more) ≡ ended_rows from ends cells

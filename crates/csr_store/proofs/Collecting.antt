@@ -15,7 +15,7 @@ use Rattle.csr_store.specs.declared.error.StoreError.TheVariants.{PositionGivenT
 use Rattle.csr_store.specs.Grid.{Grid, Position, Entry, IsInside, pos_cmp, limit}
 use Rattle.csr_store.specs.Refusal.{put_fault}
 use Rattle.csr_store.specs.ByRows.{grid}
-use Rattle.csr_store.specs.Collected.{IsCollected}
+use Rattle.csr_store.specs.inner.Collected.{IsCollected}
 use Rattle.csr_store.proofs.Order.{pos_total, pos_exact, sorted_from_keys}
 use Rattle.csr_store.proofs.Laws.{Fits, is_none, same_values, entries-from_entries, entries-empty, from_entries-entries, len-insert_new, insert-is_grid, empty-is_grid}
 

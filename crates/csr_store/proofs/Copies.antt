@@ -4,8 +4,9 @@ use Rattle.std.specs.List.{AllByRecursion}
 use Rattle.std.proofs.lemmas.List.{take-take, drop-take, drop-drop, drop_more, length-take-le}
 use Rattle.csr_store.specs.Grid.{Grid, IsGrid, Cell, row_of}
 use Rattle.csr_store.specs.Along.{along}
-use Rattle.csr_store.specs.ByRows.{grid, by_rows, ends_of, AreStarts}
-use Rattle.csr_store.specs.Run.{IsRow, AreRows, AreEnds, ended_rows, open_row}
+use Rattle.csr_store.specs.ByRows.{grid, by_rows, ends_of}
+use Rattle.csr_store.specs.inner.ByRows.{AreStarts}
+use Rattle.csr_store.specs.inner.Run.{IsRow, AreRows, AreEnds, ended_rows, open_row}
 use Rattle.csr_store.proofs.Slicing.{start_within, row_between, length_starts}
 use Rattle.csr_store.proofs.ByRow.{row_ascends, cell_inside, cell_word}
 use Rattle.csr_store.proofs.Runs.{row_none, run}

@@ -2,7 +2,8 @@
 use Rattle.std.proofs.Common.{◌≡◌, ◌<◌, ◌+◌, ℕ, List, [], ◌∷◌, ◌++◌, map, length, take, get_or, None, refl, sym, ap, ◌∙◌, arith, true}
 use Rattle.std.proofs.lemmas.List.{length-map, length-take, map-append, take_all}
 use Rattle.std.specs.FinMap.{entries, insert, empty, is_sorted, len-entries}
-use Rattle.csr_store.specs.Grid.{Grid, Position, Entry, Cell, IsInside, IsGrid, pos_cmp, row_of, row_start, map_entry, map_cells}
+use Rattle.csr_store.specs.Grid.{Grid, Position, Entry, Cell, IsInside, IsGrid, pos_cmp, row_of, row_start}
+use Rattle.csr_store.specs.inner.Grid.{map_entry, map_cells}
 use Rattle.csr_store.specs.Refusal.{put_fault}
 use Rattle.csr_store.proofs.Laws.{Fits, entries-empty, fits-put_fault, same_entries, entries_ascend, take_ascend, mapped_ascend, entries-map_cells, entries-insert_last, get-last}
 use Rattle.csr_store.proofs.ByRow.{row_start-zero, row_start-next, row_start-within, row_start-all, take_cell, cell_inside}

@@ -13,7 +13,8 @@ use Rattle.csr_store.specs.Grid.{Grid, IsGrid, Position, Cell, Entry, pos_cmp, l
 use Rattle.csr_store.specs.ByRows.{grid}
 use Rattle.csr_store.proofs.Order.{pos_total, both_true}
 use Rattle.csr_store.proofs.Laws.{entries-from_entries, same_entries, entries-insert_last, get-last, insert-is_grid, empty-is_grid, Fits}
-use Rattle.csr_store.specs.ByRows.{entries_from, by_rows, Within, repeated, Closes, IsFilling}
+use Rattle.csr_store.specs.ByRows.{entries_from, by_rows}
+use Rattle.csr_store.specs.inner.ByRows.{Within, repeated, Closes, IsFilling}
 
 -- ---- lists
 

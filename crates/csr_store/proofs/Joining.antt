@@ -10,8 +10,10 @@ use Rattle.std.specs.Ordering.{nat_cmp, is_lt, is_eq, ordering_then}
 use Rattle.std.specs.FinMap.{is_sorted, from_entries, get, get-from_entries, len, len-entries}
 use Rattle.std.specs.FinMap.Entries.{below_all, find}
 use Rattle.csr_store.specs.Grid.{IsGrid, Position, Cell, Entry, pos_cmp, limit, at_row}
-use Rattle.csr_store.specs.ByRows.{grid, by_rows, entries_from, Within, ends_of, AreStarts}
-use Rattle.csr_store.specs.Run.{Run, Row, IsRow, numbered, ended_rows, open_row, AreEnds, all_ended, Follow, AreClosed}
+use Rattle.csr_store.specs.ByRows.{grid, by_rows, entries_from, ends_of}
+use Rattle.csr_store.specs.inner.ByRows.{Within, AreStarts}
+use Rattle.csr_store.specs.Run.{Run, Row, numbered, all_ended, Follow}
+use Rattle.csr_store.specs.inner.Run.{IsRow, ended_rows, open_row, AreEnds, AreClosed}
 use Rattle.csr_store.proofs.Order.{pos_total, pos_exact, both_true}
 use Rattle.csr_store.proofs.Laws.{entries-from_entries}
 use Rattle.csr_store.proofs.Runs.{length-ended, ends_below}

@@ -12,7 +12,8 @@ use Rattle.std.specs.FinMap.{FinMap, entries, get, insert, len, empty, from_entr
 use Rattle.std.specs.Cmp.{tied_itself}
 use Rattle.csr_store.specs.declared.error.StoreError.TheVariants.{IndexOutOfRange, PositionGivenTwice, TooManyEntries}
 use Rattle.std.specs.FinMap.Entries.{below_all, find, put}
-use Rattle.csr_store.specs.Grid.{Grid, Position, Entry, IsInside, IsGrid, pos_cmp, limit, map_entry, map_cells}
+use Rattle.csr_store.specs.Grid.{Grid, Position, Entry, IsInside, IsGrid, pos_cmp, limit}
+use Rattle.csr_store.specs.inner.Grid.{map_entry, map_cells}
 use Rattle.csr_store.specs.Refusal.{put_fault}
 use Rattle.csr_store.proofs.Order.{pos_total, pos_exact, both_true}
 

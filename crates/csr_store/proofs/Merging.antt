@@ -6,7 +6,7 @@ use Rattle.std.specs.Prelude.{Option, Some, IfSome}
 use Rattle.std.specs.FinMap.{entries}
 use Rattle.csr_store.specs.Grid.{Grid, Entry}
 use Rattle.csr_store.specs.ByRows.{grid}
-use Rattle.csr_store.specs.Merged.{Appends, IsMatrixOf, TakesOne}
+use Rattle.csr_store.specs.inner.Merged.{Appends, IsMatrixOf, TakesOne}
 use Rattle.csr_store.proofs.Shuffled.{grid_shuffled}
 
 -- an entry went from what is left to what was listed

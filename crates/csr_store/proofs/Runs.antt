@@ -7,7 +7,8 @@ use Rattle.std.specs.Ordering.{nat_cmp, is_lt}
 use Rattle.std.proofs.lemmas.List.{take-append-le, drop-append-le, take_all, drop_all}
 use Rattle.std.proofs.lemmas.Bool.{lt-ltb}
 use Rattle.csr_store.specs.Grid.{Cell}
-use Rattle.csr_store.specs.Run.{Run, Row, IsRow, AreRows, AreEnds, ended_rows, open_row}
+use Rattle.csr_store.specs.Run.{Run, Row}
+use Rattle.csr_store.specs.inner.Run.{IsRow, AreRows, AreEnds, ended_rows, open_row}
 use Rattle.csr_store.proofs.Order.{both_true}
 
 pub ends_below : (from : ℕ) (ends : List ℕ) (limit : ℕ) → AreEnds from ends limit → from ≤ limit

@@ -6,7 +6,8 @@ use Rattle.std.proofs.lemmas.List.{map-append, drop-drop, ext_get_or}
 use Rattle.std.proofs.lemmas.List.FromFn.{length-map-range_with_len, get_or-map-range_with_len}
 use Rattle.std.proofs.lemmas.List.Elements.{filter-append}
 use Rattle.csr_store.specs.Grid.{Cell, Entry, at_row, row_cells, row_of, row_start}
-use Rattle.csr_store.specs.ByRows.{grid, entries_from, by_rows, Within, ends_of, AreStarts}
+use Rattle.csr_store.specs.ByRows.{grid, entries_from, by_rows, ends_of}
+use Rattle.csr_store.specs.inner.ByRows.{Within, AreStarts}
 use Rattle.csr_store.proofs.Laws.{entries-from_entries}
 use Rattle.csr_store.proofs.ByRow.{row_start-zero, row_start-next}
 

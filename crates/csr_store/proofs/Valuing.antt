@@ -9,7 +9,8 @@ use Rattle.std.specs.FinMap.{is_sorted}
 use Rattle.std.specs.FinMap.Entries.{below_all}
 use Rattle.std.specs.Ordering.{nat_cmp}
 use Rattle.csr_store.specs.Grid.{Cell}
-use Rattle.csr_store.specs.Run.{Run, Row, IsRow, AreRows, AreEnds, ended_rows, open_row}
+use Rattle.csr_store.specs.Run.{Run, Row}
+use Rattle.csr_store.specs.inner.Run.{IsRow, AreRows, AreEnds, ended_rows, open_row}
 use Rattle.csr_store.specs.Valued.{entries_in, entries_of, valued, valued_in, with_value, cells_in, all_cells, valued_from, AreAlike}
 use Rattle.csr_store.proofs.Runs.{ends_below, run}
 

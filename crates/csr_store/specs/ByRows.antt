@@ -1,8 +1,8 @@
 -- How a matrix is kept: compressed rows. All cells stand in one list, row after row, and a second list says where each
 -- row ends in it; the row behind those that have an end is open. This project's own.
-use Rattle.std.specs.Prelude.{◌≡◌, ◌≤◌, ◌+◌, ◌-◌, zero, suc, ℕ, List, [], ◌∷◌, ◌++◌, map, length, take, drop, true}
+use Rattle.std.specs.Prelude.{◌+◌, ◌-◌, ℕ, List, [], ◌∷◌, ◌++◌, take, drop}
 use Rattle.std.specs.FinMap as fin
-use Rattle.csr_store.specs.Grid.{Grid, IsGrid, Cell, Entry, pos_cmp, at_row}
+use Rattle.csr_store.specs.Grid.{Grid, Cell, Entry, at_row}
 
 -- the grid of two sizes and a list of entries
 abbrev pub grid : ℕ → ℕ → List Entry → Grid
@@ -16,46 +16,7 @@ entries_from i from (e ∷ ends) cs = at_row i (take (e - from) cs) ++ entries_f
 abbrev pub by_rows : List ℕ → List Cell → List Entry
 by_rows ends cells = entries_from 0 0 ends cells
 
--- the ends from place `from` on don't fall, and are no more than n behind it
-abbrev pub Within : ℕ → List ℕ → ℕ → Type 0
-Within from [] n = Unit {0}
-Within from (e ∷ ends) n = (from ≤ e) × ((e ≤ from + n) × Within e ends (n - (e - from)))
-
-abbrev pub repeated : ℕ → ℕ → List ℕ
-repeated zero x = []
-repeated (suc n) x = x ∷ repeated n x
-
--- some more rows end here
-pub record Closes (old : List ℕ) (end : ℕ) (new : List ℕ) : Type 0 where
-  pub count : ℕ
-  pub is : new ≡ old ++ repeated count end
-
--- what holds while rows are filled: an entry at `next` of the open row would go on in ascending order
-pub record IsFilling (rows columns : ℕ) (ends : List ℕ) (cells : List Cell) (next : ℕ) : Type 0 where
-  pub is_grid : IsGrid (grid rows columns (by_rows ends cells))
-  pub ready : fin.is_sorted pos_cmp (by_rows ends cells ++ ((length ends, next), 0) ∷ []) ≡ true
-  pub within : Within 0 ends (length cells)
-  pub opened : length ends ≤ rows
-
 -- where rows end, by where they start: all starts but the first
 abbrev pub ends_of : List ℕ → List ℕ
 ends_of [] = []
 ends_of (s ∷ ends) = ends
-
--- each row has its start, and the last row its end
-pub record AreStarts (rows : ℕ) (starts : List ℕ) (cells : List Cell) : Type 0 where
-  pub begin : starts ≡ 0 ∷ ends_of starts
-  pub count : length (ends_of starts) ≡ rows
-  pub within : Within 0 (ends_of starts) (length cells)
-  pub ascending : fin.is_sorted pos_cmp (by_rows (ends_of starts) cells) ≡ true
-
--- the rows that are left end here, and the start of the first row is put before the ends
-pub record Starts (old : List ℕ) (end rows : ℕ) (new : List ℕ) : Type 0 where
-  pub closed : List ℕ
-  pub closes : Closes old end closed
-  pub count : length closed ≡ rows
-  pub is : new ≡ 0 ∷ closed
-
--- the columns of a row's cells
-abbrev pub columns_of : List Cell → List ℕ
-columns_of row = map (λ (c : Cell). c.0) row

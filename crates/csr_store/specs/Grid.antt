@@ -65,11 +65,3 @@ at_row i row = map (λ (c : Cell). ((i, c.0), c.1)) row
 -- how many entries stand in the rows before row i
 abbrev pub row_start : Grid → ℕ → ℕ
 row_start g i = length (filter (λ (e : Entry). nat_lt e.0.0 i) (fin.entries g.cells))
-
--- an entry, with what f makes of its position and its value in place of the value
-abbrev pub map_entry : (Position → ℕ → ℕ) → Entry → Entry
-map_entry f e = (e.0, f e.0 e.1)
-
--- the same positions, each with what f makes of it and of its value
-abbrev pub map_cells : (Position → ℕ → ℕ) → Grid → Grid
-map_cells f g = record g { cells = fin.from_entries (map (map_entry f) (fin.entries g.cells)) }

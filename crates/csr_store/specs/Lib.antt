@@ -1,8 +1,6 @@
 pub mod Grid
 pub mod Refusal
 pub mod ByRows
-pub mod Collected
-pub mod Merged
 pub mod Run
 pub mod Listed
 pub mod Packed
@@ -11,3 +9,4 @@ pub mod Mask
 pub mod Ascending
 pub mod Added
 pub mod Valued
+pub mod inner

@@ -30,7 +30,7 @@ impl Model for Builder {
     ghost use Rattle.std.specs.FinMap as map;
     ghost use Rattle.csr_store.specs.Grid.{Grid, grid_code};
     ghost use Rattle.csr_store.specs.ByRows.{grid};
-    ghost use Rattle.csr_store.specs.Collected.{IsCollected};
+    ghost use Rattle.csr_store.specs.inner.Collected.{IsCollected};
 
     ghost Value = { Grid };
 

@@ -2,7 +2,8 @@
 ghost use Rattle.std.specs.Prelude.{◌≡◌, ◌<◌, ◌≤◌, ◌∷◌, ◌++◌, [], true, false, length, is_some, slice_index, IfOk, IfErr, OnOk, OnErr, IsTrue};
 ghost use Rattle.std.specs.FinMap as map;
 ghost use Rattle.csr_store.specs.Grid.{IsGrid, limit, row_cells, row_of};
-ghost use Rattle.csr_store.specs.ByRows.{by_rows, Closes, Starts, Within};
+ghost use Rattle.csr_store.specs.ByRows.{by_rows};
+ghost use Rattle.csr_store.specs.inner.ByRows.{Closes, Starts, Within};
 
 use crate::matrix::{Cell, Matrix};
 use crate::row::{cells_between, value_at};
@@ -24,7 +25,8 @@ pub struct Filler {
 
 impl Model for Filler {
     ghost use Rattle.csr_store.specs.Grid.{Grid, grid_code};
-    ghost use Rattle.csr_store.specs.ByRows.{grid, by_rows, IsFilling};
+    ghost use Rattle.csr_store.specs.ByRows.{grid, by_rows};
+    ghost use Rattle.csr_store.specs.inner.ByRows.{IsFilling};
 
     ghost Value = { Grid };
 

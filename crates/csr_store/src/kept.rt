@@ -4,7 +4,7 @@ ghost use Rattle.std.specs.List.{AllByRecursion};
 ghost use Rattle.csr_store.specs.Grid.{Cell, row_of};
 ghost use Rattle.csr_store.specs.Added.{kept_where, kept_rows};
 ghost use Rattle.csr_store.specs.Along.{along};
-ghost use Rattle.csr_store.specs.Run.{AreRows, ended_rows, open_row};
+ghost use Rattle.csr_store.specs.inner.Run.{AreRows, ended_rows, open_row};
 
 use crate::matrix::{Cell, Matrix};
 use std::ops::Range;

@@ -4,7 +4,8 @@ ghost use Rattle.std.specs.List.{range_with_len, AllByRecursion};
 ghost use Rattle.std.specs.FinMap as fin;
 ghost use Rattle.csr_store.specs.Along.{along};
 ghost use Rattle.csr_store.specs.Grid.{IsGrid, row_of, row_start};
-ghost use Rattle.csr_store.specs.ByRows.{grid, by_rows, ends_of, AreStarts};
+ghost use Rattle.csr_store.specs.ByRows.{grid, by_rows, ends_of};
+ghost use Rattle.csr_store.specs.inner.ByRows.{AreStarts};
 
 use crate::row::{append, cells_between, value_at};
 use crate::rows::Rows;
@@ -30,7 +31,8 @@ pub struct Matrix {
 
 impl Model for Matrix {
     ghost use Rattle.csr_store.specs.Grid.{Grid, grid_code, IsGrid};
-    ghost use Rattle.csr_store.specs.ByRows.{grid, by_rows, ends_of, AreStarts};
+    ghost use Rattle.csr_store.specs.ByRows.{grid, by_rows, ends_of};
+    ghost use Rattle.csr_store.specs.inner.ByRows.{AreStarts};
 
     ghost Value = { Grid };
 

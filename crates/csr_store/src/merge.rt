@@ -3,7 +3,7 @@ ghost use Rattle.std.specs.Prelude.{◌≡◌, ◌≤◌, [], ◌++◌, true, If
 ghost use Rattle.std.specs.FinMap as map;
 ghost use Rattle.csr_store.specs.Grid.{limit, at_row};
 ghost use Rattle.csr_store.specs.ByRows.{grid};
-ghost use Rattle.csr_store.specs.Merged.{Appends, IsMatrixOf, TakesOne};
+ghost use Rattle.csr_store.specs.inner.Merged.{Appends, IsMatrixOf, TakesOne};
 
 use crate::builder::LIMIT;
 use crate::filler::{Entry, Filler};

@@ -6,7 +6,7 @@ ghost use Rattle.csr_store.specs.Added.{ComeBehind, kept_where, kept_rows, slot_
 ghost use Rattle.csr_store.specs.Along.{along, cell_at};
 ghost use Rattle.csr_store.specs.ByRows.{ends_of};
 ghost use Rattle.csr_store.specs.Valued.{entries_of, with_value, all_cells, valued_from, AreAlike};
-ghost use Rattle.csr_store.specs.Run.{AreClosed, AreRows, IsRow, ended_rows, open_row};
+ghost use Rattle.csr_store.specs.inner.Run.{AreClosed, AreRows, IsRow, ended_rows, open_row};
 
 use crate::kept::{add_rows_where, add_where};
 use crate::matrix::{Cell, Matrix};
@@ -27,7 +27,8 @@ pub struct Rows {
 }
 
 impl Model for Rows {
-    ghost use Rattle.csr_store.specs.Run.{Run, run_code, ended_rows, open_row, AreRows};
+    ghost use Rattle.csr_store.specs.Run.{Run, run_code};
+    ghost use Rattle.csr_store.specs.inner.Run.{ended_rows, open_row, AreRows};
 
     ghost Value = { Run };
 

@@ -9,7 +9,7 @@ use Rattle.bpf_run.specs.Calls.{Call, steps_of}
 use Rattle.bpf_run.proofs.Charging.{steps-append, cost-few}
 use Rattle.entry_ops.specs.declared.form.Form.{Form}
 use Rattle.entry_ops.specs.declared.form.Form.TheVariants.{Apply, Select, Union, Both}
-use Rattle.entry_ops.specs.Walking.{kind_for, form_calls, form_row_calls, form_all_calls, row_or_none, mask_row}
+use Rattle.entry_ops.specs.inner.Walking.{kind_for, form_calls, form_row_calls, form_all_calls, row_or_none, mask_row}
 
 -- lists of so many steps each, joined
 pub steps-along : (g : ℕ → List Call) (from n most : ℕ) → ((j : ℕ) → steps_of (g j) ≤ most) → steps_of (along g from n) ≤ n * most

@@ -6,8 +6,8 @@ use Rattle.csr_store.specs.Run.{Row, Run}
 use Rattle.bpf_run.specs.Calls.{Call, steps_of, Charges}
 use Rattle.bpf_run.proofs.Charging.{charges-all}
 use Rattle.entry_ops.specs.declared.form.Form.{Form}
-use Rattle.entry_ops.specs.Standing.{Standing, Adds}
-use Rattle.entry_ops.specs.Walking.{kind_for, form_all_calls, with_rows, IsOpen}
+use Rattle.entry_ops.specs.inner.Standing.{Standing, Adds}
+use Rattle.entry_ops.specs.inner.Walking.{kind_for, form_all_calls, with_rows, IsOpen}
 use Rattle.entry_ops.proofs.Bounds.{few_in_all}
 use Rattle.entry_ops.proofs.Standing.{empty_run, adds-costs}
 

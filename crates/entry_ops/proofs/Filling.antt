@@ -10,9 +10,9 @@ use Rattle.csr_store.proofs.Along.{along-next, along-over, row_of-ascends, Fills
 use Rattle.bpf_run.specs.Calls.{Call, steps_of, Charges}
 use Rattle.bpf_run.proofs.Charging.{Spends, spends-start, spends-further, spends-stop, steps-append}
 use Rattle.entry_ops.specs.declared.form.Form.{Form}
-use Rattle.entry_ops.specs.Standing.{Standing, Adds, with_end, with_cells}
+use Rattle.entry_ops.specs.inner.Standing.{Standing, Adds, with_end, with_cells}
 use Rattle.entry_ops.specs.declared.line.Line.{Line}
-use Rattle.entry_ops.specs.Walking.{
+use Rattle.entry_ops.specs.inner.Walking.{
   IsOpen,
   IsLine,
   cells_of,

@@ -12,7 +12,19 @@ use Rattle.bpf_run.specs.Fold.{fold, fold_from, fold_calls}
 use Rattle.bpf_run.proofs.Charging.{steps-append}
 use Rattle.bpf_run.proofs.Folds.{fold_from-few}
 use Rattle.entry_ops.specs.Forms.{reduce_at, reduce_calls_at}
-use Rattle.entry_ops.specs.Folding.{words, Open, Folding, due, IsAmong, places, Goes, Begins, target_of, IsFolding, AreResults}
+use Rattle.entry_ops.specs.inner.Folding.{
+  words,
+  Open,
+  Folding,
+  due,
+  IsAmong,
+  places,
+  Goes,
+  Begins,
+  target_of,
+  IsFolding,
+  AreResults,
+}
 
 -- ---- a row that the mask may not show
 

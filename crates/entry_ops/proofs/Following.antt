@@ -3,7 +3,7 @@ use Rattle.std.proofs.Common.{◌≡◌, ◌≤◌, ◌<◌, ◌+◌, ◌-◌, �
 use Rattle.csr_store.specs.Run.{Run}
 use Rattle.csr_store.specs.Valued.{with_value, all_cells, valued, valued_from, AreAlike}
 use Rattle.csr_store.proofs.Valuing.{with_value_alike, with_value_cells, alike_then, alike_same, alike_equal}
-use Rattle.entry_ops.specs.Placing.{placed, HavePlaces, Rise}
+use Rattle.entry_ops.specs.inner.Placing.{placed, HavePlaces, Rise}
 
 -- there are as many places
 pub have-count : (ps vs : List ℕ) (n : ℕ) → HavePlaces ps vs n → length vs ≤ length ps

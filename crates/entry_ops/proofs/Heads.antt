@@ -2,7 +2,7 @@
 use Rattle.std.proofs.Common.{◌≡◌, ℕ, List, [], ◌∷◌, None, refl}
 use Rattle.csr_store.specs.Grid.{Cell}
 use Rattle.csr_store.specs.Ascending.{Ascends, at}
-use Rattle.entry_ops.specs.Heads.{head_column}
+use Rattle.entry_ops.specs.inner.Heads.{head_column}
 use Rattle.entry_ops.proofs.Masks.{begins-later}
 
 -- nothing stands at a column where no cell begins

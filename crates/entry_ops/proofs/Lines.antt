@@ -12,9 +12,9 @@ use Rattle.csr_store.proofs.Along.{along-none}
 use Rattle.bpf_run.specs.Meaning.{value_of}
 use Rattle.bpf_run.specs.Calls.{Call, call_of, calls_on, values_on, entries_of}
 use Rattle.entry_ops.specs.declared.form.Form.TheVariants.{Select}
-use Rattle.entry_ops.specs.Standing.{Standing, Adds, with_cell, with_cells}
-use Rattle.entry_ops.specs.Sifting.{with_kept}
-use Rattle.entry_ops.specs.Walking.{row_cells, row_calls}
+use Rattle.entry_ops.specs.inner.Standing.{Standing, Adds, with_cell, with_cells}
+use Rattle.entry_ops.specs.inner.Sifting.{with_kept}
+use Rattle.entry_ops.specs.inner.Walking.{row_cells, row_calls}
 use Rattle.entry_ops.proofs.Nexts.{next_left, next_first}
 use Rattle.entry_ops.proofs.Merging.{cells_here, calls_here, no_cell, no_call}
 use Rattle.entry_ops.proofs.Standing.{above_all}

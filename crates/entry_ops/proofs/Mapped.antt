@@ -11,7 +11,7 @@ use Rattle.csr_store.proofs.Valuing.{alike_entries, alike_same, alike_then, entr
 use Rattle.bpf_run.specs.Calls.{Gathered, calls_on, values_on, steps_of, words_of, entries_of}
 use Rattle.bpf_run.proofs.Charging.{values_on-append, calls_on-append, steps-append}
 use Rattle.entry_ops.specs.declared.mapping.Mapping.{Mapping}
-use Rattle.entry_ops.specs.Mapped.{settled, HasEntries, IsFurther}
+use Rattle.entry_ops.specs.inner.Mapped.{settled, HasEntries, IsFurther}
 
 pub length_values : (f : Accepted) (os : List Operands) → length (values_on f os) ≡ length os
 length_values f [] = refl

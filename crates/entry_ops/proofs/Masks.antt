@@ -10,8 +10,8 @@ use Rattle.csr_store.specs.Ascending.{Ascends, at, shows}
 use Rattle.csr_store.proofs.Along.{along-none, along-first, at-below, at-first, at-after, ascends-weaken}
 use Rattle.bpf_run.specs.Calls.{Call}
 use Rattle.entry_ops.specs.declared.form.Form.{Form}
-use Rattle.entry_ops.specs.Standing.{CanPush, Standing, Adds, with_cells}
-use Rattle.entry_ops.specs.Walking.{form_at, form_calls, row_cells, row_calls, IsOpen}
+use Rattle.entry_ops.specs.inner.Standing.{CanPush, Standing, Adds, with_cells}
+use Rattle.entry_ops.specs.inner.Walking.{form_at, form_calls, row_cells, row_calls, IsOpen}
 use Rattle.entry_ops.proofs.Merging.{cells_here, calls_here}
 use Rattle.entry_ops.proofs.Standing.{Completes, completes-start, completes-same, completes-step, completes-end, above_all, above_less}
 

@@ -11,8 +11,8 @@ use Rattle.bpf_run.specs.Calls.{Call}
 use Rattle.entry_ops.specs.declared.form.Form.{Form}
 use Rattle.entry_ops.specs.declared.form.Form.TheVariants.{Apply, Select, Union, Both}
 use Rattle.entry_ops.specs.Forms.{joint, joint_calls}
-use Rattle.entry_ops.specs.Standing.{CanPush, FollowIn, Standing, Adds, with_cells}
-use Rattle.entry_ops.specs.Walking.{form_at, form_calls, row_cells, row_calls, IsNext, IsOpen}
+use Rattle.entry_ops.specs.inner.Standing.{CanPush, FollowIn, Standing, Adds, with_cells}
+use Rattle.entry_ops.specs.inner.Walking.{form_at, form_calls, row_cells, row_calls, IsNext, IsOpen}
 use Rattle.entry_ops.proofs.Nexts.{next_left, next_right, next_first}
 use Rattle.entry_ops.proofs.Standing.{Completes, completes-start, completes-same, completes-step, completes-end, adds-nothing, above_all, above_less}
 

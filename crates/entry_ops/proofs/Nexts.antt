@@ -4,7 +4,7 @@ use Rattle.csr_store.specs.Grid.{Cell}
 use Rattle.csr_store.specs.Along.{along}
 use Rattle.csr_store.specs.Ascending.{Ascends, at, shows}
 use Rattle.csr_store.proofs.Along.{along-first, at-below, at-first, at-after, ascends-weaken}
-use Rattle.entry_ops.specs.Walking.{IsNext}
+use Rattle.entry_ops.specs.inner.Walking.{IsNext}
 
 pub none_left : (xs : List Cell) → length xs ≡ 0 → xs ≡ []
 none_left [] e = refl

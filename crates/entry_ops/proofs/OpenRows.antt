@@ -15,7 +15,22 @@ use Rattle.bpf_run.specs.Meaning.{value_of, cost_of}
 use Rattle.bpf_run.specs.Calls.{steps_of, calls_on, values_on, pairs_of}
 use Rattle.bpf_run.proofs.Meaning.{has_value}
 use Rattle.bpf_run.specs.Fold.{fold, fold_from, fold_calls, fold_calls_from}
-use Rattle.entry_ops.specs.Folding.{words, Open, in_columns, in_two_columns, Folding, ArePlaced, to_come, due, IsAmong, places, LeadsTo, Gives, Goes, Begins}
+use Rattle.entry_ops.specs.inner.Folding.{
+  words,
+  Open,
+  in_columns,
+  in_two_columns,
+  Folding,
+  ArePlaced,
+  to_come,
+  due,
+  IsAmong,
+  places,
+  LeadsTo,
+  Gives,
+  Goes,
+  Begins,
+}
 use Rattle.entry_ops.specs.declared.lanes.Lane.{Lane}
 
 -- ---- lists of open rows

@@ -14,9 +14,9 @@ use Rattle.bpf_run.specs.Meaning.{value_of}
 use Rattle.bpf_run.specs.Calls.{Charges, calls_on, values_on, steps_of, entries_of}
 use Rattle.bpf_run.proofs.Charging.{Spends, spends-start, spends-step, charges-all, charges-before, calls_on-append, steps-append, values_on-append}
 use Rattle.entry_ops.specs.declared.form.Form.TheVariants.{Select}
-use Rattle.entry_ops.specs.Walking.{form_rows, form_all_calls}
+use Rattle.entry_ops.specs.inner.Walking.{form_rows, form_all_calls}
 use Rattle.entry_ops.specs.declared.keeping.Cursor.{Cursor}
-use Rattle.entry_ops.specs.Keeping.{row_before, kept_of, coming, coming_at, called_before, IsKept, AreFirst}
+use Rattle.entry_ops.specs.inner.Keeping.{row_before, kept_of, coming, coming_at, called_before, IsKept, AreFirst}
 use Rattle.entry_ops.proofs.Mapped.{length_values, length_entries, entries_of-append}
 use Rattle.entry_ops.proofs.Lines.{front_behind, rest_behind, kept-append, alone-cells, alone-calls}
 use Rattle.entry_ops.proofs.Nexts.{none_left}

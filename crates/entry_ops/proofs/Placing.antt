@@ -12,8 +12,8 @@ use Rattle.csr_store.proofs.Revalued.{entries_push, entries_end, entries_with_va
 use Rattle.bpf_run.specs.Meaning.{value_of}
 use Rattle.bpf_run.specs.Calls.{Call, Gathered, call_of, calls_on, values_on, steps_of, Charges}
 use Rattle.bpf_run.proofs.Charging.{Spends, spends-start, spends-step, calls_on-append, values_on-append}
-use Rattle.entry_ops.specs.Standing.{CanPush, FollowIn, with_cell, with_cells, with_end}
-use Rattle.entry_ops.specs.Placing.{placed, HavePlaces, Rise, Emission, final, Holds, standing, Does}
+use Rattle.entry_ops.specs.inner.Standing.{CanPush, FollowIn, with_cell, with_cells, with_end}
+use Rattle.entry_ops.specs.inner.Placing.{placed, HavePlaces, Rise, Emission, final, Holds, standing, Does}
 use Rattle.entry_ops.proofs.Standing.{empty_run, adds-nothing, adds-then, adds-waiting, adds-charged}
 
 pub values-count : (f : Accepted) (os : List Operands) → length (values_on f os) ≡ length os

@@ -26,7 +26,16 @@ use Rattle.entry_ops.specs.Forms.{
   both_at,
   joint_calls_at,
 }
-use Rattle.entry_ops.specs.Walking.{form_at, form_calls, form_row, form_row_calls, form_rows, form_all_calls, row_or_none, mask_row}
+use Rattle.entry_ops.specs.inner.Walking.{
+  form_at,
+  form_calls,
+  form_row,
+  form_row_calls,
+  form_rows,
+  form_all_calls,
+  row_or_none,
+  mask_row,
+}
 
 shows-passes : (mask : Option Grid) (i j : ℕ) → shows (mask_row mask i) j ≡ passes mask (i, j)
 shows-passes None i j = refl

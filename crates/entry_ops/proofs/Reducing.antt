@@ -11,7 +11,7 @@ use Rattle.csr_store.proofs.Along.{along-split, along-over, length-row_of, Fills
 use Rattle.bpf_run.specs.Calls.{Call, steps_of, Charges}
 use Rattle.bpf_run.proofs.Charging.{Spends, spends-start, spends-step, spends-none, spends-end, spends-room}
 use Rattle.entry_ops.specs.Forms.{reduce_at, reduce_calls_at, row_words}
-use Rattle.entry_ops.specs.Folding.{AreResults}
+use Rattle.entry_ops.specs.inner.Folding.{AreResults}
 use Rattle.entry_ops.proofs.Bounds.{steps-along}
 use Rattle.entry_ops.proofs.Folding.{fold-few, rows-are}
 

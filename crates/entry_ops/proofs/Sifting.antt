@@ -9,8 +9,8 @@ use Rattle.bpf_run.specs.Calls.{Call, Gathered, call_of, calls_on, values_on, st
 use Rattle.bpf_run.proofs.Charging.{Spends, spends-start, spends-step, calls_on-append, values_on-append}
 use Rattle.entry_ops.specs.declared.sieve.Mark.{Mark}
 use Rattle.entry_ops.specs.declared.sieve.Mark.TheVariants.{End, Kept}
-use Rattle.entry_ops.specs.Standing.{CanPush, with_end}
-use Rattle.entry_ops.specs.Sifting.{placed, Fits, with_kept, Sifting, final, Holds, standing, Does}
+use Rattle.entry_ops.specs.inner.Standing.{CanPush, with_end}
+use Rattle.entry_ops.specs.inner.Sifting.{placed, Fits, with_kept, Sifting, final, Holds, standing, Does}
 use Rattle.entry_ops.proofs.Standing.{adds-nothing, adds-then, adds-waiting}
 
 -- what is left is added to the rows so far

@@ -7,7 +7,7 @@ use Rattle.csr_store.specs.Run.{Row, Run}
 use Rattle.csr_store.specs.Along.{cell_at}
 use Rattle.bpf_run.specs.Calls.{Call, steps_of, Charges}
 use Rattle.bpf_run.proofs.Charging.{Spends, spends-start, spends-further, spends-stop, steps-append, charges-none}
-use Rattle.entry_ops.specs.Standing.{CanPush, FollowIn, Standing, Adds, with_cell, with_cells}
+use Rattle.entry_ops.specs.inner.Standing.{CanPush, FollowIn, Standing, Adds, with_cell, with_cells}
 
 abbrev pub empty_run : ℕ → ℕ → Run
 empty_run first columns = record { first = first; columns = columns; ended = []; opened = [] }

@@ -15,8 +15,18 @@ use Rattle.bpf_run.proofs.Charging.{values_on-append, calls_on-append, charges-n
 use Rattle.entry_ops.specs.declared.form.Form.TheVariants.{Apply}
 use Rattle.entry_ops.specs.declared.mapping.Mapping.{Mapping}
 use Rattle.entry_ops.specs.Forms.{apply_kind}
-use Rattle.entry_ops.specs.Mapped.{copied, row_operands, range_operands, settled, HasEntries, IsFurther}
-use Rattle.entry_ops.specs.Walking.{kind_for, form_at, form_calls, row_cells, row_calls, form_row, form_row_calls, form_rows, form_all_calls}
+use Rattle.entry_ops.specs.inner.Mapped.{copied, row_operands, range_operands, settled, HasEntries, IsFurther}
+use Rattle.entry_ops.specs.inner.Walking.{
+  kind_for,
+  form_at,
+  form_calls,
+  row_cells,
+  row_calls,
+  form_row,
+  form_row_calls,
+  form_rows,
+  form_all_calls,
+}
 use Rattle.entry_ops.proofs.Bounds.{few_in_all}
 use Rattle.entry_ops.proofs.Nexts.{next_left, next_first}
 use Rattle.entry_ops.proofs.Merging.{cells_here, calls_here, no_cell, no_call}

@@ -1,9 +1,2 @@
 pub mod Forms
-pub mod Standing
-pub mod Placing
-pub mod Sifting
-pub mod Walking
-pub mod Mapped
-pub mod Keeping
-pub mod Folding
-pub mod Heads
+pub mod inner

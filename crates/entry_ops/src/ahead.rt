@@ -2,8 +2,8 @@
 ghost use Rattle.std.specs.Prelude.{◌≡◌, ℕ, ◌≤◌, List, Some};
 ghost use Rattle.csr_store.specs.Ascending.{Ascends, at};
 ghost use Rattle.bpf_verify.specs.Accepted.{Accepted};
-ghost use Rattle.entry_ops.specs.Heads.{head_column};
-ghost use Rattle.entry_ops.specs.Walking.{row_cells, row_calls};
+ghost use Rattle.entry_ops.specs.inner.Heads.{head_column};
+ghost use Rattle.entry_ops.specs.inner.Walking.{row_cells, row_calls};
 
 use crate::form::Form;
 use crate::line::Cell;

@@ -4,8 +4,8 @@ ghost use Rattle.bpf_insn.specs.Machine.{kind_of};
 ghost use Rattle.bpf_run.specs.Meaning.{value_of};
 ghost use Rattle.bpf_run.specs.Calls.{call_of, calls_on, steps_of, Charges};
 ghost use Rattle.csr_store.specs.Valued.{entries_of};
-ghost use Rattle.entry_ops.specs.Standing.{CanPush, FollowIn, with_cell, with_cells, with_end};
-ghost use Rattle.entry_ops.specs.Placing.{placed, HavePlaces, Rise, final, Holds, Does};
+ghost use Rattle.entry_ops.specs.inner.Standing.{CanPush, FollowIn, with_cell, with_cells, with_end};
+ghost use Rattle.entry_ops.specs.inner.Placing.{placed, HavePlaces, Rise, final, Holds, Does};
 
 use crate::line::Cell;
 use bpf_insn::Operands;
@@ -25,7 +25,7 @@ pub struct Emitter {
 
 impl Model for Emitter {
     ghost use Rattle.std.specs.Prelude.{◌≡◌, length};
-    ghost use Rattle.entry_ops.specs.Placing.{Emission};
+    ghost use Rattle.entry_ops.specs.inner.Placing.{Emission};
 
     ghost Value = { Emission };
 

@@ -7,7 +7,7 @@ ghost use Rattle.csr_store.specs.Grid.{row_of};
 ghost use Rattle.csr_store.specs.Mask.{all_listed_under, mask_of, passes};
 ghost use Rattle.bpf_run.specs.Calls.{steps_of};
 ghost use Rattle.entry_ops.specs.Forms.{reduce_calls_at};
-ghost use Rattle.entry_ops.specs.Folding.{due, Goes, Begins, IsFolding, AreResults};
+ghost use Rattle.entry_ops.specs.inner.Folding.{due, Goes, Begins, IsFolding, AreResults};
 
 use crate::lanes::{Lanes, OpenRow};
 use crate::line::Cell;
@@ -34,7 +34,7 @@ pub struct Folds<'m> {
 
 impl<'m> Model for Folds<'m> {
     ghost use Rattle.std.specs.Prelude.{◌≤◌, length, vec_capacity};
-    ghost use Rattle.entry_ops.specs.Folding.{Folding, ArePlaced};
+    ghost use Rattle.entry_ops.specs.inner.Folding.{Folding, ArePlaced};
 
     ghost Value = { Folding };
 

@@ -3,9 +3,9 @@ ghost use Rattle.std.specs.Prelude.{◌≡◌, ◌<◌, ◌+◌, ◌^◌, ◌++�
 ghost use Rattle.bpf_insn.specs.declared.operands.Kind.TheVariants as kinds;
 ghost use Rattle.bpf_run.specs.Calls.{Call, calls_on, steps_of, Charges};
 ghost use Rattle.entry_ops.specs.declared.form.Form.TheVariants as forms;
-ghost use Rattle.entry_ops.specs.Standing.{with_cells};
-ghost use Rattle.entry_ops.specs.Placing.{final, Holds, Does};
-ghost use Rattle.entry_ops.specs.Walking.{cells_of, IsLine, IsOpen, cells_along, calls_along};
+ghost use Rattle.entry_ops.specs.inner.Standing.{with_cells};
+ghost use Rattle.entry_ops.specs.inner.Placing.{final, Holds, Does};
+ghost use Rattle.entry_ops.specs.inner.Walking.{cells_of, IsLine, IsOpen, cells_along, calls_along};
 
 use crate::emitter::Emitter;
 use crate::line::Line;

@@ -4,8 +4,8 @@ ghost use Rattle.bpf_insn.specs.declared.operands.Kind.TheVariants as kinds;
 ghost use Rattle.bpf_run.specs.Calls.{calls_on, steps_of, entries_of, Charges};
 ghost use Rattle.bpf_run.specs.Naming.{AnswersAlike};
 ghost use Rattle.entry_ops.specs.declared.form.Form.TheVariants as forms;
-ghost use Rattle.entry_ops.specs.Keeping.{row_before, coming_at, IsKept, IsKeptAt, AreFirst, IsOnward};
-ghost use Rattle.entry_ops.specs.Walking.{form_rows, form_all_calls};
+ghost use Rattle.entry_ops.specs.inner.Keeping.{row_before, coming_at, IsKept, IsKeptAt, AreFirst, IsOnward};
+ghost use Rattle.entry_ops.specs.inner.Walking.{form_rows, form_all_calls};
 
 use crate::line::{Cell, MOST_ROOM, entries_between};
 use bpf_run::{Calls, MOST_CALLS, Prepared};

@@ -3,7 +3,7 @@
 ghost use Rattle.std.specs.Prelude.{◌≡◌, ◌<◌, ◌≤◌, ◌++◌, ◌∷◌, [], length, take, IfOk};
 ghost use Rattle.bpf_insn.specs.declared.operands.Kind.TheVariants as kinds;
 ghost use Rattle.bpf_verify.specs.Accepted.{Accepted, IsAccepted};
-ghost use Rattle.entry_ops.specs.Folding.{open_of, in_columns, in_two_columns, ArePlaced, Gives};
+ghost use Rattle.entry_ops.specs.inner.Folding.{open_of, in_columns, in_two_columns, ArePlaced, Gives};
 
 use crate::line::Cell;
 use bpf_run::{Calls, MOST_CALLS, Prepared};
@@ -36,7 +36,7 @@ pub struct Lanes<'m> {
 
 impl<'m> Model for Lanes<'m> {
     ghost use Rattle.std.specs.Prelude.{◌≡◌, ◌≤◌, List, length, vec_capacity};
-    ghost use Rattle.entry_ops.specs.Folding.{Open, in_columns};
+    ghost use Rattle.entry_ops.specs.inner.Folding.{Open, in_columns};
 
     ghost Value = { List Open };
 

@@ -4,7 +4,7 @@ ghost use Rattle.bpf_verify.specs.Accepted.{Accepted};
 ghost use Rattle.csr_store.specs.Ascending.{Ascends, AscendsIn};
 ghost use Rattle.csr_store.specs.Mask.{HasShape, mask_of};
 ghost use Rattle.entry_ops.specs.declared.form.Form.{Form};
-ghost use Rattle.entry_ops.specs.Walking.{
+ghost use Rattle.entry_ops.specs.inner.Walking.{
   cells_of,
   row_or_none,
   mask_row,

@@ -7,8 +7,8 @@ ghost use Rattle.csr_store.specs.Grid.{row_of};
 ghost use Rattle.csr_store.specs.Valued.{all_cells, valued_from, AreAlike};
 ghost use Rattle.entry_ops.specs.declared.form.Form.TheVariants as forms;
 ghost use Rattle.entry_ops.specs.Forms.{apply_kind};
-ghost use Rattle.entry_ops.specs.Mapped.{copied, range_operands, HasEntries, IsFurther};
-ghost use Rattle.entry_ops.specs.Walking.{form_rows, form_all_calls};
+ghost use Rattle.entry_ops.specs.inner.Mapped.{copied, range_operands, HasEntries, IsFurther};
+ghost use Rattle.entry_ops.specs.inner.Walking.{form_rows, form_all_calls};
 
 use crate::line::Cell;
 use bpf_run::{Calls, MOST_CALLS, Prepared};

@@ -2,9 +2,9 @@
 ghost use Rattle.std.specs.Prelude.{◌≡◌, ℕ, ◌<◌, ◌≤◌, ◌+◌, ◌^◌, ◌++◌, OnOk, OnErr, Some, List, true};
 ghost use Rattle.bpf_run.specs.Calls.{Call, calls_on, steps_of, Charges};
 ghost use Rattle.csr_store.specs.Ascending.{Ascends, at};
-ghost use Rattle.entry_ops.specs.Standing.{with_cells};
-ghost use Rattle.entry_ops.specs.Placing.{final, Holds, Does};
-ghost use Rattle.entry_ops.specs.Walking.{kind_for, of_values, row_cells, row_calls, IsLine, IsOpen};
+ghost use Rattle.entry_ops.specs.inner.Standing.{with_cells};
+ghost use Rattle.entry_ops.specs.inner.Placing.{final, Holds, Does};
+ghost use Rattle.entry_ops.specs.inner.Walking.{kind_for, of_values, row_cells, row_calls, IsLine, IsOpen};
 
 use crate::ahead::{begin_walk, second_for, value_here, walk_to};
 use crate::emitter::Emitter;

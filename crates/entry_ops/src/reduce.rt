@@ -5,7 +5,7 @@ ghost use Rattle.bpf_verify.specs.Accepted.{IsAccepted};
 ghost use Rattle.csr_store.specs.Mask.{HasShape, rows_under, all_listed_under, mask_of};
 ghost use Rattle.bpf_run.specs.Calls.{steps_of, Charges};
 ghost use Rattle.entry_ops.specs.Forms.{reduce_at, reduce_calls_at};
-ghost use Rattle.entry_ops.specs.Walking.{with_rows};
+ghost use Rattle.entry_ops.specs.inner.Walking.{with_rows};
 
 use crate::folds::{BLOCK_ROWS, Folds};
 use bpf_run::{Calls, Prepared};

@@ -2,9 +2,9 @@
 ghost use Rattle.std.specs.Prelude.{◌≡◌, ◌<◌, ◌≤◌, ◌+◌, ◌-◌, ◌^◌, ◌++◌, [], IfOk, OnOk, OnErr, List, true};
 ghost use Rattle.csr_store.specs.Mask.{HasShape, mask_of};
 ghost use Rattle.bpf_run.specs.Calls.{Call, calls_on, steps_of, Charges};
-ghost use Rattle.entry_ops.specs.Standing.{with_cells};
-ghost use Rattle.entry_ops.specs.Placing.{final, Holds, Does};
-ghost use Rattle.entry_ops.specs.Walking.{
+ghost use Rattle.entry_ops.specs.inner.Standing.{with_cells};
+ghost use Rattle.entry_ops.specs.inner.Placing.{final, Holds, Does};
+ghost use Rattle.entry_ops.specs.inner.Walking.{
   kind_for,
   of_values,
   IsLine,

@@ -4,9 +4,9 @@ ghost use Rattle.bpf_insn.specs.declared.operands.Kind.TheVariants as kinds;
 ghost use Rattle.csr_store.specs.Mask.{HasShape};
 ghost use Rattle.bpf_run.specs.Calls.{Call, calls_on, steps_of, Charges};
 ghost use Rattle.entry_ops.specs.declared.form.Form.TheVariants as forms;
-ghost use Rattle.entry_ops.specs.Standing.{with_cells};
-ghost use Rattle.entry_ops.specs.Sifting.{final, Holds, Does};
-ghost use Rattle.entry_ops.specs.Walking.{IsOpen, with_rows, form_row, form_row_calls, form_rows, form_all_calls};
+ghost use Rattle.entry_ops.specs.inner.Standing.{with_cells};
+ghost use Rattle.entry_ops.specs.inner.Sifting.{final, Holds, Does};
+ghost use Rattle.entry_ops.specs.inner.Walking.{IsOpen, with_rows, form_row, form_row_calls, form_rows, form_all_calls};
 
 use crate::form::operands_of;
 use crate::masked::{first_at, from_column};

@@ -3,8 +3,8 @@ ghost use Rattle.std.specs.Prelude.{◌≡◌, ◌<◌, ◌≤◌, ◌+◌, ◌^
 ghost use Rattle.bpf_insn.specs.Machine.{kind_of};
 ghost use Rattle.bpf_run.specs.Meaning.{value_of};
 ghost use Rattle.bpf_run.specs.Calls.{call_of, calls_on, steps_of, Charges};
-ghost use Rattle.entry_ops.specs.Standing.{CanPush, with_end};
-ghost use Rattle.entry_ops.specs.Sifting.{placed, Fits, final, Holds, Does, with_kept};
+ghost use Rattle.entry_ops.specs.inner.Standing.{CanPush, with_end};
+ghost use Rattle.entry_ops.specs.inner.Sifting.{placed, Fits, final, Holds, Does, with_kept};
 
 use bpf_insn::Operands;
 use bpf_run::{Calls, MOST_CALLS, Prepared};
@@ -34,7 +34,7 @@ pub struct Sieve {
 
 impl Model for Sieve {
     ghost use Rattle.std.specs.Prelude.{◌≤◌, length, vec_capacity};
-    ghost use Rattle.entry_ops.specs.Sifting.{Sifting};
+    ghost use Rattle.entry_ops.specs.inner.Sifting.{Sifting};
 
     ghost Value = { Sifting };
 

@@ -6,7 +6,7 @@ use Rattle.csr_store.specs.Grid.{Grid, Cell, Position, at_row, limit}
 use Rattle.csr_store.specs.Run.{Row, Run, all_ended, numbered}
 use Rattle.csr_store.specs.Mask.{cut, row_under, rows_under}
 use Rattle.csr_store.proofs.Along.{row_by-ascends, length_ascends}
-use Rattle.form_tests.specs.Pieces.{IsPiece}
+use Rattle.form_tests.specs.inner.Pieces.{IsPiece}
 
 row_small : (mask : Option Grid) (columns : ℕ) (values : Position → Option ℕ) (i : ℕ)
     → length (row_under mask columns values i) ≤ columns

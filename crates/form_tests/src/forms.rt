@@ -1,7 +1,7 @@
 //! All forms against a slow reference: a map of positions, and one call at a time by the machine with tags.
 ghost use Rattle.std.specs.Prelude.{◌≡◌, ◌≤◌, ◌-◌, ◌*◌, [], IsTrue, length, IfSome, IfOk};
 ghost use Rattle.csr_store.specs.Mask.{HasShape, mask_of};
-ghost use Rattle.form_tests.specs.Pieces.{IsPiece};
+ghost use Rattle.form_tests.specs.inner.Pieces.{IsPiece};
 
 mod sizes;
 mod small;

@@ -24,7 +24,8 @@ use Rattle.job_plan.specs.Job.{Form, Job, Apply, Select, Union, Both, Product, R
 use Rattle.job_plan.specs.Kept.{IsForm, IsMask}
 use Rattle.job_plan.specs.Forms.{operation, same_shape}
 use Rattle.job_plan.specs.Costing.{costing, count, of_passing, if_passing}
-use Rattle.job_plan.specs.Refusal.{has_shape, Passes}
+use Rattle.job_plan.specs.Refusal.{has_shape}
+use Rattle.job_plan.specs.inner.Refusal.{Passes}
 use Rattle.job_plan.specs.Meaning.{bound_in, column_count}
 use Rattle.job_plan.specs.Price.{row_price, price_in}
 use Rattle.job_plan.proofs.Sums.{summed-add, summed-none}

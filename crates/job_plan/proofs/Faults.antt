@@ -11,7 +11,8 @@ use Rattle.job_plan.specs.Job.{Job}
 use Rattle.job_plan.specs.Costing.{costing}
 use Rattle.job_plan.specs.Meaning.{row_count}
 use Rattle.job_plan.specs.Price.{price_in, price_of}
-use Rattle.job_plan.specs.Refusal.{job_fault, price_limit, Passes, IsPriced}
+use Rattle.job_plan.specs.Refusal.{job_fault, price_limit, IsPriced}
+use Rattle.job_plan.specs.inner.Refusal.{Passes}
 use Rattle.job_plan.proofs.Sums.{summed-times, summed-part}
 use Rattle.job_plan.proofs.Rounds.{few_rounds}
 

@@ -22,7 +22,8 @@ use Rattle.row_product.specs.Product.{term_calls, terms, mul_calls}
 use Rattle.job_plan.specs.Job.{Form, Job, Apply, Select, Union, Both, Product, Reduce}
 use Rattle.job_plan.specs.Kept.{IsForm}
 use Rattle.job_plan.specs.Forms.{operation, same_kind, is_of, kind_with}
-use Rattle.job_plan.specs.Refusal.{Passes, IsPriced}
+use Rattle.job_plan.specs.Refusal.{IsPriced}
+use Rattle.job_plan.specs.inner.Refusal.{Passes}
 use Rattle.job_plan.specs.Meaning.{steps_in, bound_in}
 use Rattle.job_plan.specs.Price.{IsWithinPrice}
 use Rattle.job_plan.proofs.Bounds.{bound-append, bound_within}

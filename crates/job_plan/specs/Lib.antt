@@ -6,3 +6,4 @@ pub mod Price
 pub mod Refusal
 pub mod Chunks
 pub mod Kept
+pub mod inner

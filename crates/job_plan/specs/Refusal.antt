@@ -1,6 +1,6 @@
 -- Why a job is refused, in the order in which the reasons are looked at. That operators and shapes have to fit is as in the
 -- GraphBLAS C API Specification 2.0 ("Operations": domain and dimension mismatch); the limits are this project's own.
-use Rattle.std.specs.Prelude.{◌≡◌, ◌≤◌, ℕ, Bool, true, ◌&&◌, not, nat_eq, nat_lt, if◌then◌else◌, List, codes, Option, None}
+use Rattle.std.specs.Prelude.{◌≡◌, ℕ, Bool, true, ◌&&◌, not, nat_eq, nat_lt, if◌then◌else◌, List, codes, Option, None}
 use Rattle.std.specs.Prelude.{Some, Result, Ok, Err}
 use Rattle.csr_store.specs.Grid.{Grid, limit}
 use Rattle.job_plan.specs.declared.error.JobError.{JobError}
@@ -29,15 +29,6 @@ job_fault job =
     else if nat_lt limit ((costing job.form).entries job.mask) then Some ResultTooLarge
     else if nat_lt price_limit (price_of job) then Some PriceTooHigh
     else None
-
--- all is right with a job but perhaps its price
-pub record Passes (job : Job) : Type 0 where
-  pub form : IsForm job.form
-  pub mask : IsMask job.mask
-  pub kinds : (operation job.form).kinds ≡ true
-  pub shapes : (operation job.form).shapes ≡ true
-  pub shape : has_shape (row_count job) (column_count job) job.mask ≡ true
-  pub small : (costing job.form).entries job.mask ≤ limit
 
 -- the job back, with its fault if it has one
 abbrev pub answered : Job → Option JobError → Result Job (Job × JobError)

@@ -7,7 +7,8 @@ ghost use Rattle.csr_store.specs.Mask.{mask_of};
 ghost use Rattle.job_plan.specs.Kept.{form_of};
 ghost use Rattle.job_plan.specs.Meaning.{row_count};
 ghost use Rattle.job_plan.specs.Price.{price_of, price_in};
-ghost use Rattle.job_plan.specs.Refusal.{job_fault, Passes, IsPriced};
+ghost use Rattle.job_plan.specs.Refusal.{job_fault, IsPriced};
+ghost use Rattle.job_plan.specs.inner.Refusal.{Passes};
 
 use crate::error::JobError;
 use crate::form::has_shape;

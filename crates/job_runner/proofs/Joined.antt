@@ -20,7 +20,7 @@ use Rattle.job_plan.specs.Chunks.{Cover, chunk_count, chunk_first, chunk_of, chu
 use Rattle.job_runner.specs.declared.answer.JobResult.{JobResult}
 use Rattle.job_runner.specs.Batch.{Result, IsResultOf, AreResultsOf, total_steps, result_of}
 use Rattle.job_runner.specs.Chunk.{chunks_in, chunk_total, chunk_rows, run_in_job, calls_in_job, steps_in_job, at_chunk, calls_of, chunk_steps}
-use Rattle.job_runner.specs.Pieces.{listed}
+use Rattle.job_runner.specs.inner.Pieces.{listed}
 use Rattle.job_runner.proofs.Located.{ones-length}
 use Rattle.job_runner.proofs.Faultless.{faultless}
 use Rattle.job_runner.proofs.Matrix.{matrix_of}

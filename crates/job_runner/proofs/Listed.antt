@@ -3,7 +3,7 @@ use Rattle.std.proofs.Common.{◌≡◌, ◌<◌, ◌≤◌, ℕ, zero, suc, ◌
 use Rattle.std.proofs.Math.Seq.{drop-append_seam}
 use Rattle.csr_store.specs.Along.{along, summed}
 use Rattle.csr_store.proofs.Along.{along-next, along-snoc}
-use Rattle.job_runner.specs.Pieces.{listed, BeginsWith}
+use Rattle.job_runner.specs.inner.Pieces.{listed, BeginsWith}
 use Rattle.job_runner.proofs.Located.{ones-length}
 
 module _ {T : Type 0} where

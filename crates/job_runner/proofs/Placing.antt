@@ -12,7 +12,7 @@ use Rattle.race_board.proofs.Sums.{sum_append}
 use Rattle.job_plan.specs.Job.{Job}
 use Rattle.job_runner.specs.declared.piece.Piece.{Piece}
 use Rattle.job_runner.specs.Worked.{recorded, IsPieceOf}
-use Rattle.job_runner.specs.Places.{ArePlaced, IsFull}
+use Rattle.job_runner.specs.inner.Places.{ArePlaced, IsFull}
 use Rattle.job_runner.proofs.Working.{record_more}
 
 abbrev IsOther : ℕ → ℕ → Type 0

@@ -10,7 +10,8 @@ use Rattle.race_board.proofs.Sums.{sum_append}
 use Rattle.race_board.proofs.Turns.{completed_drew}
 use Rattle.job_plan.specs.Job.{Job}
 use Rattle.job_runner.specs.declared.piece.Piece.{Piece}
-use Rattle.job_runner.specs.Worked.{recorded, Adds, IsPieceOf}
+use Rattle.job_runner.specs.Worked.{recorded, IsPieceOf}
+use Rattle.job_runner.specs.inner.Worked.{Adds}
 use Rattle.job_runner.proofs.Listed.{summed-split}
 
 summed-more : (p : ℕ → ℕ) (a b : ℕ) → a ≤ b → summed p 0 a ≤ summed p 0 b

@@ -1,5 +1,5 @@
 -- What a worker did at its seat. This project's own.
-use Rattle.std.specs.Prelude.{◌≡◌, ℕ, ◌<◌, ◌≤◌, Bool, true, false, List, [], ◌∷◌, ◌++◌, map}
+use Rattle.std.specs.Prelude.{◌≡◌, ℕ, ◌<◌, ◌≤◌, Bool, true, false, List, map}
 use Rattle.race_board.specs.declared.stand.Stand.{Stand}
 use Rattle.race_board.specs.declared.stand.Stand.TheVariants.{ToldEnd, Failed}
 use Rattle.job_plan.specs.declared.plan.Chunk.{Chunk}
@@ -21,14 +21,6 @@ pub record IsPieceOf (jobs : List Job) (p : Piece) : Type 0 where
 -- pieces, as a worker's record tells them: each chunk with its steps
 abbrev pub recorded : List Piece → List (ℕ × ℕ)
 recorded pieces = map (λ (p : Piece). (p.chunk, p.steps)) pieces
-
--- the piece of this chunk is put behind others
-pub record Adds (jobs : List Job) (chunk steps : ℕ) (old new : List Piece) : Type 0 where
-  pub piece : Piece
-  pub right : IsPieceOf jobs piece
-  pub chunk_is : piece.chunk ≡ chunk
-  pub steps_is : piece.steps ≡ steps
-  pub put : new ≡ old ++ piece ∷ []
 
 -- how a worker stands in the end: it was told the end; or it failed a chunk, with no more steps than the chunk's
 abbrev pub StandsAfter : List Job → Bool → Stand → Type 0

@@ -3,7 +3,7 @@ ghost use Rattle.std.specs.Prelude.{◌≡◌, ◌<◌, ◌≤◌, ◌+◌, true
 ghost use Rattle.std.specs.List.{AllByRecursion};
 ghost use Rattle.race_board.specs.Race.{MayDrawAt, SeatState};
 ghost use Rattle.job_runner.specs.Worked.{prices_of};
-ghost use Rattle.job_runner.specs.Crew.{IsEnded, IsGathered};
+ghost use Rattle.job_runner.specs.inner.Crew.{IsEnded, IsGathered};
 
 use crate::answer::Cause;
 use crate::gate::Gate;
@@ -31,7 +31,7 @@ pub struct Ended {
 }
 
 impl<'a> Promise<Ended> for Task<'a> {
-    ghost use Rattle.job_runner.specs.Crew.{IsEnded};
+    ghost use Rattle.job_runner.specs.inner.Crew.{IsEnded};
 
     ghost kept_by = { λ t e. IsEnded t.board.now t.plan.now e };
 }

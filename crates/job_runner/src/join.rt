@@ -7,7 +7,7 @@ ghost use Rattle.job_plan.specs.Price.{IsWithinPrice};
 ghost use Rattle.job_plan.specs.Refusal.{IsPriced};
 ghost use Rattle.job_runner.specs.Batch.{AreResultsOf, IsResultOf, result_of};
 ghost use Rattle.job_runner.specs.Chunk.{chunks_in, run_in_job, steps_in_job};
-ghost use Rattle.job_runner.specs.Pieces.{AreAll, BeginsWith, listed, runs_of, steps_of_each};
+ghost use Rattle.job_runner.specs.inner.Pieces.{AreAll, BeginsWith, listed, runs_of, steps_of_each};
 
 use crate::answer::JobResult;
 use crate::piece::Piece;

@@ -3,9 +3,9 @@ ghost use Rattle.std.specs.Prelude.{◌≡◌, ◌<◌, ℕ, IfOk, vec_len};
 ghost use Rattle.std.specs.List.{AllByRecursion};
 ghost use Rattle.race_board.specs.Chunks.{times_in};
 ghost use Rattle.job_runner.specs.Chunk.{chunk_total};
-ghost use Rattle.job_runner.specs.Pieces.{AreAll};
+ghost use Rattle.job_runner.specs.inner.Pieces.{AreAll};
 ghost use Rattle.job_runner.specs.Worked.{recorded, IsPieceOf};
-ghost use Rattle.job_runner.specs.Places.{ArePlaced, IsFull};
+ghost use Rattle.job_runner.specs.inner.Places.{ArePlaced, IsFull};
 
 use crate::piece::Piece;
 use job_plan::Plan;

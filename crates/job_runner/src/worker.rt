@@ -5,7 +5,8 @@ ghost use Rattle.job_plan.specs.Chunks.{plan_chunks};
 ghost use Rattle.race_board.specs.declared.stand.Stand.TheVariants.{Holds};
 ghost use Rattle.race_board.specs.Race.{IsSeatOf, MayDrawAt, completed, failed, steps_of};
 ghost use Rattle.job_runner.specs.Chunk.{chunk_steps};
-ghost use Rattle.job_runner.specs.Worked.{prices_of, recorded, Adds, IsPieceOf, StandsAfter};
+ghost use Rattle.job_runner.specs.Worked.{prices_of, recorded, IsPieceOf, StandsAfter};
+ghost use Rattle.job_runner.specs.inner.Worked.{Adds};
 
 use crate::chunk::{Scratch, compute};
 use crate::gate::Gate;

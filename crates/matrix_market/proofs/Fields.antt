@@ -11,7 +11,7 @@ use Rattle.std.proofs.lemmas.Bool.Decides.{nat_tests}
 use Rattle.std.proofs.lemmas.Bool.{lt-ltb, le-leb}
 use Rattle.matrix_market.specs.declared.usual.UsualLine.{UsualLine}
 use Rattle.matrix_market.specs.Market.{words, is_blank, is_some_text, is_comment, digits_after, number, value, signed, Value, word_of, entry_words, WrittenEntry}
-use Rattle.matrix_market.specs.Usual.{Scanned, IsIndex, IsNumber, IsValue, IsLineEnd, IsEntryLine}
+use Rattle.matrix_market.specs.inner.Usual.{Scanned, IsIndex, IsNumber, IsValue, IsLineEnd, IsEntryLine}
 
 pow_mono : (a b : ℕ) → a ≤ b → 10 ^ a ≤ 10 ^ b
 pow_mono a b h = pow-le-pow_right {n = 10} (lit< tt) h

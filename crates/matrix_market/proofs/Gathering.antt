@@ -13,10 +13,10 @@ use Rattle.matrix_market.specs.declared.kinds.Size.{Size}
 use Rattle.matrix_market.specs.declared.kinds.Found.{Found}
 use Rattle.matrix_market.specs.declared.usual.UsualLine.{UsualLine}
 use Rattle.matrix_market.specs.Market.{Value, words, is_skipped, entry_words, outside, is_word, word_of}
-use Rattle.matrix_market.specs.Answers.{Passes, entry_answer, entry_checked, spots, put_all, some_given}
-use Rattle.matrix_market.specs.Filling.{Filled}
-use Rattle.matrix_market.specs.Usual.{IsEntryLine}
-use Rattle.matrix_market.specs.Gathering.{Gathered, Reached, Takes, with_word}
+use Rattle.matrix_market.specs.inner.Answers.{Passes, entry_answer, entry_checked, spots, put_all, some_given}
+use Rattle.matrix_market.specs.inner.Filling.{Filled}
+use Rattle.matrix_market.specs.inner.Usual.{IsEntryLine}
+use Rattle.matrix_market.specs.inner.Gathering.{Gathered, Reached, Takes, with_word}
 use Rattle.matrix_market.proofs.Puts.{none_before}
 use Rattle.matrix_market.proofs.Reading.{entry_read}
 

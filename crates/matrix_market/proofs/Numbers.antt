@@ -8,7 +8,7 @@ use Rattle.matrix_market.specs.declared.rule.MarketRule.TheVariants.{IndexOutsid
 use Rattle.matrix_market.specs.declared.kinds.Size.{Size}
 use Rattle.matrix_market.specs.declared.kinds.Found.{Found}
 use Rattle.matrix_market.specs.Market.{digits_after, digits, number, value, Value, outside, is_word, word_of, entry_from, entry_words}
-use Rattle.matrix_market.specs.Answers.{held, held_number, held_value, entry_checked, entry_answer}
+use Rattle.matrix_market.specs.inner.Answers.{held, held_number, held_value, entry_checked, entry_answer}
 
 abbrev found : ℕ → ℕ → Value → Found
 found i j v = record { row = i - 1; column = j - 1; word = word_of v }

@@ -10,8 +10,8 @@ use Rattle.matrix_market.specs.declared.rule.MarketRule.{MarketRule}
 use Rattle.matrix_market.specs.declared.rule.MarketRule.TheVariants.{LineTooLong}
 use Rattle.matrix_market.specs.declared.kinds.Banner.{Banner}
 use Rattle.matrix_market.specs.Market.{is_skipped, content, rules_behind, rules_at, later_rules, end_rules, first_rule, when, IsFault}
-use Rattle.matrix_market.specs.Answers.{IsIdle}
-use Rattle.matrix_market.specs.Filling.{Clean, At}
+use Rattle.matrix_market.specs.inner.Answers.{IsIdle}
+use Rattle.matrix_market.specs.inner.Filling.{Clean, At}
 
 get_there : (done rest : List (List ℕ)) (line : List ℕ) (n : ℕ) → length done ≡ n → slice_get (done ++ line ∷ rest) n ≡ Some line
 get_there [] rest line zero e = refl

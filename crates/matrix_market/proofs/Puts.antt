@@ -16,7 +16,7 @@ use Rattle.csr_store.proofs.Laws.{put_fault-fits}
 use Rattle.csr_store.specs.Grid.{Grid, Position, pos_cmp, limit}
 use Rattle.csr_store.proofs.Order.{pos_total}
 use Rattle.matrix_market.specs.Market.{WrittenEntry, is_place, places, mirrored, is_repeated, words_at, word_of, at_most}
-use Rattle.matrix_market.specs.Answers.{put_all, some_given}
+use Rattle.matrix_market.specs.inner.Answers.{put_all, some_given}
 
 abbrev Cells : Type 0
 Cells = fin.FinMap pos_cmp ℕ

@@ -11,8 +11,17 @@ use Rattle.matrix_market.specs.declared.kinds.Banner.{Banner}
 use Rattle.matrix_market.specs.declared.kinds.Size.{Size}
 use Rattle.matrix_market.specs.declared.kinds.Found.{Found}
 use Rattle.matrix_market.specs.Market.{WrittenEntry, IsFault, IsTextOf, words, is_skipped, is_banner, banner_words, tail, content_rules, size_rules, size_words, entry_rules, entry_words, end_rules, entries_of, option_list, is_large, word_of, is_repeated, places, words_at, at_most, rules_at, first_rule, when}
-use Rattle.matrix_market.specs.Answers.{Passes, banner_answer, known_banner, size_answer, entry_answer, spots, put_all, some_given}
-use Rattle.matrix_market.specs.Filling.{At, Filled}
+use Rattle.matrix_market.specs.inner.Answers.{
+  Passes,
+  banner_answer,
+  known_banner,
+  size_answer,
+  entry_answer,
+  spots,
+  put_all,
+  some_given,
+}
+use Rattle.matrix_market.specs.inner.Filling.{At, Filled}
 use Rattle.matrix_market.proofs.Places.{rules_here, next_rules, last_rules, idle_lines, content_line, fault_next, clean_more}
 use Rattle.matrix_market.proofs.Puts.{cells_more, repeated_is}
 

@@ -8,7 +8,7 @@ use Rattle.std.proofs.lemmas.List.{get_or-drop}
 use Rattle.std.proofs.Common.{length-drop}
 use Rattle.std.proofs.lemmas.Bool.Decides.{nat_tests}
 use Rattle.matrix_market.specs.Market.{digits_after}
-use Rattle.matrix_market.specs.Usual.{Scanned}
+use Rattle.matrix_market.specs.inner.Usual.{Scanned}
 
 not_some : {X : Type 0} (x : X) → None ≡ Some x → ⊥
 not_some x e = cc

@@ -5,7 +5,7 @@ use Rattle.csr_store.specs.Grid.{Grid}
 use Rattle.matrix_market.specs.declared.kinds.Banner.{Banner}
 use Rattle.matrix_market.specs.declared.kinds.Size.{Size}
 use Rattle.matrix_market.specs.Market.{size_of}
-use Rattle.matrix_market.specs.Filling.{Filled}
+use Rattle.matrix_market.specs.inner.Filling.{Filled}
 use Rattle.matrix_market.specs.Refusal.{HasSizes}
 
 pub has_sizes : (text : List ℕ) (b : Banner) (s : Size) (g : Grid) (rest : List ℕ) (n given : ℕ) → Filled text b s g rest n given

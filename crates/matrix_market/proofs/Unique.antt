@@ -9,7 +9,8 @@ use Rattle.matrix_market.specs.declared.kinds.Size.{Size}
 use Rattle.std.specs.Prelude.{Result, Ok, Err, IfOk, IfErr}
 use Rattle.matrix_market.specs.declared.rule.MarketError.{MarketError}
 use Rattle.matrix_market.specs.declared.rule.MarketError.TheVariants.{Fault, Memory}
-use Rattle.matrix_market.specs.Refusal.{IsOnlyMatrix, ExplainsRefusal, NamesFault}
+use Rattle.matrix_market.specs.Refusal.{IsOnlyMatrix, ExplainsRefusal}
+use Rattle.matrix_market.specs.inner.Refusal.{NamesFault}
 use Rattle.matrix_market.specs.Market.{IsFault, IsTextOf, tail, content, banner_of, size_of, words_at, entries_of, at_most, first_rule}
 
 same_some : {X : Type 0} (x y : X) → Some x ≡ Some y → x ≡ y

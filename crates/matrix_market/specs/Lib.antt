@@ -1,10 +1,6 @@
 pub mod CanonicalText
 pub mod Rule
 pub mod Market
-pub mod Filling
-pub mod Answers
 pub mod Refusal
-pub mod Usual
-pub mod Gathering
 pub mod Values
-pub mod Halting
+pub mod inner

@@ -26,11 +26,6 @@ is_some_text (b ∷ bs) = true
 abbrev pub words : List ℕ → List (List ℕ)
 words line = filter is_some_text (slice_split is_blank line)
 
--- a text that is empty or begins with a word
-abbrev pub IsAtWord : List ℕ → Type 0
-IsAtWord [] = Unit {0}
-IsAtWord (b ∷ bs) = is_blank b ≡ false
-
 abbrev pub same_text : List ℕ → List ℕ → Bool
 same_text = pointwise nat_eq
 

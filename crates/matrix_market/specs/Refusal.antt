@@ -33,8 +33,3 @@ pub record HasSizes (text : List ℕ) : Type 0 where
 abbrev pub ExplainsRefusal : List ℕ → MarketError → Type 0
 ExplainsRefusal text (Fault rule line) = IsFault text line rule × IsNoMatrix text
 ExplainsRefusal text Memory = HasSizes text
-
--- the first half of it
-abbrev pub NamesFault : List ℕ → MarketError → Type 0
-NamesFault text (Fault rule line) = IsFault text line rule
-NamesFault text Memory = HasSizes text

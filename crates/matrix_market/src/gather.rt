@@ -5,11 +5,11 @@ ghost use Rattle.std.specs.FinMap as map;
 ghost use Rattle.csr_store.specs.ByRows.{grid};
 ghost use Rattle.csr_store.specs.Listed.{NoneTwice};
 ghost use Rattle.matrix_market.specs.Market.{IsTextOf};
-ghost use Rattle.matrix_market.specs.Answers.{spots, some_given};
-ghost use Rattle.matrix_market.specs.Filling.{Filled};
-ghost use Rattle.matrix_market.specs.Gathering.{Gathered, Reached, Takes, IsEnd};
-ghost use Rattle.matrix_market.specs.Halting.{NamesHalt, IsNoFault};
-ghost use Rattle.matrix_market.specs.Refusal.{NamesFault};
+ghost use Rattle.matrix_market.specs.inner.Answers.{spots, some_given};
+ghost use Rattle.matrix_market.specs.inner.Filling.{Filled};
+ghost use Rattle.matrix_market.specs.inner.Gathering.{Gathered, Reached, Takes, IsEnd};
+ghost use Rattle.matrix_market.specs.inner.Halting.{NamesHalt, IsNoFault};
+ghost use Rattle.matrix_market.specs.inner.Refusal.{NamesFault};
 
 use crate::kinds::{Banner, Found, Size, read_entry};
 use crate::lines::{Next, next_content};

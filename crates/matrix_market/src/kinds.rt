@@ -3,7 +3,15 @@ ghost use Rattle.std.specs.Prelude.{◌≡◌, ◌≢◌, ◌<◌, ◌≤◌, �
 ghost use Rattle.std.specs.Str.{str_to_ascii_lowercase};
 ghost use Rattle.matrix_market.specs.Market as market;
 ghost use Rattle.matrix_market.specs.Market.{words, is_skipped, size_words, entry_words, same_text};
-ghost use Rattle.matrix_market.specs.Answers.{held_number, held_value, banner_answer, size_answer, size_checked, entry_checked, entry_answer};
+ghost use Rattle.matrix_market.specs.inner.Answers.{
+  held_number,
+  held_value,
+  banner_answer,
+  size_answer,
+  size_checked,
+  entry_checked,
+  entry_answer,
+};
 
 use crate::rule::MarketRule;
 use crate::words::{Fields, fields_of, first_word};

@@ -1,6 +1,6 @@
 //! The lines of a text.
 ghost use Rattle.std.specs.Prelude.{◌≡◌, ◌<◌, ◌+◌, ◌^◌, ◌∷◌, [], ℕ, length, take, drop, MatchOption, IfSome};
-ghost use Rattle.matrix_market.specs.Answers.{NextOf};
+ghost use Rattle.matrix_market.specs.inner.Answers.{NextOf};
 ghost use Rattle.std.specs.Str.Lines.{lines, strip_carriage_return};
 
 use crate::kinds::skipped;

@@ -4,9 +4,10 @@ ghost use Rattle.csr_store.specs.Grid.{Grid};
 ghost use Rattle.csr_store.specs.declared.error.StoreError.TheVariants.{PositionGivenTwice};
 ghost use Rattle.std.specs.FinMap as map;
 ghost use Rattle.matrix_market.specs.Market.{IsTextOf};
-ghost use Rattle.matrix_market.specs.Refusal.{ExplainsRefusal, IsOnlyMatrix, NamesFault};
-ghost use Rattle.matrix_market.specs.Filling.{Filled};
-ghost use Rattle.matrix_market.specs.Answers.{spots, put_all, some_given};
+ghost use Rattle.matrix_market.specs.Refusal.{ExplainsRefusal, IsOnlyMatrix};
+ghost use Rattle.matrix_market.specs.inner.Refusal.{NamesFault};
+ghost use Rattle.matrix_market.specs.inner.Filling.{Filled};
+ghost use Rattle.matrix_market.specs.inner.Answers.{spots, put_all, some_given};
 
 use crate::gather::{Halt, gather};
 use crate::kinds::{Banner, Found, Size, read_banner, read_entry, read_size};

@@ -1,6 +1,6 @@
 //! Values apart from a matrix.
 ghost use Rattle.std.specs.Prelude.{◌≡◌};
-ghost use Rattle.matrix_market.specs.Answers.{held};
+ghost use Rattle.matrix_market.specs.inner.Answers.{held};
 ghost use Rattle.matrix_market.specs.Values.{in_range, value_word};
 ghost use Rattle.std.specs.Prelude.{Some};
 

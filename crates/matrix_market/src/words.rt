@@ -1,7 +1,8 @@
 //! The words of a line.
 ghost use Rattle.std.specs.Prelude.{◌≡◌, ◌<◌, ◌≤◌, ◌+◌, ◌*◌, ◌^◌, ◌∷◌, ◌↔◌, ◌||◌, ◌==◌, ℕ, List, [], Bool, Some, None, IsTrue, length, take, drop, MatchOption, IfSome, slice_index, SomeIff};
-ghost use Rattle.matrix_market.specs.Market.{is_blank, words, IsAtWord};
-ghost use Rattle.matrix_market.specs.Answers.{FieldsOf};
+ghost use Rattle.matrix_market.specs.Market.{is_blank, words};
+ghost use Rattle.matrix_market.specs.inner.Market.{IsAtWord};
+ghost use Rattle.matrix_market.specs.inner.Answers.{FieldsOf};
 
 fn blank(byte: u8) -> bool
     ensures { result ≡ is_blank byte }

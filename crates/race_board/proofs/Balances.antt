@@ -5,7 +5,7 @@ use Rattle.std.proofs.lemmas.Bool.Decides.{nat_tests}
 use Rattle.race_board.specs.declared.stand.Stand.{Stand}
 use Rattle.race_board.specs.declared.stand.Stand.TheVariants.{Free, Holds, ToldEnd, Failed}
 use Rattle.race_board.specs.Race.{Worker, worker, drawn, one_if_same, one_if_below, times_drawn, draws_of, steps_of, AreWithin, ends_of, ends_now}
-use Rattle.race_board.specs.Balance.{held_price, IsBalanced, IsTrueStand, IsSound, AllSound}
+use Rattle.race_board.specs.inner.Balance.{held_price, IsBalanced, IsTrueStand, IsSound, AllSound}
 use Rattle.race_board.proofs.Sums.{sum_append, prices_more, prices_whole}
 
 -- one worker is replaced by another

@@ -11,9 +11,9 @@ use Rattle.race_board.specs.declared.terms.Terms.{Terms}
 use Rattle.race_board.specs.declared.totals.Totals.{Totals}
 use Rattle.atomic_table.specs.Table.{State}
 use Rattle.race_board.specs.Race.{Worker, BoardState, SeatState, workers_of, total_of, one_if_below, times_drawn, times_completed, draws_of, AreWithin, StandsWithin, IsWithinPrices, IsToldEnd, IsFinished, IsLawful, RanOneRace, IsClosing, one_if_same, steps_of, ends_of}
-use Rattle.race_board.specs.Balance.{AllSound}
-use Rattle.race_board.specs.Rule.{weigh, IsHeld}
-use Rattle.race_board.specs.Crews.{IsClosedWith, IsClosed}
+use Rattle.race_board.specs.inner.Balance.{AllSound}
+use Rattle.race_board.specs.inner.Rule.{weigh, IsHeld}
+use Rattle.race_board.specs.inner.Crews.{IsClosedWith, IsClosed}
 use Rattle.race_board.proofs.Sums.{sum_append, sum_set_view, sum_has_view, sum_has, count_of_all}
 use Rattle.race_board.proofs.Balances.{balanced_same}
 use Rattle.race_board.proofs.Lawful.{past_end, any_ended, drawn_is_completed, lawful_of}

@@ -7,7 +7,7 @@ use Rattle.race_board.specs.declared.stand.Stand.TheVariants.{Free, Holds, ToldE
 use Rattle.race_board.specs.declared.event.RaceEvent.{RaceEvent}
 use Rattle.race_board.specs.declared.event.RaceEvent.TheVariants.{Draw, Complete, Fail}
 use Rattle.race_board.specs.Race.{Worker, worker, fresh_worker, fresh_workers, RaceState, race, start, replayed, drawn, completed, failed, total_of, one_if_below, times_drawn, draws_of, steps_of, may_draw, may_record, draw_by, record_by, after_event, ends_of}
-use Rattle.race_board.specs.Balance.{held_price, first_prices, IsBalanced, AllSound, AreNumbered, IsRun}
+use Rattle.race_board.specs.inner.Balance.{held_price, first_prices, IsBalanced, AllSound, AreNumbered, IsRun}
 use Rattle.race_board.proofs.Sums.{sum_set, prices_none}
 use Rattle.race_board.proofs.Balances.{draw_balanced, complete_balanced, fail_balanced, all_sound_more, drawn_sound, completed_sound, failed_sound, sound_at, sound_set}
 

@@ -4,7 +4,7 @@ use Rattle.std.specs.Prelude.{All, Any, slice_get, slice_index_or, min}
 use Rattle.std.proofs.lemmas.Bool.Decides.{nat_tests}
 use Rattle.std.proofs.lemmas.Option.{slice_get-get_or}
 use Rattle.race_board.specs.Race.{Worker, RaceState, total_of, one_if_below, times_completed, times_now, times_drawn, steps_of, IsWithinPrices, IsToldEnd, IsLawful, AreInPlace, ends_of, ends_now}
-use Rattle.race_board.specs.Balance.{IsBalanced, AllSound, IsRun}
+use Rattle.race_board.specs.inner.Balance.{IsBalanced, AllSound, IsRun}
 use Rattle.race_board.proofs.Sums.{sum_has}
 use Rattle.race_board.proofs.Balances.{sound_at}
 use Rattle.race_board.proofs.Events.{numbered_at}

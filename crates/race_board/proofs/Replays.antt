@@ -6,8 +6,27 @@ use Rattle.std.proofs.lemmas.Option.{slice_get_within}
 use Rattle.race_board.specs.declared.stand.Stand.{Stand}
 use Rattle.race_board.specs.declared.stand.Stand.TheVariants.{Free, Holds, ToldEnd, Failed}
 use Rattle.race_board.specs.declared.event.RaceEvent.TheVariants.{Draw}
-use Rattle.race_board.specs.Race.{Worker, worker, RaceState, race, stand_after, drawn, completed, failed, total_of, steps_of, steps_now, may_draw, may_record, may_record_by, draw_by, record_by, after_event, ends_of}
-use Rattle.race_board.specs.Balance.{held_price, IsRun}
+use Rattle.race_board.specs.Race.{
+  Worker,
+  worker,
+  RaceState,
+  race,
+  stand_after,
+  drawn,
+  completed,
+  failed,
+  total_of,
+  steps_of,
+  steps_now,
+  may_draw,
+  may_record,
+  draw_by,
+  record_by,
+  after_event,
+  ends_of,
+}
+use Rattle.race_board.specs.inner.Race.{may_record_by}
+use Rattle.race_board.specs.inner.Balance.{held_price, IsRun}
 use Rattle.race_board.proofs.Sums.{sum_set, sum_has, sum_le, count_of_all, sum_append, prices_below}
 use Rattle.race_board.proofs.Balances.{ends_one}
 

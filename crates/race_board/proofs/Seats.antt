@@ -5,9 +5,11 @@ use Rattle.std.proofs.lemmas.Option.{slice_get-get_or}
 use Rattle.race_board.specs.declared.stand.Stand.{Stand}
 use Rattle.race_board.specs.declared.stand.Stand.TheVariants.{Free, Holds}
 use Rattle.race_board.specs.Race.{Worker, worker, fresh_worker, fresh_workers, BoardState, SeatState, MayDrawAt, IsAboveDraws, workers_of, total_of, times_drawn}
-use Rattle.race_board.specs.Naming.{first_worker, IsAlone}
-use Rattle.race_board.specs.Rule.{first_of, rest_of}
-use Rattle.race_board.specs.Crews.{MayDraw, HoldsChunk, IsAnswer}
+use Rattle.race_board.specs.Naming.{first_worker}
+use Rattle.race_board.specs.inner.Naming.{IsAlone}
+use Rattle.race_board.specs.inner.Rule.{first_of, rest_of}
+use Rattle.race_board.specs.Crews.{MayDraw, IsAnswer}
+use Rattle.race_board.specs.inner.Crews.{HoldsChunk}
 
 pub alone_draws : (ws : List Worker) → IsAlone ws → (first_worker ws).stand ≡ Free → MayDraw ws
 alone_draws ws alone free = ((first_worker ws).number, (first_worker ws).done, [], alone ∙ ap (λ (s : Stand). worker (first_worker ws).number (first_worker ws).done s ∷ []) free)

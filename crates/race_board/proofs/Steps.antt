@@ -9,9 +9,24 @@ use Rattle.atomic_table.proofs.Lists.{at_set, at_snoc, set_again}
 use Rattle.race_board.specs.declared.stand.Stand.TheVariants.{Free, Holds, Failed}
 use Rattle.race_board.specs.declared.terms.Terms.{Terms}
 use Rattle.race_board.specs.Race.{Worker, worker, fresh_worker, fresh_workers, drawn, total_of, one_if_same, one_if_below, times_drawn, draws_of, steps_of, ends_of}
-use Rattle.race_board.specs.Balance.{first_prices, held_price, IsBalanced, AllSound}
-use Rattle.race_board.specs.Rule.{weigh, IsSmall, IsHeld, everyone, acted, first_of, rest_of, completes, fails, Draws, Completes, Fails, Learns}
-use Rattle.race_board.specs.Crews.{MayDraw, HoldsChunk}
+use Rattle.race_board.specs.inner.Balance.{first_prices, held_price, IsBalanced, AllSound}
+use Rattle.race_board.specs.Rule.{acted}
+use Rattle.race_board.specs.inner.Rule.{
+  weigh,
+  IsSmall,
+  IsHeld,
+  everyone,
+  first_of,
+  rest_of,
+  completes,
+  fails,
+  Draws,
+  Completes,
+  Fails,
+  Learns,
+}
+use Rattle.race_board.specs.Crews.{MayDraw}
+use Rattle.race_board.specs.inner.Crews.{HoldsChunk}
 use Rattle.race_board.proofs.Sums.{sum_set_view, sum_append, sum_has_view, sum_le, prices_below}
 use Rattle.race_board.proofs.Balances.{Moves, balanced_same, draw_balanced, complete_balanced, fail_balanced, all_sound_more, drawn_sound, completed_sound, failed_sound, sound_append, ends_one}
 use Rattle.race_board.proofs.Events.{fresh_sum, fresh_sound, start_balanced}

@@ -5,7 +5,7 @@ use mathlib.Core.Option.{some, some-ne-none, some-injective}
 use lib.ListN.{get_elem?}
 use Rattle.std.proofs.Math.Seq.{take-suc}
 use Rattle.race_board.specs.Race.{total_of}
-use Rattle.race_board.specs.Balance.{first_prices}
+use Rattle.race_board.specs.inner.Balance.{first_prices}
 
 pub sum_append : {A : Type 0} (f : A → ℕ) (xs ys : List A) → total_of f (xs ++ ys) ≡ total_of f xs + total_of f ys
 sum_append f [] ys = omega arith

@@ -4,8 +4,10 @@ use Rattle.std.specs.Prelude.{nat_lt, if◌then◌else◌}
 use Rattle.std.proofs.lemmas.Bool.Decides.{nat_tests}
 use Rattle.race_board.specs.declared.stand.Stand.TheVariants.{Free, Holds, ToldEnd}
 use Rattle.race_board.specs.Race.{Worker, worker, drawn, holding, told_end, completed, failed, total_of, one_if_below, draws_of, steps_of}
-use Rattle.race_board.specs.Rule.{acted, completes, fails}
-use Rattle.race_board.specs.Crews.{MayDraw, HoldsChunk}
+use Rattle.race_board.specs.Rule.{acted}
+use Rattle.race_board.specs.inner.Rule.{completes, fails}
+use Rattle.race_board.specs.Crews.{MayDraw}
+use Rattle.race_board.specs.inner.Crews.{HoldsChunk}
 use Rattle.race_board.proofs.Sums.{sum_append}
 
 pub draw_draws : (prices : List ℕ) (found : ℕ) (v : List Worker) → MayDraw v → total_of draws_of (acted (drawn prices found) v) ≡ total_of draws_of v + one_if_below found (length prices)

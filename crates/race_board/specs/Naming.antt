@@ -1,6 +1,6 @@
 -- How a board and its seats show what they are: the name of a board, from the table that it keeps its words in, and the one
 -- worker of a seat. This project's own.
-use Rattle.std.specs.Prelude.{◌≡◌, ℕ, List, [], ◌∷◌}
+use Rattle.std.specs.Prelude.{ℕ, List, [], ◌∷◌}
 use Rattle.atomic_table.specs.Seated.{TableId}
 use Rattle.race_board.specs.Race.{Worker, fresh_worker}
 
@@ -11,6 +11,3 @@ name_of id = id.words ∷ id.slots ∷ id.views_name ∷ id.atom ∷ id.block �
 abbrev pub first_worker : List Worker → Worker
 first_worker [] = fresh_worker 0
 first_worker (w ∷ ws) = w
-
-abbrev pub IsAlone : List Worker → Type 0
-IsAlone ws = ws ≡ first_worker ws ∷ []

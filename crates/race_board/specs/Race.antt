@@ -151,10 +151,6 @@ may_record prices c s (Holds d) = (d == c) && nat_le s (slice_index prices c)
 may_record prices c s ToldEnd = false
 may_record prices c s (Failed d t) = false
 
-abbrev pub may_record_by : List ℕ → ℕ → ℕ → Option Worker → Bool
-may_record_by prices c s None = false
-may_record_by prices c s (Some x) = may_record prices c s x.stand
-
 abbrev pub draw_by : RaceState → ℕ → Option Worker → RaceState
 draw_by r w None = r
 draw_by r w (Some x) =

@@ -3,7 +3,7 @@ ghost use Rattle.std.specs.Prelude.{◌≡◌, ℕ, ◌+◌, ◌^◌, ◌<◌, �
 ghost use Rattle.race_board.specs.declared.stand.Stand.TheVariants.{Free, Holds};
 ghost use Rattle.race_board.specs.Race.{Worker, SeatState, IsSeatOf, MayDrawAt, IsClosing, IsAboveDraws, fresh_worker, fresh_workers, holding, told_end, completed, failed, total_of, draws_of, steps_of, workers_of};
 ghost use Rattle.race_board.specs.Naming.{name_of};
-ghost use Rattle.race_board.specs.Crews.{IsClosedWith, IsClosed};
+ghost use Rattle.race_board.specs.inner.Crews.{IsClosedWith, IsClosed};
 
 use crate::crew::Crew;
 use crate::rule::{COUNT, Place, SPENT, SplitStep, Words};

@@ -3,8 +3,10 @@ ghost use Rattle.std.specs.Prelude.{◌≡◌, ◌++◌, ◌≤◌, ℕ, [], len
 ghost use mathlib.Core.Option.{none};
 ghost use Rattle.atomic_table.specs.Table.{step};
 ghost use Rattle.race_board.specs.Race.{fresh_workers, completed, failed, total_of, draws_of, steps_of};
-ghost use Rattle.race_board.specs.Rule.{acted, Draws};
-ghost use Rattle.race_board.specs.Crews.{MayDraw, HoldsChunk, IsAnswer};
+ghost use Rattle.race_board.specs.Rule.{acted};
+ghost use Rattle.race_board.specs.inner.Rule.{Draws};
+ghost use Rattle.race_board.specs.Crews.{MayDraw, IsAnswer};
+ghost use Rattle.race_board.specs.inner.Crews.{HoldsChunk};
 
 use crate::rule::{
     COUNT, CompleteStep, DrawStep, FailStep, JoinStep, JoinedLook, Place, Priced, SPENT, Words,

@@ -1,6 +1,22 @@
 //! A race, event by event, with no thread.
 ghost use Rattle.std.specs.Prelude.{◌≡◌, ◌^◌, ◌<◌, ◌≤◌, sum, slice_get, Some, option_and_then, IsTrue, IfOk, OnOk, OnErr, IfSome, IfNone, ◌↔◌, option_map};
-ghost use Rattle.race_board.specs.Race.{Worker, total_of, steps_of, times_completed, start, after_event, replayed, may_record_by, IsLawful, AreInPlace, IsToldEnd, IfThere, IsCompletedBy, chunk_held, failure};
+ghost use Rattle.race_board.specs.Race.{
+  Worker,
+  total_of,
+  steps_of,
+  times_completed,
+  start,
+  after_event,
+  replayed,
+  IsLawful,
+  AreInPlace,
+  IsToldEnd,
+  IfThere,
+  IsCompletedBy,
+  chunk_held,
+  failure,
+};
+ghost use Rattle.race_board.specs.inner.Race.{may_record_by};
 
 use crate::event::RaceEvent;
 use crate::stand::Stand;
@@ -20,7 +36,7 @@ pub struct Race {
 impl Model for Race {
     ghost use Rattle.std.specs.Prelude.{◌≡◌};
     ghost use Rattle.race_board.specs.Race.{RaceState, race, total_of, steps_of};
-    ghost use Rattle.race_board.specs.Balance.{IsRun};
+    ghost use Rattle.race_board.specs.inner.Balance.{IsRun};
 
     ghost Value = { RaceState };
 

@@ -1,7 +1,7 @@
 //! The rule of a board's words, and the five kinds of step that keep it: draw, complete, fail, split
 //! and join.
 ghost use Rattle.std.specs.Prelude.{[], ◌++◌};
-ghost use Rattle.race_board.specs.Rule.{IsHeld, everyone, first_of, rest_of, Draws, Completes, Fails, Learns};
+ghost use Rattle.race_board.specs.inner.Rule.{IsHeld, everyone, first_of, rest_of, Draws, Completes, Fails, Learns};
 
 use crate::terms::Terms;
 use crate::worker::WorkerRecord;

@@ -11,7 +11,8 @@ pub struct BoardSeat {
 
 impl Model for BoardSeat {
     ghost use Rattle.race_board.specs.Race.{SeatState};
-    ghost use Rattle.race_board.specs.Naming.{name_of, first_worker, IsAlone};
+    ghost use Rattle.race_board.specs.Naming.{name_of, first_worker};
+    ghost use Rattle.race_board.specs.inner.Naming.{IsAlone};
 
     ghost Value = { SeatState };
 

@@ -49,7 +49,7 @@ use Rattle.csr_store.specs.Grid.{Grid, Cell, row_of}
 use Rattle.csr_store.specs.Along.{along}
 use Rattle.csr_store.proofs.Along.{along-same, along-first, along-none, at, at-below, at-first, at-after, Ascends, ascends-weaken}
 use Rattle.csr_store.proofs.ByRow.{lookup-row_of}
-use Rattle.row_product.specs.Sums.{slot, seen, after, extra, filled, AreTouched, touch, HasRoom}
+use Rattle.row_product.specs.inner.Sums.{slot, seen, after, extra, filled, AreTouched, touch, HasRoom}
 
 abbrev pub extras : Accepted → Accepted → ℕ → ℕ → (ℕ → Bool) → List (Option ℕ) → List Cell → List Call
 extras add mul x n t sums row = along (λ j. extra add mul x (slot sums j) (seen (t j) (at row j))) 0 n

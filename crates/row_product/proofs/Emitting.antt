@@ -44,7 +44,7 @@ use Rattle.csr_store.specs.Grid.{Cell}
 use Rattle.csr_store.specs.Run.{Run}
 use Rattle.csr_store.specs.Along.{cell_at, row_by}
 use Rattle.csr_store.proofs.Along.{along-first, along-none}
-use Rattle.row_product.specs.Sums.{slot, AreTouched}
+use Rattle.row_product.specs.inner.Sums.{slot, AreTouched}
 
 -- the same columns in another order
 pub touched_moved : (n : ℕ) (sums : List (Option ℕ)) (old new : List ℕ) → IsPermutation old new → AreTouched n sums old

@@ -5,8 +5,8 @@ use Rattle.csr_store.specs.Grid.{Cell}
 use Rattle.csr_store.specs.Run.{Run}
 use Rattle.csr_store.specs.Along.{along, cell_at, row_by}
 use Rattle.csr_store.proofs.Along.{along-same, along-split}
-use Rattle.row_product.specs.Sums.{slot}
-use Rattle.row_product.specs.Emitted.{IsEmitted}
+use Rattle.row_product.specs.inner.Sums.{slot}
+use Rattle.row_product.specs.inner.Emitted.{IsEmitted}
 use Rattle.row_product.proofs.Emitting.{cells_below, cells_joined, cell_below, same_run}
 
 pub emitting_all_start : (n : ℕ) (first : List (Option ℕ)) (from : Run) → from.opened ≡ [] → IsEmitted n first from 0 first from

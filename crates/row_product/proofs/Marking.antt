@@ -35,7 +35,7 @@ use Rattle.std.specs.FinMap.{contains_key}
 use Rattle.csr_store.specs.Grid.{Grid, Cell, row_of}
 use Rattle.csr_store.proofs.Along.{at}
 use Rattle.csr_store.proofs.ByRow.{lookup-row_of}
-use Rattle.row_product.specs.Sums.{flag}
+use Rattle.row_product.specs.inner.Sums.{flag}
 
 -- what is so far, or stands in the cells that are left, is the whole
 pub record Allowing (row : List Cell) (rest : List Cell) (allowed : List Bool) : Type 0 where

@@ -38,8 +38,21 @@ use Rattle.csr_store.specs.Grid.{Cell}
 use Rattle.csr_store.specs.Ascending.{Ascends}
 use Rattle.row_product.specs.declared.tagged.Sum.{Sum}
 use Rattle.row_product.specs.declared.tagged.Sum.TheVariants as sum
-use Rattle.row_product.specs.Sums.{slot, sum_of, sums_of, kept, added, added_calls, touch}
-use Rattle.row_product.specs.Terms.{Waiting, cells_of, columns_of, written, put_term, put_touched, settled, met, AreMet, IsMetNext, AreBelow, Lacks}
+use Rattle.row_product.specs.inner.Sums.{slot, sum_of, sums_of, kept, added, added_calls, touch}
+use Rattle.row_product.specs.inner.Terms.{
+  Waiting,
+  cells_of,
+  columns_of,
+  written,
+  put_term,
+  put_touched,
+  settled,
+  met,
+  AreMet,
+  IsMetNext,
+  AreBelow,
+  Lacks,
+}
 use Rattle.row_product.proofs.Tagging.{slot_sums, sums_set}
 use Rattle.row_product.proofs.Several.{length_columns}
 use Rattle.row_product.proofs.Waiting.{

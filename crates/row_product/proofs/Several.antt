@@ -15,8 +15,8 @@ use Rattle.bpf_run.proofs.Charging.{steps-append, calls_on-append, values_on-app
 use Rattle.csr_store.specs.Grid.{Grid, IsGrid, Cell, limit, row_of}
 use Rattle.csr_store.proofs.Along.{Ascends, row_of-ascends}
 use Rattle.row_product.specs.declared.tagged.Sum.{Sum}
-use Rattle.row_product.specs.Sums.{slot, added_calls, after, extra, touch, AreTouched, HasRoom}
-use Rattle.row_product.specs.Terms.{
+use Rattle.row_product.specs.inner.Sums.{slot, added_calls, after, extra, touch, AreTouched, HasRoom}
+use Rattle.row_product.specs.inner.Terms.{
   Waiting,
   Pending,
   cells_of,

@@ -7,8 +7,8 @@ use Rattle.csr_store.specs.Grid.{Cell}
 use Rattle.csr_store.specs.Run.{Run}
 use Rattle.csr_store.specs.Along.{cell_at, row_by}
 use Rattle.csr_store.proofs.Along.{along-first, along-none}
-use Rattle.row_product.specs.Sums.{slot}
-use Rattle.row_product.specs.Few.{IsApart, spread}
+use Rattle.row_product.specs.inner.Sums.{slot}
+use Rattle.row_product.specs.inner.Few.{IsApart, spread}
 use Rattle.row_product.proofs.Adding.{slot_same, slot_other}
 use Rattle.row_product.proofs.Emitting.{cells_below, cells_joined, cell_below, same_run}
 

@@ -3,8 +3,8 @@ use Rattle.std.proofs.Common.{◌≡◌, ℕ, zero, suc, ◌<◌, Bool, true, fa
 use Rattle.std.proofs.lemmas.Bool.Decides.{eqb_tells}
 use Rattle.row_product.specs.declared.tagged.Sum.{Sum}
 use Rattle.row_product.specs.declared.tagged.Sum.TheVariants.{Nothing, At, Waiting}
-use Rattle.row_product.specs.Sums.{slot, sum_of, sums_of, kept}
-use Rattle.row_product.specs.Terms.{waits, AreMarked, Lacks}
+use Rattle.row_product.specs.inner.Sums.{slot, sum_of, sums_of, kept}
+use Rattle.row_product.specs.inner.Terms.{waits, AreMarked, Lacks}
 
 pub length_sums : (sums : List Sum) → length (sums_of sums) ≡ length sums
 length_sums [] = refl

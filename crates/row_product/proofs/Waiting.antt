@@ -11,8 +11,8 @@ use Rattle.bpf_run.proofs.Charging.{steps-append, calls_on-append, values_on-app
 use Rattle.csr_store.specs.Grid.{Cell}
 use Rattle.row_product.specs.declared.tagged.Sum.{Sum}
 use Rattle.row_product.specs.declared.tagged.Sum.TheVariants as sum
-use Rattle.row_product.specs.Sums.{slot, sum_of, sums_of, kept, added, added_calls, after, extra, touch}
-use Rattle.row_product.specs.Terms.{
+use Rattle.row_product.specs.inner.Sums.{slot, sum_of, sums_of, kept, added, added_calls, after, extra, touch}
+use Rattle.row_product.specs.inner.Terms.{
   Waiting,
   Pending,
   cells_of,

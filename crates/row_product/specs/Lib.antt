@@ -1,5 +1,2 @@
 pub mod Product
-pub mod Sums
-pub mod Terms
-pub mod Emitted
-pub mod Few
+pub mod inner

@@ -5,9 +5,9 @@ ghost use Rattle.bpf_insn.specs.declared.operands.Operands.TheVariants as on;
 ghost use Rattle.bpf_verify.specs.Accepted.{Accepted};
 ghost use Rattle.bpf_run.specs.Calls.{steps_of, calls_on};
 ghost use Rattle.row_product.specs.declared.tagged.Sum.TheVariants as sum;
-ghost use Rattle.row_product.specs.Sums.{slot, sums_of};
+ghost use Rattle.row_product.specs.inner.Sums.{slot, sums_of};
 ghost use Rattle.csr_store.specs.Ascending.{Ascends};
-ghost use Rattle.row_product.specs.Terms.{
+ghost use Rattle.row_product.specs.inner.Terms.{
   no_waiting,
   cells_of,
   columns_of,
@@ -53,7 +53,7 @@ struct Met {
 impl Model for Additions {
     ghost use Rattle.std.specs.Prelude.{◌≡◌, length, take};
     ghost use Rattle.bpf_insn.specs.declared.operands.Kind.TheVariants as kinds;
-    ghost use Rattle.row_product.specs.Terms.{Waiting};
+    ghost use Rattle.row_product.specs.inner.Terms.{Waiting};
 
     ghost Value = { Waiting };
 

@@ -2,8 +2,8 @@
 ghost use Rattle.std.specs.Prelude.{◌≡◌, ◌<◌, ℕ, None, length, OnOk};
 ghost use Rattle.std.specs.List.{AllByRecursion};
 ghost use Rattle.csr_store.specs.Grid.{Cell};
-ghost use Rattle.row_product.specs.Few.{IsApart};
-ghost use Rattle.row_product.specs.Sums.{slot};
+ghost use Rattle.row_product.specs.inner.Few.{IsApart};
+ghost use Rattle.row_product.specs.inner.Sums.{slot};
 
 use csr_store::Matrix;
 use std::alloc::{AllocError, Global};

@@ -5,8 +5,8 @@ ghost use Rattle.std.specs.List.Sorted.{IsNonDecreasing};
 ghost use Rattle.csr_store.specs.Along.{cell_at, row_by};
 ghost use Rattle.csr_store.specs.Grid.{Cell};
 ghost use Rattle.csr_store.specs.Run.{Run};
-ghost use Rattle.row_product.specs.Emitted.{IsEmitted};
-ghost use Rattle.row_product.specs.Sums.{slot, sums_of, AreTouched};
+ghost use Rattle.row_product.specs.inner.Emitted.{IsEmitted};
+ghost use Rattle.row_product.specs.inner.Sums.{slot, sums_of, AreTouched};
 
 use crate::tagged::Sum;
 use csr_store::Rows;

@@ -1,7 +1,7 @@
 //! The columns that the mask's row stores.
 ghost use Rattle.std.specs.Prelude.{◌≡◌, ◌≤◌, ◌<◌, ℕ, false, length};
 ghost use Rattle.std.specs.FinMap as fin;
-ghost use Rattle.row_product.specs.Sums.{flag};
+ghost use Rattle.row_product.specs.inner.Sums.{flag};
 
 use csr_store::Matrix;
 

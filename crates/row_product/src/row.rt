@@ -5,7 +5,7 @@ ghost use Rattle.bpf_run.specs.Calls.{steps_of, Charges};
 ghost use Rattle.csr_store.specs.Grid.{limit, row_of};
 ghost use Rattle.csr_store.specs.Mask.{HasShape, mask_of, cut, row_under, listed_under};
 ghost use Rattle.row_product.specs.Product.{product_at, product_calls_at, mults_of};
-ghost use Rattle.row_product.specs.Sums.{slot, sums_of, flag, AreTouched, HasRoom};
+ghost use Rattle.row_product.specs.inner.Sums.{slot, sums_of, flag, AreTouched, HasRoom};
 
 use crate::count::{is_open, mults_in_row};
 use crate::emit::{clear, emit_row};

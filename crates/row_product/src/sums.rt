@@ -6,8 +6,20 @@ ghost use Rattle.bpf_run.specs.Calls.{steps_of};
 ghost use Rattle.csr_store.specs.Along.{along};
 ghost use Rattle.csr_store.specs.Grid.{limit, row_of};
 ghost use Rattle.row_product.specs.Product.{mults_of};
-ghost use Rattle.row_product.specs.Sums.{slot, sums_of, flag, takes, seen, after, extra, value_of_rest, calls_of_rest, AreTouched, HasRoom};
-ghost use Rattle.row_product.specs.Terms.{sums_then, calls_then, touched_then, AreWithin};
+ghost use Rattle.row_product.specs.inner.Sums.{
+  slot,
+  sums_of,
+  flag,
+  takes,
+  seen,
+  after,
+  extra,
+  value_of_rest,
+  calls_of_rest,
+  AreTouched,
+  HasRoom,
+};
+ghost use Rattle.row_product.specs.inner.Terms.{sums_then, calls_then, touched_then, AreWithin};
 
 use crate::tagged::Sum;
 use crate::terms::Terms;

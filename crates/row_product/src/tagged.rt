@@ -1,6 +1,6 @@
 //! What is kept of a column: its sum, and whether an addition to it waits, in one word with a tag.
 ghost use Rattle.std.specs.Prelude.{◌≡◌};
-ghost use Rattle.row_product.specs.Sums.{sum_of};
+ghost use Rattle.row_product.specs.inner.Sums.{sum_of};
 
 use csr_store::Slot;
 

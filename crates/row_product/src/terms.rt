@@ -4,8 +4,8 @@ ghost use Rattle.bpf_insn.specs.declared.operands.Kind.TheVariants as kinds;
 ghost use Rattle.bpf_insn.specs.declared.operands.Operands.TheVariants as on;
 ghost use Rattle.bpf_run.specs.Calls.{steps_of, calls_on, pairs_with};
 ghost use Rattle.csr_store.specs.Ascending.{Ascends};
-ghost use Rattle.row_product.specs.Sums.{slot, sums_of, touch, after, extra};
-ghost use Rattle.row_product.specs.Terms.{
+ghost use Rattle.row_product.specs.inner.Sums.{slot, sums_of, touch, after, extra};
+ghost use Rattle.row_product.specs.inner.Terms.{
   no_pending,
   cells_of,
   columns_of,
@@ -43,7 +43,7 @@ pub(crate) struct Terms {
 impl Model for Terms {
     ghost use Rattle.std.specs.Prelude.{◌≡◌, length, take};
     ghost use Rattle.bpf_insn.specs.declared.operands.Kind.TheVariants as kinds;
-    ghost use Rattle.row_product.specs.Terms.{Pending};
+    ghost use Rattle.row_product.specs.inner.Terms.{Pending};
 
     ghost Value = { Pending };
 

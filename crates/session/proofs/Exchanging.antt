@@ -18,7 +18,8 @@ use Rattle.command_text.specs.declared.rules.FatalRule.TheVariants.{LineTooLong}
 use Rattle.step_purse.specs.declared.dealings.Dealing.{Dealing}
 use Rattle.workspace.specs.State.{State}
 use Rattle.session.specs.Next.{Next, Waits, Ends, Goes, refused, next, next_of, next_request}
-use Rattle.session.specs.Exchange.{Hears, IsHeard, Responds, Touched, Scene, Tells, IsLast, Ahead, Went, Final, FinalWhole, Exchanged, behind}
+use Rattle.session.specs.Exchange.{Touched, Scene, IsLast, Ahead, Went, Final, FinalWhole, Exchanged, behind}
+use Rattle.session.specs.inner.Exchange.{Hears, IsHeard, Responds, Tells}
 use Rattle.session.specs.declared.end.End.{End}
 use Rattle.session.specs.declared.end.End.TheVariants.{InputEnd}
 use Rattle.session.specs.declared.end.ServeFault.{ServeFault}

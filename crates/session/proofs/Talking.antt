@@ -12,7 +12,8 @@ use Rattle.workspace.specs.State.{State, empty}
 use Rattle.workspace.specs.Turn.{released}
 use Rattle.session.specs.Next.{next}
 use Rattle.session.specs.Talk.{Talk, leave, wait, finish, stop, go, Outside, Said, SaidAll, Counts, Outcome}
-use Rattle.session.specs.Exchange.{IsLast, Touched, Scene, Went, Final, FinalWhole, Exchanged, Spoken, SpokenWhole, Conversed}
+use Rattle.session.specs.Exchange.{IsLast, Touched, Scene, Went, Final, FinalWhole, Exchanged}
+use Rattle.session.specs.inner.Exchange.{Spoken, SpokenWhole, Conversed}
 use Rattle.session.specs.declared.end.End.{End}
 use Rattle.session.specs.declared.end.ServeFault.{ServeFault}
 use Rattle.session.specs.declared.end.ServeFault.TheVariants.{Read, Write, Turns, Memory}

@@ -1,3 +1,4 @@
 pub mod Next
 pub mod Talk
 pub mod Exchange
+pub mod inner

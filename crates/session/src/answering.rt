@@ -8,7 +8,7 @@ ghost use Rattle.wire.specs.Devices.{failures_in};
 ghost use Rattle.wire.specs.Prefixes.{IsPrefixOf};
 ghost use Rattle.job_plan.specs.Price.{total_price};
 ghost use Rattle.workspace.specs.Workspace.{state_of};
-ghost use Rattle.session.specs.Exchange.{Responds, Tells};
+ghost use Rattle.session.specs.inner.Exchange.{Responds, Tells};
 
 use crate::end::End;
 use crate::hearing::Heard;

@@ -4,7 +4,8 @@ ghost use Rattle.wire.specs.Fetching.{reach};
 ghost use Rattle.job_plan.specs.Price.{total_price};
 ghost use Rattle.workspace.specs.State.{empty};
 ghost use Rattle.workspace.specs.Workspace.{state_of};
-ghost use Rattle.session.specs.Exchange.{Exchanged, Conversed, behind};
+ghost use Rattle.session.specs.Exchange.{Exchanged, behind};
+ghost use Rattle.session.specs.inner.Exchange.{Conversed};
 ghost use Rattle.session.specs.Next.{next};
 ghost use Rattle.session.specs.Talk.{Outcome};
 

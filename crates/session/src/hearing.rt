@@ -2,7 +2,7 @@
 ghost use Rattle.std.specs.Prelude.{◌≤◌};
 ghost use Rattle.command_text.specs.Readings.{request_of};
 ghost use Rattle.wire.specs.Fetching.{Fetched, failed_reads, reach};
-ghost use Rattle.session.specs.Exchange.{IsHeard};
+ghost use Rattle.session.specs.inner.Exchange.{IsHeard};
 
 use command_text::{Command, FatalRule, Header, Request};
 use std::alloc::Global;

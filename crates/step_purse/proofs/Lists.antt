@@ -8,7 +8,7 @@ use Rattle.atomic_table.proofs.Lists.{at_set, at_snoc}
 use Rattle.step_purse.specs.declared.dealings.Dealing.{Dealing}
 use Rattle.step_purse.specs.declared.views.View.{View}
 use Rattle.step_purse.specs.Histories.{total_of, Begins, Stand, times_at, once_below}
-use Rattle.step_purse.specs.Rule.{AreSeen, Knows}
+use Rattle.step_purse.specs.inner.Rule.{AreSeen, Knows}
 
 -- the sum after a change of one
 pub sum_set : {A : Type 0} (f : A → ℕ) (xs : List A) (i : ℕ) (v w : A) → get_elem? xs i ≡ some v → total_of f (set xs i w) + f v ≡ total_of f xs + f w

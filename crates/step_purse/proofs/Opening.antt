@@ -6,7 +6,8 @@ use Rattle.std.proofs.lemmas.Bool.Decides.{nat_tests}
 use Rattle.crossbeam_utils.specs.Register.{Forks}
 use Rattle.step_purse.specs.declared.views.View.{View}
 use Rattle.step_purse.specs.Shares.{whole}
-use Rattle.step_purse.specs.Rule.{withheld, Knows, IsOpened, blank, idle, spent, IsUnopened, Kept}
+use Rattle.step_purse.specs.Rule.{blank, idle}
+use Rattle.step_purse.specs.inner.Rule.{withheld, Knows, IsOpened, spent, IsUnopened, Kept}
 use Rattle.step_purse.proofs.Lists.{begins_none}
 use Rattle.step_purse.proofs.Steps.{idle_knows, spent_knows}
 

@@ -7,7 +7,7 @@ use Rattle.step_purse.specs.declared.views.Share.{Share}
 use Rattle.step_purse.specs.declared.views.View.{View}
 use Rattle.step_purse.specs.Shares.{one_part, less_one, both_shares, IsWhole, has_part}
 use Rattle.step_purse.specs.Histories.{total_of}
-use Rattle.step_purse.specs.Rule.{IsFair, spent, joined}
+use Rattle.step_purse.specs.inner.Rule.{IsFair, spent, joined}
 use Rattle.step_purse.proofs.Lists.{sum_set, views_set}
 
 abbrev pub wholes : View → ℕ

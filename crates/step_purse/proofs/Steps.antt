@@ -15,7 +15,27 @@ use Rattle.step_purse.specs.Plain.{opened, total, IsAnswered, after, after_all, 
 use Rattle.step_purse.specs.declared.views.Share.{Share}
 use Rattle.step_purse.specs.Shares.{no_share, one_part, less_one, IsWhole, has_part}
 use Rattle.step_purse.specs.Histories.{Begins, Stand, total_of, times_at, once_below, IsSound, Makes}
-use Rattle.step_purse.specs.Rule.{withheld, words_of, totals_in, AddsUp, AreSeen, Knows, IsOpened, blank, idle, spent, IsUnopened, Kept, SameBut, asked, exchanged, counted, peeked, learned, giving, joined, MayCall}
+use Rattle.step_purse.specs.Rule.{blank, idle, MayCall}
+use Rattle.step_purse.specs.inner.Rule.{
+  withheld,
+  words_of,
+  totals_in,
+  AddsUp,
+  AreSeen,
+  Knows,
+  IsOpened,
+  spent,
+  IsUnopened,
+  Kept,
+  SameBut,
+  asked,
+  exchanged,
+  counted,
+  peeked,
+  learned,
+  giving,
+  joined,
+}
 use Rattle.step_purse.proofs.Calls.{refuses, legal_total, reserved_most, after_snoc, legal_snoc, owed_step}
 use Rattle.step_purse.proofs.Lists.{sum_set, sum_snoc, sum_has, there_set, get_snoc, stand_more, stand_append, stand_seen, seen_first, seen_second, seen_append, seen_at, begins_more, begins_all, begins_whole, begins_itself, begins_none, knows_more, times_snoc, times_append, below_snoc, below_one, below_last, views_set, views_snoc}
 use Rattle.step_purse.proofs.Shares.{wholes, got, gave, CountsCalls, part_left, both_fair, alone_counts}

@@ -4,3 +4,4 @@ pub mod Histories
 pub mod Rule
 pub mod Seats
 pub mod Passes
+pub mod inner

@@ -6,7 +6,8 @@ ghost use Rattle.crossbeam_utils.specs.Seq.{cell_view};
 ghost use Rattle.step_purse.specs.Plain.{total, IsReplyTo, IsAnswered, after, MayMake};
 ghost use Rattle.step_purse.specs.Shares.{whole, one_part, less_one, has_part, IsWhole};
 ghost use Rattle.step_purse.specs.Histories.{Makes};
-ghost use Rattle.step_purse.specs.Rule.{AddsUp, SeesBoth, SameBut, blank, idle, giving, joined, words_of, totals_in, withheld};
+ghost use Rattle.step_purse.specs.Rule.{blank, idle};
+ghost use Rattle.step_purse.specs.inner.Rule.{AddsUp, SeesBoth, SameBut, giving, joined, words_of, totals_in, withheld};
 ghost use Rattle.step_purse.specs.declared.dealings.Dealing.TheVariants.{Reserved, Settled, Told};
 ghost use Rattle.step_purse.specs.declared.dealings.Reply.TheVariants.{NotEnough};
 

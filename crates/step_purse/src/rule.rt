@@ -1,7 +1,8 @@
 //! The cell of a purse, its rule, and what each kind of step tells.
 ghost use Rattle.std.specs.Prelude.{[]};
 ghost use Rattle.step_purse.specs.Shares.{whole, one_part};
-ghost use Rattle.step_purse.specs.Rule.{Kept, blank, idle, spent, giving, asked, exchanged, counted, peeked, learned, joined};
+ghost use Rattle.step_purse.specs.Rule.{blank, idle};
+ghost use Rattle.step_purse.specs.inner.Rule.{Kept, spent, giving, asked, exchanged, counted, peeked, learned, joined};
 
 use crate::views::View;
 use atomic_table::{Join, Split};

@@ -9,7 +9,7 @@ use Rattle.wire.specs.declared.fault.ReadFault.TheVariants.{Failed, OutOfReads}
 use Rattle.wire.specs.declared.fetch.Body.{Body}
 use Rattle.wire.specs.declared.fetch.Body.TheVariants as bodies
 use Rattle.wire.specs.Fetching.{IsBody, IsFilled}
-use Rattle.wire.specs.Keeping.{IsSkipped}
+use Rattle.wire.specs.inner.Keeping.{IsSkipped}
 use Rattle.wire.proofs.Known.{append_nil}
 
 -- all bytes are a part of a body, of which some are missing, and what is held behind it

@@ -1,5 +1,5 @@
 -- What was read of a stream and not used yet (this project's own).
-use Rattle.std.specs.Prelude.{ℕ, Bool, true, List, [], ◌∷◌}
+use Rattle.std.specs.Prelude.{ℕ, Bool, List}
 use Rattle.wire.specs.Devices.{SourceState}
 
 -- the bytes, whether the stream has ended behind them, and how many reads may still be made
@@ -12,8 +12,3 @@ pub record Held : Type 0 where
 pub record Stream : Type 0 where
   pub source : SourceState
   pub held : Held
-
--- Whether a stream has ended after a read that got these bytes: a read that gets none tells the end.
-abbrev pub ended_after : Bool → List ℕ → Bool
-ended_after ended [] = true
-ended_after ended (b ∷ bs) = ended

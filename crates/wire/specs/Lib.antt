@@ -2,6 +2,5 @@ pub mod Devices
 pub mod Prefixes
 pub mod Held
 pub mod Lines
-pub mod Found
 pub mod Fetching
-pub mod Keeping
+pub mod inner

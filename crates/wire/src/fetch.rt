@@ -1,7 +1,7 @@
 //! Reading on, until a line or a body is there.
 ghost use Rattle.std.specs.Prelude.{ℕ, ◌≡◌, ◌<◌, ◌≤◌, ◌++◌, OnOk, [], take, vec_capacity, vec_len, IfOk, Ok};
 ghost use Rattle.wire.specs.Fetching.{Fetched, IsLined, IsBody, failed_reads, reach};
-ghost use Rattle.wire.specs.Keeping.{IsKept, IsSkipped};
+ghost use Rattle.wire.specs.inner.Keeping.{IsKept, IsSkipped};
 
 use crate::device::Source;
 use crate::fault::ReadFault;

@@ -4,7 +4,7 @@ ghost use Rattle.std.specs.Prelude as prelude;
 ghost use Rattle.std.specs.Io.KnownBytes.{Consumes, Keeps, IsAtEnd};
 ghost use Rattle.wire.specs.Devices.{failures_in};
 ghost use Rattle.wire.specs.Fetching.{Fetched, IsFilled, IsReadBehind, failed_reads};
-ghost use Rattle.wire.specs.Held.{ended_after};
+ghost use Rattle.wire.specs.inner.Held.{ended_after};
 
 use crate::device::Source;
 use crate::fault::ReadFault;

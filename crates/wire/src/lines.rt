@@ -1,7 +1,7 @@
 //! Lines in the bytes of a stream.
 ghost use Rattle.std.specs.Prelude.{◌≡◌, ◌<◌, ◌+◌, length, take, drop, MatchOption, Some, None};
 ghost use Rattle.wire.specs.Lines.{Uncut, At, cut_line, without_cr, first};
-ghost use Rattle.wire.specs.Found.{Matches};
+ghost use Rattle.wire.specs.inner.Found.{Matches};
 
 /// The most bytes that a line has, its line end not counted.
 pub const LINE: usize = 1024;

@@ -5,7 +5,8 @@ use Rattle.std.specs.Prelude.{option_and_then}
 use Rattle.std.specs.BTreeMap.{get_by_text}
 use Rattle.std.specs.Map.{update}
 use Rattle.std.specs.Str.{bytes_eq}
-use Rattle.workspace.specs.Names.{Declared, is_declared, value_at}
+use Rattle.workspace.specs.Names.{Declared, value_at}
+use Rattle.workspace.specs.inner.Names.{is_declared}
 
 module _ {V : Type 0} (m n : Declared V) (bs : List ℕ) (w : Option V) (at : (cs : List ℕ) → get_by_text n cs ≡ update bytes_eq (get_by_text m) bs (Some w) cs) where
   -- every place is still there

@@ -14,8 +14,9 @@ use Rattle.std.specs.Option.{option_map}
 use Rattle.std.specs.Str.{bytes_eq}
 use Rattle.std.specs.declared.alloc.Global.{Global}
 use Rattle.csr_store.specs.Grid.{Grid}
-use Rattle.workspace.specs.Names.{Declared, is_declared, value_at}
-use Rattle.workspace.specs.Outputs.{AreDeclared, grid_at}
+use Rattle.workspace.specs.Names.{Declared, value_at}
+use Rattle.workspace.specs.inner.Names.{is_declared}
+use Rattle.workspace.specs.inner.Outputs.{AreDeclared, grid_at}
 use Rattle.workspace.specs.State.{State, bound}
 use Rattle.bpf_verify.specs.Accepted.{Accepted}
 use Rattle.job_plan.specs.Job.{Job}
@@ -30,7 +31,8 @@ use Rattle.command_text.specs.declared.refusal.Refusal.TheVariants as no
 use Rattle.step_budget.specs.Budget.{Deals}
 use Rattle.step_purse.specs.declared.dealings.Dealing.{Dealing}
 use Rattle.std.specs.List.{AllByRecursion}
-use Rattle.workspace.specs.Queued.{AreCheap, AreNamed, AreWithin, steps_sum}
+use Rattle.workspace.specs.Queued.{AreNamed}
+use Rattle.workspace.specs.inner.Queued.{AreCheap, AreWithin, steps_sum}
 use Rattle.job_runner.specs.Batch.{AreResultsOf, result_of, total_steps}
 use Rattle.std.specs.List.{flat_map}
 use Rattle.std.proofs.Common.{append_assoc, ◌++◌}

@@ -16,7 +16,8 @@ use Rattle.command_text.specs.Requests.{Submission, Header, MatrixHeader, OpHead
 use Rattle.command_text.specs.Replies.{matrix_text, refusal_text, queued_text}
 use Rattle.command_text.specs.declared.rules.SessionRule.TheVariants.{MalformedName}
 use Rattle.workspace.specs.Turn.{Turn, Refuses, MatrixTurn, TakesMatrix, TakesOperator, TakesDigits, TakesKind, SubmitTurn, Prices, Submits, TakesAssembly, TakesKindOfAssembly}
-use Rattle.workspace.specs.Binds.{Binds, BindsMatrix, BindsText, BindsCode, BindsDigits, BindsAssembly, BindsLines}
+use Rattle.workspace.specs.Binds.{Binds, BindsMatrix, BindsText, BindsDigits, BindsAssembly, BindsLines}
+use Rattle.workspace.specs.inner.Binds.{BindsCode}
 use Rattle.hex.specs.Hex.{decode_of}
 use Rattle.command_text.specs.Hexadecimal.{without_gaps}
 use Rattle.bpf_insn.specs.declared.operands.Kind.{Kind}

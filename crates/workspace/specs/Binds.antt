@@ -3,9 +3,7 @@
 use Rattle.std.specs.Prelude.{ℕ, ◌⊎◌, MatchBool, List, [], Option, None, Some}
 use Rattle.bpf_insn.specs.declared.operands.Kind.{Kind}
 use Rattle.bpf_insn.specs.declared.insn.Insn.{Insn}
-use Rattle.bpf_insn.specs.Code.{Spells}
 use Rattle.bpf_text.specs.Text.{IsTextOf as IsAssemblyOf}
-use Rattle.bpf_verify.specs.Slots.{HasNoSlotFault}
 use Rattle.matrix_market.specs.Refusal.{HasSizes}
 use Rattle.command_text.specs.Hexadecimal.{without_gaps}
 use Rattle.command_text.specs.Requests.{Header, MatrixHeader, OpHeader, AsmHeader}
@@ -14,23 +12,12 @@ use Rattle.command_text.specs.declared.refusal.Refusal.TheVariants as no
 use Rattle.command_text.specs.declared.rules.SessionRule.TheVariants.{MalformedWords, MalformedName}
 use Rattle.hex.specs.Hex.{decode_of}
 use Rattle.workspace.specs.State.{State}
-use Rattle.workspace.specs.Turn.{Refuses, TakesMatrix, TakesAssembly, TakesDigits, TakesOperator, TakesProgram}
+use Rattle.workspace.specs.Turn.{Refuses, TakesMatrix, TakesAssembly, TakesDigits}
 
 -- the text is taken; or there is no memory, and its lines up to the sizes break no rule
 abbrev pub BindsText : State → List ℕ → List ℕ → List ℕ → State → Type 0
 BindsText old name body reply new =
     (HasSizes body × Refuses no.Memory old [] reply new) ⊎ TakesMatrix old name body [] reply new
-
--- the program is taken; or there is no memory, and it has no slot fault
-abbrev pub BindsProgram : State → List ℕ → Kind → List Insn → List ℕ → State → Type 0
-BindsProgram old name kind program reply new =
-    (HasNoSlotFault program × Refuses no.Memory old [] reply new) ⊎ TakesProgram old name kind program [] reply new
-
--- the code is taken; or there is no memory, and it is that of a program
-abbrev pub BindsCode : State → List ℕ → Kind → List ℕ → List ℕ → State → Type 0
-BindsCode old name kind code reply new =
-    ((program : List Insn) × Spells code program × Refuses no.Memory old [] reply new)
-    ⊎ TakesOperator old name kind code [] reply new
 
 -- the assembly text is taken; or there is no memory, and it is that of a program
 abbrev pub BindsAssembly : State → List ℕ → Kind → List ℕ → List ℕ → State → Type 0

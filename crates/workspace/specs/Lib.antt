@@ -3,8 +3,7 @@ pub mod Found
 pub mod Turn
 pub mod Names
 pub mod Queued
-pub mod Outputs
 pub mod Workspace
-pub mod Lent
 pub mod Binds
 pub mod Types
+pub mod inner

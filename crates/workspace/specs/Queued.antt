@@ -1,25 +1,7 @@
 -- The jobs of a queue, whose outputs are names of at most 32 bytes; and what came of them within their prices (this project's own).
-use Rattle.std.specs.Prelude.{◌≤◌, ◌+◌, ℕ, List, [], ◌∷◌, length}
+use Rattle.std.specs.Prelude.{◌≤◌, List, length}
 use Rattle.std.specs.List.{All}
 use Rattle.job_plan.specs.Job.{Job}
-use Rattle.job_plan.specs.Price.{price_of}
-use Rattle.job_runner.specs.Batch as batch
 
 abbrev pub AreNamed : List Job → Type 0
 AreNamed jobs = All (λ (job : Job). length job.output ≤ 32) jobs
-
--- no job took more steps than its price
-abbrev pub AreWithin : List Job → List batch.Result → Type 0
-AreWithin [] results = Unit {0}
-AreWithin (job ∷ jobs) [] = Unit {0}
-AreWithin (job ∷ jobs) (e ∷ es) = (e.steps ≤ price_of job) × AreWithin jobs es
-
--- the steps of results
-abbrev pub steps_sum : List batch.Result → ℕ
-steps_sum [] = 0
-steps_sum (e ∷ es) = e.steps + steps_sum es
-
--- each took no more steps than any job may cost
-abbrev pub AreCheap : List batch.Result → Type 0
-AreCheap [] = Unit {0}
-AreCheap (e ∷ es) = (e.steps ≤ 4294967296) × AreCheap es

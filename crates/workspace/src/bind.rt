@@ -3,7 +3,8 @@ ghost use Rattle.std.specs.Prelude.{◌≡◌};
 ghost use Rattle.command_text.specs.ReplyText.{whole};
 ghost use Rattle.workspace.specs.Workspace.{state_of};
 ghost use Rattle.command_text.specs.Words.{kind_of_word};
-ghost use Rattle.workspace.specs.Binds.{BindsMatrix, BindsCode, BindsProgram, BindsAssembly, BindsDigits, BindsLines};
+ghost use Rattle.workspace.specs.Binds.{BindsMatrix, BindsAssembly, BindsDigits, BindsLines};
+ghost use Rattle.workspace.specs.inner.Binds.{BindsCode, BindsProgram};
 
 use crate::workspace::Workspace;
 use bpf_insn::{DecodeError, Kind, Program, decode};

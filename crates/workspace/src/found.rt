@@ -3,7 +3,7 @@ ghost use Rattle.std.specs.Prelude.{◌≡◌, ◌&&◌, true, List, ℕ};
 ghost use Rattle.std.specs.Option.{option_map};
 ghost use Rattle.command_text.specs.Readings.{form_of, lent_name};
 ghost use Rattle.workspace.specs.Found.{form_named, mask_named, form_found, mask_found, joined};
-ghost use Rattle.workspace.specs.Lent.{lent_form, lent_mask, lent_job};
+ghost use Rattle.workspace.specs.inner.Lent.{lent_form, lent_mask, lent_job};
 ghost use Rattle.workspace.specs.Workspace.{state_of};
 
 use crate::workspace::Workspace;

@@ -2,7 +2,8 @@
 ghost use Rattle.std.specs.Prelude.{◌≡◌, ℕ, List, Option, IsTrue, OnOk, None, Some, option_copied};
 ghost use Rattle.std.specs.Map.{update};
 ghost use Rattle.std.specs.Str.{bytes_eq};
-ghost use Rattle.workspace.specs.Names.{is_declared, value_at};
+ghost use Rattle.workspace.specs.Names.{value_at};
+ghost use Rattle.workspace.specs.inner.Names.{is_declared};
 
 use std::alloc::{AllocError, Global};
 use std::collections::BTreeMap;

@@ -4,10 +4,11 @@
 //! are settled, the reply is written and the outputs are bound, with no further memory. A batch that breaks off binds no name.
 ghost use Rattle.std.specs.Prelude.{◌≡◌, ◌≤◌, ◌+◌, ◌++◌, List, ℕ, map, length, vec_len, IfOk, OnOk, OnErr, []};
 ghost use Rattle.workspace.specs.Names.{value_at};
-ghost use Rattle.workspace.specs.Outputs.{AreDeclared, grid_at};
+ghost use Rattle.workspace.specs.inner.Outputs.{AreDeclared, grid_at};
 ghost use Rattle.job_plan.specs.Price.{total_price};
 ghost use Rattle.job_runner.specs.Batch.{AreResultsOf, result_of, total_steps};
-ghost use Rattle.workspace.specs.Queued.{AreCheap, AreNamed, AreWithin, steps_sum};
+ghost use Rattle.workspace.specs.Queued.{AreNamed};
+ghost use Rattle.workspace.specs.inner.Queued.{AreCheap, AreWithin, steps_sum};
 ghost use Rattle.step_budget.specs.Budget.{Deals};
 ghost use Rattle.step_purse.specs.declared.dealings.Dealing.{Dealing};
 ghost use Rattle.command_text.specs.Replies.{job_text, run_text, refusal_text};

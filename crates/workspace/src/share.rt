@@ -3,7 +3,7 @@ ghost use Rattle.std.specs.Prelude.{◌≡◌, IfOk};
 ghost use Rattle.std.specs.Option.{option_map};
 ghost use Rattle.std.specs.Arc.{arc_value};
 ghost use Rattle.job_plan.specs.Kept.{form_of};
-ghost use Rattle.workspace.specs.Lent.{lent_form, lent_mask, lent_job};
+ghost use Rattle.workspace.specs.inner.Lent.{lent_form, lent_mask, lent_job};
 
 use crate::found::{FoundForm, FoundJob};
 use csr_store::Version;

@@ -1,6 +1,7 @@
 use Rattle.std.proofs.Common.{ap, ◌∙◌, sym, length, get_or, ◌≤◌, ◌++◌, ◌∷◌, []}
 use Rattle.std.specs.Prelude.{None}
-use Rattle.bpf_insn.specs.Program.{layout, insns_of}
+use Rattle.bpf_insn.specs.Program.{insns_of}
+use Rattle.bpf_insn.specs.inner.Program.{layout}
 use Rattle.bpf_insn.specs.Code.{code_of, Spells}
 use Rattle.bpf_insn.proofs.Reading.{spelling-injective}
 use Rattle.bpf_insn.proofs.Encoding.{code_before, code_before-more, code_before-end}

@@ -1,5 +1,5 @@
 use Rattle.std.proofs.Common.{arith, ap, ◌∙◌, ◌++◌, sym, ◌+◌, get_or}
-use Rattle.bpf_insn.specs.Program.{cells_of}
+use Rattle.bpf_insn.specs.inner.Program.{cells_of}
 use Rattle.bpf_insn.proofs.Laying.{past_end, slot_count-take, slot_count-take_le, layout-take}
 use Rattle.bpf_insn.proofs.program.lay.Goals as goal
 

@@ -1,5 +1,6 @@
 use Rattle.std.proofs.Common.{◌≡◌, ◌≤◌, take, vec_capacity, vec_len}
-use Rattle.bpf_insn.specs.Program.{slot_count, layout}
+use Rattle.bpf_insn.specs.Program.{slot_count}
+use Rattle.bpf_insn.specs.inner.Program.{layout}
 use Rattle.bpf_insn.proofs.program.lay.Given as goal
 
 abbrev pub invariant-loop-insn : goal.invariant-loop-insn

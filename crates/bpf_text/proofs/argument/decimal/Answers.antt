@@ -1,6 +1,6 @@
 use Rattle.std.proofs.Common.{sym, ap, ◌∙◌, arith, refl, length}
 use Rattle.std.proofs.lemmas.Bool.{eqb-false}
-use Rattle.bpf_text.specs.Numbers.{held_number}
+use Rattle.bpf_text.specs.inner.Numbers.{held_number}
 use Rattle.bpf_text.proofs.Numbers.{digits_some, digit_more, digit_not, digit_end}
 use Rattle.bpf_text.proofs.argument.decimal.Goals as goal
 

@@ -1,6 +1,6 @@
 use Rattle.std.proofs.Common.{◌≡◌, ◌<◌, ◌^◌, drop}
 use Rattle.bpf_text.specs.Lines.{digits_after}
-use Rattle.bpf_text.specs.Numbers.{held_number}
+use Rattle.bpf_text.specs.inner.Numbers.{held_number}
 use Rattle.bpf_text.proofs.argument.decimal.Given as goal
 
 abbrev pub invariant-loop-byte : goal.invariant-loop-byte

@@ -1,6 +1,6 @@
 use Rattle.std.proofs.Common.{◌∷◌, ◌∙◌, ◌+◌, sym, ap, arith, take}
 use Rattle.std.specs.List.{slice_split}
-use Rattle.bpf_text.specs.Cuts.{separates}
+use Rattle.bpf_text.specs.inner.Cuts.{separates}
 use Rattle.bpf_text.proofs.Cuts.{front_at, behind_at, parts_at, front_none, behind_none, parts_none, rest_behind}
 use Rattle.bpf_text.proofs.line.cut.Goals as goal
 

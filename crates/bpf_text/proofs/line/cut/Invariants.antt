@@ -1,5 +1,5 @@
 use Rattle.std.proofs.Common.{◌≡◌, ◌<◌, ℕ, get_or, false}
-use Rattle.bpf_text.specs.Cuts.{separates}
+use Rattle.bpf_text.specs.inner.Cuts.{separates}
 use Rattle.bpf_text.proofs.line.cut.Given as goal
 
 abbrev pub invariant-loop-i : goal.invariant-loop-i

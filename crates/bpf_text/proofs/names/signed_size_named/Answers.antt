@@ -4,7 +4,7 @@ use Rattle.std.proofs.lemmas.Iterator.{YieldsList-from_slice}
 use Rattle.std.proofs.lemmas.Iterator.Consumers.{YieldsList-from_copied}
 use Rattle.std.proofs.lemmas.Iterator.Search.{find_from_yields_List}
 use Rattle.bpf_text.specs.Names.{signed_size_name}
-use Rattle.bpf_text.specs.Tables.{all_signed_sizes}
+use Rattle.bpf_text.specs.inner.Tables.{all_signed_sizes}
 use Rattle.bpf_text.proofs.Tables.{option_map-same}
 use Rattle.bpf_text.proofs.names.signed_size_named.Goals as goal
 

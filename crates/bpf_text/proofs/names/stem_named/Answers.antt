@@ -3,8 +3,8 @@ use Rattle.std.specs.Str.{bytes_eq}
 use Rattle.std.proofs.lemmas.Iterator.{YieldsList-from_slice}
 use Rattle.std.proofs.lemmas.Iterator.Consumers.{YieldsList-from_copied}
 use Rattle.std.proofs.lemmas.Iterator.Search.{find_from_yields_List}
-use Rattle.bpf_text.specs.Names.{stem_name}
-use Rattle.bpf_text.specs.Tables.{all_stems}
+use Rattle.bpf_text.specs.inner.Names.{stem_name}
+use Rattle.bpf_text.specs.inner.Tables.{all_stems}
 use Rattle.bpf_text.proofs.Tables.{option_map-same}
 use Rattle.bpf_text.proofs.names.stem_named.Goals as goal
 

@@ -1,5 +1,5 @@
 use Rattle.std.proofs.Common.{◌∙◌, sym}
-use Rattle.bpf_text.specs.Arguments.{list_of}
+use Rattle.bpf_text.specs.inner.Arguments.{list_of}
 use Rattle.bpf_text.proofs.Statements.{other_kinds, unknown_register, out_of_range}
 use Rattle.bpf_text.proofs.statement.broken_rule.Goals as goal
 

@@ -1,7 +1,7 @@
 use Rattle.std.proofs.Common.{List, ℕ, map, subst}
 use Rattle.bpf_text.specs.declared.rule.AsmRule.TheVariants.{MalformedOperands}
 use Rattle.bpf_text.specs.Lines.{argument_in, operand_texts_of}
-use Rattle.bpf_text.specs.Reading.{IsLowestMisnamed}
+use Rattle.bpf_text.specs.inner.Reading.{IsLowestMisnamed}
 use Rattle.bpf_text.proofs.Statements.{not_operands}
 use Rattle.bpf_text.proofs.statement.read_statement.Goals as goal
 

@@ -1,6 +1,6 @@
 use Rattle.std.proofs.Common.{◌≡◌, ℕ, ◌<◌, get_or, length}
 use Rattle.bpf_verify.specs.declared.tag.Tag.TheVariants.{Unset}
-use Rattle.bpf_verify.specs.Pass.{joined}
+use Rattle.bpf_verify.specs.inner.Pass.{joined}
 use Rattle.bpf_verify.proofs.facts.joined.Given as goal
 
 abbrev pub invariant-loop-i : goal.invariant-loop-i

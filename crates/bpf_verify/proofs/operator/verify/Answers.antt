@@ -1,6 +1,6 @@
 use Rattle.std.proofs.Common.{subst}
 use Rattle.bpf_verify.specs.Accepted.{IsAccepted}
-use Rattle.bpf_verify.specs.Pass.{IsExact, ExplainsTyping}
+use Rattle.bpf_verify.specs.inner.Pass.{IsExact, ExplainsTyping}
 use Rattle.bpf_verify.proofs.SlotPass.{clean_of}
 use Rattle.bpf_verify.proofs.Accepting.{accepted, explained}
 use Rattle.bpf_verify.proofs.operator.verify.Goals as goal

@@ -2,7 +2,7 @@ use Rattle.std.proofs.Common.{arith, rules, ◌≡◌, ◌<◌, ◌∙◌, sym, 
 use Rattle.std.proofs.lemmas.Int.{to_z-of_z}
 use Rattle.std.specs.Prelude.{nat_abs, pos}
 use Rattle.bpf_verify.specs.Table.{known}
-use Rattle.bpf_verify.specs.Pass.{IsMerged}
+use Rattle.bpf_verify.specs.inner.Pass.{IsMerged}
 use Rattle.bpf_verify.proofs.SlotPass.{begins_inside}
 use Rattle.bpf_verify.proofs.Table.{known_get, adds_set}
 use Rattle.bpf_verify.proofs.typing.lead.Goals as goal

@@ -1,5 +1,6 @@
 use Rattle.std.proofs.Common.{◌≡◌, ◌<◌, ℕ, zero, suc, List, [], ◌∷◌, length, get_or, arith, sym, ◌∙◌, false, true}
-use Rattle.command_text.specs.Words.{is_blank, IsAtWord}
+use Rattle.command_text.specs.Words.{is_blank}
+use Rattle.command_text.specs.inner.Words.{IsAtWord}
 use Rattle.command_text.proofs.WordCuts.{first_of_words, ends_at, ends_all}
 use Rattle.command_text.proofs.words.word_length.Goals as goal
 

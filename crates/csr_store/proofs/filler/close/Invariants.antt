@@ -1,5 +1,5 @@
 use Rattle.std.proofs.Common.{◌≡◌, ◌≤◌, length}
-use Rattle.csr_store.specs.ByRows.{Closes}
+use Rattle.csr_store.specs.inner.ByRows.{Closes}
 use Rattle.csr_store.proofs.filler.close.Given as goal
 
 abbrev pub invariant-loop : goal.invariant-loop

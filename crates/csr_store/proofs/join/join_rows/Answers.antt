@@ -2,7 +2,8 @@ use Rattle.std.proofs.Common.{◌≡◌, ◌++◌, ℕ, List, take, ap, sym, ◌
 use Rattle.std.proofs.lemmas.List.{take_all}
 use Rattle.std.specs.List.{AllByRecursion}
 use Rattle.csr_store.specs.ByRows.{grid}
-use Rattle.csr_store.specs.Run.{Run, Row, IsRow, all_ended}
+use Rattle.csr_store.specs.Run.{Run, Row, all_ended}
+use Rattle.csr_store.specs.inner.Run.{IsRow}
 use Rattle.csr_store.proofs.Joining.{follow_each, ended_more, rows_more, joined_entries, joined_grid, joined_starts}
 use Rattle.csr_store.proofs.join.join_rows.Goals as goal
 

@@ -1,7 +1,8 @@
 use Rattle.std.proofs.Common.{◌≡◌, take}
 use Rattle.std.specs.List.{AllByRecursion}
 use Rattle.csr_store.specs.ByRows.{ends_of}
-use Rattle.csr_store.specs.Run.{AreClosed, IsRow, all_ended, ended_rows}
+use Rattle.csr_store.specs.Run.{all_ended}
+use Rattle.csr_store.specs.inner.Run.{AreClosed, IsRow, ended_rows}
 use Rattle.csr_store.proofs.join.join_rows.Given as goal
 
 abbrev pub invariant-loop-piece : goal.invariant-loop-piece

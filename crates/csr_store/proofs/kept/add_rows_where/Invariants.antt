@@ -1,5 +1,5 @@
 use Rattle.std.proofs.Common.{vec_capacity}
-use Rattle.csr_store.specs.Run.{ended_rows}
+use Rattle.csr_store.specs.inner.Run.{ended_rows}
 use Rattle.csr_store.proofs.Keeping.{AreRowsKept}
 use Rattle.csr_store.proofs.kept.add_rows_where.Given as goal
 

@@ -1,6 +1,6 @@
 use Rattle.std.proofs.Common.{◌≡◌, ◌≤◌, ℕ, length}
 use Rattle.csr_store.specs.Ascending.{Ascends, at}
-use Rattle.entry_ops.specs.Heads.{head_column}
+use Rattle.entry_ops.specs.inner.Heads.{head_column}
 use Rattle.entry_ops.proofs.ahead.walk_to.Given as goal
 
 abbrev pub invariant-loop-next : goal.invariant-loop-next

@@ -1,7 +1,7 @@
 use Rattle.std.proofs.Common.{◌+◌, ◌-◌, ◌≤◌, drop, length}
 use Rattle.entry_ops.specs.declared.form.Form.TheVariants.{Union}
-use Rattle.entry_ops.specs.Placing.{Holds, standing}
-use Rattle.entry_ops.specs.Walking.{cells_along, calls_along}
+use Rattle.entry_ops.specs.inner.Placing.{Holds, standing}
+use Rattle.entry_ops.specs.inner.Walking.{cells_along, calls_along}
 use Rattle.entry_ops.proofs.Merging.{IsMerging}
 use Rattle.entry_ops.proofs.joint.fill_union.Given as goal
 

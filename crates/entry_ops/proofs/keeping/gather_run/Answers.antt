@@ -1,6 +1,6 @@
 use Rattle.std.proofs.Common.{◌+◌, ◌-◌, ◌++◌, ◌∙◌, [], refl, inl, inr, length, ap, sym, arith, length-append, append-nil}
 use Rattle.bpf_run.specs.Calls.{entries_of}
-use Rattle.entry_ops.specs.Keeping.{called_before}
+use Rattle.entry_ops.specs.inner.Keeping.{called_before}
 use Rattle.bpf_run.proofs.Ignoring.{alike_then, alike_ends, alike_same, alike_long}
 use Rattle.entry_ops.proofs.Mapped.{length_entries, parts}
 use Rattle.entry_ops.proofs.Passing.{called_start, called_more, here_of, here_is, here_first, here_beyond, inside, ended}

@@ -2,7 +2,7 @@ use Rattle.std.proofs.Common.{List, ◌≡◌, ◌≤◌, ◌<◌, ◌-◌, if�
 use Rattle.bpf_insn.specs.declared.operands.Kind.TheVariants as kinds
 use Rattle.bpf_insn.specs.declared.operands.Operands.{Operands}
 use Rattle.bpf_run.specs.Naming.{AnswersAlike}
-use Rattle.entry_ops.specs.Keeping.{row_before, called_before}
+use Rattle.entry_ops.specs.inner.Keeping.{row_before, called_before}
 use Rattle.entry_ops.proofs.keeping.gather_run.Given as goal
 
 abbrev pub invariant-loop-left : goal.invariant-loop-left

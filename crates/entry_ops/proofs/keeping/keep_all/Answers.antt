@@ -1,7 +1,7 @@
 use Rattle.std.proofs.Common.{[], ap, sym, subst, arith}
 use Rattle.bpf_run.specs.Calls.{calls_on}
 use Rattle.bpf_run.proofs.Charging.{charges-none, spends-end}
-use Rattle.entry_ops.specs.Keeping.{IsKept}
+use Rattle.entry_ops.specs.inner.Keeping.{IsKept}
 use Rattle.entry_ops.proofs.Standing.{on_err}
 use Rattle.entry_ops.proofs.Passing.{coming-none, kept-none, kept-over}
 use Rattle.entry_ops.proofs.keeping.keep_all.Goals as goal

@@ -2,7 +2,7 @@ use Rattle.std.proofs.Common.{◌≡◌, ◌+◌, ◌-◌, [], length}
 use Rattle.bpf_insn.specs.declared.operands.Kind.TheVariants as kinds
 use Rattle.bpf_run.specs.Calls.{calls_on}
 use Rattle.bpf_run.proofs.Charging.{Spends}
-use Rattle.entry_ops.specs.Keeping.{coming_at, IsKeptAt}
+use Rattle.entry_ops.specs.inner.Keeping.{coming_at, IsKeptAt}
 use Rattle.entry_ops.proofs.keeping.keep_all.Given as goal
 
 abbrev pub invariant-loop-at : goal.invariant-loop-at

@@ -5,7 +5,7 @@ use Rattle.csr_store.specs.Along.{along}
 use Rattle.csr_store.specs.Grid.{row_of}
 use Rattle.csr_store.specs.Run.{Row, Run}
 use Rattle.entry_ops.specs.declared.form.Form.TheVariants.{Select}
-use Rattle.entry_ops.specs.Keeping.{kept_of}
+use Rattle.entry_ops.specs.inner.Keeping.{kept_of}
 use Rattle.entry_ops.proofs.Bounds.{few_in_all}
 use Rattle.entry_ops.proofs.Passing.{kept-all, rows-are, whole_kept}
 use Rattle.entry_ops.proofs.keeping.keep_chunk.Goals as goal

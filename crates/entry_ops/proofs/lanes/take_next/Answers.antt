@@ -1,5 +1,5 @@
 use Rattle.std.proofs.Common.{◌≡◌, ◌+◌, ◌-◌, [], refl, subst, arith}
-use Rattle.entry_ops.specs.Folding.{in_two_columns}
+use Rattle.entry_ops.specs.inner.Folding.{in_two_columns}
 use Rattle.entry_ops.specs.declared.lanes.Lane.{Lane}
 use Rattle.entry_ops.proofs.OpenRows.{none_left}
 use Rattle.entry_ops.proofs.Giving.{IsGiving, giving-start, giving-place, giving-word, giving-result, giving-placed, giving-end}

@@ -1,4 +1,4 @@
-use Rattle.entry_ops.specs.Folding.{in_two_columns}
+use Rattle.entry_ops.specs.inner.Folding.{in_two_columns}
 use Rattle.entry_ops.proofs.Giving.{IsGiving}
 use Rattle.entry_ops.proofs.lanes.take_next.Given as goal
 

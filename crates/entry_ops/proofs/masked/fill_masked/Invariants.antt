@@ -1,7 +1,7 @@
 use Rattle.std.proofs.Common.{◌≡◌, length, Some}
-use Rattle.entry_ops.specs.Heads.{head_column}
-use Rattle.entry_ops.specs.Placing.{Holds, standing}
-use Rattle.entry_ops.specs.Walking.{row_cells, row_calls}
+use Rattle.entry_ops.specs.inner.Heads.{head_column}
+use Rattle.entry_ops.specs.inner.Placing.{Holds, standing}
+use Rattle.entry_ops.specs.inner.Walking.{row_cells, row_calls}
 use Rattle.entry_ops.proofs.Masks.{IsMasking}
 use Rattle.entry_ops.proofs.masked.fill_masked.Given as goal
 

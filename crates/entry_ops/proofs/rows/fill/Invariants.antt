@@ -1,5 +1,5 @@
 use Rattle.csr_store.specs.Mask.{mask_of}
-use Rattle.entry_ops.specs.Placing.{Holds, standing}
+use Rattle.entry_ops.specs.inner.Placing.{Holds, standing}
 use Rattle.entry_ops.proofs.Filling.{IsFilling}
 use Rattle.entry_ops.proofs.rows.fill.Given as goal
 

@@ -1,9 +1,9 @@
 use Rattle.std.proofs.Common.{◌≡◌, ◌-◌, ◌∙◌, ap, subst, arith}
 use Rattle.bpf_run.specs.Calls.{calls_on, Charges}
 use Rattle.csr_store.specs.Mask.{mask_of}
-use Rattle.entry_ops.specs.Walking.{form_all_calls}
+use Rattle.entry_ops.specs.inner.Walking.{form_all_calls}
 use Rattle.bpf_run.proofs.Charging.{charges-none}
-use Rattle.entry_ops.specs.Placing.{Emission, standing}
+use Rattle.entry_ops.specs.inner.Placing.{Emission, standing}
 use Rattle.entry_ops.proofs.Placing.{begin-final}
 use Rattle.entry_ops.proofs.Chunks.{begin-room, begin-stop, whole-costs}
 use Rattle.entry_ops.proofs.rows.fill_chunk.Goals as goal

@@ -3,8 +3,8 @@ use Rattle.bpf_insn.specs.declared.operands.Operands.{Operands}
 use Rattle.bpf_run.specs.Meaning.{value_of}
 use Rattle.bpf_run.specs.Calls.{call_of}
 use Rattle.entry_ops.specs.declared.form.Form.TheVariants.{Select}
-use Rattle.entry_ops.specs.Sifting.{standing, with_kept}
-use Rattle.entry_ops.specs.Standing.{Adds}
+use Rattle.entry_ops.specs.inner.Sifting.{standing, with_kept}
+use Rattle.entry_ops.specs.inner.Standing.{Adds}
 use Rattle.entry_ops.proofs.Filling.{row_ascends, same_cells, same_calls}
 use Rattle.entry_ops.proofs.Lines.{adds-kept}
 use Rattle.entry_ops.proofs.Nexts.{none_left}

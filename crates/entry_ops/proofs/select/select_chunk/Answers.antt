@@ -2,8 +2,8 @@ use Rattle.std.proofs.Common.{◌≡◌, ◌-◌, None, Some, ap, subst, arith}
 use Rattle.bpf_run.specs.Calls.{calls_on, Charges}
 use Rattle.bpf_run.proofs.Charging.{charges-none}
 use Rattle.entry_ops.specs.declared.form.Form.TheVariants.{Select}
-use Rattle.entry_ops.specs.Walking.{form_all_calls}
-use Rattle.entry_ops.specs.Sifting.{Sifting, final, standing}
+use Rattle.entry_ops.specs.inner.Walking.{form_all_calls}
+use Rattle.entry_ops.specs.inner.Sifting.{Sifting, final, standing}
 use Rattle.entry_ops.proofs.Chunks.{begin-room, begin-stop, whole-costs, whole-spent}
 use Rattle.entry_ops.proofs.select.select_chunk.Goals as goal
 

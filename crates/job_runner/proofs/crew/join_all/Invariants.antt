@@ -1,6 +1,6 @@
 use Rattle.std.proofs.Common.{◌≡◌, ◌≤◌, ◌+◌, vec_len, vec_capacity}
 use Rattle.std.specs.List.{AllByRecursion}
-use Rattle.job_runner.specs.Crew.{IsGathered}
+use Rattle.job_runner.specs.inner.Crew.{IsGathered}
 use Rattle.job_runner.proofs.crew.join_all.Given as goal
 
 abbrev pub invariant-loop-handle : goal.invariant-loop-handle

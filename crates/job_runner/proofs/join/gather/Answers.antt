@@ -3,7 +3,7 @@ use Rattle.std.specs.Vec.Iter.{into_iter_items}
 use Rattle.std.proofs.lemmas.List.{length-map}
 use Rattle.job_runner.specs.declared.piece.Piece.{Piece}
 use Rattle.job_runner.specs.Chunk.{run_in_job, steps_in_job}
-use Rattle.job_runner.specs.Pieces.{runs_of, steps_of_each}
+use Rattle.job_runner.specs.inner.Pieces.{runs_of, steps_of_each}
 use Rattle.job_runner.proofs.Listed.{next-listed, none-listed, listed-more, summed-step, summed-room}
 use Rattle.job_runner.proofs.join.gather.Goals as goal
 

@@ -2,7 +2,7 @@ use Rattle.std.proofs.Common.{◌≡◌, ◌+◌, ◌-◌, ◌++◌, ◌∷◌, 
 use Rattle.std.specs.Vec.Iter.{into_iter_items}
 use Rattle.csr_store.specs.Along.{along, summed}
 use Rattle.job_runner.specs.Chunk.{run_in_job, steps_in_job}
-use Rattle.job_runner.specs.Pieces.{listed, runs_of, steps_of_each}
+use Rattle.job_runner.specs.inner.Pieces.{listed, runs_of, steps_of_each}
 use Rattle.job_runner.proofs.join.gather.Given as goal
 
 -- what was gathered, and what is left

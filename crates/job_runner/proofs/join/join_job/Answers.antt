@@ -6,7 +6,7 @@ use Rattle.job_plan.specs.Meaning.{IsMatrixOf, row_count, steps_of_job}
 use Rattle.job_plan.specs.Price.{IsWithinPrice}
 use Rattle.job_plan.specs.Refusal.{IsPriced}
 use Rattle.job_runner.specs.Chunk.{chunks_in, run_in_job, steps_in_job}
-use Rattle.job_runner.specs.Pieces.{listed}
+use Rattle.job_runner.specs.inner.Pieces.{listed}
 use Rattle.job_runner.proofs.Faultless.{job_entries}
 use Rattle.job_runner.proofs.Joined.{ended_all, steps_all, steps_low, follow_all, joined_matrix}
 use Rattle.job_runner.proofs.join.join_job.Goals as goal

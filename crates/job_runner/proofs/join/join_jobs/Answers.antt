@@ -2,7 +2,7 @@ use Rattle.std.proofs.Common.{◌+◌, drop, take, map, subst, sym, ◌∙◌}
 use Rattle.job_runner.specs.Batch.{AreResultsOf, result_of}
 use Rattle.std.specs.Vec.Iter.{into_iter_items}
 use Rattle.job_runner.specs.Chunk.{chunks_in, chunk_total, run_in_job, steps_in_job, run_of, chunk_steps, none_run}
-use Rattle.job_runner.specs.Pieces.{listed, runs_of, steps_of_each}
+use Rattle.job_runner.specs.inner.Pieces.{listed, runs_of, steps_of_each}
 use Rattle.job_runner.proofs.Listed.{begins-append, drop-listed}
 use Rattle.job_runner.proofs.Joined.{front-listed, done-more}
 use Rattle.job_runner.proofs.join.join_jobs.Goals as goal

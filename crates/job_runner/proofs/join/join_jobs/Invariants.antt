@@ -2,7 +2,7 @@ use Rattle.std.proofs.Common.{◌≡◌, drop, take, map}
 use Rattle.std.specs.Vec.Iter.{into_iter_items}
 use Rattle.job_runner.specs.Batch.{AreResultsOf, result_of}
 use Rattle.job_runner.specs.Chunk.{chunk_total, run_of, chunk_steps}
-use Rattle.job_runner.specs.Pieces.{listed, runs_of, steps_of_each}
+use Rattle.job_runner.specs.inner.Pieces.{listed, runs_of, steps_of_each}
 use Rattle.job_runner.proofs.join.join_jobs.Given as goal
 
 -- the pieces of the jobs that are left, and the results of those before

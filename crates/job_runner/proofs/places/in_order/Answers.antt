@@ -4,7 +4,7 @@ use Rattle.std.specs.List.{slice_get}
 use Rattle.std.specs.Vec.Iter.{into_iter_items}
 use Rattle.std.proofs.lemmas.List.{map-append}
 use Rattle.job_runner.specs.Chunk.{run_of, chunk_steps, chunk_total}
-use Rattle.job_runner.specs.Pieces.{runs_of, steps_of_each, listed}
+use Rattle.job_runner.specs.inner.Pieces.{runs_of, steps_of_each, listed}
 use Rattle.job_runner.proofs.Listed.{listed-more}
 use Rattle.job_runner.proofs.Placing.{first_there, rest_there, start_there, none_left, full_some}
 use Rattle.job_runner.proofs.places.in_order.Goals as goal

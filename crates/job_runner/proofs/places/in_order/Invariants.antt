@@ -1,7 +1,7 @@
 use Rattle.std.proofs.Common.{◌≡◌, ◌+◌, ℕ, slice_get}
 use Rattle.std.specs.Vec.Iter.{into_iter_items}
 use Rattle.job_runner.specs.Chunk.{run_of, chunk_steps}
-use Rattle.job_runner.specs.Pieces.{listed, runs_of, steps_of_each}
+use Rattle.job_runner.specs.inner.Pieces.{listed, runs_of, steps_of_each}
 use Rattle.job_runner.proofs.places.in_order.Given as goal
 
 abbrev pub invariant-loop-next : goal.invariant-loop-next

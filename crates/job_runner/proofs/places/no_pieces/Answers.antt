@@ -1,5 +1,5 @@
 use Rattle.std.proofs.Common.{sym, subst, ◌∙◌, arith}
-use Rattle.job_runner.specs.Places.{ArePlaced}
+use Rattle.job_runner.specs.inner.Places.{ArePlaced}
 use Rattle.job_runner.proofs.Joined.{count_of_chunks}
 use Rattle.job_runner.proofs.Placing.{none_more, none_placed}
 use Rattle.job_runner.proofs.places.no_pieces.Goals as goal

@@ -3,7 +3,7 @@ use Rattle.std.specs.List.{AllByRecursion}
 use Rattle.race_board.specs.Chunks.{times_in}
 use Rattle.job_runner.specs.Chunk.{chunk_total}
 use Rattle.job_runner.specs.Worked.{recorded, IsPieceOf}
-use Rattle.job_runner.specs.Places.{ArePlaced, IsFull}
+use Rattle.job_runner.specs.inner.Places.{ArePlaced, IsFull}
 use Rattle.job_runner.proofs.places.put.Given as goal
 
 -- each piece is still in hand, or stands at its place

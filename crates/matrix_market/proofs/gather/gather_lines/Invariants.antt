@@ -1,5 +1,5 @@
 use Rattle.std.proofs.Common.{◌≤◌, ◌<◌, ◌-◌, ◌+◌, ◌^◌, length}
-use Rattle.matrix_market.specs.Gathering.{Gathered}
+use Rattle.matrix_market.specs.inner.Gathering.{Gathered}
 use Rattle.matrix_market.proofs.gather.gather_lines.Given as goal
 
 abbrev pub invariant-loop-given : goal.invariant-loop-given

@@ -1,5 +1,5 @@
 use Rattle.std.proofs.Common.{◌≤◌, ◌-◌}
-use Rattle.matrix_market.specs.Gathering.{Reached}
+use Rattle.matrix_market.specs.inner.Gathering.{Reached}
 use Rattle.matrix_market.proofs.gather.gather_run.Given as goal
 
 abbrev pub invariant-loop-given : goal.invariant-loop-given

@@ -1,6 +1,6 @@
 use Rattle.std.proofs.Common.{sym, ap, ◌∙◌, arith, refl, length}
 use Rattle.std.proofs.lemmas.Bool.{eqb-false}
-use Rattle.matrix_market.specs.Answers.{held_number}
+use Rattle.matrix_market.specs.inner.Answers.{held_number}
 use Rattle.matrix_market.proofs.Numbers.{digits_some, digit_more, digit_not, digit_end}
 use Rattle.matrix_market.proofs.kinds.digits.Goals as goal
 

@@ -1,6 +1,6 @@
 use Rattle.std.proofs.Common.{◌≡◌, ◌<◌, ◌^◌, drop}
 use Rattle.matrix_market.specs.Market.{digits_after}
-use Rattle.matrix_market.specs.Answers.{held_number}
+use Rattle.matrix_market.specs.inner.Answers.{held_number}
 use Rattle.matrix_market.proofs.kinds.digits.Given as goal
 
 abbrev pub invariant-loop-b : goal.invariant-loop-b

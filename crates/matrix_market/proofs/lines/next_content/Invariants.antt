@@ -1,6 +1,6 @@
 use Rattle.std.proofs.Common.{◌≤◌, ◌+◌, length}
 use Rattle.std.specs.Str.Lines.{lines}
-use Rattle.matrix_market.specs.Answers.{Passes}
+use Rattle.matrix_market.specs.inner.Answers.{Passes}
 use Rattle.matrix_market.proofs.lines.next_content.Given as goal
 
 abbrev pub invariant-loop-line : goal.invariant-loop-line

@@ -1,5 +1,5 @@
 use Rattle.std.proofs.Common.{◌<◌, ◌^◌, ◌+◌, length}
-use Rattle.matrix_market.specs.Filling.{Filled}
+use Rattle.matrix_market.specs.inner.Filling.{Filled}
 use Rattle.matrix_market.proofs.reader.read_by_rules.Given as goal
 
 abbrev pub invariant-loop-given : goal.invariant-loop-given

@@ -1,6 +1,6 @@
 use Rattle.std.proofs.Common.{◌≤◌, ◌-◌, ◌+◌}
 use Rattle.std.specs.List.{slice_range}
-use Rattle.matrix_market.specs.Usual.{Scanned}
+use Rattle.matrix_market.specs.inner.Usual.{Scanned}
 use Rattle.matrix_market.proofs.usual.digits.Given as goal
 
 abbrev pub invariant-loop-from : goal.invariant-loop-from

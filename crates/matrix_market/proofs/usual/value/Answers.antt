@@ -1,6 +1,6 @@
 use Rattle.std.proofs.Common.{◌≡◌, ◌<◌, ◌≤◌, ◌-◌, ◌+◌, ◌^◌, ◌%◌, ℕ, arith, subst}
 use Rattle.std.specs.List.{slice_range}
-use Rattle.matrix_market.specs.Usual.{Scanned}
+use Rattle.matrix_market.specs.inner.Usual.{Scanned}
 use Rattle.matrix_market.proofs.Fields.{plain_value, minus_value}
 use Rattle.matrix_market.proofs.usual.value.Goals.{then-negative, else-negative}
 use Rattle.matrix_market.proofs.usual.value.Goals as goal

@@ -1,5 +1,6 @@
 use Rattle.std.proofs.Common.{◌≡◌, ◌<◌, ℕ, zero, suc, List, [], ◌∷◌, length, get_or, arith, sym, ◌∙◌, false, true}
-use Rattle.matrix_market.specs.Market.{is_blank, IsAtWord}
+use Rattle.matrix_market.specs.Market.{is_blank}
+use Rattle.matrix_market.specs.inner.Market.{IsAtWord}
 use Rattle.matrix_market.proofs.WordCuts.{first_of_words, ends_at, ends_all}
 use Rattle.matrix_market.proofs.words.word_length.Goals as goal
 

@@ -1,7 +1,7 @@
 use Rattle.std.proofs.Common.{rules, arith, ◌≡◌, ap, ◌∙◌, sym, subst, List, [], length}
 use Rattle.race_board.specs.Race.{Worker, SeatState, fresh_worker}
 use Rattle.race_board.specs.Naming.{name_of, first_worker}
-use Rattle.race_board.specs.Rule.{rest_of, first_of}
+use Rattle.race_board.specs.inner.Rule.{rest_of, first_of}
 use Rattle.race_board.proofs.Steps.{splits}
 use Rattle.race_board.proofs.Seats.{AreDealt, fresh_rest, fresh_first, fresh_last, dealt_snoc}
 use Rattle.race_board.proofs.board.deal.Goals as goal

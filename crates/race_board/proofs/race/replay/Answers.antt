@@ -1,5 +1,5 @@
 use Rattle.std.proofs.Common.{arith, take, sym, subst}
-use Rattle.race_board.specs.Balance.{IsRun}
+use Rattle.race_board.specs.inner.Balance.{IsRun}
 use Rattle.race_board.proofs.Sums.{prices_sum}
 use Rattle.race_board.proofs.Events.{replayed_runs}
 use Rattle.race_board.proofs.Lawful.{run_is_lawful, run_in_place}

@@ -1,6 +1,6 @@
 use Rattle.std.proofs.Common.{◌≡◌, ◌+◌, ◌*◌, length, get_or, vec_capacity, subst, sym, ◌∙◌, arith}
-use Rattle.row_product.specs.Sums.{sums_of}
-use Rattle.row_product.specs.Terms.{met}
+use Rattle.row_product.specs.inner.Sums.{sums_of}
+use Rattle.row_product.specs.inner.Terms.{met}
 use Rattle.row_product.proofs.Meeting.{Meeting, meeting_next, meeting_touch, meeting_end, below_up}
 use Rattle.row_product.proofs.Tagging.{slot_sums}
 use Rattle.row_product.proofs.additions.meet.Goals as goal

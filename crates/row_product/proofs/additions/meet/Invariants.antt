@@ -1,6 +1,6 @@
 use Rattle.std.proofs.Common.{◌≡◌, ◌≤◌, ◌+◌, ◌*◌, length, vec_capacity}
-use Rattle.row_product.specs.Sums.{sums_of}
-use Rattle.row_product.specs.Terms.{met}
+use Rattle.row_product.specs.inner.Sums.{sums_of}
+use Rattle.row_product.specs.inner.Terms.{met}
 use Rattle.row_product.proofs.Meeting.{Meeting}
 use Rattle.row_product.proofs.additions.meet.Given as goal
 

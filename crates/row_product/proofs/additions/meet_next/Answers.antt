@@ -1,6 +1,6 @@
 use Rattle.std.proofs.Common.{rules, ℕ, Option, None, Some, refl, sym, ap, ◌∙◌}
 use Rattle.std.proofs.lemmas.Option.{none-some}
-use Rattle.row_product.specs.Terms.{met}
+use Rattle.row_product.specs.inner.Terms.{met}
 use Rattle.row_product.proofs.Meeting.{met_more}
 use Rattle.row_product.proofs.Tagging.{slot_sums}
 use Rattle.row_product.proofs.Waiting.{one_waiting}

@@ -1,7 +1,7 @@
 use Rattle.std.proofs.Common.{◌≡◌, ◌+◌, ◌*◌, drop, get_or, set, sym, ap, ◌∙◌, arith}
 use Rattle.row_product.specs.declared.tagged.Sum.TheVariants.{At}
-use Rattle.row_product.specs.Sums.{sums_of}
-use Rattle.row_product.specs.Terms.{written}
+use Rattle.row_product.specs.inner.Sums.{sums_of}
+use Rattle.row_product.specs.inner.Terms.{written}
 use Rattle.row_product.proofs.Waiting.{written_at}
 use Rattle.row_product.proofs.additions.write.Goals as goal
 

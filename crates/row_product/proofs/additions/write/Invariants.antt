@@ -1,6 +1,6 @@
 use Rattle.std.proofs.Common.{◌≡◌, ◌+◌, ◌*◌, drop}
-use Rattle.row_product.specs.Sums.{sums_of}
-use Rattle.row_product.specs.Terms.{written}
+use Rattle.row_product.specs.inner.Sums.{sums_of}
+use Rattle.row_product.specs.inner.Terms.{written}
 use Rattle.row_product.proofs.additions.write.Given as goal
 
 abbrev pub invariant-loop-block : goal.invariant-loop-block

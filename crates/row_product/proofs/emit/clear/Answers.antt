@@ -3,7 +3,7 @@ use Rattle.std.proofs.lemmas.List.{drop_more, drop_all}
 use Rattle.std.proofs.lemmas.List.Elements.{All-get_or}
 use Rattle.std.specs.List.{Contains}
 use Rattle.row_product.specs.declared.tagged.Sum.TheVariants.{Nothing}
-use Rattle.row_product.specs.Sums.{slot, sums_of}
+use Rattle.row_product.specs.inner.Sums.{slot, sums_of}
 use Rattle.row_product.proofs.Emitting.{clearing_step, all_gone}
 use Rattle.row_product.proofs.Tagging.{length_sums, sums_set}
 use Rattle.row_product.proofs.emit.clear.Goals as goal

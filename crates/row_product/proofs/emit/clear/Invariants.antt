@@ -1,6 +1,6 @@
 use Rattle.std.proofs.Common.{◌≡◌, ℕ, Some, drop}
 use Rattle.std.specs.List.{Contains}
-use Rattle.row_product.specs.Sums.{slot, sums_of}
+use Rattle.row_product.specs.inner.Sums.{slot, sums_of}
 use Rattle.row_product.proofs.emit.clear.Given as goal
 
 abbrev pub invariant-loop-column : goal.invariant-loop-column

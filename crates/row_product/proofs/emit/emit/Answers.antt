@@ -1,7 +1,7 @@
 use Rattle.std.proofs.Common.{◌+◌, ◌≤◌, drop, get_or, length, subst, arith, Some, None, ap, sym, ◌∙◌, append-nil}
 use Rattle.std.proofs.lemmas.List.{drop_more, drop_all}
 use Rattle.row_product.specs.declared.tagged.Sum.TheVariants.{Nothing}
-use Rattle.row_product.specs.Sums.{slot, sums_of}
+use Rattle.row_product.specs.inner.Sums.{slot, sums_of}
 use Rattle.row_product.proofs.Tagging.{length_sums, slot_sums, sums_set}
 use Rattle.row_product.proofs.Emitting.{Emitting, emitting_start, emitting_above, emitting_column, still_there, emitting_step, emitting_end, all_gone}
 use Rattle.row_product.proofs.emit.emit.Goals as goal

@@ -1,5 +1,5 @@
 use Rattle.std.proofs.Common.{drop}
-use Rattle.row_product.specs.Sums.{sums_of}
+use Rattle.row_product.specs.inner.Sums.{sums_of}
 use Rattle.row_product.proofs.Emitting.{Emitting}
 use Rattle.row_product.proofs.emit.emit.Given as goal
 

@@ -4,8 +4,8 @@ use Rattle.std.proofs.lemmas.Result.{on_ok_weaker}
 use Rattle.csr_store.specs.Along.{row_by}
 use Rattle.csr_store.specs.Grid.{Cell}
 use Rattle.csr_store.specs.Run.{Run}
-use Rattle.row_product.specs.Sums.{slot, sums_of}
-use Rattle.row_product.specs.Emitted.{IsEmitted}
+use Rattle.row_product.specs.inner.Sums.{slot, sums_of}
+use Rattle.row_product.specs.inner.Emitted.{IsEmitted}
 use Rattle.row_product.proofs.EmittingAll.{emitting_all_end, emitting_all_gone}
 use Rattle.row_product.proofs.emit.emit_all.Goals as goal
 

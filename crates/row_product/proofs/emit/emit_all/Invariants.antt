@@ -1,6 +1,6 @@
 use Rattle.std.proofs.Common.{◌*◌}
-use Rattle.row_product.specs.Sums.{sums_of}
-use Rattle.row_product.specs.Emitted.{IsEmitted}
+use Rattle.row_product.specs.inner.Sums.{sums_of}
+use Rattle.row_product.specs.inner.Emitted.{IsEmitted}
 use Rattle.row_product.proofs.emit.emit_all.Given as goal
 
 abbrev pub invariant-loop-k : goal.invariant-loop-k

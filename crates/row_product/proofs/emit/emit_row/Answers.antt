@@ -1,6 +1,6 @@
 use Rattle.std.proofs.Common.{subst, sym}
 use Rattle.csr_store.specs.Run.{Run}
-use Rattle.row_product.specs.Sums.{sums_of, AreTouched}
+use Rattle.row_product.specs.inner.Sums.{sums_of, AreTouched}
 use Rattle.row_product.proofs.emit.emit_row.Goals as goal
 
 pub emit-requires-clause-touched : goal.emit-requires-clause-touched

@@ -2,7 +2,7 @@ use Rattle.std.proofs.Common.{◌≡◌, ◌++◌, Some, subst, sym, ap, ◌∙�
 use Rattle.std.specs.declared.alloc.AllocError.{AllocError}
 use Rattle.std.specs.Result.{OnOk, OnErr}
 use Rattle.csr_store.specs.Along.{along, cell_at}
-use Rattle.row_product.specs.Sums.{slot, sums_of}
+use Rattle.row_product.specs.inner.Sums.{slot, sums_of}
 use Rattle.row_product.proofs.Tagging.{sums_map}
 use Rattle.row_product.proofs.EmittingAll.{emitting_all_more, left_was}
 use Rattle.row_product.proofs.emit.emit_stretch.Goals as goal

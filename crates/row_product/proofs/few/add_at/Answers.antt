@@ -1,8 +1,8 @@
 use Rattle.std.proofs.Common.{◌≡◌, ◌∙◌, ap, sym, Some, set, get_or, Equal}
 use Rattle.std.proofs.lemmas.Cmp.{ranked}
 use Rattle.bpf_run.specs.Calls.{steps_of}
-use Rattle.row_product.specs.Sums.{slot, after, extra}
-use Rattle.row_product.specs.Few.{spread}
+use Rattle.row_product.specs.inner.Sums.{slot, after, extra}
+use Rattle.row_product.specs.inner.Few.{spread}
 use Rattle.row_product.proofs.Spreading.{spread_at, spread_set}
 use Rattle.row_product.proofs.few.add_at.Goals as goal
 

@@ -1,6 +1,6 @@
 use Rattle.std.proofs.Common.{◌≤◌, ◌*◌, drop}
 use Rattle.csr_store.specs.Mask.{mask_of, passes}
-use Rattle.row_product.specs.Few.{spread}
+use Rattle.row_product.specs.inner.Few.{spread}
 use Rattle.row_product.proofs.Adding.{Adding}
 use Rattle.row_product.proofs.few.add_cells.Given as goal
 

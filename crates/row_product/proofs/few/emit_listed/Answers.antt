@@ -1,8 +1,8 @@
 use Rattle.std.proofs.Common.{◌+◌, ◌∷◌, Some, None, drop, get_or, sym, ap, ◌∙◌, append-nil, arith}
 use Rattle.std.proofs.lemmas.List.{drop_more, drop_all}
 use Rattle.csr_store.specs.Along.{row_by}
-use Rattle.row_product.specs.Sums.{slot}
-use Rattle.row_product.specs.Few.{spread}
+use Rattle.row_product.specs.inner.Sums.{slot}
+use Rattle.row_product.specs.inner.Few.{spread}
 use Rattle.row_product.proofs.Spreading.{listing_start, listing_column, listing_step, listing_end}
 use Rattle.row_product.proofs.few.emit_listed.Goals as goal
 use Rattle.row_product.proofs.few.emit_listed.Goals.{in-Some+in_ok-push-in-Some, in-None}

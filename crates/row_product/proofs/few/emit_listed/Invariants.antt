@@ -1,7 +1,7 @@
 use Rattle.std.proofs.Common.{drop}
 use Rattle.csr_store.specs.Along.{row_by}
-use Rattle.row_product.specs.Sums.{slot}
-use Rattle.row_product.specs.Few.{spread}
+use Rattle.row_product.specs.inner.Sums.{slot}
+use Rattle.row_product.specs.inner.Few.{spread}
 use Rattle.row_product.proofs.Spreading.{Listing}
 use Rattle.row_product.proofs.few.emit_listed.Given as goal
 

@@ -1,7 +1,7 @@
 use Rattle.std.proofs.Common.{◌≤◌, ◌*◌, drop}
 use Rattle.csr_store.specs.Grid.{limit}
 use Rattle.csr_store.specs.Mask.{mask_of, passes}
-use Rattle.row_product.specs.Few.{spread}
+use Rattle.row_product.specs.inner.Few.{spread}
 use Rattle.row_product.proofs.Gathering.{Gathering}
 use Rattle.row_product.proofs.few.sum_listed.Given as goal
 

@@ -1,4 +1,4 @@
-use Rattle.row_product.specs.Sums.{sums_of}
+use Rattle.row_product.specs.inner.Sums.{sums_of}
 use Rattle.row_product.proofs.Filling.{none_touched}
 use Rattle.row_product.proofs.row.sum_under.Goals as goal
 

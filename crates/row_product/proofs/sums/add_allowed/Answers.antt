@@ -4,8 +4,8 @@ use Rattle.bpf_verify.specs.Accepted.{IsAccepted}
 use Rattle.bpf_run.specs.Calls.{steps_of}
 use Rattle.csr_store.specs.Grid.{Cell}
 use Rattle.csr_store.proofs.Along.{Ascends, row_of-ascends}
-use Rattle.row_product.specs.Sums.{slot, flag, AreTouched, HasRoom}
-use Rattle.row_product.specs.Terms.{sums_then, calls_then, touched_then, AreWithin}
+use Rattle.row_product.specs.inner.Sums.{slot, flag, AreTouched, HasRoom}
+use Rattle.row_product.specs.inner.Terms.{sums_then, calls_then, touched_then, AreWithin}
 use Rattle.row_product.proofs.Adding.{
   AddingThen,
   adding_then_start,

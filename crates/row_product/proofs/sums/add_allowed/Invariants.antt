@@ -1,7 +1,7 @@
 use Rattle.std.proofs.Common.{◌≤◌, drop, length, vec_capacity}
 use Rattle.bpf_run.specs.Calls.{steps_of}
-use Rattle.row_product.specs.Sums.{flag}
-use Rattle.row_product.specs.Terms.{sums_then, calls_then, touched_then, AreWithin}
+use Rattle.row_product.specs.inner.Sums.{flag}
+use Rattle.row_product.specs.inner.Terms.{sums_then, calls_then, touched_then, AreWithin}
 use Rattle.row_product.proofs.Adding.{AddingThen, Touching}
 use Rattle.row_product.proofs.sums.add_allowed.Given as goal
 

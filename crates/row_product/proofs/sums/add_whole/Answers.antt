@@ -4,7 +4,7 @@ use Rattle.bpf_verify.specs.Accepted.{IsAccepted}
 use Rattle.bpf_run.specs.Calls.{steps_of}
 use Rattle.csr_store.specs.Grid.{row_of}
 use Rattle.csr_store.proofs.Along.{Ascends}
-use Rattle.row_product.specs.Terms.{sums_then, calls_then, touched_then, AreWithin}
+use Rattle.row_product.specs.inner.Terms.{sums_then, calls_then, touched_then, AreWithin}
 use Rattle.row_product.proofs.Adding.{adding_end, touched_fit}
 use Rattle.row_product.proofs.Several.{
   are_added,

@@ -1,6 +1,6 @@
 use Rattle.std.proofs.Common.{◌≤◌, length, vec_capacity}
 use Rattle.bpf_run.specs.Calls.{steps_of}
-use Rattle.row_product.specs.Terms.{sums_then, calls_then, touched_then, AreWithin}
+use Rattle.row_product.specs.inner.Terms.{sums_then, calls_then, touched_then, AreWithin}
 use Rattle.row_product.proofs.Several.{AddingWhole}
 use Rattle.row_product.proofs.sums.add_whole.Given as goal
 

@@ -4,8 +4,8 @@ use Rattle.bpf_run.specs.Calls.{steps_of}
 use Rattle.csr_store.specs.Grid.{Cell, limit, row_of}
 use Rattle.csr_store.proofs.ByRow.{cell_inside}
 use Rattle.row_product.specs.Product.{mults_of}
-use Rattle.row_product.specs.Sums.{slot, sums_of, takes, AreTouched, HasRoom}
-use Rattle.row_product.specs.Terms.{sums_then, calls_then, touched_then, AreWithin}
+use Rattle.row_product.specs.inner.Sums.{slot, sums_of, takes, AreTouched, HasRoom}
+use Rattle.row_product.specs.inner.Terms.{sums_then, calls_then, touched_then, AreWithin}
 use Rattle.row_product.proofs.Adding.{touched_fit}
 use Rattle.row_product.proofs.Gathering.{Gathering, gathering_start, gathering_step, gathering_end, room_first, room_rest}
 use Rattle.row_product.proofs.Tagging.{length_sums}

@@ -2,8 +2,8 @@ use Rattle.std.proofs.Common.{◌≤◌, ◌+◌, ◌*◌, drop, length, vec_cap
 use Rattle.bpf_run.specs.Calls.{steps_of}
 use Rattle.csr_store.specs.Grid.{limit}
 use Rattle.row_product.specs.Product.{mults_of}
-use Rattle.row_product.specs.Sums.{takes, sums_of, AreTouched, HasRoom}
-use Rattle.row_product.specs.Terms.{sums_then, calls_then, touched_then, AreWithin}
+use Rattle.row_product.specs.inner.Sums.{takes, sums_of, AreTouched, HasRoom}
+use Rattle.row_product.specs.inner.Terms.{sums_then, calls_then, touched_then, AreWithin}
 use Rattle.row_product.proofs.Gathering.{Gathering}
 use Rattle.row_product.proofs.sums.sum_row.Given as goal
 

@@ -1,6 +1,6 @@
 use Rattle.std.proofs.Common.{◌++◌, ◌+◌, length, take, drop, get_or, refl, arith}
 use Rattle.std.proofs.lemmas.List.{drop_more, drop_all}
-use Rattle.row_product.specs.Terms.{columns_of}
+use Rattle.row_product.specs.inner.Terms.{columns_of}
 use Rattle.row_product.proofs.Several.{entering_step, entering_end}
 use Rattle.row_product.proofs.terms.enter_columns.Goals as goal
 

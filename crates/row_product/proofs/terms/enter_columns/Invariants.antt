@@ -1,5 +1,5 @@
 use Rattle.std.proofs.Common.{◌+◌, ◌++◌, length, take, drop}
-use Rattle.row_product.specs.Terms.{columns_of}
+use Rattle.row_product.specs.inner.Terms.{columns_of}
 use Rattle.row_product.proofs.Several.{Entering}
 use Rattle.row_product.proofs.terms.enter_columns.Given as goal
 

@@ -1,6 +1,6 @@
 use Rattle.std.proofs.Common.{length, arith, vec_capacity}
 use Rattle.bpf_run.specs.Calls.{steps_of, calls_on}
-use Rattle.row_product.specs.Terms.{cells_of, settled}
+use Rattle.row_product.specs.inner.Terms.{cells_of, settled}
 use Rattle.row_product.proofs.Waiting.{
   below_at,
   cells_rest,

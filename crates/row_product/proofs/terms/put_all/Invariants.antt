@@ -1,6 +1,6 @@
 use Rattle.std.proofs.Common.{◌≤◌, drop, vec_capacity}
 use Rattle.bpf_run.specs.Calls.{steps_of, calls_on}
-use Rattle.row_product.specs.Terms.{cells_of, settled, Waits}
+use Rattle.row_product.specs.inner.Terms.{cells_of, settled, Waits}
 use Rattle.row_product.proofs.Waiting.{Putting}
 use Rattle.row_product.proofs.terms.put_all.Given as goal
 

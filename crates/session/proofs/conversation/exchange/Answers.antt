@@ -3,7 +3,8 @@ use Rattle.wire.specs.Fetching.{Fetched, IsLined}
 use Rattle.command_text.specs.declared.rules.FatalRule.TheVariants.{LineTooLong}
 use Rattle.workspace.specs.Workspace.{state_of}
 use Rattle.session.specs.Next.{next}
-use Rattle.session.specs.Exchange.{Tells, Touched}
+use Rattle.session.specs.Exchange.{Touched}
+use Rattle.session.specs.inner.Exchange.{Tells}
 use Rattle.session.specs.declared.hearing.Heard.TheVariants as h
 use Rattle.session.proofs.Exchanging.{exchanged_then, exchanged_told, exchanged_cut, exchanged_unlined, exchanged_end, told_stopped, heard_over, heard_end}
 use Rattle.session.proofs.conversation.exchange.Goals as goal

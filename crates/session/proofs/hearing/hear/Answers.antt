@@ -4,7 +4,7 @@ use Rattle.wire.proofs.Fetching.{fetched_here, fetched_map}
 use Rattle.command_text.specs.Requests.{with_body}
 use Rattle.command_text.specs.Readings.{request_of, header_of}
 use Rattle.session.specs.Next.{next_request, Goes}
-use Rattle.session.specs.Exchange.{IsHeard}
+use Rattle.session.specs.inner.Exchange.{IsHeard}
 use Rattle.session.specs.declared.hearing.Heard.TheVariants as h
 use Rattle.session.proofs.Bodies.{body_there}
 use Rattle.session.proofs.hearing.hear.Goals as goal

@@ -2,7 +2,8 @@ use Rattle.std.proofs.Common.{rules, sym, subst, ℕ, ◌≤◌, ◌^◌, []}
 use Rattle.crossbeam_utils.specs.Register.{Forks}
 use Rattle.step_purse.specs.declared.views.View.{View}
 use Rattle.step_purse.specs.Shares.{whole}
-use Rattle.step_purse.specs.Rule.{Kept, idle, spent}
+use Rattle.step_purse.specs.Rule.{idle}
+use Rattle.step_purse.specs.inner.Rule.{Kept, spent}
 use Rattle.step_purse.proofs.Opening.{opens}
 use Rattle.step_purse.proofs.account.begin.Goals as goal
 

@@ -1,7 +1,7 @@
 use Rattle.std.proofs.Common.{◌≡◌, ◌<◌, ◌+◌, List, ℕ, ◌++◌, take, drop, length, take_all, Ok, Err, refl, sym, ap, ◌∙◌, arith}
 use Rattle.std.proofs.lemmas.List.{take_at}
 use Rattle.wire.specs.Fetching.{IsFilled, failed_reads}
-use Rattle.wire.specs.Keeping.{IsKept}
+use Rattle.wire.specs.inner.Keeping.{IsKept}
 use Rattle.wire.specs.declared.fault.ReadFault.{ReadFault}
 use Rattle.wire.specs.declared.fault.ReadFault.TheVariants.{Failed, OutOfReads}
 use Rattle.wire.specs.declared.fetch.Kept.{Kept}

@@ -3,7 +3,7 @@ use Rattle.std.proofs.lemmas.List.{take-append-drop, length-take-le}
 use Rattle.wire.specs.Devices.{SourceState}
 use Rattle.wire.specs.Held.{Held, Stream}
 use Rattle.wire.specs.Fetching.{Fetched, IsBody}
-use Rattle.wire.specs.Keeping.{IsSkipped}
+use Rattle.wire.specs.inner.Keeping.{IsSkipped}
 use Rattle.wire.specs.declared.fault.ReadFault.{ReadFault}
 use Rattle.wire.specs.declared.fetch.Body.{Body}
 use Rattle.wire.proofs.Fetching.{fetched_here, fetched_on}

@@ -1,7 +1,7 @@
 use Rattle.std.proofs.Common.{◌-◌, List, ℕ, ◌++◌, Result, Ok, refl, ap, ◌∙◌, subst, append_assoc, arith}
 use Rattle.wire.specs.Held.{Held}
 use Rattle.wire.specs.Fetching.{IsBody}
-use Rattle.wire.specs.Keeping.{IsKept, IsSkipped}
+use Rattle.wire.specs.inner.Keeping.{IsKept, IsSkipped}
 use Rattle.wire.specs.declared.fault.ReadFault.{ReadFault}
 use Rattle.wire.specs.declared.fetch.Body.{Body}
 use Rattle.wire.specs.declared.fetch.Kept.TheVariants.{Full}

@@ -2,7 +2,7 @@ use Rattle.std.proofs.Common.{◌≡◌, ◌≤◌, ◌-◌, ℕ, List, Ok, leng
 use Rattle.wire.specs.Devices.{SourceState}
 use Rattle.wire.specs.Held.{Held, Stream}
 use Rattle.wire.specs.Fetching.{Fetched}
-use Rattle.wire.specs.Keeping.{IsSkipped}
+use Rattle.wire.specs.inner.Keeping.{IsSkipped}
 use Rattle.wire.specs.declared.fetch.Body.TheVariants as bodies
 use Rattle.wire.proofs.Fetching.{fetched_on, fetched_map, fetched_left}
 use Rattle.wire.proofs.Gathering.{IsPart, part_gathered, part_read}

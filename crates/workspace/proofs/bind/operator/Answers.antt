@@ -1,7 +1,7 @@
 use Rattle.std.proofs.Common.{subst}
 use Rattle.command_text.specs.ReplyText.{whole}
 use Rattle.workspace.specs.Workspace.{state_of}
-use Rattle.workspace.specs.Binds.{BindsCode}
+use Rattle.workspace.specs.inner.Binds.{BindsCode}
 use Rattle.workspace.proofs.Turning.{operator_taken}
 use Rattle.workspace.proofs.bind.operator.Goals as goal
 

@@ -3,8 +3,8 @@ use Rattle.std.specs.Iterator.Adapters.{zip_first, zip_second}
 use Rattle.std.specs.Slice.Iter.{iter_rest}
 use Rattle.std.specs.Vec.Iter.{into_iter_items, into_iter_len}
 use Rattle.job_runner.specs.Batch.{result_of}
-use Rattle.workspace.specs.Names.{is_declared}
-use Rattle.workspace.specs.Outputs.{AreDeclared, grid_at}
+use Rattle.workspace.specs.inner.Names.{is_declared}
+use Rattle.workspace.specs.inner.Outputs.{AreDeclared, grid_at}
 use Rattle.job_plan.specs.Job.{Job}
 use Rattle.workspace.specs.Turn.{all_bound}
 use Rattle.workspace.proofs.Running.{declared_first, declared_behind, next_bound, none_bound, zip_next, zip_done}

@@ -2,7 +2,7 @@ use Rattle.std.proofs.Common.{◌≡◌, map, length}
 use Rattle.std.specs.Iterator.Adapters.{zip_first, zip_second}
 use Rattle.std.specs.Slice.Iter.{iter_rest}
 use Rattle.std.specs.Vec.Iter.{into_iter_items, into_iter_len}
-use Rattle.workspace.specs.Outputs.{AreDeclared, grid_at}
+use Rattle.workspace.specs.inner.Outputs.{AreDeclared, grid_at}
 use Rattle.job_runner.specs.Batch.{result_of}
 use Rattle.workspace.specs.Turn.{all_bound}
 use Rattle.workspace.proofs.run.bind_all.Given as goal

@@ -1,6 +1,6 @@
 use Rattle.std.proofs.Common.{IsTrue, get_or, ◌∙◌, rules, arith}
 use Rattle.std.specs.String.{string_bytes}
-use Rattle.workspace.specs.Names.{is_declared}
+use Rattle.workspace.specs.inner.Names.{is_declared}
 use Rattle.job_plan.specs.Job.{Job}
 use Rattle.workspace.proofs.Running.{each_more}
 use Rattle.workspace.proofs.run.declare_outputs.Goals as goal

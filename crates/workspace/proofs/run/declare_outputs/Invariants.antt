@@ -1,6 +1,7 @@
 use Rattle.std.proofs.Common.{◌≡◌, ◌<◌, ℕ, List, IsTrue, get_or}
 use Rattle.std.specs.String.{string_bytes}
-use Rattle.workspace.specs.Names.{is_declared, value_at}
+use Rattle.workspace.specs.Names.{value_at}
+use Rattle.workspace.specs.inner.Names.{is_declared}
 use Rattle.job_plan.specs.Job.{Job}
 use Rattle.workspace.proofs.run.declare_outputs.Given as goal
 

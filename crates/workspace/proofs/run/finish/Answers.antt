@@ -2,8 +2,8 @@ use Rattle.std.proofs.Common.{map, length, refl, sym, ap, ◌∙◌, arith}
 use Rattle.std.proofs.Math.Path.{fun_ext}
 use Rattle.command_text.specs.Replies.{run_text}
 use Rattle.job_runner.specs.Batch.{result_of, total_steps}
-use Rattle.workspace.specs.Outputs.{grid_at}
-use Rattle.workspace.specs.Queued.{steps_sum}
+use Rattle.workspace.specs.inner.Outputs.{grid_at}
+use Rattle.workspace.specs.inner.Queued.{steps_sum}
 use Rattle.workspace.specs.Turn.{all_bound, job_lines}
 use Rattle.workspace.specs.Workspace.{state_of}
 use Rattle.workspace.proofs.Running.{as_many, same_state, within_prices, cheap_results, total_is}

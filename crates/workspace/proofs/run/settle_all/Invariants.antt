@@ -2,7 +2,7 @@ use Rattle.std.proofs.Common.{◌≡◌, ◌+◌, map, length}
 use Rattle.std.specs.Iterator.Adapters.{zip_first, zip_second}
 use Rattle.std.specs.Slice.Iter.{iter_rest}
 use Rattle.job_runner.specs.Batch.{result_of}
-use Rattle.workspace.specs.Queued.{AreWithin}
+use Rattle.workspace.specs.inner.Queued.{AreWithin}
 use Rattle.step_budget.specs.Budget.{Deals}
 use Rattle.job_plan.specs.Price.{total_price}
 use Rattle.workspace.specs.Turn.{settled}

@@ -2,7 +2,8 @@ use Rattle.std.proofs.Common.{arith, ap, ◌∙◌, ◌≡◌, ◌≢◌, [], su
 use Rattle.std.specs.List.{AllByRecursion}
 use Rattle.bpf_insn.specs.declared.insn.Insn.{Insn}
 use Rattle.bpf_insn.specs.Spelling.{Fits}
-use Rattle.bpf_insn.specs.Program.{layout, insns_of, slot_count, IsProgram}
+use Rattle.bpf_insn.specs.Program.{insns_of, slot_count, IsProgram}
+use Rattle.bpf_insn.specs.inner.Program.{layout}
 use Rattle.bpf_insn.proofs.Laying.{some_slots, layout-laid}
 use Rattle.bpf_insn.proofs.Layouts.{insns_of-layout}
 use Rattle.bpf_insn.proofs.program.Program.from_insns.Goals as goal

@@ -1,5 +1,5 @@
 use Rattle.std.proofs.Common.{◌≡◌, ◌∙◌, ap, take, drop}
-use Rattle.bpf_text.specs.Tables.{form_of_parts, count_of_letters}
+use Rattle.bpf_text.specs.inner.Tables.{form_of_parts, count_of_letters}
 use Rattle.bpf_text.proofs.Mnemonics.{parsed}
 use Rattle.bpf_text.proofs.form.Form.parse.Goals as goal
 

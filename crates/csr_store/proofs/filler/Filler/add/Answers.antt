@@ -1,7 +1,7 @@
 use Rattle.std.proofs.Common.{◌++◌, ◌∷◌, [], ◌<◌, ◌^◌, ℕ, List, length, ap, refl, ◌∙◌, subst, arith}
 use Rattle.std.specs.FinMap.{entries, insert, len}
 use Rattle.csr_store.specs.Grid.{Grid, Cell, limit}
-use Rattle.csr_store.specs.ByRows.{Closes}
+use Rattle.csr_store.specs.inner.ByRows.{Closes}
 use Rattle.csr_store.proofs.Filling.{filling_entries, on_err}
 use Rattle.csr_store.proofs.Adding.{Joined, grid_of, joined_closed, joined_filling, joined_added, joined_behind, closed_filling, closed_same}
 use Rattle.csr_store.proofs.filler.Filler.add.Goals as goal

@@ -1,5 +1,5 @@
 use Rattle.std.proofs.Common.{◌∙◌, subst, ℕ}
-use Rattle.csr_store.specs.ByRows.{Closes}
+use Rattle.csr_store.specs.inner.ByRows.{Closes}
 use Rattle.csr_store.proofs.Filling.{filling_there, same_grid}
 use Rattle.csr_store.proofs.Adding.{started_same, started_grid, started_starts}
 use Rattle.csr_store.proofs.filler.Filler.finish.Goals as goal

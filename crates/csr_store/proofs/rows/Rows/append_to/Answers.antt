@@ -1,6 +1,7 @@
 use Rattle.std.proofs.Common.{◌≡◌, ◌+◌, ◌++◌, ℕ, List, length, map, ap, ◌∙◌, arith}
 use Rattle.csr_store.specs.ByRows.{ends_of}
-use Rattle.csr_store.specs.Run.{Run, Row, ended_rows}
+use Rattle.csr_store.specs.Run.{Run, Row}
+use Rattle.csr_store.specs.inner.Run.{ended_rows}
 use Rattle.csr_store.proofs.Joining.{ends_fit, joined_rows, joined_closed_rows}
 use Rattle.csr_store.proofs.rows.Rows.append_to.Goals as goal
 

@@ -1,6 +1,7 @@
 use Rattle.std.proofs.Common.{arith, ap, sym, subst}
 use Rattle.csr_store.specs.Grid.{Cell}
-use Rattle.csr_store.specs.Run.{Row, AreRows}
+use Rattle.csr_store.specs.Run.{Row}
+use Rattle.csr_store.specs.inner.Run.{AreRows}
 use Rattle.csr_store.proofs.Valuing.{entry_inside, rows_with_value, run_with_value, set_is_valued}
 use Rattle.csr_store.proofs.rows.Rows.set_value.Goals as goal
 

@@ -1,6 +1,7 @@
 use Rattle.std.proofs.Common.{◌≡◌, ap, sym, subst, ◌∙◌, length, arith}
 use Rattle.std.proofs.lemmas.List.{with_items_is}
-use Rattle.csr_store.specs.Run.{Row, AreRows}
+use Rattle.csr_store.specs.Run.{Row}
+use Rattle.csr_store.specs.inner.Run.{AreRows}
 use Rattle.csr_store.specs.Valued.{entries_of, valued_from, all_cells, AreAlike}
 use Rattle.csr_store.proofs.Runs.{run}
 use Rattle.csr_store.proofs.Valuing.{entries_in_run, cells_in_run, length-valued_from, words_fit, rows_with_values, run_with_values}

@@ -1,6 +1,6 @@
 use Rattle.std.proofs.Common.{◌++◌, ◌∷◌, [], Some, if◌then◌else◌, refl, ap, sym, ◌∙◌}
 use Rattle.std.specs.Result.{is_ok}
-use Rattle.entry_ops.specs.Folding.{Open, open_of, words}
+use Rattle.entry_ops.specs.inner.Folding.{Open, open_of, words}
 use Rattle.entry_ops.proofs.OpenRows.{begins_open}
 use Rattle.entry_ops.proofs.folds.Folds.begin_row.Goals as goal
 

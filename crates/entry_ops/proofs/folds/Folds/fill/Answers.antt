@@ -1,7 +1,7 @@
 use Rattle.std.proofs.Common.{◌≡◌, ◌<◌, ◌+◌, List, length, ap, ◌∙◌, subst, arith}
 use Rattle.csr_store.specs.Grid.{Cell}
 use Rattle.csr_store.specs.Mask.{mask_of}
-use Rattle.entry_ops.specs.Folding.{Folding, Begins}
+use Rattle.entry_ops.specs.inner.Folding.{Folding, Begins}
 use Rattle.entry_ops.proofs.Folding.{folding-begin, cells_shown}
 use Rattle.entry_ops.proofs.folds.Folds.fill.Goals as goal
 

@@ -1,7 +1,7 @@
 use Rattle.std.proofs.Common.{◌≡◌, ◌≤◌, ◌-◌, ℕ, length}
 use Rattle.bpf_verify.specs.Accepted.{Accepted}
 use Rattle.csr_store.specs.Mask.{mask_of}
-use Rattle.entry_ops.specs.Folding.{IsFolding}
+use Rattle.entry_ops.specs.inner.Folding.{IsFolding}
 use Rattle.entry_ops.proofs.folds.Folds.fill.Given as goal
 
 abbrev pub invariant-loop-self : goal.invariant-loop-self

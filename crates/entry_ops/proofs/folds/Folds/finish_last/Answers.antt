@@ -1,6 +1,6 @@
 use Rattle.std.proofs.Common.{Some, refl, sym, subst, arith}
 use Rattle.std.proofs.lemmas.List.{length-set}
-use Rattle.entry_ops.specs.Folding.{ArePlaced}
+use Rattle.entry_ops.specs.inner.Folding.{ArePlaced}
 use Rattle.entry_ops.proofs.Singly.{last_placed, last_room, last_goes, last_more}
 use Rattle.entry_ops.proofs.folds.Folds.finish_last.Goals as goal
 

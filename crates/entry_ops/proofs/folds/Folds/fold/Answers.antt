@@ -1,7 +1,7 @@
 use Rattle.std.proofs.Common.{◌≡◌, ◌+◌, length, ap, sym, arith}
 use Rattle.csr_store.specs.Mask.{mask_of}
 use Rattle.bpf_run.specs.Calls.{steps_of}
-use Rattle.entry_ops.specs.Folding.{Folding}
+use Rattle.entry_ops.specs.inner.Folding.{Folding}
 use Rattle.entry_ops.proofs.OpenRows.{no_lanes}
 use Rattle.entry_ops.proofs.Folding.{all_calls, folding-start, folding-go, folding-room, folding-results, folding-steps}
 use Rattle.entry_ops.proofs.folds.Folds.fold.Goals as goal

@@ -1,5 +1,5 @@
 use Rattle.std.proofs.Common.{List, length, sym, ap, ◌∙◌}
-use Rattle.entry_ops.specs.Folding.{Open}
+use Rattle.entry_ops.specs.inner.Folding.{Open}
 use Rattle.entry_ops.proofs.OpenRows.{length_columns}
 use Rattle.entry_ops.proofs.lanes.Lanes.len.Goals as goal
 

@@ -1,5 +1,5 @@
 use Rattle.std.proofs.Common.{◌≡◌, ◌+◌, ◌-◌, ◌++◌, ◌∷◌, [], List, length, take, ap, sym, ◌∙◌, arith}
-use Rattle.entry_ops.specs.Folding.{Open, words}
+use Rattle.entry_ops.specs.inner.Folding.{Open, words}
 use Rattle.entry_ops.proofs.OpenRows.{length_columns, columns_last}
 use Rattle.entry_ops.proofs.lanes.Lanes.pop.Goals as goal
 

@@ -1,7 +1,7 @@
 use Rattle.std.proofs.Common.{◌++◌, ◌∷◌, [], ℕ, List, if◌then◌else◌, length, ap, ◌∙◌, arith}
 use Rattle.std.specs.Result.{is_ok}
 use Rattle.std.proofs.lemmas.List.{length_push}
-use Rattle.entry_ops.specs.Folding.{Open, open_of}
+use Rattle.entry_ops.specs.inner.Folding.{Open, open_of}
 use Rattle.entry_ops.specs.declared.lanes.Lane.{Lane}
 use Rattle.entry_ops.proofs.OpenRows.{length_columns, columns_pushed}
 use Rattle.entry_ops.proofs.lanes.Lanes.push.Goals as goal

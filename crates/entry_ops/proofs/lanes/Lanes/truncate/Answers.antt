@@ -1,5 +1,5 @@
 use Rattle.std.proofs.Common.{List, take, ap, ◌∙◌}
-use Rattle.entry_ops.specs.Folding.{Open}
+use Rattle.entry_ops.specs.inner.Folding.{Open}
 use Rattle.entry_ops.proofs.OpenRows.{columns_taken}
 use Rattle.entry_ops.proofs.lanes.Lanes.truncate.Goals as goal
 

@@ -3,7 +3,7 @@ use Rattle.bpf_insn.specs.declared.operands.Operands.{Operands}
 use Rattle.csr_store.specs.Run.{Run}
 use Rattle.csr_store.specs.Valued.{all_cells, entries_of}
 use Rattle.bpf_run.specs.Calls.{words_of, calls_on, steps_of}
-use Rattle.entry_ops.specs.Mapped.{range_operands, IsFurther}
+use Rattle.entry_ops.specs.inner.Mapped.{range_operands, IsFurther}
 use Rattle.entry_ops.proofs.Whole.{copied-words, copied-entries}
 use Rattle.entry_ops.proofs.mapping.Mapping.add_all.Goals as goal
 

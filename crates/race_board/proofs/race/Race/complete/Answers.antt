@@ -2,8 +2,9 @@ use Rattle.std.proofs.Common.{arith, ◌≡◌, ℕ, ◌+◌, Some, true, ap, �
 use Rattle.std.specs.Prelude.{slice_get}
 use Rattle.std.proofs.lemmas.Option.{slice_get_read}
 use Rattle.race_board.specs.declared.event.RaceEvent.TheVariants.{Complete}
-use Rattle.race_board.specs.Race.{Worker, RaceState, race, completed, may_record_by, after_event}
-use Rattle.race_board.specs.Balance.{IsRun}
+use Rattle.race_board.specs.Race.{Worker, RaceState, race, completed, after_event}
+use Rattle.race_board.specs.inner.Race.{may_record_by}
+use Rattle.race_board.specs.inner.Balance.{IsRun}
 use Rattle.race_board.proofs.Events.{event_keeps}
 use Rattle.race_board.proofs.Replays.{may_within, records_fit, records_made, completes_spend}
 use Rattle.race_board.proofs.race.Race.complete.Goals as goal

@@ -4,7 +4,7 @@ use Rattle.std.proofs.lemmas.Option.{slice_get_read}
 use Rattle.race_board.specs.declared.stand.Stand.TheVariants.{Free}
 use Rattle.race_board.specs.declared.event.RaceEvent.TheVariants.{Draw}
 use Rattle.race_board.specs.Race.{Worker, worker, RaceState, race, stand_after, after_event}
-use Rattle.race_board.specs.Balance.{IsRun}
+use Rattle.race_board.specs.inner.Balance.{IsRun}
 use Rattle.race_board.proofs.Events.{event_keeps}
 use Rattle.race_board.proofs.Replays.{count_below, draws_free, draws_spend_nothing}
 use Rattle.race_board.proofs.race.Race.draw.Goals as goal

@@ -2,8 +2,9 @@ use Rattle.std.proofs.Common.{arith, ◌≡◌, ℕ, ◌+◌, Some, true, ap, �
 use Rattle.std.specs.Prelude.{slice_get}
 use Rattle.std.proofs.lemmas.Option.{slice_get_read}
 use Rattle.race_board.specs.declared.event.RaceEvent.TheVariants.{Fail}
-use Rattle.race_board.specs.Race.{Worker, RaceState, race, failed, may_record_by, after_event}
-use Rattle.race_board.specs.Balance.{IsRun}
+use Rattle.race_board.specs.Race.{Worker, RaceState, race, failed, after_event}
+use Rattle.race_board.specs.inner.Race.{may_record_by}
+use Rattle.race_board.specs.inner.Balance.{IsRun}
 use Rattle.race_board.proofs.Events.{event_keeps}
 use Rattle.race_board.proofs.Replays.{may_within, records_fit, records_made, fails_spend}
 use Rattle.race_board.proofs.race.Race.fail.Goals as goal

@@ -4,8 +4,9 @@ use Rattle.std.proofs.lemmas.List.{get_or_read}
 use Rattle.std.proofs.lemmas.Option.{slice_get_read}
 use Rattle.race_board.specs.declared.stand.Stand.{Stand}
 use Rattle.race_board.specs.declared.stand.Stand.TheVariants.{Holds}
-use Rattle.race_board.specs.Race.{Worker, RaceState, may_record_by}
-use Rattle.race_board.specs.Balance.{IsTrueStand}
+use Rattle.race_board.specs.Race.{Worker, RaceState}
+use Rattle.race_board.specs.inner.Race.{may_record_by}
+use Rattle.race_board.specs.inner.Balance.{IsTrueStand}
 use Rattle.race_board.proofs.Balances.{sound_at}
 use Rattle.race_board.proofs.Replays.{may_here, may_elsewhere}
 use Rattle.race_board.proofs.race.Race.may_record.Goals as goal

@@ -1,6 +1,6 @@
 use Rattle.std.proofs.Common.{arith, ◌≡◌, ℕ, ◌+◌, ◌∷◌, [], ◌++◌, ap, ◌∙◌, sym, subst, List}
 use Rattle.race_board.specs.Race.{Worker, fresh_worker, fresh_workers, race, total_of, steps_of}
-use Rattle.race_board.specs.Balance.{IsRun}
+use Rattle.race_board.specs.inner.Balance.{IsRun}
 use Rattle.race_board.proofs.Sums.{prices_sum}
 use Rattle.race_board.proofs.Events.{fresh_snoc, start_runs, start_spent}
 use Rattle.race_board.proofs.race.Race.start.Goals as goal

@@ -2,7 +2,7 @@ use Rattle.std.proofs.Common.{◌++◌, ◌∷◌, [], length, take, ap, ◌∙�
 use Rattle.std.proofs.Math.ListN.{length-set}
 use Rattle.bpf_insn.specs.declared.operands.Operands.TheVariants.{Binary}
 use Rattle.bpf_run.specs.Calls.{Gathered}
-use Rattle.row_product.specs.Terms.{Waiting}
+use Rattle.row_product.specs.inner.Terms.{Waiting}
 use Rattle.row_product.proofs.Several.{one_taken}
 use Rattle.row_product.proofs.additions.Additions.gather.Goals as goal
 

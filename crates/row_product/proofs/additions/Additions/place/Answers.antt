@@ -1,5 +1,5 @@
 use Rattle.std.proofs.Common.{refl, sym, ◌∙◌}
-use Rattle.row_product.specs.Sums.{kept}
+use Rattle.row_product.specs.inner.Sums.{kept}
 use Rattle.row_product.proofs.Tagging.{slot_sums, nothing_kept}
 use Rattle.row_product.proofs.Waiting.{put_first, put_waiting}
 use Rattle.row_product.proofs.additions.Additions.place.Goals as goal

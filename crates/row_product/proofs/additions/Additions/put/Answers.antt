@@ -1,7 +1,7 @@
 use Rattle.std.proofs.Common.{◌≡◌, length, refl, ap, ◌∙◌, arith}
 use Rattle.std.proofs.lemmas.List.{length-take-le}
-use Rattle.row_product.specs.Sums.{sum_of}
-use Rattle.row_product.specs.Terms.{waits}
+use Rattle.row_product.specs.inner.Sums.{sum_of}
+use Rattle.row_product.specs.inner.Terms.{waits}
 use Rattle.row_product.proofs.Tagging.{slot_sums, lacks_unmarked}
 use Rattle.row_product.proofs.Waiting.{slot_settled, put_first, put_waiting}
 use Rattle.row_product.proofs.additions.Additions.put.Goals as goal

@@ -3,8 +3,17 @@ use Rattle.bpf_insn.specs.declared.operands.Operands.{Operands}
 use Rattle.bpf_run.specs.Calls.{Gathered, steps_of, calls_on, values_on, pairs_with}
 use Rattle.bpf_run.proofs.Gathering.{with_length}
 use Rattle.csr_store.specs.Grid.{Cell}
-use Rattle.row_product.specs.Sums.{sums_of}
-use Rattle.row_product.specs.Terms.{cells_of, columns_of, terms_with, put_terms, put_calls, put_touched, sums_then, touched_then}
+use Rattle.row_product.specs.inner.Sums.{sums_of}
+use Rattle.row_product.specs.inner.Terms.{
+  cells_of,
+  columns_of,
+  terms_with,
+  put_terms,
+  put_calls,
+  put_touched,
+  sums_then,
+  touched_then,
+}
 use Rattle.row_product.proofs.Several.{terms_are}
 use Rattle.row_product.proofs.Waiting.{length_values, touched_grow}
 use Rattle.row_product.proofs.terms.Terms.add_cells.Goals as goal

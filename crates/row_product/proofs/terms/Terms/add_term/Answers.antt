@@ -1,5 +1,5 @@
 use Rattle.std.proofs.Common.{length, subst, sym, arith}
-use Rattle.row_product.specs.Terms.{AreWithin}
+use Rattle.row_product.specs.inner.Terms.{AreWithin}
 use Rattle.row_product.proofs.Waiting.{is_added, below_more}
 use Rattle.row_product.proofs.terms.Terms.add_term.Goals as goal
 

@@ -1,6 +1,6 @@
 use Rattle.std.proofs.Common.{subst, sym, ap, ◌∙◌, arith}
 use Rattle.bpf_run.specs.Calls.{steps_of, calls_on}
-use Rattle.row_product.specs.Terms.{Pending, settled, Waits}
+use Rattle.row_product.specs.inner.Terms.{Pending, settled, Waits}
 use Rattle.row_product.proofs.terms.Terms.finish.Goals as goal
 
 pub settle-requires-clause-within : goal.settle-requires-clause-within

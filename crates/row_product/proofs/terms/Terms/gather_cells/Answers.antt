@@ -1,7 +1,7 @@
 use Rattle.std.proofs.Common.{◌++◌, ap, ◌∙◌, take, arith}
 use Rattle.std.proofs.lemmas.List.{with_items_is}
 use Rattle.bpf_run.specs.Calls.{Gathered}
-use Rattle.row_product.specs.Terms.{columns_of}
+use Rattle.row_product.specs.inner.Terms.{columns_of}
 use Rattle.row_product.proofs.Several.{seen_as, cells_seen}
 use Rattle.row_product.proofs.terms.Terms.gather_cells.Goals as goal
 

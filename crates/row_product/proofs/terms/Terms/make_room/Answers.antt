@@ -1,5 +1,5 @@
 use Rattle.std.proofs.Common.{length, subst, sym, ap, ◌∙◌, arith}
-use Rattle.row_product.specs.Terms.{AreBelow}
+use Rattle.row_product.specs.inner.Terms.{AreBelow}
 use Rattle.row_product.proofs.Waiting.{none_then, none_touched_then, none_steps_then}
 use Rattle.row_product.proofs.terms.Terms.make_room.Goals as goal
 

@@ -2,7 +2,7 @@ use Rattle.std.proofs.Common.{◌≤◌, ◌<◌, ◌^◌, List, length, take, s
 use Rattle.std.proofs.lemmas.List.{length-take-le}
 use Rattle.bpf_run.specs.Calls.{Gathered, steps_of}
 use Rattle.csr_store.specs.Grid.{Cell}
-use Rattle.row_product.specs.Terms.{
+use Rattle.row_product.specs.inner.Terms.{
   cells_of,
   put_terms,
   put_calls,

@@ -1,6 +1,7 @@
 use Rattle.std.proofs.Common.{Err, subst}
 use Rattle.workspace.specs.Workspace.{state_of}
-use Rattle.session.specs.Exchange.{Conversed, Scene}
+use Rattle.session.specs.Exchange.{Scene}
+use Rattle.session.specs.inner.Exchange.{Conversed}
 use Rattle.session.proofs.Talking.{outcome_of}
 use Rattle.session.proofs.conversation.Room.serve.Goals as goal
 

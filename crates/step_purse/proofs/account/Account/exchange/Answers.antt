@@ -5,7 +5,7 @@ use Rattle.crossbeam_utils.specs.Seq.{cell_view}
 use Rattle.crossbeam_utils.specs.Register.{Turns}
 use Rattle.step_purse.specs.declared.dealings.Dealing.{Dealing}
 use Rattle.step_purse.specs.Plain.{total, after}
-use Rattle.step_purse.specs.Rule.{Kept, exchanged, words_of}
+use Rattle.step_purse.specs.inner.Rule.{Kept, exchanged, words_of}
 use Rattle.step_purse.proofs.Calls.{after_total}
 use Rattle.step_purse.proofs.Steps.{exchanges}
 use Rattle.step_purse.proofs.account.Account.exchange.Goals as goal

@@ -2,7 +2,8 @@ use Rattle.std.proofs.Common.{◌≡◌, rules, sym, ap, ◌∙◌, subst, ℕ}
 use Rattle.crossbeam_utils.specs.Seq.{cell_view}
 use Rattle.crossbeam_utils.specs.Register.{Merges}
 use Rattle.step_purse.specs.declared.views.View.{View}
-use Rattle.step_purse.specs.Rule.{Kept, MayCall, spent, joined}
+use Rattle.step_purse.specs.Rule.{MayCall}
+use Rattle.step_purse.specs.inner.Rule.{Kept, spent, joined}
 use Rattle.step_purse.proofs.Steps.{moves, merges, learns}
 use Rattle.step_purse.proofs.account.Account.gather.Goals as goal
 

@@ -1,7 +1,7 @@
 use Rattle.std.proofs.Common.{◌≡◌}
 use Rattle.crossbeam_utils.specs.Seq.{cell_view}
 use Rattle.step_purse.specs.Seats.{IsSeatOf}
-use Rattle.step_purse.specs.Rule.{words_of}
+use Rattle.step_purse.specs.inner.Rule.{words_of}
 use Rattle.step_purse.proofs.account.Account.reserve.Given as goal
 
 abbrev pub invariant-loop : goal.invariant-loop

@@ -1,0 +1,9 @@
+-- What serves this crate's own modules: contracts between them, invariants and proofs. No public contract reaches it.
+pub mod Folding
+pub mod Heads
+pub mod Keeping
+pub mod Mapped
+pub mod Placing
+pub mod Sifting
+pub mod Standing
+pub mod Walking

@@ -1,0 +1,51 @@
+-- Rows whose cells are added at once, each called one with a word for the time being, and whose values are put in place when the
+-- gathered calls are made. This project's own.
+use Rattle.std.specs.Prelude.{◌≡◌, ◌<◌, ◌≤◌, ℕ, suc, List, [], ◌∷◌}
+use Rattle.bpf_verify.specs.Accepted.{Accepted}
+use Rattle.csr_store.specs.Run.{Run}
+use Rattle.csr_store.specs.Valued.{entries_of, with_value}
+use Rattle.bpf_run.specs.Calls.{Call, Gathered, calls_on, values_on}
+use Rattle.entry_ops.specs.inner.Standing.{Standing, Adds}
+
+-- the rows so far, the entry of each call that waits, by its number, and the steps of the calls that were made
+pub record Emission : Type 0 where
+  pub rows : Run
+  pub places : List ℕ
+  pub steps : ℕ
+
+-- a run with each of some values at its place
+abbrev pub placed : List ℕ → List ℕ → Run → Run
+placed places [] run = run
+placed [] (v ∷ values) run = run
+placed (p ∷ places) (v ∷ values) run = placed places values (with_value p v run)
+
+-- there is a place for each value, and it is one of so many entries
+abbrev pub HavePlaces : List ℕ → List ℕ → ℕ → Type 0
+HavePlaces places [] entries = Unit {0}
+HavePlaces [] (v ∷ values) entries = ⊥
+HavePlaces (p ∷ places) (v ∷ values) entries = (p < entries) × HavePlaces places values entries
+
+-- the places of values ascend, from one on
+abbrev pub Rise : ℕ → List ℕ → List ℕ → Type 0
+Rise from places [] = Unit {0}
+Rise from [] (v ∷ values) = ⊥
+Rise from (p ∷ places) (v ∷ values) = (from ≤ p) × Rise (suc p) places values
+
+-- the rows as if the gathered calls were made
+abbrev pub final : Accepted → Emission → Gathered → Run
+final f e g = placed e.places (values_on f g.operands) e.rows
+
+-- the places and the gathered calls belong together
+pub record Holds (f : Accepted) (e : Emission) (g : Gathered) : Type 0 where
+  pub kind : g.kind ≡ f.kind
+  pub places : HavePlaces e.places (values_on f g.operands) (entries_of e.rows)
+  pub rise : Rise 0 e.places (values_on f g.operands)
+
+abbrev pub standing : Accepted → Emission → Gathered → Standing
+standing f e g = record { rows = final f e g; waiting = calls_on f g.operands; steps = e.steps }
+
+-- calls were added, made or not yet, and the rows will be what `change` makes of them
+pub record Does (f : Accepted) (calls : List Call) (change : Run → Run) (old : Emission) (was : Gathered) (new : Emission)
+    (is : Gathered) : Type 0 where
+  pub holds : Holds f new is
+  pub adds : Adds calls change (standing f old was) (standing f new is)

@@ -1,0 +1,8 @@
+-- What serves this crate's own modules: contracts between them, invariants and proofs. No public contract reaches it.
+pub mod Answers
+pub mod Filling
+pub mod Gathering
+pub mod Halting
+pub mod Market
+pub mod Refusal
+pub mod Usual
