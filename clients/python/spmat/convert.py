@@ -178,9 +178,10 @@ def from_scipy(matrix: Any) -> Triples:
     return checked(coo.row, coo.col, coo.data, *coo.shape)
 
 
-def from_graph(graph: Any, weight: Optional[str], nodelist: Optional[Sequence[Any]]) -> Tuple[Triples, List[Any], bool]:
-    """The triples of a networkx graph, its nodes by index, and whether positions may repeat (a multigraph). Entry (i, j) is the
-    edge from node i to node j; an undirected edge stands both ways, a loop once. Edges that leave `nodelist` are left out."""
+def from_graph(graph: Any, weight: Optional[str], nodelist: Optional[Sequence[Any]], folds: bool) -> Tuple[Triples, List[Any]]:
+    """The triples of a networkx graph, and its nodes by index. Entry (i, j) is the edge from node i to node j; an undirected edge
+    stands both ways, a loop once. Edges that leave `nodelist` are left out. ValueError for a multigraph, whose positions may
+    repeat, unless the caller folds them."""
     if not hasattr(graph, 'is_multigraph'):
         raise TypeError('a graph of networkx is wanted, not %s' % type(graph).__name__)
     nodes = list(graph) if nodelist is None else list(nodelist)
@@ -199,7 +200,10 @@ def from_graph(graph: Any, weight: Optional[str], nodelist: Optional[Sequence[An
                 rows.append(a)
                 columns.append(b)
                 values.append(value)
-    return checked(rows, columns, values, len(nodes), len(nodes)), nodes, graph.is_multigraph()
+    triples = checked(rows, columns, values, len(nodes), len(nodes))
+    if graph.is_multigraph() and not folds:
+        raise ValueError('a multigraph may have parallel edges: dup_op= says how they are folded, such as "plus"')
+    return triples, nodes
 
 
 Fold = Callable[[Triples], Any]

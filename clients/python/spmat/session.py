@@ -194,9 +194,7 @@ class Session:
         the graph's order), with the edge's `weight`, or 1 where it has none or `weight` is None. An undirected edge stands both
         ways. `nodes` of the matrix has the nodes by index. ValueError for weights that aren't whole, and for multigraphs without
         `dup_op`, which folds parallel edges (1 job and 1 run where there are any). In python-graphblas `io.from_networkx`."""
-        triples, nodes, repeats = convert.from_graph(graph, weight, nodelist)
-        if repeats and dup_op is None:
-            raise ValueError('a multigraph may have parallel edges: dup_op= says how they are folded, such as "plus"')
+        triples, nodes = convert.from_graph(graph, weight, nodelist, dup_op is not None)
         matrix = self._from(triples, dup_op, name)
         matrix.nodes = nodes
         return matrix

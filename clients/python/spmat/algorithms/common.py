@@ -58,6 +58,20 @@ def tell(progress: Progress, word: str, number: int, of: int = 0) -> None:
         progress(word, number, of)
 
 
+def until_as_many(first: Matrix, step: Callable[[Matrix], Matrix], progress: Progress) -> Matrix:
+    """What a step comes to that only adds entries, or only takes some away: the first result with as many as there were before.
+    `progress('round', i, 0)` is called after each step."""
+    now, number = first, 0
+    while True:
+        then = step(now)
+        number += 1
+        settled = then.nvals == now.nvals
+        tell(progress, 'round', number)
+        if settled:
+            return then
+        now = then
+
+
 def product(a: Matrix, b: Matrix, semiring: Union[str, Semiring], mask: Optional[Matrix] = None) -> Matrix:
     """`a.mxm(b, semiring, mask=mask.S)`; where that is refused as too large (over 16,777,216 multiplications), by halves of the
     rows of `a`, their halves, and so on, joined afterwards. Runs: those that the operands want, and 2 for each halving. Raises

@@ -2,7 +2,7 @@
 from __future__ import annotations
 
 from ..matrix import Matrix
-from .common import Progress, column, order, product, tell
+from .common import Progress, column, order, product, until_as_many
 
 
 def k_truss(G: Matrix, k: int, progress: Progress = None) -> Matrix:
@@ -18,15 +18,7 @@ def k_truss(G: Matrix, k: int, progress: Progress = None) -> Matrix:
     order(G)
     if k < 3:
         raise ValueError('a k-truss has k of 3 or above')
-    number = 0
-    while True:
-        left = product(G, G, 'plus_pair', G).select('valuege', k - 2)
-        number += 1
-        settled = left.nvals == G.nvals
-        tell(progress, 'round', number)
-        if settled:
-            return left
-        G = left
+    return until_as_many(G, lambda left: product(left, left, 'plus_pair', left).select('valuege', k - 2), progress)
 
 
 def k_core(G: Matrix, k: int, progress: Progress = None) -> Matrix:
@@ -41,12 +33,4 @@ def k_core(G: Matrix, k: int, progress: Progress = None) -> Matrix:
     order(G)
     if k < 1:
         raise ValueError('a k-core has k of 1 or above')
-    alive, number = column(G, 1), 0
-    while True:
-        left = G.mxv(alive, 'plus_pair', mask=alive.S).select('valuege', k)
-        number += 1
-        settled = left.nvals == alive.nvals
-        tell(progress, 'round', number)
-        if settled:
-            return left
-        alive = left
+    return until_as_many(column(G, 1), lambda alive: G.mxv(alive, 'plus_pair', mask=alive.S).select('valuege', k), progress)

@@ -5,7 +5,7 @@ from typing import Optional
 
 from ..matrix import Matrix
 from ..operators import asm
-from .common import NotSettled, Progress, loops, order, product, settle, spot, tell, vertex
+from .common import NotSettled, Progress, loops, order, product, settle, spot, tell, until_as_many, vertex
 
 # 1 on the diagonal where the value is below 0, else 0
 BELOW_ZERO = asm('index', 'mov64 r0, 0\njne64 r2, r3, 2\njsge64 r1, 0, 1\nmov64 r0, 1\nexit\n')
@@ -68,12 +68,4 @@ def transitive_closure(G: Matrix, progress: Progress = None) -> Matrix:
     each two paths that meet and 2 an entry of the result, a round; 2 an edge. GraphBLAS: `mxm` over any and pair, squared.
     """
     order(G)
-    reached, number = G.apply('one'), 0
-    while True:
-        more = reached.ewise_add(product(reached, reached, 'any_pair'), 'any')
-        number += 1
-        settled = more.nvals == reached.nvals
-        tell(progress, 'round', number)
-        if settled:
-            return reached
-        reached = more
+    return until_as_many(G.apply('one'), lambda reached: reached.ewise_add(product(reached, reached, 'any_pair'), 'any'), progress)

@@ -145,9 +145,7 @@ class Sessions:
     def from_networkx(self, graph: Any, weight: Optional[str] = 'weight', nodelist: Optional[Sequence[Any]] = None, *,
                       dup_op: Optional[Op] = None, name: Optional[str] = None) -> BlockMatrix:
         """The adjacency matrix of a networkx graph; see `Session.from_networkx`."""
-        triples, nodes, repeats = convert.from_graph(graph, weight, nodelist)
-        if repeats and dup_op is None:
-            raise ValueError('a multigraph may have parallel edges: dup_op= says how they are folded, such as "plus"')
+        triples, nodes = convert.from_graph(graph, weight, nodelist, dup_op is not None)
         matrix = self._from(triples, dup_op, name)
         matrix.nodes = nodes
         return matrix
