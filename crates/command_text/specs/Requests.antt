@@ -100,8 +100,10 @@ job_asked verbs.Apply (output ∷ operator ∷ operand ∷ thunk ∷ rest) =
     apply_asked output operator operand (value_word thunk) rest
 job_asked verbs.Select (output ∷ operator ∷ operand ∷ thunk ∷ rest) =
     select_asked output operator operand (value_word thunk) rest
-job_asked verbs.Union (output ∷ operator ∷ left ∷ right ∷ rest) = with_mask output (Union operator left right) (mask_asked rest)
-job_asked verbs.Both (output ∷ operator ∷ left ∷ right ∷ rest) = with_mask output (Both operator left right) (mask_asked rest)
+job_asked verbs.Union (output ∷ operator ∷ left ∷ right ∷ rest) =
+    with_mask output (Union operator left right) (mask_asked rest)
+job_asked verbs.Both (output ∷ operator ∷ left ∷ right ∷ rest) =
+    with_mask output (Both operator left right) (mask_asked rest)
 job_asked verbs.Product (output ∷ add ∷ mul ∷ left ∷ right ∷ rest) =
     with_mask output (Product add mul left right) (mask_asked rest)
 job_asked verbs.Reduce (output ∷ operator ∷ operand ∷ rest) = with_mask output (Reduce operator operand) (mask_asked rest)

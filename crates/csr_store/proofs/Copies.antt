@@ -1,7 +1,7 @@
 -- Rows of a matrix as rows of a run: their ends and their cells, behind those of the rows before them.
-use Rattle.std.proofs.Common.{◌≡◌, ◌≤◌, ◌<◌, ◌+◌, ◌-◌, ◌^◌, ℕ, zero, suc, List, [], ◌∷◌, length, map, take, drop, get_or, refl, sym, ap, ◌∙◌, subst, arith, length-drop}
+use Rattle.std.proofs.Common.{◌≡◌, ◌≤◌, ◌<◌, ◌+◌, ◌-◌, ◌^◌, ℕ, zero, suc, List, [], ◌∷◌, ◌++◌, length, map, take, drop, get_or, refl, sym, ap, ◌∙◌, subst, arith, length-drop}
 use Rattle.std.specs.List.{AllByRecursion}
-use Rattle.std.proofs.lemmas.List.{take-take, drop-take, drop-drop, drop_more, length-take-le}
+use Rattle.std.proofs.lemmas.List.{take-take, drop-take, drop-drop, drop_more, length-take-le, take-append-drop}
 use Rattle.csr_store.specs.Grid.{Grid, IsGrid, Cell, row_of}
 use Rattle.csr_store.specs.Along.{along}
 use Rattle.csr_store.specs.ByRows.{grid, by_rows, ends_of}
@@ -56,6 +56,19 @@ module _ (rows columns : ℕ) (starts : List ℕ) (cells : List Cell) (h : AreSt
       ∙ (drop-take (start (k + 1) - start k) (start (k + suc m) - start (k + 1)) (drop (start k) cells)
       ∙ (ap (take (start (k + suc m) - start (k + 1))) (drop-drop (start (k + 1) - start k) (start k) cells ∙ ap (λ n. drop n cells) q)
       ∙ ap (λ n. take (start n - start (k + 1)) (drop (start (k + 1)) cells)) (sym z)))
+
+  -- they are those of each row, joined
+  pub cells_along : (k m : ℕ) → k + m ≤ rows → cells_at k m ≡ along (λ i. row_of (grid rows columns (by_rows (ends_of starts) cells)) i) k m
+  cells_along k zero l =
+      let n : k + 0 ≡ k = omega arith in
+      let z : start (k + 0) - start k ≡ 0 = ap (λ i. start i - start k) n ∙ omega arith in
+      ap (λ n. take n (drop (start k) cells)) z
+  cells_along k (suc m) l =
+      let n : k + 1 ≡ suc k = omega arith in
+      sym (take-append-drop (start (k + 1) - start k) (cells_at k (suc m)))
+      ∙ (ap (λ (xs : List Cell). xs ++ drop (start (k + 1) - start k) (cells_at k (suc m))) (first_row k m l)
+      ∙ ap (λ (xs : List Cell). row_of (grid rows columns (by_rows (ends_of starts) cells)) k ++ xs)
+      (other_rows k m l ∙ (cells_along (k + 1) m (omega arith) ∙ ap (λ i. along (λ i. row_of (grid rows columns (by_rows (ends_of starts) cells)) i) i m) n)))
 
   pub copied_rows : (base k m : ℕ) → base ≤ start k → k + m ≤ rows
       → ended_rows (start k - base) (ends_at base k m) (cells_at k m) ≡ along (λ i. row_of (grid rows columns (by_rows (ends_of starts) cells)) i ∷ []) k m

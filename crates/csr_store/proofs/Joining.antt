@@ -73,15 +73,15 @@ shift_ends : (n from most : ℕ) (ends : List ℕ) → AreEnds from ends most �
 shift_ends n from most [] h = omega arith
 shift_ends n from most (to ∷ ends) h = ((let a = h.0 in omega arith), shift_ends n to most ends h.1)
 
-inner_ends : (from to : ℕ) (ends : List ℕ) (cs : Row) → from ≤ to → AreEnds to ends (from + length cs) → AreEnds to ends (to + length (drop (to - from) cs))
+pub inner_ends : (from to : ℕ) (ends : List ℕ) (cs : Row) → from ≤ to → AreEnds to ends (from + length cs) → AreEnds to ends (to + length (drop (to - from) cs))
 inner_ends from to ends cs a h =
     let b = ends_below to ends (from + length cs) h in
     subst (λ (n : ℕ). AreEnds to ends n) (omega (arith, length-drop (to - from) cs)) h
 
-inner_end : (from to : ℕ) (ends : List ℕ) (cs : Row) → from ≤ to → AreEnds to ends (from + length cs) → to + length (drop (to - from) cs) ≡ from + length cs
+pub inner_end : (from to : ℕ) (ends : List ℕ) (cs : Row) → from ≤ to → AreEnds to ends (from + length cs) → to + length (drop (to - from) cs) ≡ from + length cs
 inner_end from to ends cs a h = let b = ends_below to ends (from + length cs) h in omega (arith, length-drop (to - from) cs)
 
-rows_append : (from : ℕ) (ends more : List ℕ) (cs ds : Row) → AreEnds from ends (from + length cs) → open_row from ends cs ≡ [] → ended_rows from (ends ++ more) (cs ++ ds) ≡ ended_rows from ends cs ++ ended_rows (from + length cs) more ds
+pub rows_append : (from : ℕ) (ends more : List ℕ) (cs ds : Row) → AreEnds from ends (from + length cs) → open_row from ends cs ≡ [] → ended_rows from (ends ++ more) (cs ++ ds) ≡ ended_rows from ends cs ++ ended_rows (from + length cs) more ds
 rows_append from [] more cs ds w h = rw h (ap (λ n. ended_rows n more ds) (let q : from ≡ from + 0 = omega arith in q))
 rows_append from (to ∷ ends) more cs ds w h =
     let b = ends_below to ends (from + length cs) w.1 in let a = w.0 in
@@ -170,7 +170,7 @@ entries_closed : (ends : List ℕ) (cs : Row) → open_row 0 ends cs ≡ [] → 
 entries_closed ends cs h =
     entries_parts 0 0 ends cs ∙ ap (λ (row : Row). numbered 0 (ended_rows 0 ends cs) ++ at_row (0 + length ends) row) h ∙ append-nil (numbered 0 (ended_rows 0 ends cs))
 
-within_of : (from n : ℕ) (ends : List ℕ) → AreEnds from ends (from + n) → Within from ends n
+pub within_of : (from n : ℕ) (ends : List ℕ) → AreEnds from ends (from + n) → Within from ends n
 within_of from n [] h = tt
 within_of from n (to ∷ ends) h =
     let b = ends_below to ends (from + n) h.1 in let a = h.0 in

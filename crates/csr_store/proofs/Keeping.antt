@@ -8,7 +8,7 @@ use Rattle.csr_store.specs.Ascending.{Ascends}
 use Rattle.csr_store.specs.Added.{ComeBehind, kept_where, kept_rows}
 use Rattle.csr_store.specs.Run.{Row, Run}
 use Rattle.csr_store.specs.inner.Run.{AreRows, ended_rows, open_row}
-use Rattle.csr_store.proofs.Along.{along-next, along-over, row_of-ascends}
+use Rattle.csr_store.proofs.Along.{along-next, row_of-ascends}
 use Rattle.csr_store.proofs.Appending.{rows_append, run_append, kept_behind, kept_words}
 use Rattle.csr_store.proofs.Runs.{rows_more, run, run_end}
 

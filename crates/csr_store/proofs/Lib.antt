@@ -21,3 +21,5 @@ pub mod Appending
 pub mod Blocks
 pub mod Taking
 pub mod Keeping
+pub mod InRuns
+pub mod Copied

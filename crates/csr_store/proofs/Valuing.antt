@@ -349,3 +349,16 @@ valued_behind k n (v ∷ vs) cells h = valued_behind (suc k) n vs (valued k v ce
 pub length-valued_from : (k : ℕ) (vs : List ℕ) (cells : Row) → length (valued_from k vs cells) ≡ length cells
 length-valued_from k [] cells = refl
 length-valued_from k (v ∷ vs) cells = length-valued_from (suc k) vs (valued k v cells) ∙ length-valued k v cells
+
+-- ---- entries at the end
+
+pub valued_here : (v : ℕ) (pre : Row) (c : Cell) (cs : Row) → valued (length pre) v (pre ++ c ∷ cs) ≡ pre ++ (c.0, v) ∷ cs
+valued_here v [] c cs = refl
+valued_here v (p ∷ pre) c cs = ap (λ (r : Row). p ∷ r) (valued_here v pre c cs)
+
+-- values of the first entries alone
+pub valued_front : (k : ℕ) (vs : List ℕ) (xs ys : Row) → k + length vs ≤ length xs → valued_from k vs (xs ++ ys) ≡ valued_from k vs xs ++ ys
+valued_front k [] xs ys h = refl
+valued_front k (v ∷ vs) xs ys h =
+    let one : valued k v (xs ++ ys) ≡ valued k v xs ++ ys = valued_append k v xs ys ∙ rw (lt-ltb k (length xs) (omega arith)) refl in
+    ap (valued_from (suc k) vs) one ∙ valued_front (suc k) vs (valued k v xs) ys (omega (arith, h, length-valued k v xs))

@@ -9,4 +9,5 @@ pub mod Mask
 pub mod Ascending
 pub mod Added
 pub mod Valued
+pub mod Copied
 pub mod inner

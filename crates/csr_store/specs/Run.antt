@@ -1,5 +1,5 @@
 -- A run of rows that follow one another: the ended ones, and the one that is open. This project's own.
-use Rattle.std.specs.Prelude.{◌≡◌, ℕ, ◌-◌, ◌+◌, List, [], ◌∷◌, ◌++◌, flat_map, refl, length}
+use Rattle.std.specs.Prelude.{◌≡◌, ◌≤◌, ℕ, ◌+◌, List, [], ◌∷◌, ◌++◌, flat_map, refl, length}
 use Rattle.std.specs.Coded.{Coded, code_by, coded×, coded_ℕ, coded_list}
 use Rattle.csr_store.specs.Grid.{Cell, Entry, at_row}
 
@@ -36,3 +36,9 @@ abbrev pub Follow : ℕ → ℕ → ℕ → List Run → Type 0
 Follow columns at to [] = at ≡ to
 Follow columns at to (r ∷ rs) =
     (r.first ≡ at) × (r.columns ≡ columns) × (r.opened ≡ []) × Follow columns (at + length r.ended) to rs
+
+-- runs of 256 rows each, the last of no more
+abbrev pub AreEven : List Run → Type 0
+AreEven [] = Unit {0}
+AreEven (r ∷ []) = length r.ended ≤ 256
+AreEven (r ∷ s ∷ rs) = (length r.ended ≡ 256) × AreEven (s ∷ rs)

@@ -1,5 +1,7 @@
 -- Values given to entries of a run, which are numbered from 0 in the order in which they were added. This project's own.
 use Rattle.std.specs.Prelude.{ℕ, zero, suc, ◌+◌, ◌-◌, ◌≡◌, nat_lt, if◌then◌else◌, List, [], ◌∷◌, ◌++◌, length, map}
+use Rattle.csr_store.specs.Grid.{Grid, row_of}
+use Rattle.csr_store.specs.Along.{along}
 use Rattle.csr_store.specs.Run.{Row, Run}
 
 -- how many entries rows have together
@@ -48,3 +50,7 @@ pub record AreAlike (run other : Run) : Type 0 where
   pub columns : run.columns ≡ other.columns
   pub ended : map (λ (r : Row). length r) run.ended ≡ map (λ (r : Row). length r) other.ended
   pub opened : length run.opened ≡ length other.opened
+
+-- rows of a matrix as a run: those from one on, n of them
+abbrev pub rows_of : Grid → ℕ → ℕ → Run
+rows_of g from n = record { first = from; columns = g.columns; ended = along (λ i. row_of g i ∷ []) from n; opened = [] }

@@ -5,3 +5,5 @@ pub mod Grid
 pub mod Merged
 pub mod Packed
 pub mod Run
+pub mod Cells
+pub mod Copied

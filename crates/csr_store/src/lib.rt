@@ -6,17 +6,21 @@
 //! The one contract: a `Matrix` is a finite map from positions to words with its two sizes, a `Grid` of
 //! `specs/Grid.antt`. That it is kept as compressed rows is no caller's business, but that a row is a
 //! slice, and that the starts of the rows are lent. [`Rows`] is a run of rows, a `Run` of
-//! `specs/Run.antt`, and [`join_rows`] makes the matrix of runs that follow one another. What callers
-//! need to know of grids is proved in `proofs/Laws.antt` (single entries), `proofs/ByRow.antt` (a grid
-//! row by row) and `proofs/Copying.antt` (a matrix put into a builder, entry by entry).
+//! `specs/Run.antt`. [`stack_runs`] makes a matrix of runs of 256 rows, whose cells stay where they are,
+//! and [`join_rows`] one of any runs that follow one another, by copying. [`RowCopy`] copies rows of a
+//! matrix with other values. What callers need to know of grids is proved in `proofs/Laws.antt` (single
+//! entries), `proofs/ByRow.antt` (a grid row by row) and `proofs/Copying.antt` (a matrix put into a
+//! builder, entry by entry).
 //!
 //! Read `specs/Grid.antt` and `specs/Refusal.antt` first, then `error`, `builder`, `matrix`, `rows` and
-//! `join`; below them `filler` (rows filled in ascending order), `merge` (two lists of entries as one
-//! matrix), `kept` (cells of which some are kept), `slots` (words moved from slots into a row) and `row` (parts of a list of cells, and searches in a row), over
+//! `stack`; below them `cells` (one list of cells, or many), `filler` (rows filled in ascending order),
+//! `merge` (two lists of entries as one matrix), `kept` (cells of which some are kept), `slots` (words
+//! moved from slots into a row) and `row` (parts of a list of cells, and searches in a row), over
 //! `specs/ByRows.antt`.
 #![tactic(auto)]
 
 pub mod builder;
+mod cells;
 mod chunk;
 mod entry_list;
 pub mod error;
@@ -26,8 +30,10 @@ mod kept;
 pub mod matrix;
 mod merge;
 mod row;
+mod row_copy;
 mod rows;
 mod slots;
+mod stack;
 
 pub use builder::Builder;
 pub use chunk::Chunk;
@@ -35,5 +41,7 @@ pub use entry_list::EntryList;
 pub use error::StoreError;
 pub use join::join_rows;
 pub use matrix::{Matrix, Version};
+pub use row_copy::RowCopy;
 pub use rows::Rows;
 pub use slots::Slot;
+pub use stack::stack_runs;

@@ -1,14 +1,17 @@
 //! A finished matrix.
-ghost use Rattle.std.specs.Prelude.{◌≡◌, ◌<◌, ◌≤◌, ◌+◌, ◌-◌, ◌∷◌, ◌++◌, [], length, map, IfOk, OnOk};
+ghost use Rattle.std.specs.Prelude.{◌≡◌, ◌<◌, ◌≤◌, ◌+◌, ◌-◌, ◌*◌, ◌/◌, ◌∷◌, ◌++◌, [], length, map, IfOk, OnOk, IfSome, IsSome};
 ghost use Rattle.std.specs.List.{range_with_len, AllByRecursion};
 ghost use Rattle.std.specs.FinMap as fin;
 ghost use Rattle.csr_store.specs.Along.{along};
 ghost use Rattle.csr_store.specs.Grid.{IsGrid, row_of, row_start};
 ghost use Rattle.csr_store.specs.ByRows.{grid, by_rows, ends_of};
 ghost use Rattle.csr_store.specs.inner.ByRows.{AreStarts};
+ghost use Rattle.csr_store.specs.Valued.{rows_of};
+ghost use Rattle.csr_store.specs.inner.Cells.{AreBases, joined};
 
-use crate::row::{append, cells_between, value_at};
-use crate::rows::Rows;
+use crate::cells::{Cells, HEIGHT};
+use crate::row::value_at;
+use crate::row_copy::RowCopy;
 use std::alloc::{AllocError, Global};
 use std::marker::Model;
 use std::ops::Range;
@@ -20,32 +23,38 @@ pub type Cell = (u64, u64);
 /// A sparse matrix of 64-bit words: its two sizes, and at most one value at each position.
 ///
 /// It is kept as compressed rows: where each row starts, and behind the last row where it ends, and the
-/// cells of all rows. So it takes 16 bytes an entry and 8 a row.
+/// cells of all rows. So it takes 16 bytes an entry and 8 a row. The cells stand in one list where they
+/// were read, and in the runs of rows that they were computed in where they are a result.
 #[derive(Drop)]
 pub struct Matrix {
     rows: u64,
     columns: u64,
+    entries: u64,
     starts: Vec<u64>,
-    cells: Vec<Cell>,
+    cells: Cells,
 }
 
 impl Model for Matrix {
     ghost use Rattle.csr_store.specs.Grid.{Grid, grid_code, IsGrid};
     ghost use Rattle.csr_store.specs.ByRows.{grid, by_rows, ends_of};
+    ghost use Rattle.std.specs.Prelude.{◌≡◌, length};
     ghost use Rattle.csr_store.specs.inner.ByRows.{AreStarts};
+    ghost use Rattle.csr_store.specs.inner.Cells.{AreParts, joined_cells};
 
     ghost Value = { Grid };
 
     ghost coded = { grid_code };
 
-    ghost view = { λ m. grid m.rows m.columns (by_rows (ends_of m.starts.items) m.cells.items) };
+    ghost view = { λ m. grid m.rows m.columns (by_rows (ends_of m.starts.items) (joined_cells m.cells)) };
 
-    ghost invariant = { λ m. IsGrid (grid m.rows m.columns (by_rows (ends_of m.starts.items) m.cells.items))
-        × AreStarts m.rows m.starts.items m.cells.items };
+    ghost invariant = { λ m. IsGrid (grid m.rows m.columns (by_rows (ends_of m.starts.items) (joined_cells m.cells)))
+        × AreStarts m.rows m.starts.items (joined_cells m.cells)
+        × AreParts m.rows m.starts.items m.cells
+        × (m.entries ≡ length (joined_cells m.cells)) };
 }
 
 impl Matrix {
-    /// The matrix of compressed rows.
+    /// The matrix of compressed rows whose cells stand in one list.
     pub(crate) fn from_rows(rows: u64, columns: u64, starts: Vec<u64>, cells: Vec<Cell>) -> Self
         requires is_grid { IsGrid (grid rows columns (by_rows (ends_of starts.items) cells.items)) }
         requires starts { AreStarts rows starts.items cells.items }
@@ -54,8 +63,33 @@ impl Matrix {
         Matrix {
             rows,
             columns,
+            entries: cells.len() as u64,
             starts,
-            cells,
+            cells: Cells::Whole(cells),
+        }
+    }
+
+    /// The matrix of compressed rows of which each 256 have a list of their own.
+    pub(crate) fn from_lists(
+        rows: u64,
+        columns: u64,
+        entries: u64,
+        starts: Vec<u64>,
+        lists: Vec<Vec<Cell>>,
+    ) -> Self
+        requires is_grid { IsGrid (grid rows columns (by_rows (ends_of starts.items) (joined lists.items))) }
+        requires starts { AreStarts rows starts.items (joined lists.items) }
+        requires bases { AreBases starts.items lists.items }
+        requires cover { rows ≤ length lists.items * 256 }
+        requires entries { entries ≡ length (joined lists.items) }
+        ensures { result ≡ grid rows columns (by_rows (ends_of starts.items) (joined lists.items)) }
+    {
+        Matrix {
+            rows,
+            columns,
+            entries,
+            starts,
+            cells: Cells::Runs(lists),
         }
     }
 
@@ -80,7 +114,7 @@ impl Matrix {
         ensures entries { result ≡ fin.len self.now.cells }
         ensures is_grid { IsGrid self.now }
     {
-        self.cells.len() as u64
+        self.entries
     }
 
     /// How many entries stand in the rows before each row, counted from 0, and at last before the end: one
@@ -96,31 +130,57 @@ impl Matrix {
         requires { i < self.now.rows }
         ensures { result.now ≡ row_of self.now i }
     {
-        let i = i as usize;
-        let from = self.starts[i] as usize;
-        let to = self.starts[i + 1] as usize;
-        cells_between(&self.cells, from, to)
+        let run = i / HEIGHT;
+        let before = self.starts[(run * HEIGHT) as usize];
+        let from = self.starts[i as usize];
+        let to = self.starts[i as usize + 1];
+        self.cells.part(run as usize, before, from, to)
     }
 
-    /// Rows of the matrix in a range, copied. Takes their memory first.
-    pub fn copy_rows(&self, alloc: Global, range: Range<u64>) -> Result<Rows, AllocError>
+    /// The cells of the rows from one up to another, where they stand in one list. They do so where these rows are all of
+    /// the same 256, counted from 0.
+    pub fn cells_of(&self, range: Range<u64>) -> Option<&[Cell]>
         requires range { range.start ≤ range.end }
         requires within { range.end ≤ self.now.rows }
-        ensures { IfOk result (λ r. r ≡ record {
-          first = range.start;
-          columns = self.now.columns;
-          ended = along (λ i. row_of self.now i ∷ []) range.start (range.end - range.start);
-          opened = [];
-        }) }
+        ensures cells { IfSome result (λ cs. cs.now ≡ along (row_of self.now) range.start (range.end - range.start)) }
+        ensures near { range.end ≤ range.start / 256 * 256 + 256 → IsSome result }
+    {
+        if range.start == range.end {
+            return Some(&[]);
+        }
+        let run = range.start / HEIGHT;
+        if range.end > run * HEIGHT + HEIGHT && self.cells.are_runs() {
+            return None;
+        }
+        let before = self.starts[(run * HEIGHT) as usize];
+        let from = self.starts[range.start as usize];
+        let to = self.starts[range.end as usize];
+        Some(self.cells.part(run as usize, before, from, to))
+    }
+
+    /// The rows from one up to another, to be copied with other values, where they stand in one list. They do so where these
+    /// rows are all of the same 256, counted from 0. Takes the copy's memory.
+    pub fn copying(
+        &self,
+        alloc: Global,
+        range: Range<u64>,
+    ) -> Result<Option<RowCopy<'_>>, AllocError>
+        requires range { range.start ≤ range.end }
+        requires within { range.end ≤ self.now.rows }
+        ensures rows { IfOk result (λ o. IfSome o (λ c. c ≡ record {
+          run = rows_of self.now range.start (range.end - range.start);
+          written = 0;
+        })) }
+        ensures near { IfOk result (λ o. range.end ≤ range.start / 256 * 256 + 256 → IsSome o) }
     {
         let from = range.start as usize;
         let to = range.end as usize;
-        let base = self.starts[from];
-        let ends = ends_behind(alloc, &self.starts[from + 1..to + 1], base)?;
-        let mut cells = Vec::new(alloc);
-        let copied = cells_between(&self.cells, base as usize, self.starts[to] as usize);
-        append(&mut cells, copied)?;
-        Ok(Rows::of_ends(range.start, self.columns, ends, cells))
+        let Some(source) = self.cells_of(range.start..range.end) else {
+            return Ok(None);
+        };
+        let ends = ends_behind(alloc, &self.starts[from + 1..to + 1], self.starts[from])?;
+        let written = Vec::with_capacity(alloc, source.len())?;
+        Ok(Some(RowCopy::of_ends(range.start, self.columns, ends, written, source)))
     }
 
     /// The value at a position, where it has one.

@@ -1,11 +1,12 @@
 //! Runs of rows.
-ghost use Rattle.std.specs.Prelude.{◌≡◌, ◌⊎◌, ◌<◌, ◌≤◌, ◌+◌, ◌-◌, ◌^◌, ◌++◌, ◌∷◌, [], length, map, ℕ, None, OnOk, OnErr};
+ghost use Rattle.std.specs.Prelude.{◌≡◌, ◌⊎◌, ◌<◌, ◌≤◌, ◌+◌, ◌-◌, ◌^◌, ◌++◌, ◌∷◌, [], length, map, ℕ, None, IfOk, OnOk, OnErr};
 ghost use Rattle.std.specs.List.{AllByRecursion};
-ghost use Rattle.csr_store.specs.Grid.{Cell, row_of};
+ghost use Rattle.csr_store.specs.Grid.{Cell, limit, row_of};
 ghost use Rattle.csr_store.specs.Added.{ComeBehind, kept_where, kept_rows, slot_at};
 ghost use Rattle.csr_store.specs.Along.{along, cell_at};
 ghost use Rattle.csr_store.specs.ByRows.{ends_of};
-ghost use Rattle.csr_store.specs.Valued.{entries_of, with_value, all_cells, valued_from, AreAlike};
+ghost use Rattle.csr_store.specs.Valued.{entries_in, entries_of, with_value, all_cells, valued_from, AreAlike};
+ghost use Rattle.csr_store.specs.inner.Cells.{Stacks, joined};
 ghost use Rattle.csr_store.specs.inner.Run.{AreClosed, AreRows, IsRow, ended_rows, open_row};
 
 use crate::kept::{add_rows_where, add_where};
@@ -259,6 +260,28 @@ impl Rows {
         ensures { self.new ≡ with_value entry value self.old }
     {
         self.cells[entry].1 = value;
+    }
+
+    /// Puts where the rows end behind the starts of others, which have so many entries, and the cells behind theirs, as a
+    /// list of their own. Answers how many entries they have together.
+    pub(crate) fn stack_on(
+        self,
+        entries: u64,
+        starts: &mut Vec<u64>,
+        lists: &mut Vec<Vec<Cell>>,
+    ) -> Result<u64, AllocError>
+        requires closed { AreClosed starts.old.items (joined lists.old.items) }
+        requires none_open { self.opened ≡ [] }
+        requires entries { entries ≡ length (joined lists.old.items) }
+        requires few { entries + entries_in self.ended ≤ limit }
+        ensures stacked { OnOk result (Stacks self starts.old.items lists.old.items starts.new.items lists.new.items) }
+        ensures entries { IfOk result (λ n. n ≡ length (joined lists.new.items)) }
+        ensures rows { AllByRecursion (λ r. IsRow self.columns r) self.ended }
+    {
+        let count = self.cells.len() as u64;
+        push_ends(starts, &self.ends, entries)?;
+        lists.push(self.cells)?;
+        Ok(entries + count)
     }
 
     /// Adds the ended rows behind those of compressed rows.

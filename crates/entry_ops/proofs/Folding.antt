@@ -11,7 +11,7 @@ use Rattle.bpf_run.specs.Calls.{Call, steps_of}
 use Rattle.bpf_run.specs.Fold.{fold, fold_from, fold_calls}
 use Rattle.bpf_run.proofs.Charging.{steps-append}
 use Rattle.bpf_run.proofs.Folds.{fold_from-few}
-use Rattle.entry_ops.specs.Forms.{reduce_at, reduce_calls_at}
+use Rattle.job_forms.specs.Forms.{reduce_at, reduce_calls_at}
 use Rattle.entry_ops.specs.inner.Folding.{
   words,
   Open,

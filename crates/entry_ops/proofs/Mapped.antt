@@ -29,7 +29,7 @@ module _ (f : Accepted) where
 
   -- nothing was added
   pub adds-none : (m : Mapping) (g : Gathered) → IsFurther f [] m g m g
-  adds-none m g = record { kind = refl; alike = alike_same m.rows; place = omega arith; cells = refl; steps = omega arith }
+  adds-none m g = record { kind = refl; alike = alike_same m.rows.run; place = omega arith; cells = refl; steps = omega arith }
 
   -- calls were gathered
   pub adds-gathered : (os : List Operands) (m : Mapping) (was is : Gathered) → is ≡ record was { operands = was.operands ++ os } → IsFurther f os m was m is
@@ -37,37 +37,37 @@ module _ (f : Accepted) where
       let o : is.operands ≡ was.operands ++ os = ap (λ (g : Gathered). g.operands) e in
       record {
         kind = ap (λ (g : Gathered). g.kind) e;
-        alike = alike_same m.rows;
-        place = ap (λ (ps : List Operands). m.done + length ps) o ∙ ap (λ n. m.done + n) (length-append was.operands os);
-        cells = ap (λ ps. valued_from m.done (values_on f ps) (all_cells m.rows)) o
-            ∙ (ap (λ vs. valued_from m.done vs (all_cells m.rows)) (values_on-append f was.operands os)
-            ∙ (valued_from-append m.done (values_on f was.operands) (values_on f os) (all_cells m.rows)
-            ∙ ap (λ n. valued_from (m.done + n) (values_on f os) (settled f m was)) (length_values f was.operands)));
+        alike = alike_same m.rows.run;
+        place = ap (λ (ps : List Operands). m.rows.written + length ps) o ∙ ap (λ n. m.rows.written + n) (length-append was.operands os);
+        cells = ap (λ ps. valued_from m.rows.written (values_on f ps) (all_cells m.rows.run)) o
+            ∙ (ap (λ vs. valued_from m.rows.written vs (all_cells m.rows.run)) (values_on-append f was.operands os)
+            ∙ (valued_from-append m.rows.written (values_on f was.operands) (values_on f os) (all_cells m.rows.run)
+            ∙ ap (λ n. valued_from (m.rows.written + n) (values_on f os) (settled f m was)) (length_values f was.operands)));
         steps = ap (λ ps. m.steps + steps_of (calls_on f ps)) o ∙ ap (λ n. m.steps + n) (steps_on-append was.operands os);
       }
 
   -- those that were gathered were made
-  pub adds-made : (m n : Mapping) (g h : Gathered) → h.kind ≡ g.kind → h.operands ≡ [] → AreAlike m.rows n.rows → n.done ≡ m.done + length g.operands
-      → all_cells n.rows ≡ settled f m g → n.steps ≡ m.steps + steps_of (calls_on f g.operands) → IsFurther f [] m g n h
+  pub adds-made : (m n : Mapping) (g h : Gathered) → h.kind ≡ g.kind → h.operands ≡ [] → AreAlike m.rows.run n.rows.run → n.rows.written ≡ m.rows.written + length g.operands
+      → all_cells n.rows.run ≡ settled f m g → n.steps ≡ m.steps + steps_of (calls_on f g.operands) → IsFurther f [] m g n h
   adds-made m n g h k o a d c s = record {
     kind = k;
     alike = a;
     place = let e = ap (λ (os : List Operands). length os) o in omega (arith, e, d);
-    cells = ap (λ os. valued_from n.done (values_on f os) (all_cells n.rows)) o ∙ c;
+    cells = ap (λ os. valued_from n.rows.written (values_on f os) (all_cells n.rows.run)) o ∙ c;
     steps = let e = ap (λ os. steps_of (calls_on f os)) o in omega (arith, e, s);
   }
 
   pub adds-further : (os ps : List Operands) (a b c : Mapping) (g h k : Gathered) → IsFurther f os a g b h → IsFurther f ps b h c k → IsFurther f (os ++ ps) a g c k
   adds-further os ps a b c g h k x y = record {
     kind = y.kind ∙ x.kind;
-    alike = alike_then a.rows b.rows c.rows x.alike y.alike;
+    alike = alike_then a.rows.run b.rows.run c.rows.run x.alike y.alike;
     place = let p = x.place in let q = y.place in omega (arith, p, q, length-append os ps);
     cells = y.cells
-        ∙ (ap (λ n. valued_from n (values_on f ps) (settled f b h)) (x.place ∙ (let z : a.done + (length g.operands + length os) ≡ a.done + length g.operands + length os = omega arith in z))
-        ∙ (ap (valued_from (a.done + length g.operands + length os) (values_on f ps)) x.cells
-        ∙ (ap (λ n. valued_from (a.done + length g.operands + n) (values_on f ps) (valued_from (a.done + length g.operands) (values_on f os) (settled f a g))) (sym (length_values f os))
-        ∙ (sym (valued_from-append (a.done + length g.operands) (values_on f os) (values_on f ps) (settled f a g))
-        ∙ ap (λ vs. valued_from (a.done + length g.operands) vs (settled f a g)) (sym (values_on-append f os ps))))));
+        ∙ (ap (λ n. valued_from n (values_on f ps) (settled f b h)) (x.place ∙ (let z : a.rows.written + (length g.operands + length os) ≡ a.rows.written + length g.operands + length os = omega arith in z))
+        ∙ (ap (valued_from (a.rows.written + length g.operands + length os) (values_on f ps)) x.cells
+        ∙ (ap (λ n. valued_from (a.rows.written + length g.operands + n) (values_on f ps) (valued_from (a.rows.written + length g.operands) (values_on f os) (settled f a g))) (sym (length_values f os))
+        ∙ (sym (valued_from-append (a.rows.written + length g.operands) (values_on f os) (values_on f ps) (settled f a g))
+        ∙ ap (λ vs. valued_from (a.rows.written + length g.operands) vs (settled f a g)) (sym (values_on-append f os ps))))));
     steps = let p = x.steps in let q = y.steps in omega (arith, p, q, steps_on-append os ps);
   }
 
@@ -90,7 +90,7 @@ module _ (f : Accepted) where
       let s : steps_of (calls_on f left) ≡ steps_of (calls_on f first) + steps_of (calls_on f rest) = ap (λ os. steps_of (calls_on f os)) p ∙ steps_on-append first rest in
       record {
         kind = a.kind ∙ i.kind;
-        entries = let e = i.entries in let l = a.place in let k = alike_entries now.rows m.rows a.alike in omega (arith, e, l, k, n);
+        entries = let e = i.entries in let l = a.place in let k = alike_entries now.rows.run m.rows.run a.alike in omega (arith, e, l, k, n);
         room = let r = i.room in let t = a.steps in omega (arith, r, t, s);
         ends = λ q k b. i.ends q k (subst (λ os. IsFurther f os now g q k) (sym p) (adds-further first rest now m q g h k a b));
       }
@@ -141,30 +141,30 @@ module _ (f : Accepted) (all : List Operands) (old : Mapping) (was : Gathered) (
 -- ---- all words, some at a time: the words of the next cells are gathered, and called
 
 module _ (f : Accepted) (all : List Operands) (old : Mapping) (was : Gathered) (now : Mapping) (g h : Gathered) (to : ℕ) (cells : List Cell)
-    (i : IsMapping f all old was (words_of (drop now.done (all_cells now.rows))) now g) (none : g.operands ≡ []) (e : now.done ≤ to) (l : to ≤ entries_in_run now.rows)
-    (c : cells ≡ take (to - now.done) (drop now.done (all_cells now.rows))) (gathered : h ≡ record g { operands = g.operands ++ words_of cells }) where
-  pub words-count : length h.operands ≡ to - now.done
+    (i : IsMapping f all old was (words_of (drop now.rows.written (all_cells now.rows.run))) now g) (none : g.operands ≡ []) (e : now.rows.written ≤ to) (l : to ≤ entries_in_run now.rows.run)
+    (c : cells ≡ take (to - now.rows.written) (drop now.rows.written (all_cells now.rows.run))) (gathered : h ≡ record g { operands = g.operands ++ words_of cells }) where
+  pub words-count : length h.operands ≡ to - now.rows.written
   words-count =
       ap (λ (x : Gathered). length x.operands) gathered ∙ (ap (λ (os : List Operands). length (os ++ words_of cells)) none
       ∙ (length_words cells ∙ (ap (λ (cs : List Cell). length cs) c
-      ∙ length-take-le (to - now.done) (drop now.done (all_cells now.rows)) (omega (arith, entries_are now.rows, length-drop now.done (all_cells now.rows), e, l)))))
+      ∙ length-take-le (to - now.rows.written) (drop now.rows.written (all_cells now.rows.run)) (omega (arith, entries_are now.rows.run, length-drop now.rows.written (all_cells now.rows.run), e, l)))))
 
-  pub words-gathered : IsMapping f all old was (words_of (drop to (all_cells now.rows))) now h
+  pub words-gathered : IsMapping f all old was (words_of (drop to (all_cells now.rows.run))) now h
   words-gathered =
-      let rest : drop to (all_cells now.rows) ≡ drop (to - now.done) (drop now.done (all_cells now.rows)) =
-      ap (λ q. drop q (all_cells now.rows)) (let z : to ≡ now.done + (to - now.done) = omega arith in z) ∙ sym (drop-drop (to - now.done) now.done (all_cells now.rows)) in
-      let p : words_of (drop now.done (all_cells now.rows)) ≡ words_of cells ++ words_of (drop to (all_cells now.rows)) =
-      ap words_of (parts (to - now.done) (drop now.done (all_cells now.rows)) cells (drop to (all_cells now.rows)) c rest) ∙ words_of-append cells (drop to (all_cells now.rows)) in
-      mapping-step f all old was _ (words_of cells) (words_of (drop to (all_cells now.rows))) now now g h i p (adds-gathered f (words_of cells) now g h gathered)
+      let rest : drop to (all_cells now.rows.run) ≡ drop (to - now.rows.written) (drop now.rows.written (all_cells now.rows.run)) =
+      ap (λ q. drop q (all_cells now.rows.run)) (let z : to ≡ now.rows.written + (to - now.rows.written) = omega arith in z) ∙ sym (drop-drop (to - now.rows.written) now.rows.written (all_cells now.rows.run)) in
+      let p : words_of (drop now.rows.written (all_cells now.rows.run)) ≡ words_of cells ++ words_of (drop to (all_cells now.rows.run)) =
+      ap words_of (parts (to - now.rows.written) (drop now.rows.written (all_cells now.rows.run)) cells (drop to (all_cells now.rows.run)) c rest) ∙ words_of-append cells (drop to (all_cells now.rows.run)) in
+      mapping-step f all old was _ (words_of cells) (words_of (drop to (all_cells now.rows.run))) now now g h i p (adds-gathered f (words_of cells) now g h gathered)
 
-  pub words-made : (m : Mapping) (k : Gathered) → k.kind ≡ h.kind → k.operands ≡ [] → AreAlike now.rows m.rows → m.done ≡ now.done + length h.operands
-      → all_cells m.rows ≡ valued_from now.done (values_on f h.operands) (all_cells now.rows) → m.steps ≡ now.steps + steps_of (calls_on f h.operands)
-      → IsMapping f all old was (words_of (drop m.done (all_cells m.rows))) m k
+  pub words-made : (m : Mapping) (k : Gathered) → k.kind ≡ h.kind → k.operands ≡ [] → AreAlike now.rows.run m.rows.run → m.rows.written ≡ now.rows.written + length h.operands
+      → all_cells m.rows.run ≡ valued_from now.rows.written (values_on f h.operands) (all_cells now.rows.run) → m.steps ≡ now.steps + steps_of (calls_on f h.operands)
+      → IsMapping f all old was (words_of (drop m.rows.written (all_cells m.rows.run))) m k
   words-made m k kind made alike done values steps =
-      let at : m.done ≡ to = let n = words-count in omega (arith, done, n, e) in
-      let rest : drop to (all_cells now.rows) ≡ drop m.done (all_cells m.rows) =
-      ap (λ q. drop q (all_cells now.rows)) (sym at)
-      ∙ (sym (valued_behind now.done m.done (values_on f h.operands) (all_cells now.rows) (omega (arith, length_values f h.operands, done)))
-      ∙ ap (drop m.done) (sym values)) in
+      let at : m.rows.written ≡ to = let n = words-count in omega (arith, done, n, e) in
+      let rest : drop to (all_cells now.rows.run) ≡ drop m.rows.written (all_cells m.rows.run) =
+      ap (λ q. drop q (all_cells now.rows.run)) (sym at)
+      ∙ (sym (valued_behind now.rows.written m.rows.written (values_on f h.operands) (all_cells now.rows.run) (omega (arith, length_values f h.operands, done)))
+      ∙ ap (drop m.rows.written) (sym values)) in
       subst (λ cs. IsMapping f all old was (words_of cs) m k) rest
-      (mapping-step f all old was _ [] (words_of (drop to (all_cells now.rows))) now m h k words-gathered refl (adds-made f now m h k kind made alike done values steps))
+      (mapping-step f all old was _ [] (words_of (drop to (all_cells now.rows.run))) now m h k words-gathered refl (adds-made f now m h k kind made alike done values steps))

@@ -9,9 +9,7 @@ use Rattle.csr_store.specs.Mask.{passes, cut, cut_list, row_under, rows_under, l
 use Rattle.csr_store.proofs.ByRow.{lookup-row_of}
 use Rattle.csr_store.proofs.Along.{along-same}
 use Rattle.bpf_run.specs.Calls.{Call}
-use Rattle.entry_ops.specs.declared.form.Form.{Form}
-use Rattle.entry_ops.specs.declared.form.Form.TheVariants.{Apply, Select, Union, Both}
-use Rattle.entry_ops.specs.Forms.{
+use Rattle.job_forms.specs.Forms.{
   applied,
   apply_calls,
   apply_at,
@@ -26,6 +24,8 @@ use Rattle.entry_ops.specs.Forms.{
   both_at,
   joint_calls_at,
 }
+use Rattle.entry_ops.specs.declared.form.Form.{Form}
+use Rattle.entry_ops.specs.declared.form.Form.TheVariants.{Apply, Select, Union, Both}
 use Rattle.entry_ops.specs.inner.Walking.{
   form_at,
   form_calls,

@@ -10,7 +10,7 @@ use Rattle.csr_store.specs.Mask.{passes, cut_list, row_under, rows_under, listed
 use Rattle.csr_store.proofs.Along.{along-split, along-over, length-row_of, Fills, fills-start, fills-end}
 use Rattle.bpf_run.specs.Calls.{Call, steps_of, Charges}
 use Rattle.bpf_run.proofs.Charging.{Spends, spends-start, spends-step, spends-none, spends-end, spends-room}
-use Rattle.entry_ops.specs.Forms.{reduce_at, reduce_calls_at, row_words}
+use Rattle.job_forms.specs.Forms.{reduce_at, reduce_calls_at, row_words}
 use Rattle.entry_ops.specs.inner.Folding.{AreResults}
 use Rattle.entry_ops.proofs.Bounds.{steps-along}
 use Rattle.entry_ops.proofs.Folding.{fold-few, rows-are}

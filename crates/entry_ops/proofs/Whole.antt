@@ -7,15 +7,15 @@ use Rattle.csr_store.specs.Along.{along, cell_at}
 use Rattle.csr_store.specs.Ascending.{Ascends}
 use Rattle.csr_store.specs.Run.{Row, Run}
 use Rattle.csr_store.specs.Added.{with_values}
-use Rattle.csr_store.specs.Valued.{entries_of as entries_in_run, cells_in, all_cells, valued, valued_from, AreAlike}
+use Rattle.csr_store.specs.Valued.{entries_of as entries_in_run, rows_of, cells_in, all_cells, valued, valued_from, AreAlike}
 use Rattle.csr_store.proofs.Along.{row_of-ascends, along-none}
 use Rattle.csr_store.proofs.Valuing.{alike_then, alike_equal, alike_entries, entries_are}
 use Rattle.bpf_run.specs.Calls.{Call, Gathered, Charges, calls_on, values_on, steps_of, words_of}
-use Rattle.bpf_run.proofs.Charging.{values_on-append, calls_on-append, charges-none}
+use Rattle.bpf_run.proofs.Charging.{values_on-append, calls_on-append}
 use Rattle.entry_ops.specs.declared.form.Form.TheVariants.{Apply}
 use Rattle.entry_ops.specs.declared.mapping.Mapping.{Mapping}
-use Rattle.entry_ops.specs.Forms.{apply_kind}
-use Rattle.entry_ops.specs.inner.Mapped.{copied, row_operands, range_operands, settled, HasEntries, IsFurther}
+use Rattle.job_forms.specs.Forms.{apply_kind}
+use Rattle.entry_ops.specs.inner.Mapped.{row_operands, range_operands, settled, HasEntries, IsFurther}
 use Rattle.entry_ops.specs.inner.Walking.{
   kind_for,
   form_at,
@@ -113,8 +113,8 @@ module _ (a : Grid) where
       let l = length-operands thunk first (row_of a first) in let r = range-count thunk (suc first) n in
       omega (arith, l, r, length-append (row_operands thunk first (row_of a first)) (range_operands thunk a (suc first) n), length-append (row_of a first) (cells (suc first) n))
 
-  pub copied-entries : (thunk : Option ℕ) (first n : ℕ) → length (range_operands thunk a first n) ≡ entries_in_run (copied a first n)
-  copied-entries thunk first n = range-count thunk first n ∙ (ap (λ (cs : Row). length cs) (sym (append-nil (cells first n))) ∙ sym (entries_are (copied a first n)))
+  pub copied-entries : (thunk : Option ℕ) (first n : ℕ) → length (range_operands thunk a first n) ≡ entries_in_run (rows_of a first n)
+  copied-entries thunk first n = range-count thunk first n ∙ (ap (λ (cs : Row). length cs) (sym (append-nil (cells first n))) ∙ sym (entries_are (rows_of a first n)))
 
 module _ (f : Accepted) (a : Grid) (g : IsGrid a) where
   row-is : (thunk : Option ℕ) (i : ℕ) → form_row (Apply thunk) f a None None i ≡ with_values (row_of a i) (values_on f (row_operands thunk i (row_of a i)))
@@ -151,19 +151,19 @@ module _ (f : Accepted) (a : Grid) (g : IsGrid a) where
       ∙ ap (with_values (cells a first (suc n))) (sym (values_on-append f (row_operands thunk first (row_of a first)) (range_operands thunk a (suc first) n)))))
 
   -- the copied rows, when all their entries have got their values
-  pub whole-rows : (thunk : Option ℕ) (first n : ℕ) (r : Run) → AreAlike (copied a first n) r
-      → all_cells r ≡ valued_from 0 (values_on f (range_operands thunk a first n)) (all_cells (copied a first n))
+  pub whole-rows : (thunk : Option ℕ) (first n : ℕ) (r : Run) → AreAlike (rows_of a first n) r
+      → all_cells r ≡ valued_from 0 (values_on f (range_operands thunk a first n)) (all_cells (rows_of a first n))
       → r ≡ record { first = first; columns = a.columns; ended = form_rows (Apply thunk) f a None None first n; opened = [] }
   whole-rows thunk first n r h c =
       alike_equal r _
-      (alike_then r (copied a first n) _ (record { first = sym h.first; columns = sym h.columns; ended = sym h.ended; opened = sym h.opened })
+      (alike_then r (rows_of a first n) _ (record { first = sym h.first; columns = sym h.columns; ended = sym h.ended; opened = sym h.opened })
       (record { first = refl; columns = refl; ended = range-lengths thunk first n; opened = refl }))
       (c ∙ (ap (valued_from 0 (values_on f (range_operands thunk a first n))) (append-nil (cells a first n))
       ∙ (given-all (values_on f (range_operands thunk a first n)) (cells a first n)
       (length_values f (range_operands thunk a first n) ∙ range-count a thunk first n)
       ∙ (sym (range-cells thunk first n) ∙ sym (append-nil (cells_in (form_rows (Apply thunk) f a None None first n)))))))
 
-pub copied-words : (a : Grid) (first n : ℕ) → words_of (all_cells (copied a first n)) ≡ range_operands None a first n
+pub copied-words : (a : Grid) (first n : ℕ) → words_of (all_cells (rows_of a first n)) ≡ range_operands None a first n
 copied-words a first n = ap words_of (append-nil (cells_in (along (λ i. row_of a i ∷ []) first n))) ∙ joined first n
   where
     joined : (first n : ℕ) → words_of (cells_in (along (λ i. row_of a i ∷ []) first n)) ≡ range_operands None a first n
@@ -187,13 +187,13 @@ module _ (f p : Accepted) (a : Grid) (g : IsGrid a) (thunk : Option ℕ) (first 
   pub whole-room : 0 + steps_of (calls_on f (range_operands thunk a first n)) < 2 ^ 64
   whole-room = let w = whole-few in omega (arith, w)
 
-  module _ (m o : Mapping) (was now : Gathered) (begun : m.rows ≡ copied a first n) (none_done : m.done ≡ 0) (none_made : m.steps ≡ 0) (none : was.operands ≡ [])
+  module _ (m o : Mapping) (was now : Gathered) (begun : m.rows.run ≡ rows_of a first n) (none_done : m.rows.written ≡ 0) (none_made : m.steps ≡ 0) (none : was.operands ≡ [])
       (added : IsFurther f (range_operands thunk a first n) m was o now) where
     pub added-entries : HasEntries o now 0
     added-entries =
         let e = copied-entries a thunk first n in
         let r = ap (λ (q : Run). entries_in_run q) begun in
-        let k = alike_entries m.rows o.rows added.alike in
+        let k = alike_entries m.rows.run o.rows.run added.alike in
         let z = ap (λ (os : List Operands). length os) none in
         let q = added.place in
         omega (arith, e, r, k, z, q, none_done)
@@ -203,23 +203,29 @@ module _ (f p : Accepted) (a : Grid) (g : IsGrid a) (thunk : Option ℕ) (first 
         let w = whole-few in let s = added.steps in let z = ap (λ os. steps_of (calls_on f os)) none in
         omega (arith, w, s, z, none_made)
 
-    pub made-rows : (r : Run) → AreAlike o.rows r → all_cells r ≡ settled f o now
+    -- all entries were written
+    pub made-all : (written : ℕ) (r : Run) → AreAlike o.rows.run r → written ≡ o.rows.written + length now.operands → written ≡ entries_in_run r
+    made-all written r h w =
+        let e = copied-entries a thunk first n in
+        let b = ap (λ (q : Run). entries_in_run q) begun in
+        let k = alike_entries m.rows.run o.rows.run added.alike in
+        let l = alike_entries o.rows.run r h in
+        let z = ap (λ (os : List Operands). length os) none in
+        let q = added.place in
+        omega (arith, e, b, k, l, z, q, none_done, w)
+
+    pub made-rows : (r : Run) → AreAlike o.rows.run r → all_cells r ≡ settled f o now
         → r ≡ record { first = first; columns = a.columns; ended = form_rows (Apply thunk) f a None None first n; opened = [] }
     made-rows r h c =
-        let z : m.done + length was.operands ≡ 0 = let e = ap (λ (os : List Operands). length os) none in omega (arith, e, none_done) in
-        whole-rows f a g thunk first n r (subst (λ (q : Run). AreAlike q r) begun (alike_then m.rows o.rows r added.alike h))
+        let z : m.rows.written + length was.operands ≡ 0 = let e = ap (λ (os : List Operands). length os) none in omega (arith, e, none_done) in
+        whole-rows f a g thunk first n r (subst (λ (q : Run). AreAlike q r) begun (alike_then m.rows.run o.rows.run r added.alike h))
         (c ∙ (added.cells
         ∙ (ap (λ k. valued_from k (values_on f (range_operands thunk a first n)) (settled f m was)) z
         ∙ ap (valued_from 0 (values_on f (range_operands thunk a first n)))
-        (ap (λ os. valued_from m.done (values_on f os) (all_cells m.rows)) none ∙ ap all_cells begun))))
+        (ap (λ os. valued_from m.rows.written (values_on f os) (all_cells m.rows.run)) none ∙ ap all_cells begun))))
 
     pub made-steps : (steps : ℕ) → steps ≡ o.steps + steps_of (calls_on f now.operands) → steps ≡ steps_of (form_all_calls (Apply thunk) f a None None first n)
     made-steps steps h =
         let s = added.steps in let z = ap (λ os. steps_of (calls_on f os)) none in
         let e = ap steps_of (range-calls f a g thunk first n) in
         omega (arith, h, s, z, none_made, e)
-
--- no call was made, so some of the calls were: none
-pub none-spent : {X E : Type 0} (r : Result X E) (cs : List Call) (steps : ℕ) → OnErr r (steps ≡ 0) → OnErr r (Charges cs 0 steps)
-none-spent (Ok x) cs steps h = tt
-none-spent (Err e) cs steps h = subst (Charges cs 0) (sym h) (charges-none cs 0)

@@ -6,7 +6,7 @@ ghost use Rattle.csr_store.specs.Along.{cell_at};
 ghost use Rattle.csr_store.specs.Grid.{row_of};
 ghost use Rattle.csr_store.specs.Mask.{all_listed_under, mask_of, passes};
 ghost use Rattle.bpf_run.specs.Calls.{steps_of};
-ghost use Rattle.entry_ops.specs.Forms.{reduce_calls_at};
+ghost use Rattle.job_forms.specs.Forms.{reduce_calls_at};
 ghost use Rattle.entry_ops.specs.inner.Folding.{due, Goes, Begins, IsFolding, AreResults};
 
 use crate::lanes::{Lanes, OpenRow};

@@ -2,7 +2,7 @@
 ghost use Rattle.std.specs.Prelude.{◌≡◌, ◌<◌, ◌+◌, ◌^◌, OnOk, OnErr, true};
 ghost use Rattle.bpf_run.specs.Calls.{calls_on, steps_of, Charges};
 ghost use Rattle.csr_store.specs.Along.{cell_at};
-ghost use Rattle.entry_ops.specs.Forms.{operands_at};
+ghost use Rattle.job_forms.specs.Forms.{operands_at};
 ghost use Rattle.entry_ops.specs.inner.Standing.{CanPush, with_cells};
 ghost use Rattle.entry_ops.specs.inner.Placing.{final, Holds, Does};
 ghost use Rattle.entry_ops.specs.inner.Walking.{kind_for, of_values, form_at, form_calls};

@@ -3,20 +3,20 @@
 //! [`apply_rows`], [`select_rows`], [`union_rows`], [`both_rows`] and [`reduce_rows`] each make the rows of a
 //! range of a result. The one contract: the rows are the definition's, position by position, and the steps are
 //! the sum of the costs of the definition's calls of that range; on want of memory, of some of them, each taken
-//! at most once (`specs/Forms.antt`, under the masks of csr_store). In which order the calls are made is nobody's
+//! at most once (`Forms` of job_forms, under the masks of csr_store). In which order the calls are made is nobody's
 //! promise: they are gathered across the rows of the range, made together, and their values then put in place.
 //!
-//! Read `specs/Forms.antt` first, then `apply`, `union` and `reduce`, the public calls. Below them `line` has the
+//! Read `Forms` of job_forms first, then `apply`, `union` and `reduce`, the public calls. Below them `line` has the
 //! rows that are read for a row of the result, and there are four ways to fill a range. `mapping` is apply without a
-//! mask: rows are copied, and their entries get the values of calls, over `specs/Mapped.antt`. `rows` fills that of a
+//! mask: rows are copied, and their entries get the values of calls, over `specs/inner/Mapped.antt`. `rows` fills that of a
 //! form whose cells are copies and values of calls: `joint` reads two rows side by side, `masked` walks the row of a
 //! mask, beside which `ahead` keeps what is left of other rows, `form` says what a form makes of a position, and
-//! `emitter` adds each cell at once and puts the values of gathered calls in their places, over `specs/Placing.antt`.
+//! `emitter` adds each cell at once and puts the values of gathered calls in their places, over `specs/inner/Placing.antt`.
 //! `keeping` is select without a mask: a run of cells is called, and those of them that are kept are copied, over
-//! `specs/Keeping.antt`. `select` fills the rows of a selection under a mask, by `sieve`, whose last cells wait for the
-//! answers of gathered calls, over `specs/Sifting.antt`. `specs/Walking.antt` has what a row is, and
-//! `specs/Standing.antt` what is added to rows while calls wait. Apart from these stands `folds`, which folds rows for a
-//! reduction, many at once, in the lanes of `lanes`, over `specs/Folding.antt`.
+//! `specs/inner/Keeping.antt`. `select` fills the rows of a selection under a mask, by `sieve`, whose last cells wait for the
+//! answers of gathered calls, over `specs/inner/Sifting.antt`. `specs/inner/Walking.antt` has what a row is, and
+//! `specs/inner/Standing.antt` what is added to rows while calls wait. Apart from these stands `folds`, which folds rows for a
+//! reduction, many at once, in the lanes of `lanes`, over `specs/inner/Folding.antt`.
 #![tactic(auto)]
 
 mod ahead;

@@ -1,50 +1,47 @@
-//! Apply without a mask: rows are copied, and their entries get the values of calls, 64 at a time, whichever row they stand in.
-ghost use Rattle.std.specs.Prelude.{◌≡◌, ◌<◌, ◌≤◌, ◌+◌, ◌-◌, ◌^◌, [], None, length, slice_range, IfOk, OnOk, OnErr};
+//! Apply without a mask: rows are copied with the values of calls, 64 at a time, whichever row their entries stand in.
+ghost use Rattle.std.specs.Prelude.{◌≡◌, ◌<◌, ◌≤◌, ◌+◌, ◌-◌, ◌^◌, [], None, length, IfOk, OnOk, OnErr};
 ghost use Rattle.bpf_insn.specs.declared.operands.Kind.TheVariants as kinds;
-ghost use Rattle.bpf_run.specs.Calls.{calls_on, values_on, steps_of, words_of, entries_of};
+ghost use Rattle.bpf_run.specs.Calls.{calls_on, values_on, steps_of, words_of, entries_of, Charges};
 ghost use Rattle.csr_store.specs.Along.{along};
 ghost use Rattle.csr_store.specs.Grid.{row_of};
-ghost use Rattle.csr_store.specs.Valued.{all_cells, valued_from, AreAlike};
+ghost use Rattle.csr_store.specs.Valued.{all_cells, rows_of, valued_from, AreAlike};
 ghost use Rattle.entry_ops.specs.declared.form.Form.TheVariants as forms;
-ghost use Rattle.entry_ops.specs.Forms.{apply_kind};
-ghost use Rattle.entry_ops.specs.inner.Mapped.{copied, range_operands, HasEntries, IsFurther};
+ghost use Rattle.job_forms.specs.Forms.{apply_kind};
+ghost use Rattle.entry_ops.specs.inner.Mapped.{range_operands, HasEntries, IsFurther};
 ghost use Rattle.entry_ops.specs.inner.Walking.{form_rows, form_all_calls};
 
-use crate::line::Cell;
+use crate::form::Form;
+use crate::line::{Cell, Sources};
+use crate::rows::fill_chunk;
 use bpf_run::{Calls, MOST_CALLS, Prepared};
-use csr_store::{Chunk, Matrix, Rows};
+use csr_store::{Chunk, Matrix, RowCopy};
 use std::alloc::Global;
 use std::ops::Range;
 
-/// Rows whose entries get the values of calls, in their order.
+/// Rows that are copied with the values of calls, in the order of their entries.
 #[derive(Drop)]
-pub struct Mapping {
-    rows: Rows,
-    /// How many entries have their values.
-    done: usize,
-    /// The steps of the calls that were made for them.
+pub struct Mapping<'m> {
+    rows: RowCopy<'m>,
+    /// The steps of the calls that were made for the entries that were written.
     steps: u64,
 }
 
-impl Mapping {
-    /// Makes the calls that were gathered, and gives their values to the next entries.
+impl Mapping<'_> {
+    /// Makes the calls that were gathered, and writes the next entries with their values.
     fn make(&mut self, operator: &Prepared, calls: &mut Calls)
         requires kind { calls.old.kind ≡ operator.now.kind }
         requires entries { HasEntries self.old calls.old 0 }
         requires room { self.old.steps + steps_of (calls_on operator.now calls.old.operands) < 2 ^ 64 }
         ensures kind { calls.new.kind ≡ calls.old.kind }
         ensures none { calls.new.operands ≡ [] }
-        ensures alike { AreAlike self.old.rows self.new.rows }
-        ensures done { self.new.done ≡ self.old.done + length calls.old.operands }
-        ensures cells { all_cells self.new.rows
-            ≡ valued_from self.old.done (values_on operator.now calls.old.operands) (all_cells self.old.rows) }
+        ensures alike { AreAlike self.old.rows.run self.new.rows.run }
+        ensures done { self.new.rows.written ≡ self.old.rows.written + length calls.old.operands }
+        ensures cells { all_cells self.new.rows.run
+            ≡ valued_from self.old.rows.written (values_on operator.now calls.old.operands) (all_cells self.old.rows.run) }
         ensures steps { self.new.steps ≡ self.old.steps + steps_of (calls_on operator.now calls.old.operands) }
     {
-        let waiting = calls.len();
-        let _ = self.rows.entries();
         self.steps += calls.make(operator);
-        self.rows.set_values(self.done, calls.values());
-        self.done += waiting;
+        self.rows.write_values(calls.values());
     }
 
     /// Makes the calls that were gathered where no further one fits in.
@@ -66,14 +63,14 @@ impl Mapping {
         requires kind { operator.now.kind ≡ kinds.Unary }
         requires begun { calls.old.kind ≡ kinds.Unary }
         requires none { calls.old.operands ≡ [] }
-        requires first { self.old.done ≡ 0 }
-        requires room { self.old.steps + steps_of (calls_on operator.now (words_of (all_cells self.old.rows))) < 2 ^ 64 }
-        ensures { IsFurther operator.now (words_of (all_cells self.old.rows)) self.old calls.old self.new calls.new }
+        requires first { self.old.rows.written ≡ 0 }
+        requires room { self.old.steps + steps_of (calls_on operator.now (words_of (all_cells self.old.rows.run))) < 2 ^ 64 }
+        ensures { IsFurther operator.now (words_of (all_cells self.old.rows.run)) self.old calls.old self.new calls.new }
     {
         let entries = self.rows.entries();
-        while self.done < entries {
-            let next = self.done + (entries - self.done).min(MOST_CALLS);
-            calls.gather_words(between(self.rows.cells(), self.done, next));
+        while self.rows.written() < entries {
+            let many = (entries - self.rows.written()).min(MOST_CALLS);
+            calls.gather_words(self.rows.next_cells(many));
             self.make(operator, calls);
         }
     }
@@ -155,7 +152,7 @@ impl Mapping {
         }
     }
 
-    /// Adds the calls of a range of rows, whose cells were copied.
+    /// Adds the calls of a range of rows, which are being copied.
     fn add_all(
         &mut self,
         operator: &Prepared,
@@ -169,8 +166,8 @@ impl Mapping {
         requires none { calls.old.operands ≡ [] }
         requires range { range.start ≤ range.end }
         requires within { range.end ≤ a.now.rows }
-        requires copied { self.old.rows ≡ copied a.now range.start (range.end - range.start) }
-        requires first { self.old.done ≡ 0 }
+        requires copied { self.old.rows.run ≡ rows_of a.now range.start (range.end - range.start) }
+        requires first { self.old.rows.written ≡ 0 }
         requires room { self.old.steps + steps_of (calls_on operator.now
             (range_operands thunk a.now range.start (range.end - range.start))) < 2 ^ 64 }
         ensures { IsFurther operator.now (range_operands thunk a.now range.start (range.end - range.start))
@@ -183,18 +180,8 @@ impl Mapping {
     }
 }
 
-/// The cells between two places.
-#[inline(always)]
-fn between(cells: &[Cell], from: usize, to: usize) -> &[Cell]
-    requires order { from ≤ to }
-    requires within { to ≤ length cells.now }
-    ensures { result.now ≡ slice_range cells.now from to }
-{
-    &cells[from..to]
-}
-
-/// The rows of a range of what an operator makes of each word, without a mask. Their memory is taken first, so on want of it
-/// no call was made.
+/// The rows of a range of what an operator makes of each word, without a mask. Where they stand in one list their memory is
+/// taken first, so that on want of it no call was made.
 pub fn map_chunk(
     alloc: Global,
     calls: &mut Calls,
@@ -214,12 +201,21 @@ pub fn map_chunk(
     }) }
     ensures steps { OnOk result.result (result.steps
         ≡ steps_of (form_all_calls (forms.Apply thunk) operator.now a.now None None range.start (range.end - range.start))) }
-    ensures none { OnErr result.result (result.steps ≡ 0) }
+    ensures spent { OnErr result.result (Charges
+        (form_all_calls (forms.Apply thunk) operator.now a.now None None range.start (range.end - range.start)) 0 result.steps) }
 {
     let _ = operator.operator().program();
     let _ = a.columns();
-    let rows = match a.copy_rows(alloc, range.start..range.end) {
-        Ok(rows) => rows,
+    let rows = match a.copying(alloc, range.start..range.end) {
+        Ok(Some(rows)) => rows,
+        Ok(None) => {
+            let sources = Sources {
+                left: a,
+                right: None,
+                mask: None,
+            };
+            return fill_chunk(alloc, calls, Form::Apply(thunk), operator, sources, range);
+        }
         Err(error) => {
             return Chunk {
                 result: Err(error),
@@ -227,16 +223,12 @@ pub fn map_chunk(
             };
         }
     };
-    let mut mapping = Mapping {
-        rows,
-        done: 0,
-        steps: 0,
-    };
+    let mut mapping = Mapping { rows, steps: 0 };
     calls.begin(operator.kind());
     mapping.add_all(operator, calls, a, thunk, range);
     mapping.make(operator, calls);
     Chunk {
-        result: Ok(mapping.rows),
+        result: Ok(mapping.rows.finish()),
         steps: mapping.steps,
     }
 }

@@ -4,7 +4,7 @@ ghost use Rattle.bpf_insn.specs.declared.operands.Kind.TheVariants as kinds;
 ghost use Rattle.bpf_verify.specs.Accepted.{IsAccepted};
 ghost use Rattle.csr_store.specs.Mask.{HasShape, rows_under, all_listed_under, mask_of};
 ghost use Rattle.bpf_run.specs.Calls.{steps_of, Charges};
-ghost use Rattle.entry_ops.specs.Forms.{reduce_at, reduce_calls_at};
+ghost use Rattle.job_forms.specs.Forms.{reduce_at, reduce_calls_at};
 ghost use Rattle.entry_ops.specs.inner.Walking.{with_rows};
 
 use crate::folds::{BLOCK_ROWS, Folds};

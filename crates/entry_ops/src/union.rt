@@ -3,7 +3,7 @@ ghost use Rattle.std.specs.Prelude.{◌≡◌, ◌≤◌, ◌-◌, [], IfOk, OnO
 ghost use Rattle.bpf_insn.specs.declared.operands.Kind.TheVariants as kinds;
 ghost use Rattle.csr_store.specs.Mask.{HasShape, rows_under, all_listed_under, mask_of};
 ghost use Rattle.bpf_run.specs.Calls.{steps_of, Charges};
-ghost use Rattle.entry_ops.specs.Forms.{union_at, both_at, joint_calls_at};
+ghost use Rattle.job_forms.specs.Forms.{union_at, both_at, joint_calls_at};
 
 use crate::form::Form;
 use crate::line::Sources;

@@ -18,8 +18,8 @@ use Rattle.csr_store.specs.Along.{along, summed}
 use Rattle.csr_store.specs.Mask.{passes, row_passes, cut_list, listed_under}
 use Rattle.csr_store.proofs.Along.{each, along-same, along-row_of, along-none}
 use Rattle.csr_store.proofs.ByRow.{lookup-row_of}
-use Rattle.entry_ops.specs.Forms as entry
-use Rattle.row_product.specs.Product.{term, term_calls, terms, mul_calls, mults_of, product_calls_at}
+use Rattle.job_forms.specs.Forms as entry
+use Rattle.job_forms.specs.Product.{term, term_calls, terms, mul_calls, mults_of, product_calls_at}
 use Rattle.job_plan.specs.Job.{Form, Job, Apply, Select, Union, Both, Product, Reduce}
 use Rattle.job_plan.specs.Kept.{IsForm, IsMask}
 use Rattle.job_plan.specs.Forms.{operation, same_shape}

@@ -17,8 +17,8 @@ use Rattle.bpf_run.proofs.Meaning.{has_value}
 use Rattle.csr_store.specs.Grid.{Grid, Position, Cell, row_of}
 use Rattle.csr_store.specs.Along.{along}
 use Rattle.csr_store.specs.Mask.{passes, cut_list}
-use Rattle.entry_ops.specs.Forms as entry
-use Rattle.row_product.specs.Product.{term_calls, terms, mul_calls}
+use Rattle.job_forms.specs.Forms as entry
+use Rattle.job_forms.specs.Product.{term_calls, terms, mul_calls}
 use Rattle.job_plan.specs.Job.{Form, Job, Apply, Select, Union, Both, Product, Reduce}
 use Rattle.job_plan.specs.Kept.{IsForm}
 use Rattle.job_plan.specs.Forms.{operation, same_kind, is_of, kind_with}

@@ -3,7 +3,7 @@ use Rattle.std.specs.Prelude.{ℕ, ◌+◌, ◌-◌, min, if◌then◌else◌, l
 use Rattle.std.specs.FinMap as fin
 use Rattle.csr_store.specs.Grid.{Grid, row_of}
 use Rattle.csr_store.specs.Mask.{row_passes}
-use Rattle.row_product.specs.Product as by_row
+use Rattle.job_forms.specs.Product as by_row
 use Rattle.job_plan.specs.Job.{Form, Apply, Select, Union, Both, Product, Reduce}
 
 -- how many entries row i has

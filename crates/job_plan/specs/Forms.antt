@@ -1,14 +1,14 @@
 -- The six forms of jobs, in one table: GrB_apply, GrB_select, GrB_eWiseAdd (union), GrB_eWiseMult (both), GrB_mxm (product) and
 -- GrB_reduce of a matrix by rows, of the GraphBLAS C API Specification 2.0 ("Operations"). What stands at each position, and which
--- calls are made for it, is said in `Forms` of entry_ops and `Product` of row_product.
+-- calls are made for it, is said in `Forms` and `Product` of job_forms.
 use Rattle.std.specs.Prelude.{ℕ, Bool, true, false, ◌&&◌, nat_eq, List, Option, None, Some}
 use Rattle.bpf_insn.specs.declared.operands.Kind.{Kind}
 use Rattle.bpf_insn.specs.declared.operands.Kind.TheVariants.{Unary, Binary, Index}
 use Rattle.bpf_verify.specs.Accepted.{Accepted}
 use Rattle.csr_store.specs.Grid.{Grid, Position}
 use Rattle.bpf_run.specs.Calls.{Call}
-use Rattle.entry_ops.specs.Forms as entry
-use Rattle.row_product.specs.Product as by_row
+use Rattle.job_forms.specs.Forms as entry
+use Rattle.job_forms.specs.Product as by_row
 use Rattle.job_plan.specs.Job.{Form, Apply, Select, Union, Both, Product, Reduce}
 
 abbrev pub same_kind : Kind → Kind → Bool

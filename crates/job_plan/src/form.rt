@@ -4,7 +4,7 @@ ghost use Rattle.bpf_verify.specs.Accepted.{IsAccepted};
 ghost use Rattle.csr_store.specs.Along.{summed};
 ghost use Rattle.csr_store.specs.Grid.{limit, IsGrid, row_of};
 ghost use Rattle.csr_store.specs.Mask.{mask_of, HasShape};
-ghost use Rattle.row_product.specs.Product.{mults_of};
+ghost use Rattle.job_forms.specs.Product.{mults_of};
 ghost use Rattle.job_plan.specs.Kept.{form_of, IsForm, IsMask};
 ghost use Rattle.job_plan.specs.Forms.{operation, same_kind, is_of, same_shape};
 ghost use Rattle.job_plan.specs.Costing.{costing, count, of_passing, if_passing};
@@ -15,7 +15,7 @@ use crate::rows::{count, count_in, folds, folds_in, lesser};
 use bpf_insn::Kind;
 use bpf_run::Prepared;
 use csr_store::Matrix;
-use row_product::{mult_count, mult_count_in};
+use job_forms::{mult_count, mult_count_in};
 use std::ops::Range;
 
 impl Form {

@@ -13,8 +13,8 @@ use Rattle.csr_store.proofs.Along.{row_by-row_of}
 use Rattle.csr_store.proofs.ByRow.{row_start-zero, row_start-next, row_start-within, lookup-row_of}
 use Rattle.bpf_verify.specs.Accepted.{Accepted}
 use Rattle.bpf_run.specs.Fold.{fold}
-use Rattle.entry_ops.specs.Forms as entry
-use Rattle.row_product.specs.Product as by_row
+use Rattle.job_forms.specs.Forms as entry
+use Rattle.job_forms.specs.Product as by_row
 
 -- ---- how much is listed
 

@@ -6,7 +6,7 @@ use Rattle.csr_store.specs.Grid.{Grid, limit}
 use Rattle.csr_store.specs.Run.{numbered}
 use Rattle.csr_store.specs.Mask.{rows_under}
 use Rattle.csr_store.proofs.Order.{both_true}
-use Rattle.entry_ops.specs.Forms as entry
+use Rattle.job_forms.specs.Forms as entry
 use Rattle.job_plan.specs.declared.error.JobError.TheVariants.{WrongKind, WrongShapes, WrongMask, ResultTooLarge, PriceTooHigh}
 use Rattle.job_plan.specs.Job.{Job, Form, Apply, Select, Union, Both, Product, Reduce}
 use Rattle.job_plan.specs.Forms.{operation}

@@ -7,7 +7,7 @@ use Rattle.std.proofs.lemmas.List.{drop_more, take_more, map-append}
 use Rattle.csr_store.specs.Along.{along, summed}
 use Rattle.csr_store.specs.Grid.{Grid}
 use Rattle.csr_store.specs.ByRows.{grid}
-use Rattle.csr_store.specs.Run.{Run, Follow, all_ended, numbered}
+use Rattle.csr_store.specs.Run.{AreEven, Run, Follow, all_ended, numbered}
 use Rattle.csr_store.proofs.Along.{along-split, along-same}
 use Rattle.bpf_run.specs.Calls.{Call, steps_of, Charges}
 use Rattle.bpf_run.proofs.Charging.{steps-append, charges-le}
@@ -83,6 +83,21 @@ follow_all job =
     let z : min (256 * 0) (row_count job) ≡ 0 = omega arith in
     subst (λ a. Follow (column_count job) a (row_count job) (listed (run_in_job job) (chunks_in job))) z
     (follows job 0 (chunks_in job) (omega arith))
+
+-- 256 rows each, and the last no more
+evens : (job : Job) (k m : ℕ) → k + m ≡ chunk_count (row_count job) → AreEven (along (λ c. run_in_job job c ∷ []) k m)
+evens job k zero e = tt
+evens job k (suc zero) e =
+    let size : length (rows_in job (chunk_first k) (chunk_rows job k)) ≡ chunk_rows job k = ones-length _ (chunk_first k)
+    (chunk_rows job k) in
+    omega (arith, e, size)
+evens job k (suc (suc m)) e =
+    let size : length (rows_in job (chunk_first k) (chunk_rows job k)) ≡ chunk_rows job k = ones-length _ (chunk_first k)
+    (chunk_rows job k) in
+    (omega (arith, e, size), evens job (suc k) (suc m) (omega (arith, e)))
+
+pub even_all : (job : Job) → AreEven (listed (run_in_job job) (chunks_in job))
+even_all job = evens job 0 (chunks_in job) (omega arith)
 
 -- its matrix
 pub joined_matrix : (k : ℕ) (job : Job) (runs : List Run) (rows columns : ℕ) (g : Grid) → Cover k job

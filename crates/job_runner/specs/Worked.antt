@@ -25,4 +25,5 @@ recorded pieces = map (λ (p : Piece). (p.chunk, p.steps)) pieces
 -- how a worker stands in the end: it was told the end; or it failed a chunk, with no more steps than the chunk's
 abbrev pub StandsAfter : List Job → Bool → Stand → Type 0
 StandsAfter jobs false stand = stand ≡ ToldEnd
-StandsAfter jobs true stand = (c : ℕ) × (s : ℕ) × (stand ≡ Failed c s) × (c < chunk_total jobs) × (s ≤ chunk_steps jobs c)
+StandsAfter jobs true stand =
+    (c : ℕ) × (s : ℕ) × (stand ≡ Failed c s) × (c < chunk_total jobs) × (s ≤ chunk_steps jobs c)

@@ -1,4 +1,4 @@
-//! The pieces of a batch, joined to the matrices of its jobs.
+//! The pieces of a batch as the matrices of its jobs.
 ghost use Rattle.std.specs.Prelude.{◌≡◌, ◌<◌, ◌^◌, drop, map, IfOk, OnOk};
 ghost use Rattle.std.specs.Vec.Iter.{into_iter_items};
 ghost use Rattle.csr_store.specs.Along.{summed};
@@ -11,13 +11,14 @@ ghost use Rattle.job_runner.specs.inner.Pieces.{AreAll, BeginsWith, listed, runs
 
 use crate::answer::JobResult;
 use crate::piece::Piece;
-use csr_store::{Rows, join_rows};
+use csr_store::{Rows, stack_runs};
 use job_plan::{Form, Job, Plan, Priced, price};
 use std::alloc::{AllocError, Global};
 use std::sync::Arc;
 use std::vec::IntoIter;
 
-/// What each job of a plan gives, from the pieces of all chunks in order of their numbers. Each job's rows are joined once.
+/// What each job of a plan gives, from the pieces of all chunks in order of their numbers. The cells
+/// stay where the pieces have them.
 pub(crate) fn join_jobs(
     alloc: Global,
     plan: &Plan,
@@ -56,7 +57,7 @@ fn join_job(
     let job = job.job();
     let (rows, columns) = sizes(job);
     let (runs, steps) = gather(alloc, job, (rows + 255) / 256, pieces)?;
-    let version = Arc::new(alloc, join_rows(alloc, rows, columns, runs)?)?;
+    let version = Arc::new(alloc, stack_runs(alloc, rows, columns, runs)?)?;
     Ok(JobResult { version, steps })
 }
 

@@ -15,8 +15,8 @@ abbrev pub unwritten : Option (List ℕ) → SinkState
 unwritten bytes = record { contents = bytes; writes = 0; failures = 0 }
 
 -- a session of at most so many reads, over a reader and a writer that end with it
-abbrev pub Served : {S : Type 0} → (S → Dealing → S → Type 0) → ℕ → S → Option (List ℕ) → Option (List ℕ) → S
-    → Result End ServeFault → Type 0
+abbrev pub Served : {S : Type 0} → (S → Dealing → S → Type 0) → ℕ → S
+    → Option (List ℕ) → Option (List ℕ) → S → Result End ServeFault → Type 0
 Served leads limit old remaining contents new result =
     (source : SourceState) × (sink : SinkState)
     × Outcome leads limit

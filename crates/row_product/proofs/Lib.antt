@@ -1,4 +1,3 @@
-pub mod Counting
 pub mod Adding
 pub mod Gathering
 pub mod Tagging

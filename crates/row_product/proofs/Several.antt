@@ -14,6 +14,7 @@ use Rattle.bpf_run.proofs.Gathering.{with_length}
 use Rattle.bpf_run.proofs.Charging.{steps-append, calls_on-append, values_on-append}
 use Rattle.csr_store.specs.Grid.{Grid, IsGrid, Cell, limit, row_of}
 use Rattle.csr_store.proofs.Along.{Ascends, row_of-ascends}
+use Rattle.job_forms.proofs.Counting.{row_few}
 use Rattle.row_product.specs.declared.tagged.Sum.{Sum}
 use Rattle.row_product.specs.inner.Sums.{slot, added_calls, after, extra, touch, AreTouched, HasRoom}
 use Rattle.row_product.specs.inner.Terms.{
@@ -35,7 +36,6 @@ use Rattle.row_product.specs.inner.Terms.{
   AreBelow,
 }
 use Rattle.row_product.proofs.Adding.{AddingThen, Touching, adding_then_start, adding_then_step, touched_step}
-use Rattle.row_product.proofs.Counting.{row_few}
 use Rattle.row_product.proofs.Gathering.{room_rest}
 use Rattle.row_product.proofs.Waiting.{length_put, length_values, steps_then-are, with_term}
 

@@ -1,9 +1,8 @@
 //! Products of matrices by rows, whole or under a structural mask.
 //!
-//! The one contract is over `specs/Product.antt`: at each position that passes the mask, `add` folded over `mul` of the words
+//! The one contract is over `Product` of job_forms: at each position that passes the mask, `add` folded over `mul` of the words
 //! of A's row and B's column, ascending, starting with the first. [`product_rows`] gives a range of rows with the exact steps
-//! of its calls, and on want of memory the steps of the calls that were made; [`mult_count`] says how many multiplications a
-//! product takes, before any is made.
+//! of its calls, and on want of memory the steps of the calls that were made.
 //!
 //! A row of the result is summed in a [`Scratch`], which a caller keeps from call to call: for each column its sum and whether an
 //! addition to it waits (`tagged`), whether the mask's row allows it, and the columns that are touched. The rows of B that A's row
@@ -19,14 +18,13 @@
 //! they come to when all that wait is made.
 //!
 //! Read `product`, `row` (one row), `sums` (rows of B added to the sums), `terms` (products that wait), `additions` (additions
-//! that wait), `tagged` (what is kept of a column), `emit` (sums into the result), `marks` (the mask's row) and `count`, over
-//! `specs/Sums.antt`, `specs/Terms.antt` and `specs/Emitted.antt`; and `few` (rows of few terms) with `columns` (the columns of
-//! these terms), over `specs/Few.antt`.
+//! that wait), `tagged` (what is kept of a column), `emit` (sums into the result) and `marks` (the mask's row), over
+//! `specs/inner/Sums.antt`, `specs/inner/Terms.antt` and `specs/inner/Emitted.antt`; and `few` (rows of few terms) with `columns`
+//! (the columns of these terms), over `specs/inner/Few.antt`.
 #![tactic(auto)]
 
 mod additions;
 mod columns;
-mod count;
 mod emit;
 mod few;
 mod marks;
@@ -36,5 +34,4 @@ mod sums;
 mod tagged;
 mod terms;
 
-pub use count::{mult_count, mult_count_in};
 pub use product::{Scratch, product_rows};

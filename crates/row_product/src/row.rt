@@ -4,10 +4,9 @@ ghost use Rattle.bpf_insn.specs.declared.operands.Kind.TheVariants as kinds;
 ghost use Rattle.bpf_run.specs.Calls.{steps_of, Charges};
 ghost use Rattle.csr_store.specs.Grid.{limit, row_of};
 ghost use Rattle.csr_store.specs.Mask.{HasShape, mask_of, cut, row_under, listed_under};
-ghost use Rattle.row_product.specs.Product.{product_at, product_calls_at, mults_of};
+ghost use Rattle.job_forms.specs.Product.{product_at, product_calls_at, mults_of};
 ghost use Rattle.row_product.specs.inner.Sums.{slot, sums_of, flag, AreTouched, HasRoom};
 
-use crate::count::{is_open, mults_in_row};
 use crate::emit::{clear, emit_row};
 use crate::marks::{allow, forbid};
 use crate::sums::sum_row;
@@ -15,6 +14,7 @@ use crate::tagged::Sum;
 use crate::terms::Terms;
 use bpf_run::Prepared;
 use csr_store::{Matrix, Rows};
+use job_forms::{is_open, mults_in_row};
 use std::alloc::AllocError;
 
 /// Sums row `i` of the product at the columns that pass the mask.

@@ -5,7 +5,7 @@ ghost use Rattle.bpf_insn.specs.declared.operands.Kind.TheVariants as kinds;
 ghost use Rattle.bpf_run.specs.Calls.{steps_of};
 ghost use Rattle.csr_store.specs.Along.{along};
 ghost use Rattle.csr_store.specs.Grid.{limit, row_of};
-ghost use Rattle.row_product.specs.Product.{mults_of};
+ghost use Rattle.job_forms.specs.Product.{mults_of};
 ghost use Rattle.row_product.specs.inner.Sums.{
   slot,
   sums_of,

@@ -1,7 +1,33 @@
 -- What one command does: from what the session holds, by which calls of the budget and with which reply, to what it then holds
 -- (this project's own).
 -- A relation, since the budget is asked on the way, and since a command may run out of memory where it takes some.
-use Rattle.std.specs.Prelude.{ℕ, ◌≡◌, ◌+◌, ◌-◌, ◌≤◌, ◌⊎◌, min, nat_lt, Bool, true, false, List, [], ◌∷◌, ◌++◌, length, map, codes, Option, None, Some, Result, Ok, Err, MatchBool}
+use Rattle.std.specs.Prelude.{
+  ℕ,
+  ◌≡◌,
+  ◌+◌,
+  ◌-◌,
+  ◌≤◌,
+  ◌⊎◌,
+  min,
+  nat_lt,
+  Bool,
+  true,
+  false,
+  List,
+  [],
+  ◌∷◌,
+  ◌++◌,
+  length,
+  map,
+  codes,
+  Option,
+  None,
+  Some,
+  Result,
+  Ok,
+  Err,
+  MatchBool,
+}
 use Rattle.hex.specs.Hex.{decode_of}
 use Rattle.hex.specs.declared.error.FromHexError.{FromHexError}
 use Rattle.csr_store.specs.Grid.{Grid, IsGrid}
@@ -38,8 +64,35 @@ use Rattle.job_runner.specs.declared.answer.Cause.{Cause}
 use Rattle.job_runner.specs.declared.answer.Cause.TheVariants as cause
 use Rattle.job_runner.specs.Batch as batch
 use Rattle.job_runner.specs.Batch.{AreResultsOf, total_steps}
-use Rattle.command_text.specs.Replies.{JobLine, refusal_text, matrix_text, operator_text, queued_text, run_text, show_text, list_text, budget_text, quit_text}
-use Rattle.command_text.specs.Requests.{Command, Submission, Blank, Matrix, Op, Asm, Dis, Submit, Run, Show, Types, Budget, Quit, Refuse, Break}
+use Rattle.command_text.specs.Replies.{
+  JobLine,
+  refusal_text,
+  matrix_text,
+  operator_text,
+  queued_text,
+  run_text,
+  show_text,
+  list_text,
+  budget_text,
+  quit_text,
+}
+use Rattle.command_text.specs.Requests.{
+  Command,
+  Submission,
+  Blank,
+  Matrix,
+  Op,
+  Asm,
+  Dis,
+  Submit,
+  Run,
+  Show,
+  Types,
+  Budget,
+  Quit,
+  Refuse,
+  Break,
+}
 
 -- A reply and nothing else: no call of the budget, and all is as before.
 abbrev pub Replies : List ℕ → State → List Dealing → List ℕ → State → Type 0
@@ -82,7 +135,8 @@ TakesOperator old name kind code dealings reply new =
     ⊎ ((fault : Fault) × IsCodeFault code fault × Refuses (no.Code fault) old dealings reply new)
 
 -- the body, its gaps dropped, is hexadecimal digits in pairs; or it is refused
-abbrev pub TakesDigits : State → List ℕ → Kind → Result (List ℕ) FromHexError → List Dealing → List ℕ → State → Type 0
+abbrev pub TakesDigits : State → List ℕ → Kind → Result (List ℕ) FromHexError
+    → List Dealing → List ℕ → State → Type 0
 TakesDigits old name kind (Err e) dealings reply new = Refuses (no.Session NotHexadecimal) old dealings reply new
 TakesDigits old name kind (Ok code) dealings reply new = TakesOperator old name kind code dealings reply new
 

@@ -1,5 +1,5 @@
 -- What stands beside specs/ByRows.antt for this crate's own modules and proofs.
-use Rattle.std.specs.Prelude.{◌≡◌, ◌≤◌, ◌+◌, ◌-◌, zero, suc, ℕ, List, [], ◌∷◌, ◌++◌, map, length, true}
+use Rattle.std.specs.Prelude.{◌≡◌, ◌≤◌, ◌+◌, ◌-◌, zero, suc, ℕ, List, [], ◌∷◌, ◌++◌, length, true}
 use Rattle.std.specs.FinMap as fin
 use Rattle.csr_store.specs.Grid.{IsGrid, Cell, pos_cmp}
 use Rattle.csr_store.specs.ByRows.{grid, by_rows, ends_of}
@@ -38,7 +38,3 @@ pub record Starts (old : List ℕ) (end rows : ℕ) (new : List ℕ) : Type 0 wh
   pub closes : Closes old end closed
   pub count : length closed ≡ rows
   pub is : new ≡ 0 ∷ closed
-
--- the columns of a row's cells
-abbrev pub columns_of : List Cell → List ℕ
-columns_of row = map (λ (c : Cell). c.0) row

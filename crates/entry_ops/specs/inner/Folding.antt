@@ -6,7 +6,7 @@ use Rattle.csr_store.specs.Grid.{Grid, Cell}
 use Rattle.csr_store.specs.Mask.{cut, all_listed_under}
 use Rattle.bpf_run.specs.Calls.{Call, steps_of}
 use Rattle.bpf_run.specs.Fold.{fold, fold_from, fold_calls, fold_calls_from}
-use Rattle.entry_ops.specs.Forms.{reduce_at, reduce_calls_at}
+use Rattle.job_forms.specs.Forms.{reduce_at, reduce_calls_at}
 use Rattle.entry_ops.specs.declared.lanes.Lane.{Lane}
 use Rattle.entry_ops.specs.declared.lanes.OpenRow.{OpenRow}
 
@@ -28,7 +28,8 @@ abbrev pub in_columns : List Lane → List ℕ → List ℕ → List Open
 in_columns [] vs ws = []
 in_columns (l ∷ ls) [] ws = []
 in_columns (l ∷ ls) (v ∷ vs) [] = []
-in_columns (l ∷ ls) (v ∷ vs) (w ∷ ws) = record { place = l.place; so_far = v; terms = w ∷ words l.rest.now } ∷ in_columns ls vs ws
+in_columns (l ∷ ls) (v ∷ vs) (w ∷ ws) =
+    record { place = l.place; so_far = v; terms = w ∷ words l.rest.now } ∷ in_columns ls vs ws
 
 -- the same before their next words are taken from their cells
 abbrev pub in_two_columns : List Lane → List ℕ → List Open
@@ -84,7 +85,8 @@ pub record Goes (f : Accepted) (old new : Folding) : Type 0 where
 -- one more row was begun, of these cells
 pub record Begins (f : Accepted) (cells : List Cell) (old new : Folding) : Type 0 where
   pub rows : length new.results ≡ length old.results + 1
-  pub leads : (target : ℕ → Option ℕ) → LeadsTo f target old.lanes old.results → target (length old.results) ≡ fold f (words cells)
+  pub leads : (target : ℕ → Option ℕ) → LeadsTo f target old.lanes old.results
+      → target (length old.results) ≡ fold f (words cells)
       → LeadsTo f target new.lanes new.results
   pub costs : new.steps + due f new.lanes ≡ old.steps + (due f old.lanes + steps_of (fold_calls f (words cells)))
 

@@ -46,7 +46,9 @@ IsKeptAt f a thunk at k = IsKept f a thunk at.row at.end at.left.now k.rows
 -- what is called for the cells that are left of a row and for the rows behind it, before another row
 abbrev pub called_before : Grid → ℕ → ℕ → Row → ℕ → List Operands
 called_before a thunk row left stop =
-    if nat_lt row stop then entries_of row thunk left ++ along (λ i. entries_of i thunk (row_of a i)) (row + 1) (stop - (row + 1)) else []
+    if nat_lt row stop
+    then entries_of row thunk left ++ along (λ i. entries_of i thunk (row_of a i)) (row + 1) (stop - (row + 1))
+    else []
 
 -- As many calls of an operator are gathered as fit in, of those for the cells from one place up to another, or others that give
 -- and cost the same.

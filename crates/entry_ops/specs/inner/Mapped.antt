@@ -4,14 +4,10 @@ use Rattle.bpf_insn.specs.declared.operands.Operands.{Operands}
 use Rattle.bpf_verify.specs.Accepted.{Accepted}
 use Rattle.csr_store.specs.Grid.{Grid, Cell, row_of}
 use Rattle.csr_store.specs.Along.{along}
-use Rattle.csr_store.specs.Run.{Row, Run}
+use Rattle.csr_store.specs.Run.{Row}
 use Rattle.csr_store.specs.Valued.{entries_of as entries_in_run, all_cells, valued_from, AreAlike}
 use Rattle.bpf_run.specs.Calls.{Gathered, calls_on, values_on, steps_of, words_of, entries_of}
 use Rattle.entry_ops.specs.declared.mapping.Mapping.{Mapping}
-
--- the rows from `first` on, n of them, copied
-abbrev pub copied : Grid → ℕ → ℕ → Run
-copied a first n = record { first = first; columns = a.columns; ended = along (λ i. row_of a i ∷ []) first n; opened = [] }
 
 -- what is called for the cells of row i
 abbrev pub row_operands : Option ℕ → ℕ → List Cell → List Operands
@@ -24,18 +20,18 @@ range_operands thunk a first n = along (λ i. row_operands thunk i (row_of a i))
 
 -- the entries as if the gathered calls were made
 abbrev pub settled : Accepted → Mapping → Gathered → Row
-settled f m g = valued_from m.done (values_on f g.operands) (all_cells m.rows)
+settled f m g = valued_from m.rows.written (values_on f g.operands) (all_cells m.rows.run)
 
 -- there are entries for the gathered calls and for some more
 abbrev pub HasEntries : Mapping → Gathered → ℕ → Type 0
-HasEntries m g more = m.done + (length g.operands + more) ≤ entries_in_run m.rows
+HasEntries m g more = m.rows.written + (length g.operands + more) ≤ entries_in_run m.rows.run
 
 -- calls were added, made or not yet, whose values the next entries get
 pub record IsFurther (f : Accepted) (operands : List Operands) (old : Mapping) (was : Gathered) (new : Mapping)
     (is : Gathered) : Type 0 where
   pub kind : is.kind ≡ was.kind
-  pub alike : AreAlike old.rows new.rows
-  pub place : new.done + length is.operands ≡ old.done + (length was.operands + length operands)
-  pub cells : settled f new is ≡ valued_from (old.done + length was.operands) (values_on f operands) (settled f old was)
+  pub alike : AreAlike old.rows.run new.rows.run
+  pub place : new.rows.written + length is.operands ≡ old.rows.written + (length was.operands + length operands)
+  pub cells : settled f new is ≡ valued_from (old.rows.written + length was.operands) (values_on f operands) (settled f old was)
   pub steps : new.steps + steps_of (calls_on f is.operands)
       ≡ old.steps + (steps_of (calls_on f was.operands) + steps_of (calls_on f operands))

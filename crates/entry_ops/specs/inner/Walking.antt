@@ -11,7 +11,7 @@ use Rattle.csr_store.specs.Run.{Row, Run}
 use Rattle.csr_store.specs.Along.{along, cell_at}
 use Rattle.csr_store.specs.Ascending.{Ascends, AscendsIn, at, shows}
 use Rattle.bpf_run.specs.Calls.{Call}
-use Rattle.entry_ops.specs.Forms.{applied, apply_calls, selected, united, joint, joint_calls}
+use Rattle.job_forms.specs.Forms.{applied, apply_calls, selected, united, joint, joint_calls}
 use Rattle.entry_ops.specs.declared.form.Form.{Form}
 use Rattle.entry_ops.specs.declared.line.Line.{Line}
 use Rattle.entry_ops.specs.declared.form.Form.TheVariants.{Apply, Select, Union, Both}

@@ -2,7 +2,8 @@
 use super::{assert_count, assert_rows, chunk_of, finished, operator, scattered};
 use crate::operators::{EXIT, FIRST, MUL};
 use csr_store::{Builder, Chunk, Matrix};
-use row_product::{Scratch, mult_count_in};
+use job_forms::mult_count_in;
+use row_product::Scratch;
 use std::alloc::Global;
 use std::ops::Range;
 use std::process::Abort;

@@ -2,7 +2,7 @@
 ghost use Rattle.std.specs.Prelude.{◌≡◌, ◌≤◌, ◌+◌, ◌∷◌, [], length, IfOk, OnOk};
 
 use super::{Triple, assert_count, assert_holds, assert_starts, finish_again, put_again};
-use csr_store::{Builder, Matrix, Rows, Slot, join_rows};
+use csr_store::{Builder, Matrix, RowCopy, Rows, Slot, join_rows};
 use std::alloc::{AllocError, Global};
 use std::process::Abort;
 use std::test::Fail;
@@ -54,13 +54,43 @@ fn assert_copied(rt: &impl Abort, copied: &Rows, matrix: &Matrix, from: u64, to:
     assert_count(rt, copied.entries() as u64, next);
 }
 
+/// Rows of a matrix from one up to another, copied with the values that they have.
+fn copy_of(
+    rt: &impl Abort,
+    alloc: Global,
+    matrix: &Matrix,
+    from: u64,
+    to: u64,
+) -> Result<Rows, AllocError>
+    requires range { from ≤ to }
+    requires within { to ≤ matrix.now.rows }
+{
+    let Some(mut copy) = matrix.copying(alloc, from..to)? else {
+        panic!(rt; "the rows stand in one list")
+    };
+    for row in from..to {
+        write_again(&mut copy, matrix.row(row));
+    }
+    assert!(rt; copy.written() == copy.entries());
+    Ok(copy.finish())
+}
+
+/// Writes the next entries of a copy with the values of these cells, as far as there are entries.
+fn write_again(copy: &mut RowCopy, cells: &[(u64, u64)]) {
+    for (_, value) in cells {
+        if copy.written() < copy.entries() {
+            copy.write_values(&[*value]);
+        }
+    }
+}
+
 #[test]
 fn rows_are_copied(rt: HostRuntime) -> Result<(), Fail> {
     let matrix = uneven(&rt)?;
     let rows = matrix.rows();
     for from in 0..rows {
         for to in from..rows {
-            let copied = matrix.copy_rows(rt.alloc(), from..to)?;
+            let copied = copy_of(&rt, rt.alloc(), &matrix, from, to)?;
             assert_copied(&rt, &copied, &matrix, from, to);
         }
     }
@@ -79,9 +109,8 @@ const CHANGED: [(u64, u64, u64, u64); 7] = [
 ];
 
 /// Three values from the place 127 on, and one at the place 500.
-fn other_values(rt: &HostRuntime) -> Result<Rows, Fail> {
-    let matrix = uneven(rt)?;
-    let mut copied = matrix.copy_rows(rt.alloc(), 0..matrix.rows())?;
+fn other_values(rt: &impl Abort, alloc: Global, matrix: &Matrix) -> Result<Rows, AllocError> {
+    let mut copied = copy_of(rt, alloc, matrix, 0, matrix.rows())?;
     if 130 <= copied.entries() {
         copied.set_values(127, &[7, 8, 9]);
     }
@@ -108,7 +137,8 @@ fn value_at(rows: &Rows, place: usize) -> Option<u64> {
 
 #[test]
 fn entries_get_other_values(rt: HostRuntime) -> Result<(), Fail> {
-    let copied = other_values(&rt)?;
+    let matrix = uneven(&rt)?;
+    let copied = other_values(&rt, rt.alloc(), &matrix)?;
     assert_count(&rt, copied.entries() as u64, 687);
     assert_cells(&rt, &copied, &CHANGED);
     assert_eq!(rt; value_at(&copied, 500), Some(5));

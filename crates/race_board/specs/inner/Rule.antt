@@ -6,7 +6,19 @@ use Rattle.atomic_table.specs.Table.{State, Me, Step}
 use Rattle.race_board.specs.declared.stand.Stand.{Stand}
 use Rattle.race_board.specs.declared.stand.Stand.TheVariants.{Free, Holds, ToldEnd, Failed}
 use Rattle.race_board.specs.declared.terms.Terms.{Terms}
-use Rattle.race_board.specs.Race.{Worker, drawn, completed, failed, total_of, one_if_same, one_if_below, times_drawn, draws_of, steps_of, fresh_workers}
+use Rattle.race_board.specs.Race.{
+  Worker,
+  drawn,
+  completed,
+  failed,
+  total_of,
+  one_if_same,
+  one_if_below,
+  times_drawn,
+  draws_of,
+  steps_of,
+  fresh_workers,
+}
 use Rattle.race_board.specs.inner.Balance.{first_prices, IsBalanced, AllSound}
 use Rattle.race_board.specs.Rule.{acted}
 
@@ -15,7 +27,8 @@ abbrev pub weigh : List (List Worker) → (Worker → ℕ) → ℕ
 weigh views f = total_of (total_of f) views
 
 abbrev pub IsSmall : Terms → Type 0
-IsSmall t = (length t.prices.items < 2 ^ 63) × (first_prices t.prices.items (length t.prices.items) ≤ 2 ^ 62) × (t.workers ≤ 64)
+IsSmall t =
+    (length t.prices.items < 2 ^ 63) × (first_prices t.prices.items (length t.prices.items) ≤ 2 ^ 62) × (t.workers ≤ 64)
 
 -- At each moment the views together are a race, of which word 0 is the count and word 1 the steps spent: it has the balance of a
 -- run, its records are sound, and each worker is in one view, once. A seat that was joined to another leaves a view with no
@@ -65,7 +78,8 @@ fails s w = failed (chunk_now w.stand) s w
 
 -- Complete: steps are added to word 1. The seat's first worker completed the chunk that it held, with these steps
 abbrev pub Completes : Step ℕ → Me ℕ (List Worker) → ℕ → Me ℕ (List Worker) → Type 0
-Completes st m found m' = (m'.0 ≡ acted (completes st.first) m.0) × (m'.1 ≡ m.1) × (total_of steps_of m.0 + st.first ≤ 2 ^ 62)
+Completes st m found m' =
+    (m'.0 ≡ acted (completes st.first) m.0) × (m'.1 ≡ m.1) × (total_of steps_of m.0 + st.first ≤ 2 ^ 62)
 
 -- Fail: steps are added to word 1. The seat's first worker failed the chunk that it held, with these steps
 abbrev pub Fails : Step ℕ → Me ℕ (List Worker) → ℕ → Me ℕ (List Worker) → Type 0

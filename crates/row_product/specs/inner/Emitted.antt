@@ -7,7 +7,8 @@ use Rattle.csr_store.specs.Along.{along, cell_at, row_by}
 use Rattle.row_product.specs.inner.Sums.{slot}
 
 -- of the first sums, those of the columns before k are put, and those from k on are as they were
-pub record IsEmitted (n : ℕ) (first : List (Option ℕ)) (from : Run) (k : ℕ) (sums : List (Option ℕ)) (now : Run) : Type 0 where
+pub record IsEmitted (n : ℕ) (first : List (Option ℕ)) (from : Run) (k : ℕ) (sums : List (Option ℕ)) (now : Run)
+    : Type 0 where
   pub run : now ≡ record from { opened = now.opened }
   pub listed : now.opened ++ along (λ j. cell_at j (slot first j)) k (n - k) ≡ row_by n (slot first)
   pub below : AllByRecursion (λ (c : Cell). c.0 < k) now.opened

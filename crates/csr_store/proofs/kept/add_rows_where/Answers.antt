@@ -1,5 +1,5 @@
-use Rattle.std.proofs.Common.{◌≤◌, ◌∙◌, ap, sym, arith, length}
-use Rattle.csr_store.proofs.Keeping.{row_there, rows_kept_more, rows_kept_ends}
+use Rattle.std.proofs.Common.{◌∙◌, ap, arith, length}
+use Rattle.csr_store.proofs.Keeping.{row_there, rows_kept_more}
 use Rattle.csr_store.proofs.kept.add_rows_where.Goals as goal
 
 pub split_at-requires : goal.split_at-requires

@@ -2,8 +2,7 @@ use Rattle.std.proofs.Common.{◌≡◌, ◌-◌, [], ◌∙◌, None, List, IfO
 use Rattle.csr_store.specs.Mask.{mask_of, rows_under, all_listed_under}
 use Rattle.csr_store.specs.Run.{Row, Run}
 use Rattle.bpf_run.specs.Calls.{Call, steps_of, Charges}
-use Rattle.entry_ops.specs.Forms.{apply_at, apply_calls_at}
-use Rattle.entry_ops.proofs.Whole.{none-spent}
+use Rattle.job_forms.specs.Forms.{apply_at, apply_calls_at}
 use Rattle.entry_ops.proofs.Positions.{apply_rows_are, apply_calls_are}
 use Rattle.entry_ops.proofs.apply.apply_rows.Goals as goal
 
@@ -55,4 +54,9 @@ returns-in_default-clause-steps c =
     c.map_chunk.ensures.steps
 
 pub returns-in_default-clause-spent : goal.returns-in_default-clause-spent
-returns-in_default-clause-spent c = none-spent c.map_chunk.result.result _ c.map_chunk.result.steps c.map_chunk.ensures.none
+returns-in_default-clause-spent c =
+    subst (λ (cs : List Call). OnErr c.map_chunk.result.result (Charges cs 0 c.map_chunk.result.steps))
+    (apply_calls_are c.args.operator.now c.args.a.now None c.args.range.start (c.args.range.end - c.args.range.start) c.args.thunk
+    ∙ ap (λ m. all_listed_under m c.args.a.now.columns (apply_calls_at c.args.operator.now c.args.thunk c.args.a.now) c.args.range.start
+    (c.args.range.end - c.args.range.start)) (sym (ap mask_of c.in_default.is)))
+    c.map_chunk.ensures.spent

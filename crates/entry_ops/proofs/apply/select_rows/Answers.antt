@@ -2,8 +2,8 @@ use Rattle.std.proofs.Common.{◌≡◌, ◌-◌, ◌∙◌, [], None, Some, Lis
 use Rattle.csr_store.specs.Mask.{mask_of, rows_under, all_listed_under}
 use Rattle.csr_store.specs.Run.{Row, Run}
 use Rattle.bpf_run.specs.Calls.{Call, steps_of, Charges}
+use Rattle.job_forms.specs.Forms.{select_at, select_calls_at}
 use Rattle.entry_ops.specs.declared.form.Form.TheVariants.{Select}
-use Rattle.entry_ops.specs.Forms.{select_at, select_calls_at}
 use Rattle.entry_ops.specs.inner.Walking.{form_all_calls}
 use Rattle.entry_ops.proofs.Positions.{select_rows_are, select_calls_are}
 use Rattle.entry_ops.proofs.apply.select_rows.Goals as goal

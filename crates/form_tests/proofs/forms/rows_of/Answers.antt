@@ -1,6 +1,6 @@
 use Rattle.std.proofs.Common.{◌≡◌, ◌-◌, Some, None, arith}
 use Rattle.csr_store.specs.Mask.{mask_of}
-use Rattle.entry_ops.specs.Forms.{apply_at, select_at, union_at, both_at, reduce_at}
+use Rattle.job_forms.specs.Forms.{apply_at, select_at, union_at, both_at, reduce_at}
 use Rattle.form_tests.proofs.Pieces.{piece}
 use Rattle.form_tests.proofs.forms.rows_of.Goals as goal
 

@@ -1,6 +1,6 @@
 use Rattle.std.proofs.Common.{◌+◌, ◌/◌, length, ap, sym, ◌∙◌, subst, arith}
 use Rattle.std.specs.Arc.{arc_value}
-use Rattle.csr_store.specs.Run.{Follow, all_ended, numbered}
+use Rattle.csr_store.specs.Run.{AreEven, Follow, all_ended, numbered}
 use Rattle.csr_store.specs.Along.{summed}
 use Rattle.job_plan.specs.Meaning.{IsMatrixOf, row_count, steps_of_job}
 use Rattle.job_plan.specs.Price.{IsWithinPrice}
@@ -8,7 +8,7 @@ use Rattle.job_plan.specs.Refusal.{IsPriced}
 use Rattle.job_runner.specs.Chunk.{chunks_in, run_in_job, steps_in_job}
 use Rattle.job_runner.specs.inner.Pieces.{listed}
 use Rattle.job_runner.proofs.Faultless.{job_entries}
-use Rattle.job_runner.proofs.Joined.{ended_all, steps_all, steps_low, follow_all, joined_matrix}
+use Rattle.job_runner.proofs.Joined.{ended_all, steps_all, steps_low, follow_all, even_all, joined_matrix}
 use Rattle.job_runner.proofs.join.join_job.Goals as goal
 
 pub gather-requires-clause-few : goal.gather-requires-clause-few
@@ -21,8 +21,8 @@ gather-requires-clause-few c =
     let count = ap (λ r. summed (steps_in_job job) 0 ((r + 255) / 256)) c.sizes-rows.ensures.rows in
     omega (arith, low, all, count)
 
-pub join_rows-requires-clause-follow : goal.join_rows-requires-clause-follow
-join_rows-requires-clause-follow c =
+pub stack_runs-requires-clause-follow : goal.stack_runs-requires-clause-follow
+stack_runs-requires-clause-follow c =
     let job = c.job-job.result.now in
     let runs = c.in_ok-runs.ensures.gathered ∙ ap (λ r. listed (run_in_job job) ((r + 255) / 256)) c.sizes-rows.ensures.rows in
     subst (λ rs. Follow c.sizes-rows.result.1 0 c.sizes-rows.result.0 rs) (sym runs)
@@ -30,8 +30,14 @@ join_rows-requires-clause-follow c =
     (subst (λ k. Follow k 0 (row_count job) (listed (run_in_job job) (chunks_in job))) (sym c.sizes-rows.ensures.columns)
     (follow_all job)))
 
-pub join_rows-requires-clause-small : goal.join_rows-requires-clause-small
-join_rows-requires-clause-small c =
+pub stack_runs-requires-clause-even : goal.stack_runs-requires-clause-even
+stack_runs-requires-clause-even c =
+    let job = c.job-job.result.now in
+    let runs = c.in_ok-runs.ensures.gathered ∙ ap (λ r. listed (run_in_job job) ((r + 255) / 256)) c.sizes-rows.ensures.rows in
+    subst AreEven (sym runs) (even_all job)
+
+pub stack_runs-requires-clause-small : goal.stack_runs-requires-clause-small
+stack_runs-requires-clause-small c =
     let job = c.job-job.result.now in
     let runs = c.in_ok-runs.ensures.gathered ∙ ap (λ r. listed (run_in_job job) ((r + 255) / 256)) c.sizes-rows.ensures.rows in
     let ended = ap all_ended runs ∙ ended_all 0 job (c.chunks-chunks.ensures.cover 0 job) in
@@ -49,6 +55,6 @@ returns-clause-result c =
       matrix = subst (λ j. IsMatrixOf j (arc_value c.in_ok-version.version)) c.job-job.ensures.job
           (joined_matrix 0 job c.in_ok-runs.runs.items c.sizes-rows.result.0 c.sizes-rows.result.1 (arc_value c.in_ok-version.version)
           cover runs c.sizes-rows.ensures.rows
-          c.sizes-rows.ensures.columns (c.in_ok-version.ensures.ok ∙ c.in_ok-join_rows.ensures));
+          c.sizes-rows.ensures.columns (c.in_ok-version.ensures.ok ∙ c.in_ok-stack_runs.ensures));
       steps = c.in_ok-runs.ensures.sum ∙ count ∙ steps_all 0 job cover ∙ ap steps_of_job c.job-job.ensures.job;
     }

@@ -2,10 +2,10 @@ use Rattle.std.proofs.Common.{◌≤◌, ◌+◌, ℕ, Some, length, drop, get_o
 use Rattle.std.proofs.lemmas.List.{drop_more, drop_all}
 use Rattle.csr_store.specs.Mask.{mask_of, passes}
 use Rattle.csr_store.proofs.Along.{Ascends, row_of-ascends}
+use Rattle.job_forms.proofs.Counting.{row_few}
 use Rattle.row_product.specs.inner.Sums.{slot, after}
 use Rattle.row_product.specs.inner.Few.{spread}
 use Rattle.row_product.proofs.Adding.{Adding, adding_start, adding_skip, adding_step, adding_end}
-use Rattle.row_product.proofs.Counting.{row_few}
 use Rattle.row_product.proofs.Spreading.{length_spread}
 use Rattle.row_product.proofs.few.add_cells.Goals as goal
 use Rattle.row_product.proofs.few.add_cells.Goals.{then-lets_pass+in_ok-steps, else-lets_pass}

@@ -5,8 +5,8 @@ use Rattle.csr_store.specs.Mask.{mask_of, row_under, listed_under}
 use Rattle.csr_store.proofs.Along.{along-next, fills-step}
 use Rattle.csr_store.proofs.ByRow.{row_start-next}
 use Rattle.csr_store.proofs.Filling.{on_err}
-use Rattle.row_product.specs.Product.{product_at, product_calls_at}
-use Rattle.row_product.proofs.Counting.{start_few}
+use Rattle.job_forms.specs.Product.{product_at, product_calls_at}
+use Rattle.job_forms.proofs.Counting.{start_few}
 use Rattle.row_product.proofs.few.fill_few.Goals as goal
 
 pub fill_few_row-requires-clause-room : goal.fill_few_row-requires-clause-room

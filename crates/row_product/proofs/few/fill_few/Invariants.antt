@@ -4,7 +4,7 @@ use Rattle.csr_store.specs.Mask.{mask_of, row_under, listed_under}
 use Rattle.csr_store.specs.Along.{along}
 use Rattle.csr_store.proofs.Along.{Fills}
 use Rattle.bpf_run.proofs.Charging.{Spends}
-use Rattle.row_product.specs.Product.{product_at, product_calls_at}
+use Rattle.job_forms.specs.Product.{product_at, product_calls_at}
 use Rattle.row_product.proofs.few.fill_few.Given as goal
 
 abbrev pub invariant-loop-i : goal.invariant-loop-i

@@ -9,8 +9,8 @@ use Rattle.csr_store.specs.Along.{row_by}
 use Rattle.csr_store.specs.Mask.{mask_of, passes}
 use Rattle.csr_store.specs.Run.{Row, Run}
 use Rattle.csr_store.proofs.Filling.{on_err}
-use Rattle.row_product.specs.Product.{product_at, product_calls_at}
-use Rattle.row_product.proofs.Counting.{row_within}
+use Rattle.job_forms.specs.Product.{product_at, product_calls_at}
+use Rattle.job_forms.proofs.Counting.{row_within}
 use Rattle.row_product.specs.inner.Sums.{slot}
 use Rattle.row_product.specs.inner.Few.{spread}
 use Rattle.row_product.proofs.Filling.{row_closed, calls_closed, value_cut, calls_cut, row_of_sums}

@@ -3,9 +3,9 @@ use Rattle.std.proofs.lemmas.List.{drop_more, drop_all}
 use Rattle.csr_store.specs.Grid.{Cell, row_of}
 use Rattle.csr_store.specs.Mask.{mask_of, passes}
 use Rattle.csr_store.proofs.ByRow.{cell_inside}
+use Rattle.job_forms.proofs.Counting.{row_few}
 use Rattle.row_product.specs.inner.Few.{spread}
 use Rattle.row_product.proofs.Gathering.{gathering_start, gathering_step, gathering_end}
-use Rattle.row_product.proofs.Counting.{row_few}
 use Rattle.row_product.proofs.Spreading.{length_spread}
 use Rattle.row_product.proofs.few.sum_listed.Goals as goal
 

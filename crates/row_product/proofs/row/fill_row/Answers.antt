@@ -8,9 +8,9 @@ use Rattle.csr_store.specs.Grid.{Cell}
 use Rattle.csr_store.specs.Mask.{mask_of}
 use Rattle.csr_store.specs.Run.{Row}
 use Rattle.csr_store.proofs.Filling.{on_err}
-use Rattle.row_product.specs.Product.{product_at, product_calls_at}
+use Rattle.job_forms.specs.Product.{product_at, product_calls_at}
+use Rattle.job_forms.proofs.Counting.{row_within, row_few}
 use Rattle.row_product.specs.inner.Sums.{sums_of, AreTouched}
-use Rattle.row_product.proofs.Counting.{row_within, row_few}
 use Rattle.row_product.proofs.Filling.{row_closed, calls_closed}
 use Rattle.row_product.proofs.row.fill_row.Goals as goal
 

@@ -4,6 +4,7 @@ use Rattle.bpf_verify.specs.Accepted.{IsAccepted}
 use Rattle.bpf_run.specs.Calls.{steps_of}
 use Rattle.csr_store.specs.Grid.{Cell}
 use Rattle.csr_store.proofs.Along.{Ascends, row_of-ascends}
+use Rattle.job_forms.proofs.Counting.{row_few}
 use Rattle.row_product.specs.inner.Sums.{slot, flag, AreTouched, HasRoom}
 use Rattle.row_product.specs.inner.Terms.{sums_then, calls_then, touched_then, AreWithin}
 use Rattle.row_product.proofs.Adding.{
@@ -18,7 +19,6 @@ use Rattle.row_product.proofs.Adding.{
   touched_step,
 }
 use Rattle.row_product.proofs.Waiting.{length_then}
-use Rattle.row_product.proofs.Counting.{row_few}
 use Rattle.row_product.proofs.sums.add_allowed.Goals as goal
 use Rattle.row_product.proofs.sums.add_allowed.Goals.{then-allowed-j, else-allowed-j}
 

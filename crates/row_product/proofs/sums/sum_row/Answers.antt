@@ -3,14 +3,14 @@ use Rattle.std.proofs.lemmas.List.{drop_more, drop_all}
 use Rattle.bpf_run.specs.Calls.{steps_of}
 use Rattle.csr_store.specs.Grid.{Cell, limit, row_of}
 use Rattle.csr_store.proofs.ByRow.{cell_inside}
-use Rattle.row_product.specs.Product.{mults_of}
+use Rattle.job_forms.specs.Product.{mults_of}
+use Rattle.job_forms.proofs.Counting.{row_few}
 use Rattle.row_product.specs.inner.Sums.{slot, sums_of, takes, AreTouched, HasRoom}
 use Rattle.row_product.specs.inner.Terms.{sums_then, calls_then, touched_then, AreWithin}
 use Rattle.row_product.proofs.Adding.{touched_fit}
 use Rattle.row_product.proofs.Gathering.{Gathering, gathering_start, gathering_step, gathering_end, room_first, room_rest}
 use Rattle.row_product.proofs.Tagging.{length_sums}
 use Rattle.row_product.proofs.Waiting.{length_then}
-use Rattle.row_product.proofs.Counting.{row_few}
 use Rattle.row_product.proofs.sums.sum_row.Goals as goal
 
 pub loop-k-init : goal.loop-k-init

@@ -1,7 +1,7 @@
 use Rattle.std.proofs.Common.{◌≤◌, ◌+◌, ◌*◌, drop, length, vec_capacity}
 use Rattle.bpf_run.specs.Calls.{steps_of}
 use Rattle.csr_store.specs.Grid.{limit}
-use Rattle.row_product.specs.Product.{mults_of}
+use Rattle.job_forms.specs.Product.{mults_of}
 use Rattle.row_product.specs.inner.Sums.{takes, sums_of, AreTouched, HasRoom}
 use Rattle.row_product.specs.inner.Terms.{sums_then, calls_then, touched_then, AreWithin}
 use Rattle.row_product.proofs.Gathering.{Gathering}

@@ -1,3 +1,4 @@
+-- entries
 use Rattle.std.proofs.Common.{sym, ap, ◌∙◌}
 use Rattle.std.specs.FinMap as map
 use Rattle.csr_store.specs.Grid.{Grid}
@@ -6,4 +7,4 @@ use Rattle.csr_store.proofs.matrix.Matrix.entries.Goals as goal
 
 pub returns-clause-entries : goal.returns-clause-entries
 returns-clause-entries c =
-    c.len.ensures ∙ c.self.inside.cells.ok.0 ∙ sym (sorted_entries _ _ c.self.invariant.1.within c.self.invariant.1.ascending) ∙ ap (λ (g : Grid). map.len g.cells) c.self.view_is
+    c.self.invariant.3 ∙ sym (sorted_entries _ _ c.self.invariant.1.within c.self.invariant.1.ascending) ∙ ap (λ (g : Grid). map.len g.cells) c.self.view_is

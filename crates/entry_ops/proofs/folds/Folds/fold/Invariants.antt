@@ -2,7 +2,7 @@ use Rattle.std.proofs.Common.{◌≡◌, ◌<◌, ◌≤◌, ◌+◌, ◌-◌, �
 use Rattle.bpf_insn.specs.declared.operands.Kind.TheVariants as kinds
 use Rattle.csr_store.specs.Mask.{mask_of, all_listed_under}
 use Rattle.bpf_run.specs.Calls.{steps_of}
-use Rattle.entry_ops.specs.Forms.{reduce_calls_at}
+use Rattle.job_forms.specs.Forms.{reduce_calls_at}
 use Rattle.entry_ops.specs.inner.Folding.{IsFolding}
 use Rattle.entry_ops.proofs.folds.Folds.fold.Given as goal
 

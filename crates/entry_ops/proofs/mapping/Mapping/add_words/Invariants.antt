@@ -5,8 +5,8 @@ use Rattle.entry_ops.proofs.Mapped.{IsMapping}
 use Rattle.entry_ops.proofs.mapping.Mapping.add_words.Given as goal
 
 abbrev pub invariant-loop-self : goal.invariant-loop-self
-invariant-loop-self l = IsMapping l.operator (words_of (all_cells l.fn.self.rows)) l.fn.self l.fn.calls (words_of (drop l.self.done (all_cells l.self.rows))) l.self l.calls
-    × ((l.calls.operands ≡ []) × (entries_of l.self.rows ≡ entries_of l.fn.self.rows))
+invariant-loop-self l = IsMapping l.operator (words_of (all_cells l.fn.self.rows.run)) l.fn.self l.fn.calls (words_of (drop l.self.rows.written (all_cells l.self.rows.run))) l.self l.calls
+    × ((l.calls.operands ≡ []) × (entries_of l.self.rows.run ≡ entries_of l.fn.self.rows.run))
 
 abbrev pub decreases-loop-self : goal.decreases-loop-self
-decreases-loop-self l = l.entries - l.self.done
+decreases-loop-self l = l.entries - l.self.rows.written

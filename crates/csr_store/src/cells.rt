@@ -1,0 +1,43 @@
+//! The cells of a matrix: in one list, or in runs of rows.
+ghost use Rattle.std.specs.Prelude.{◌≡◌, ◌↔◌, IsTrue, slice_range};
+ghost use Rattle.csr_store.specs.inner.Cells.{AreRuns, IsPart, joined_cells};
+
+use crate::matrix::Cell;
+use crate::row::cells_between;
+
+/// So many rows has each run but the last, which has no more.
+pub const HEIGHT: u64 = 256;
+
+/// The cells of a matrix, row after row.
+#[derive(Drop)]
+pub enum Cells {
+    /// All in one list, as they were read.
+    Whole(Vec<Cell>),
+    /// Those of each run in a list of its own, as they were computed.
+    Runs(Vec<Vec<Cell>>),
+}
+
+impl Cells {
+    /// Whether they stand in runs.
+    #[inline(always)]
+    pub fn are_runs(&self) -> bool
+        ensures { IsTrue result ↔ AreRuns self.now }
+    {
+        matches!(self, Cells::Runs(_))
+    }
+
+    /// The cells from one place up to another, both counted from the first cell of all. Where there are runs these cells
+    /// stand in one of them, that has so many cells before it.
+    #[inline(always)]
+    pub fn part(&self, run: usize, before: u64, from: u64, to: u64) -> &[Cell]
+        requires { IsPart self.now run before from to }
+        ensures { result.now ≡ slice_range (joined_cells self.now) from to }
+    {
+        match self {
+            Cells::Whole(cells) => cells_between(cells, from as usize, to as usize),
+            Cells::Runs(runs) => {
+                cells_between(&runs[run], (from - before) as usize, (to - before) as usize)
+            }
+        }
+    }
+}
