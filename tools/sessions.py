@@ -1,5 +1,6 @@
 """What goes into a session: commands, matrix texts and operator code. For the programs of this folder."""
 import os
+import random
 import struct
 
 TOP = os.path.dirname(os.path.dirname(os.path.abspath(__file__)))
@@ -54,6 +55,20 @@ def matrix_text(rows, columns, entries):
     """The canonical text of a matrix; entries are (row, column, value) from 1, by ascending row and column."""
     head = '%%%%MatrixMarket matrix coordinate integer general\n%d %d %d\n' % (rows, columns, len(entries))
     return (head + ''.join('%d %d %d\n' % entry for entry in entries)).encode()
+
+
+def skewed_entries(scale, edges, seed):
+    """Entries of a graph by a power law (R-MAT with .57 .19 .19 .05), in order. They are the same each time."""
+    chance = random.Random(seed)
+    places = set()
+    for _ in range(edges):
+        at = to = 0
+        for _ in range(scale):
+            quarter = chance.random()
+            at = at * 2 + (quarter >= .76)
+            to = to * 2 + (.57 <= quarter < .76 or quarter >= .95)
+        places.add((at, to))
+    return [(at + 1, to + 1, chance.randint(-1000000, 1000000)) for at, to in sorted(places)]
 
 
 def matrix_command(name, text):

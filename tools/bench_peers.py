@@ -1,0 +1,193 @@
+"""The part `peers` of tools/bench: the clock of jobs beside SuiteSparse:GraphBLAS, on the same matrices within one run.
+
+Both sides take turns, so that what else the machine does meets both, and the least of all rounds counts. What both computed is compared.
+"""
+import hashlib
+import os
+import shutil
+import subprocess
+import tempfile
+from typing import Callable, Dict, List, NamedTuple, Optional, Tuple
+
+from sessions import assembly_command, matrix_command, matrix_text, skewed_entries
+from timed_session import TimedSession
+
+SOURCE = os.path.join(os.path.dirname(os.path.abspath(__file__)), 'bench_peers.c')
+THREADS = (1, 4)
+NAMES = ('same', 'new')
+PASSES = 3
+ROUNDS = 5
+QUIET = 0.5  # the load average up to which a machine has little else to do
+WORD = (1 << 64) - 1
+
+# The name of a form in bench_peers.c, and the job; `%s` is where its result's name stands.
+FORMS = [
+    ('apply', b'apply %s inc A'),
+    ('apply-index', b'apply %s row A 5'),
+    ('select', b'select %s low A 0'),
+    ('union', b'union %s plus A A'),
+    ('union-turned', b'union %s plus A T'),
+    ('both', b'both %s times A A'),
+    ('both-turned', b'both %s times A T'),
+    ('reduce', b'reduce %s plus A'),
+    ('product', b'product %s plus times S S'),
+    ('product-min-plus', b'product %s min plus S S'),
+    ('product-masked', b'product %s plus times S S mask S'),
+    ('apply-masked', b'apply %s inc A mask T'),
+]
+
+OPERATORS = [
+    ('inc', 'unary', b'mov64 r0, r1\nadd64 r0, 1\nexit\n'),
+    ('row', 'index', b'mov64 r0, r2\nadd64 r0, r4\nexit\n'),
+    ('low', 'index', b'mov64 r0, 1\nadd64 r2, r4\njsle64 r3, r2, 1\nmov64 r0, 0\nexit\n'),
+    ('plus', 'binary', b'mov64 r0, r1\nadd64 r0, r2\nexit\n'),
+    ('times', 'binary', b'mov64 r0, r1\nmul64 r0, r2\nexit\n'),
+    ('min', 'binary', b'mov64 r0, r1\njsle64 r1, r2, 1\nmov64 r0, r2\nexit\n'),
+]
+
+# The number of a result's entries, and the sum that bench_peers.c makes of them.
+Summary = Tuple[int, int]
+# Whose operators (spmat's, or the library's `user` or `builtin` ones), the form, the names of results, and the threads.
+Key = Tuple[str, str, str, int]
+
+
+class Graphs(NamedTuple):
+    whole: bytes
+    turned: bytes
+    factor: bytes
+    title: str
+
+
+def graphs() -> Graphs:
+    """The texts of A, of A turned, and of S, a smaller one for products."""
+    side, small_side = 1 << 16, 1 << 12
+    whole, small = skewed_entries(16, 1 << 20, 3), skewed_entries(12, 1 << 16, 2)
+    in_row: Dict[int, int] = {}
+    for line, _, _ in small:
+        in_row[line] = in_row.get(line, 0) + 1
+    title = ('A of %d entries in %d rows, T turned, S of %d rows with %d multiplications'
+             % (len(whole), side, small_side, sum(in_row.get(column, 0) for _, column, _ in small)))
+    turned = sorted((column, line, value) for line, column, value in whole)
+    return Graphs(matrix_text(side, side, whole), matrix_text(side, side, turned), matrix_text(small_side, small_side, small), title)
+
+
+def summary(text: bytes) -> Summary:
+    """What bench_peers.c prints of a result: (row P + column Q + 1) (2 value + 1), summed over the entries modulo 2^64."""
+    words = list(map(int, text[text.index(b'\n'):].split()[3:]))
+    sums = (((row - 1) * 0x9e3779b97f4a7c15 + (column - 1) * 0xc2b2ae3d27d4eb4f + 1) * (2 * value + 1)
+            for row, column, value in zip(words[0::3], words[1::3], words[2::3]))
+    return len(words) // 3, sum(sums) & WORD
+
+
+def compiled(folder: str) -> Optional[str]:
+    """The program over SuiteSparse:GraphBLAS, or nothing, where it says what lacks."""
+    if not shutil.which('cc'):
+        print("\nNo C compiler, so nothing is measured beside SuiteSparse:GraphBLAS. Install Debian's gcc and libgraphblas-dev.")
+        return None
+    made = os.path.join(folder, 'bench_peers')
+    if subprocess.run(['cc', '-E', SOURCE, '-o', os.devnull], stderr=subprocess.DEVNULL, check=False).returncode:
+        print("\nNo GraphBLAS.h, so nothing is measured beside SuiteSparse:GraphBLAS. Install Debian's libgraphblas-dev.")
+        return None
+    if subprocess.run(['cc', '-O2', SOURCE, '-o', made, '-lgraphblas'], check=False).returncode:
+        raise SystemExit('bench: cc refuses %s' % SOURCE)
+    return made
+
+
+class Measured:
+    """The least time of each form, in milliseconds, and what each form's result is, which has to be the same on every side."""
+
+    def __init__(self) -> None:
+        self.least: Dict[Key, float] = {}
+        self.results: Dict[str, Tuple[Summary, Key]] = {}
+
+    def take(self, key: Key, milliseconds: float, result: Summary) -> None:
+        expected, by = self.results.setdefault(key[1], (result, key))
+        if result != expected:
+            raise SystemExit('bench: results differ (entries, sum): %s is %s, but %s is %s' % (key, result, by, expected))
+        self.least[key] = min(milliseconds, self.least.get(key, milliseconds))
+
+
+class Ours:
+    """The built program, with a new session for each form and number of workers."""
+
+    def __init__(self, program: str, given: Graphs) -> None:
+        self.program = program
+        self.setup = matrix_command('A', given.whole) + matrix_command('T', given.turned) + matrix_command('S', given.factor)
+        self.setup += b''.join(assembly_command(name, text, kind) for name, kind, text in OPERATORS)
+        self.summaries: Dict[bytes, Summary] = {}
+
+    def summary(self, text: bytes) -> Summary:
+        """The summary of a text, which is made once for all equal texts."""
+        digest = hashlib.sha256(text).digest()
+        if digest not in self.summaries:
+            self.summaries[digest] = summary(text)
+        return self.summaries[digest]
+
+    def measure(self, threads: int, measured: Measured) -> None:
+        for form, job in FORMS:
+            for names in NAMES:
+                outs = [b'R%d' % at if names == 'new' else b'R' for at in range(ROUNDS)]
+                with TimedSession(self.program, threads, self.setup) as session:
+                    taken = min(session.seconds(job % out + b'\n') for out in outs)
+                    shown = session.shown(outs[-1])
+                measured.take(('spmat', form, names, threads), taken * 1e3, self.summary(shown))
+
+
+class Theirs:
+    """The program over the library, which reads the matrices from files."""
+
+    def __init__(self, program: str, folder: str, given: Graphs) -> None:
+        self.words = [program]
+        self.library = ''
+        for name, text in (('whole.mtx', given.whole), ('factor.mtx', given.factor)):
+            self.words.append(os.path.join(folder, name))
+            with open(self.words[-1], 'wb') as file:
+                file.write(text)
+
+    def measure(self, threads: int, measured: Measured) -> None:
+        said = subprocess.run(self.words + [str(threads), str(ROUNDS)], stdout=subprocess.PIPE, universal_newlines=True, check=True).stdout
+        self.library, *lines = said.splitlines()
+        for line in lines:
+            form, operators, names, milliseconds, entries, total = line.split()
+            measured.take((operators, form, names, threads), float(milliseconds), (int(entries), int(total)))
+
+
+def cells(least: Dict[Key, float], form: str, names: str) -> List[str]:
+    """The cells of a form behind its name: ours and theirs in milliseconds, and ours divided by theirs."""
+    ours, user, builtin = ([least[who, form, names, threads] for threads in THREADS] for who in ('spmat', 'user', 'builtin'))
+    ratios = [mine / other for theirs in (user, builtin) for mine, other in zip(ours, theirs)]
+    return (['%.2f' % taken for taken in ours] + ['%.1f' % (ours[0] / ours[1])] + ['%.2f' % taken for taken in user + builtin]
+            + ['%.2f' % ratio for ratio in ratios])
+
+
+def say_load(load: float) -> None:
+    """Says how busy the machine was when the part began, and what that is worth."""
+    processors = len(os.sched_getaffinity(0))
+    print('\nLoad average at the start: %.2f, on %d processors.' % (load, processors))
+    if load > QUIET:
+        print('The machine is busy, maybe with parts of this program that ran before. Ratios for 4 threads say little then, and those for\n'
+              '1 thread are rough: end what else runs, wait until `uptime` shows a load average below %.1f, and measure `peers` alone.' % QUIET)
+    if processors < max(THREADS):
+        print('There are fewer processors than threads: leave what is said of %d threads out.' % max(THREADS))
+
+
+def peers(program: str, table: Callable[..., None], row: Callable[..., None]) -> None:
+    load = os.getloadavg()[0]
+    with tempfile.TemporaryDirectory(prefix='spmat-peers-') as folder:
+        built = compiled(folder)
+        if not built:
+            return
+        say_load(load)
+        given, measured = graphs(), Measured()
+        ours, theirs = Ours(program, given), Theirs(built, folder, given)
+        for _ in range(PASSES):
+            for threads in THREADS:
+                theirs.measure(threads, measured)
+                ours.measure(threads, measured)
+    for names, how in zip(NAMES, ('one name', 'new names')):
+        table('Batches beside %s, results under %s, ms of the best of %d rounds; %s' % (theirs.library, how, PASSES * ROUNDS, given.title),
+              'job', 'spmat, 1 worker', '4 workers', 'times faster', "user's operators, 1 thread", '4 threads', 'built-in, 1 thread',
+              '4 threads', "spmat / user's, 1", '4', 'spmat / built-in, 1', '4')
+        for form, job in FORMS:
+            row('`%s`' % (job % b'R').decode(), *cells(measured.least, form, names))
+    print('\nBoth sides computed the same in each of %d forms.' % len(measured.results))
