@@ -157,6 +157,34 @@ def most_rows(program: str) -> None:
     run_session(program, run_words(workers=MOST_WORKERS), input_, output)
 
 
+def results_of_most_rows(program: str) -> None:
+    """A result of 16,777,216 rows as operand of each form and as its mask, shown, and read again; a reduction as the mask of one."""
+    count = 1000
+    places = [at * 16777 + 1 for at in range(count)]
+
+    def text(value: Callable[[int], int], columns: int = MOST) -> bytes:
+        return matrix_text(MOST, columns, [(place, min(place, columns), value(place)) for place in places])
+    shape = (MOST, MOST)
+    more = text(lambda value: value + 1)
+    read = b'ok matrix %d %d %d\n' % (*shape, count)
+    jobs = [
+        (job(b'apply C inc B mask B', 3 * count, ran(b'C', *shape, count, 3 * count)), text(lambda value: value + 2)),
+        (job(b'select C all B 0 mask C', 2 * count, ran(b'C', *shape, count, 2 * count)), more),
+        (job(b'union C plus B A mask B', 3 * count, ran(b'C', *shape, count, 3 * count)), text(lambda value: 2 * value + 1)),
+        (job(b'both C plus B B', 3 * count, ran(b'C', *shape, count, 3 * count)), text(lambda value: 2 * value + 2)),
+        (job(b'product C plus second A B mask B', 5 * count, ran(b'C', *shape, count, 2 * count)), more),
+        (job(b'reduce C plus B', 0, ran(b'C', MOST, 1, count, 0)), text(lambda value: value + 1, 1)),
+        (job(b'reduce C plus B mask C', 0, ran(b'C', MOST, 1, count, 0)), text(lambda value: value + 1, 1)),
+        (job(b'both C plus S B', 3 * count, ran(b'C', *shape, count, 3 * count)), text(lambda value: 2 * value + 2)),
+    ]
+    commands, replies = job(b'apply B inc A', 3 * count, ran(b'B', *shape, count, 3 * count))
+    input_ = uploads() + matrix_command('A', text(lambda value: value)) + commands + b'show B\n' + matrix_command('S', more)
+    input_ += b''.join(commands + b'show C\n' for (commands, _), _ in jobs)
+    output = uploaded() + read + replies + show_reply(more) + read
+    output += b''.join(replies + show_reply(shown) for (_, replies), shown in jobs)
+    run_session(program, run_words(workers=3), input_, output)
+
+
 def mask_of_a_million(program: str) -> None:
     """A mask of 1,000,000 entries in the rows of a matrix of as many: each form but `reduce`, of which its mask has one column."""
     side, count = 1000, 1000000
@@ -280,6 +308,7 @@ LIMIT_CASES: Dict[str, Callable[[str], None]] = {
     'most-entries': most_entries,
     'most-columns': most_columns,
     'most-rows': most_rows,
+    'results-of-most-rows': results_of_most_rows,
     'mask-of-a-million': mask_of_a_million,
     'longest-operators': longest_operators,
     'longest-types': longest_types,

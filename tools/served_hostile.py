@@ -102,7 +102,8 @@ def body_announced_and_not_sent(server: Server) -> None:
     """Sixteen bodies of the greatest length of which nothing comes take no room; where the input ends, the reply is `no S5`."""
     with server.seated():
         before = server.status('VmHWM')
-    clients = [server.client() for _ in range(MOST_SESSIONS)]
+    # the seat of the session above may be given back only now
+    clients = full_house(server)
     for client in clients:
         client.send(b'budget\nmatrix A %d\n%%%%Matrix' % MOST_BODY)
         expect('budget', b'ok budget %d 0 0\n' % server.steps, client.replies.reply())
