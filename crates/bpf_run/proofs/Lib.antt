@@ -7,7 +7,6 @@ pub mod Running
 pub mod Preparing
 pub mod Folds
 pub mod Columns
-pub mod Strides
 pub mod Rows
 pub mod Waiting
 pub mod Turns
@@ -16,6 +15,3 @@ pub mod Gathering
 pub mod LaneCalls
 pub mod Bytes
 pub mod Slots
-pub mod Short
-pub mod Ignoring
-pub mod Choice

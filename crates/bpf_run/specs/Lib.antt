@@ -1,5 +1,4 @@
 pub mod Meaning
 pub mod Calls
 pub mod Fold
-pub mod Naming
 pub mod inner

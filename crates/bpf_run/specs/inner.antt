@@ -6,7 +6,5 @@ pub mod Flat
 pub mod Gathering
 pub mod Lanes
 pub mod Micro
-pub mod Naming
 pub mod Ran
-pub mod Short
 pub mod Slots

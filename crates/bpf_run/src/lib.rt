@@ -1,4 +1,14 @@
-//! Calls of accepted operators.
+//! Calls of accepted operators: one at a time, up to 64 together, and folds.
+//!
+//! All of it keeps one promise, which `call` makes: on operands of its kind an operator gives the value, and takes the steps, that
+//! the machine of `bpf_insn` has for its program (`HasValue`; as functions, `value_of` and `cost_of` of `specs/Meaning.antt`).
+//! `fold` promises the same of calls of which each is on what the one before gave, and `Calls` of calls that are made together.
+//!
+//! Read `single` first: an operator is prepared once, and called any number of times. `prepare`, with `flatten`, makes its flat code of
+//! `micro` instructions; `step`, with `go`, says what each of these does, and `run` goes from the first to an EXIT. `folding` is such
+//! a run that starts again for each cell. Then `calls`, which gathers operands, and `lanes`, which runs flat code for all of them
+//! in one pass. What flat code means stands in `specs/inner/Micro.antt` and `specs/inner/Flat.antt`, what calls in a list cost in
+//! `specs/Calls.antt`, and what a fold is in `specs/Fold.antt`.
 #![tactic(auto)]
 
 mod calls;
@@ -9,7 +19,6 @@ mod go;
 mod lanes;
 mod memory;
 mod micro;
-mod named;
 mod operations;
 mod prepare;
 mod run;

@@ -142,43 +142,40 @@ split-two n vs xs ys front back e l f b = (
   b ∙ ap (λ k. drop k vs) l ∙ ap (drop (length xs)) e ∙ drop-append_seam xs ys,
 )
 
-module _ (f : Accepted) (a : Grid) (thunk : ℕ) (operands : List Operands) (at stop : Cursor) (h : AreFirst f a thunk operands at stop) where
+module _ (f : Accepted) (a : Grid) (thunk : ℕ) (operands : List Operands) (at stop : Cursor) (h : AreFirst a thunk operands at stop) where
   pub here_at : h.done ++ stop.left.now ≡ here_of a thunk at.end at.row at.left.now stop.row
   here_at = h.parts ∙ sym (here_is a thunk at.end at.row at.left.now stop.row)
 
-  pub first_then : h.first ++ coming_at a thunk stop ≡ coming_at a thunk at
-  first_then = ap (λ n. h.first ++ coming a thunk stop.row n stop.left.now) h.end
+  pub first_then : operands ++ coming_at a thunk stop ≡ coming_at a thunk at
+  first_then = ap (λ n. operands ++ coming a thunk stop.row n stop.left.now) h.end
       ∙ ap (λ os. os ++ coming a thunk stop.row at.end stop.left.now) h.is
       ∙ called_then a thunk at.end at.row at.left.now stop.row h.done stop.left.now h.onward h.within here_at
 
-  calls_are : calls_on f (coming_at a thunk at) ≡ calls_on f h.first ++ calls_on f (coming_at a thunk stop)
-  calls_are = ap (calls_on f) (sym first_then) ∙ calls_on-append f h.first (coming_at a thunk stop)
+  calls_are : calls_on f (coming_at a thunk at) ≡ calls_on f operands ++ calls_on f (coming_at a thunk stop)
+  calls_are = ap (calls_on f) (sym first_then) ∙ calls_on-append f operands (coming_at a thunk stop)
 
   -- what is spent for them
-  pub first_steps : (n : ℕ) → n ≡ steps_of (calls_on f operands) → n ≡ steps_of (calls_on f h.first)
-  first_steps n e = e ∙ h.alike.steps
-
   pub first_fits : (was n : ℕ) → n ≡ steps_of (calls_on f operands) → was + steps_of (calls_on f (coming_at a thunk at)) < 2 ^ 64 → was + n < 2 ^ 64
   first_fits was n e r =
-      let s = ap steps_of calls_are ∙ steps-append (calls_on f h.first) (calls_on f (coming_at a thunk stop)) in
-      let k = first_steps n e in omega (arith, s, k, r)
+      let s = ap steps_of calls_are ∙ steps-append (calls_on f operands) (calls_on f (coming_at a thunk stop)) in
+      omega (arith, s, e, r)
 
   module _ (was steps n : ℕ) (e : n ≡ steps_of (calls_on f operands)) (s : steps ≡ was + n) where
-    spent_is : steps ≡ was + steps_of (calls_on f h.first)
-    spent_is = s ∙ ap (λ k. was + k) (first_steps n e)
+    spent_is : steps ≡ was + steps_of (calls_on f operands)
+    spent_is = s ∙ ap (λ k. was + k) e
 
     pub first_spends : Spends (calls_on f (coming_at a thunk at)) was (calls_on f (coming_at a thunk stop)) steps
-    first_spends = spends-step (calls_on f (coming_at a thunk at)) was (calls_on f (coming_at a thunk at)) was (calls_on f h.first) (calls_on f (coming_at a thunk stop)) steps
+    first_spends = spends-step (calls_on f (coming_at a thunk at)) was (calls_on f (coming_at a thunk at)) was (calls_on f operands) (calls_on f (coming_at a thunk stop)) steps
         (spends-start (calls_on f (coming_at a thunk at)) was) calls_are spent_is
 
     pub first_stop : Charges (calls_on f (coming_at a thunk at)) was steps
     first_stop = subst (λ cs. Charges cs was steps) (sym calls_are)
-        (charges-before (calls_on f h.first) (calls_on f (coming_at a thunk stop)) was steps (charges-all (calls_on f h.first) was steps spent_is))
+        (charges-before (calls_on f operands) (calls_on f (coming_at a thunk stop)) was steps (charges-all (calls_on f operands) was steps spent_is))
 
   -- the end is nearer
   pub first_less : at.row < at.end → length (coming_at a thunk stop) + (stop.end - stop.row) < length (coming_at a thunk at) + (at.end - at.row)
   first_less b =
-      let n = ap length (sym first_then) ∙ length-append h.first (coming_at a thunk stop) in
+      let n = ap length (sym first_then) ∙ length-append operands (coming_at a thunk stop) in
       let e = h.end in let o = h.onward in let w = h.within in
       elim h.full [
         | inl s ↦ omega (arith, n, e, o, s, b)
@@ -187,7 +184,7 @@ module _ (f : Accepted) (a : Grid) (thunk : ℕ) (operands : List Operands) (at 
 
   -- the values of the cells of one row
   module _ (values : List ℕ) (v : values ≡ values_on f operands) (same : stop.row ≡ at.row) where
-    first_here : h.first ≡ entries_of stop.row thunk h.done
+    first_here : operands ≡ entries_of stop.row thunk h.done
     first_here = h.is ∙ ap (λ i. called_before a thunk at.row at.left.now i ++ entries_of stop.row thunk h.done) same
         ∙ ap (λ os. os ++ entries_of stop.row thunk h.done) (called_start a thunk at.end at.row at.left.now)
 
@@ -195,7 +192,7 @@ module _ (f : Accepted) (a : Grid) (thunk : ℕ) (operands : List Operands) (at 
     left_here = here_at ∙ ap (here_of a thunk at.end at.row at.left.now) same ∙ here_first a thunk at.end at.row at.left.now
 
     pub values_here : values ≡ values_on f (entries_of at.row thunk h.done)
-    values_here = v ∙ h.alike.values ∙ ap (values_on f) first_here ∙ ap (λ i. values_on f (entries_of i thunk h.done)) same
+    values_here = v ∙ ap (values_on f) first_here ∙ ap (λ i. values_on f (entries_of i thunk h.done)) same
 
     pub many_here : length values ≡ length h.done
     many_here = ap length values_here ∙ length_values f (entries_of at.row thunk h.done) ∙ length_entries at.row thunk h.done
@@ -214,13 +211,13 @@ module _ (f : Accepted) (a : Grid) (thunk : ℕ) (operands : List Operands) (at 
     between : List Operands
     between = along (λ k. entries_of k thunk (row_of a k)) (at.row + 1) (stop.row - (at.row + 1))
 
-    first_far : h.first ≡ entries_of at.row thunk at.left.now ++ (between ++ entries_of stop.row thunk h.done)
+    first_far : operands ≡ entries_of at.row thunk at.left.now ++ (between ++ entries_of stop.row thunk h.done)
     unfolding between
     first_far = h.is ∙ ap (λ os. os ++ entries_of stop.row thunk h.done) (called_beyond a thunk at.end at.row at.left.now stop.row b)
         ∙ append_assoc (entries_of at.row thunk at.left.now) (along (λ k. entries_of k thunk (row_of a k)) (at.row + 1) (stop.row - (at.row + 1))) (entries_of stop.row thunk h.done)
 
     values_far : values ≡ values_on f (entries_of at.row thunk at.left.now) ++ (values_on f between ++ values_on f (entries_of stop.row thunk h.done))
-    values_far = v ∙ h.alike.values ∙ ap (values_on f) first_far
+    values_far = v ∙ ap (values_on f) first_far
         ∙ values_on-append f (entries_of at.row thunk at.left.now) (between ++ entries_of stop.row thunk h.done)
         ∙ ap (λ vs. values_on f (entries_of at.row thunk at.left.now) ++ vs) (values_on-append f between (entries_of stop.row thunk h.done))
 

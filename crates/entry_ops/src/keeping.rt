@@ -2,7 +2,6 @@
 ghost use Rattle.std.specs.Prelude.{◌≡◌, ◌<◌, ◌≤◌, ◌+◌, ◌++◌, ◌-◌, ◌^◌, [], length, None, IfOk, OnOk, OnErr};
 ghost use Rattle.bpf_insn.specs.declared.operands.Kind.TheVariants as kinds;
 ghost use Rattle.bpf_run.specs.Calls.{calls_on, steps_of, entries_of, Charges};
-ghost use Rattle.bpf_run.specs.Naming.{AnswersAlike};
 ghost use Rattle.entry_ops.specs.declared.form.Form.TheVariants as forms;
 ghost use Rattle.entry_ops.specs.inner.Keeping.{row_before, coming_at, IsKept, IsKeptAt, AreFirst, IsOnward};
 ghost use Rattle.entry_ops.specs.inner.Walking.{form_rows, form_all_calls};
@@ -37,41 +36,20 @@ fn row_before(a: &Matrix, end: u64, row: u64) -> &[Cell]
     if row < end { a.row(row) } else { &[] }
 }
 
-/// Gathers the calls of the cells of a row, of which many have none, with what the operator reads.
+/// Gathers the calls of the cells that come, as many as fit in. Answers where the cells begin that come behind them.
 #[inline(always)]
-fn gather_row(operator: &Prepared, calls: &mut Calls, cells: &[Cell], row: u64, thunk: u64)
-    requires room { length calls.old.operands + length cells.now ≤ 64 }
-    requires kind { calls.old.kind ≡ kinds.Index }
-    ensures kind { calls.new.kind ≡ calls.old.kind }
-    ensures alike { AnswersAlike operator.now calls.new.operands (calls.old.operands ++ entries_of row thunk cells.now) }
-{
-    if cells.is_empty() {
-        return;
-    }
-    calls.gather_entries_for(operator, cells, row, thunk);
-}
-
-/// Gathers the calls of the cells that come, as many as fit in, with what the operator reads. Answers where the cells begin
-/// that come behind them.
-#[inline(always)]
-fn gather_run<'m>(
-    operator: &Prepared,
-    calls: &mut Calls,
-    a: &'m Matrix,
-    thunk: u64,
-    at: Cursor<'m>,
-) -> Cursor<'m>
+fn gather_run<'m>(calls: &mut Calls, a: &'m Matrix, thunk: u64, at: Cursor<'m>) -> Cursor<'m>
     requires begun { calls.old.kind ≡ kinds.Index }
     requires none { calls.old.operands ≡ [] }
     requires end { at.end ≤ a.now.rows }
     requires before { at.row < at.end }
     ensures kind { calls.new.kind ≡ calls.old.kind }
-    ensures first { AreFirst operator.now a.now thunk calls.new.operands at.entry result }
+    ensures first { AreFirst a.now thunk calls.new.operands at.entry result }
 {
     let mut row = at.row;
     let mut left = at.left;
     while left.len() <= MOST_CALLS - calls.len() {
-        gather_row(operator, calls, left, row, thunk);
+        calls.gather_entries(left, row, thunk);
         row += 1;
         if row >= at.end {
             return Cursor {
@@ -83,7 +61,7 @@ fn gather_run<'m>(
         left = a.row(row);
     }
     let (now, later) = left.split_at(MOST_CALLS - calls.len());
-    calls.gather_entries_for(operator, now, row, thunk);
+    calls.gather_entries(now, row, thunk);
     Cursor {
         row,
         end: at.end,
@@ -115,7 +93,7 @@ fn keep_run<'m>(
         (Charges (calls_on operator.now (coming_at a.now thunk at.entry)) keeping.old.steps keeping.new.steps) }
 {
     let _ = a.columns();
-    let stop = gather_run(operator, calls, a, thunk, at);
+    let stop = gather_run(calls, a, thunk, at);
     keeping.steps += calls.make(operator);
     let values = calls.values();
     if stop.row == at.row {

@@ -7,7 +7,6 @@ use Rattle.csr_store.specs.Along.{along}
 use Rattle.csr_store.specs.Run.{Row, Run}
 use Rattle.csr_store.specs.Added.{kept_where}
 use Rattle.bpf_run.specs.Calls.{calls_on, values_on, entries_of}
-use Rattle.bpf_run.specs.Naming.{AnswersAlike}
 use Rattle.bpf_run.proofs.Charging.{Spends}
 use Rattle.entry_ops.specs.declared.keeping.Cursor.{Cursor}
 use Rattle.entry_ops.specs.declared.keeping.Keeping.{Keeping}
@@ -50,18 +49,15 @@ called_before a thunk row left stop =
     then entries_of row thunk left ++ along (λ i. entries_of i thunk (row_of a i)) (row + 1) (stop - (row + 1))
     else []
 
--- As many calls of an operator are gathered as fit in, of those for the cells from one place up to another, or others that give
--- and cost the same.
-pub record AreFirst (f : Accepted) (a : Grid) (thunk : ℕ) (operands : List Operands) (at stop : Cursor) : Type 0 where
-  pub first : List Operands
+-- As many calls are gathered as fit in: those for the cells from one place up to another.
+pub record AreFirst (a : Grid) (thunk : ℕ) (operands : List Operands) (at stop : Cursor) : Type 0 where
   pub done : Row
-  pub alike : AnswersAlike f operands first
-  pub is : first ≡ called_before a thunk at.row at.left.now stop.row ++ entries_of stop.row thunk done
+  pub is : operands ≡ called_before a thunk at.row at.left.now stop.row ++ entries_of stop.row thunk done
   pub parts : done ++ stop.left.now ≡ (if nat_lt at.row stop.row then row_before a at.end stop.row else at.left.now)
   pub end : stop.end ≡ at.end
   pub onward : at.row ≤ stop.row
   pub within : stop.row ≤ at.end
-  pub full : (stop.row ≡ at.end) ⊎ (length first ≡ 64)
+  pub full : (stop.row ≡ at.end) ⊎ (length operands ≡ 64)
 
 -- calls were made, and the cells of which the operator keeps some were passed
 pub record IsOnward (f : Accepted) (a : Grid) (thunk : ℕ) (at next : Cursor) (old new : Keeping) : Type 0 where

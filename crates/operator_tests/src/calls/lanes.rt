@@ -198,9 +198,9 @@ fn push_entries(
 /// Cells that fill all lanes.
 const OTHERS: [(u64, u64); 64] = [(3000, 1000); 64];
 
-/// That calls of cells that are gathered for one operator, where other words stood in the lanes, give and cost what the tagged
-/// machine says of each: of a few cells, one call after the other, and of more, in lanes.
-fn expect_entries_for(rt: &impl Abort, alloc: Global, slots: &[u64]) -> Result<(), Fail> {
+/// That calls of cells that are gathered where other words stood in the lanes give and cost what the tagged machine says of
+/// each: of a few cells, one call after the other, and of more, in lanes.
+fn expect_entries(rt: &impl Abort, alloc: Global, slots: &[u64]) -> Result<(), Fail> {
     let tagged = program(alloc, slots)?;
     let operator = prepared(alloc, slots, Kind::Index)?;
     let long = squares(alloc)?;
@@ -210,10 +210,10 @@ fn expect_entries_for(rt: &impl Abort, alloc: Global, slots: &[u64]) -> Result<(
         calls.begin(Kind::Index);
         calls.gather_entries(&OTHERS, 2000, 4000);
         calls.begin(Kind::Index);
-        calls.gather_entries_for(&operator, &CELLS, 2, 5);
+        calls.gather_entries(&CELLS, 2, 5);
         push_entries(&mut operands, &CELLS, 2, 5)?;
         if more && calls.len() + long.len() <= MOST_CALLS {
-            calls.gather_entries_for(&operator, &long, 3, 5);
+            calls.gather_entries(&long, 3, 5);
             push_entries(&mut operands, &long, 3, 5)?;
         }
         if operator.kind() == Kind::Index {
@@ -227,9 +227,9 @@ fn expect_entries_for(rt: &impl Abort, alloc: Global, slots: &[u64]) -> Result<(
     Ok(())
 }
 
-/// Cells that are gathered for one operator are called with all that its program names.
+/// Cells are called with their own words, whichever of them the operator reads.
 #[test]
-fn entries_for_an_operator(rt: HostRuntime) -> Result<(), Fail> {
+fn entries_where_others_stood(rt: HostRuntime) -> Result<(), Fail> {
     // mov64 r0, r2; mul64 r0, 100; add64 r0, r3
     let position = [
         0xbf20_0000_0000_0000,
@@ -262,11 +262,11 @@ fn entries_for_an_operator(rt: HostRuntime) -> Result<(), Fail> {
         0x0f50_0000_0000_0000,
         EXIT,
     ];
-    expect_entries_for(&rt, rt.alloc(), &position)?;
-    expect_entries_for(&rt, rt.alloc(), &word)?;
-    expect_entries_for(&rt, rt.alloc(), &number)?;
-    expect_entries_for(&rt, rt.alloc(), &both)?;
-    expect_entries_for(&rt, rt.alloc(), &stored)
+    expect_entries(&rt, rt.alloc(), &position)?;
+    expect_entries(&rt, rt.alloc(), &word)?;
+    expect_entries(&rt, rt.alloc(), &number)?;
+    expect_entries(&rt, rt.alloc(), &both)?;
+    expect_entries(&rt, rt.alloc(), &stored)
 }
 
 /// Pairs of two lists are called in their order, and values stay until the next calls are made.

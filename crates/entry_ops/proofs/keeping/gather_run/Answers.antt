@@ -1,7 +1,6 @@
 use Rattle.std.proofs.Common.{◌+◌, ◌-◌, ◌++◌, ◌∙◌, [], refl, inl, inr, length, ap, sym, arith, length-append, append-nil}
-use Rattle.bpf_run.specs.Calls.{entries_of}
+use Rattle.bpf_run.specs.Calls.{Gathered, entries_of}
 use Rattle.entry_ops.specs.inner.Keeping.{called_before}
-use Rattle.bpf_run.proofs.Ignoring.{alike_then, alike_ends, alike_same, alike_long}
 use Rattle.entry_ops.proofs.Mapped.{length_entries, parts}
 use Rattle.entry_ops.proofs.Passing.{called_start, called_more, here_of, here_is, here_first, here_beyond, inside, ended}
 use Rattle.entry_ops.proofs.keeping.gather_run.Goals as goal
@@ -9,9 +8,7 @@ use Rattle.entry_ops.proofs.keeping.gather_run.Goals as goal
 pub loop-left-init : goal.loop-left-init
 loop-left-init c = record {
   kind = c.requires.begun;
-  first = [];
-  alike = alike_same c.args.operator.now c.args.calls.now.operands [] c.requires.none;
-  is = sym (called_start c.args.a.now c.args.thunk c.args.at.end c.args.at.row c.args.at.left.now);
+  is = c.requires.none ∙ sym (called_start c.args.a.now c.args.thunk c.args.at.end c.args.at.row c.args.at.left.now);
   here = sym (here_first c.args.a.now c.args.thunk c.args.at.end c.args.at.row c.args.at.left.now)
       ∙ here_is c.args.a.now c.args.thunk c.args.at.end c.args.at.row c.args.at.left.now c.args.at.row;
   onward = omega arith;
@@ -25,11 +22,8 @@ loop-left-preserved c =
     let i = c.loop-left.invariant in
     let here = entries_of c.loop-left.row t c.loop-left.left.now in
     record {
-      kind = c.gather_row.ensures.kind ∙ i.kind;
-      first = i.first ++ here;
-      alike = alike_then c.args.operator.now c.gather_row.new.calls.operands (c.loop-left.calls.operands ++ here) (i.first ++ here)
-          c.gather_row.ensures.alike (alike_ends c.args.operator.now c.loop-left.calls.operands i.first here i.alike);
-      is = ap (λ os. os ++ here) i.is
+      kind = ap (λ (g : Gathered). g.kind) c.gather_entries.ensures ∙ i.kind;
+      is = ap (λ (g : Gathered). g.operands) c.gather_entries.ensures ∙ ap (λ os. os ++ here) i.is
           ∙ called_more a t end row left c.loop-left.row c.loop-left.left.now i.onward i.within (i.here ∙ sym (here_is a t end row left c.loop-left.row));
       here = c.row-left.ensures
           ∙ sym (inside a t end (c.loop-left.row + 1) c.if-row-at.false)
@@ -47,11 +41,8 @@ returns-then-row-at-clause-first c =
     let here = entries_of c.loop-left.row t c.loop-left.left.now in
     let o = i.onward in let w = i.within in let e = c.if-row-at.true in
     record {
-      first = i.first ++ here;
       done = [];
-      alike = alike_then c.args.operator.now c.gather_row.new.calls.operands (c.loop-left.calls.operands ++ here) (i.first ++ here)
-          c.gather_row.ensures.alike (alike_ends c.args.operator.now c.loop-left.calls.operands i.first here i.alike);
-      is = ap (λ os. os ++ here) i.is
+      is = ap (λ (g : Gathered). g.operands) c.gather_entries.ensures ∙ ap (λ os. os ++ here) i.is
           ∙ called_more a t end row left c.loop-left.row c.loop-left.left.now i.onward i.within (i.here ∙ sym (here_is a t end row left c.loop-left.row))
           ∙ sym (append-nil (called_before a t row left (c.loop-left.row + 1)));
       parts = sym (sym (here_is a t end row left (c.loop-left.row + 1)) ∙ here_beyond a t end row left (c.loop-left.row + 1) (omega (arith, o))
@@ -68,17 +59,14 @@ returns-clause-first c =
     let cut = parts (64 - c.len-2.result) c.loop-left.left.now c.split_at.result.0.now c.split_at.result.1.now c.split_at.ensures.front c.split_at.ensures.back in
     let here = entries_of c.loop-left.row c.args.thunk c.split_at.result.0.now in
     let f = c.len-2.ensures.few in let g = c.len-2.ensures.len in
-    let n = alike_long c.args.operator.now c.loop-left.calls.operands i.first i.alike in
-    let p = length-append i.first here in
+    let n = ap (λ (g : Gathered). length g.operands) c.gather_entries-2.ensures in
+    let p = length-append c.loop-left.calls.operands here in
     let q = length_entries c.loop-left.row c.args.thunk c.split_at.result.0.now in
     let u = c.split_at.ensures.front_len in
     let w = i.within in
     record {
-      first = i.first ++ here;
       done = c.split_at.result.0.now;
-      alike = alike_then c.args.operator.now c.gather_entries_for.new.self.operands (c.loop-left.calls.operands ++ here) (i.first ++ here)
-          c.gather_entries_for.ensures.alike (alike_ends c.args.operator.now c.loop-left.calls.operands i.first here i.alike);
-      is = ap (λ os. os ++ here) i.is;
+      is = ap (λ (g : Gathered). g.operands) c.gather_entries-2.ensures ∙ ap (λ os. os ++ here) i.is;
       parts = sym cut ∙ i.here;
       end = refl;
       onward = i.onward;

@@ -1,16 +1,12 @@
-use Rattle.std.proofs.Common.{List, ◌≡◌, ◌≤◌, ◌<◌, ◌-◌, if◌then◌else◌, nat_lt}
+use Rattle.std.proofs.Common.{◌≡◌, ◌≤◌, ◌<◌, ◌-◌, if◌then◌else◌, nat_lt}
 use Rattle.bpf_insn.specs.declared.operands.Kind.TheVariants as kinds
-use Rattle.bpf_insn.specs.declared.operands.Operands.{Operands}
-use Rattle.bpf_run.specs.Naming.{AnswersAlike}
 use Rattle.entry_ops.specs.inner.Keeping.{row_before, called_before}
 use Rattle.entry_ops.proofs.keeping.gather_run.Given as goal
 
 abbrev pub invariant-loop-left : goal.invariant-loop-left
 invariant-loop-left l = record {
   kind : l.calls.kind ≡ kinds.Index;
-  first : List Operands;
-  alike : AnswersAlike l.operator l.calls.operands first;
-  is : first ≡ called_before l.a l.thunk l.at.row l.at.left.now l.row;
+  is : l.calls.operands ≡ called_before l.a l.thunk l.at.row l.at.left.now l.row;
   here : l.left ≡ (if nat_lt l.at.row l.row then row_before l.a l.at.end l.row else l.at.left.now);
   onward : l.at.row ≤ l.row;
   within : l.row < l.at.end;
