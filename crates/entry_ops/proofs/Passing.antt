@@ -1,5 +1,5 @@
 -- What an operator keeps of rows, cell after cell: what is called, in its order, and what is kept so far.
-use Rattle.std.proofs.Common.{◌≡◌, ◌≤◌, ◌<◌, ◌+◌, ◌-◌, ◌^◌, ◌⊎◌, inl, inr, ℕ, zero, suc, nat_lt, nat_eq, if◌then◌else◌, true, false, List, [], ◌∷◌, ◌++◌, length, take, drop, None, refl, sym, ap, ◌∙◌, subst, arith, length-append, length-drop, append_assoc, append-nil, take-append-drop}
+use Rattle.std.proofs.Common.{◌≡◌, ◌≤◌, ◌<◌, ◌+◌, ◌-◌, ◌^◌, ◌⊎◌, inl, inr, ℕ, zero, suc, nat_lt, nat_eq, if◌then◌else◌, true, false, List, [], ◌∷◌, ◌++◌, length, take, drop, None, refl, sym, ap, ◌∙◌, subst, arith, length-append, append_assoc, append-nil}
 use Rattle.std.proofs.Math.Seq.{take-append_seam, drop-append_seam}
 use Rattle.std.proofs.lemmas.Bool.{cases_lt, lt-ltb, le-ltb}
 use Rattle.bpf_insn.specs.declared.operands.Operands.{Operands}
@@ -10,7 +10,6 @@ use Rattle.csr_store.specs.Ascending.{Ascends}
 use Rattle.csr_store.specs.Added.{ComeBehind, kept_where, kept_rows}
 use Rattle.csr_store.specs.Run.{Row, Run}
 use Rattle.csr_store.proofs.Along.{along-next, along-over, along-snoc, along-split, along-same, row_of-ascends}
-use Rattle.bpf_run.specs.Meaning.{value_of}
 use Rattle.bpf_run.specs.Calls.{Charges, calls_on, values_on, steps_of, entries_of}
 use Rattle.bpf_run.proofs.Charging.{Spends, spends-start, spends-step, charges-all, charges-before, calls_on-append, steps-append, values_on-append}
 use Rattle.entry_ops.specs.declared.form.Form.TheVariants.{Select}

@@ -2,7 +2,7 @@ use Rattle.std.proofs.Common.{◌+◌, ◌-◌, ◌++◌, ◌∙◌, [], refl, i
 use Rattle.bpf_run.specs.Calls.{Gathered, entries_of}
 use Rattle.entry_ops.specs.inner.Keeping.{called_before}
 use Rattle.entry_ops.proofs.Mapped.{length_entries, parts}
-use Rattle.entry_ops.proofs.Passing.{called_start, called_more, here_of, here_is, here_first, here_beyond, inside, ended}
+use Rattle.entry_ops.proofs.Passing.{called_start, called_more, here_is, here_first, here_beyond, inside, ended}
 use Rattle.entry_ops.proofs.keeping.gather_run.Goals as goal
 
 pub loop-left-init : goal.loop-left-init
