@@ -1,12 +1,10 @@
 pub mod Adding
 pub mod Gathering
-pub mod Tagging
-pub mod Waiting
-pub mod Several
-pub mod Emitting
-pub mod EmittingAll
+pub mod Turns
+pub mod Putting
 pub mod Marking
 pub mod Filling
 pub mod Meeting
+pub mod Parts
 pub mod Barren
 pub mod Spreading

@@ -10,7 +10,7 @@ use Rattle.csr_store.proofs.Along.{along-first, along-none}
 use Rattle.row_product.specs.inner.Sums.{slot}
 use Rattle.row_product.specs.inner.Few.{IsApart, spread}
 use Rattle.row_product.proofs.Adding.{slot_same, slot_other}
-use Rattle.row_product.proofs.Emitting.{cells_below, cells_joined, cell_below, same_run}
+use Rattle.row_product.proofs.Putting.{cells_below, cells_joined, cell_below, same_run}
 
 slot_nothing : (n j : ℕ) → slot (replicate n None) j ≡ None
 slot_nothing zero j = refl

@@ -1,119 +1,71 @@
 //! The sums of a row, put into the open row of the result.
-ghost use Rattle.std.specs.Prelude.{◌≡◌, ◌≤◌, ◌<◌, ◌+◌, ◌++◌, ℕ, List, Option, [], None, Some, length, OnOk};
-ghost use Rattle.std.specs.List.{All, AllByRecursion, Contains};
+ghost use Rattle.std.specs.Prelude.{◌≡◌, ◌≤◌, ◌<◌, ◌++◌, ℕ, true, false, Some, [], length, OnOk};
+ghost use Rattle.std.specs.List.{AllByRecursion, Contains};
 ghost use Rattle.std.specs.List.Sorted.{IsNonDecreasing};
 ghost use Rattle.csr_store.specs.Along.{cell_at, row_by};
 ghost use Rattle.csr_store.specs.Grid.{Cell};
-ghost use Rattle.csr_store.specs.Run.{Run};
-ghost use Rattle.row_product.specs.inner.Emitted.{IsEmitted};
-ghost use Rattle.row_product.specs.inner.Sums.{slot, sums_of, AreTouched};
+ghost use Rattle.row_product.specs.inner.Sums.{slot};
 
-use crate::tagged::Sum;
+use crate::held::Held;
 use csr_store::Rows;
 use std::alloc::AllocError;
 
-/// From one sum in so many columns on, going over all columns is cheaper than putting those that have one in order.
-const COLUMNS_A_SUM: u64 = 16;
-
-/// So many columns are gone over with room made for all of them beforehand.
-const STRETCH: u64 = 256;
-
-/// Puts the touched columns into ascending order.
-pub(crate) fn put_in_order(touched: &mut Vec<u64>)
-    ensures touched { (columns : ℕ) → (sums : List (Option ℕ)) → AreTouched columns sums touched.old.items
-        → AreTouched columns sums touched.new.items }
-    ensures ascending { IsNonDecreasing touched.new.items }
+/// Puts the sum of a column, if there is one, into the open row.
+#[inline(always)]
+fn put_sum(column: u64, held: &Held, rows: &mut Rows) -> Result<(), AllocError>
+    requires held { column < length held.now }
+    requires within { column < rows.old.columns }
+    requires above { AllByRecursion (λ (c : Cell). c.0 < column) rows.old.opened }
+    ensures { OnOk result (rows.new ≡ record rows.old { opened = rows.old.opened ++ cell_at column (slot held.now column) }) }
 {
-    touched.sort_unstable();
+    match held.get(column) {
+        Some(sum) => rows.push(column, sum),
+        None => Ok(()),
+    }
 }
 
-/// Moves the sums of the touched columns, which ascend, into the open row.
-pub(crate) fn emit(touched: &[u64], sums: &mut [Sum], rows: &mut Rows) -> Result<(), AllocError>
-    requires order { IsNonDecreasing touched.now }
-    requires touched { AreTouched rows.old.columns (sums_of sums.old) touched.now }
-    requires width { rows.old.columns ≤ length sums.old }
-    requires none_open { rows.old.opened ≡ [] }
-    ensures rows { OnOk result (rows.new ≡ record rows.old { opened = row_by rows.old.columns (λ j. slot (sums_of sums.old) j) }) }
-    ensures gone { OnOk result ((j : ℕ) → slot (sums_of sums.new) j ≡ None) }
-    ensures kept { (j v : ℕ) → slot (sums_of sums.new) j ≡ Some v → slot (sums_of sums.old) j ≡ Some v }
+/// Whether a column is none of those before the next, and one of so many.
+#[inline(always)]
+fn is_due(column: u64, next: u64, columns: u64) -> bool
+    ensures due { result ≡ true → (next ≤ column) × (column < columns) }
+    ensures other { result ≡ false → next ≤ column → columns ≤ column }
 {
-    for column in touched {
-        let j = *column as usize;
-        let sum = sums[j].word();
-        sums[j] = Sum::Nothing;
-        match sum {
-            Some(sum) => {
-                rows.push(*column, sum)?;
-            }
-            None => {}
+    column >= next && column < columns
+}
+
+/// Puts the sums of the listed columns, which do not fall and are all that have one, into the open row.
+pub(crate) fn emit_listed(
+    columns: u64,
+    listed: &[u64],
+    held: &Held,
+    rows: &mut Rows,
+) -> Result<(), AllocError>
+    requires columns { rows.old.columns ≡ columns }
+    requires wide { rows.old.columns ≤ length held.now }
+    requires order { IsNonDecreasing listed.now }
+    requires covers { (j v : ℕ) → slot held.now j ≡ Some v → Contains listed.now j }
+    requires none_open { rows.old.opened ≡ [] }
+    ensures { OnOk result (rows.new ≡ record rows.old { opened = row_by rows.old.columns (slot held.now) }) }
+{
+    let mut next = 0;
+    for column in listed {
+        if is_due(*column, next, columns) {
+            put_sum(*column, held, rows)?;
+            next = *column + 1;
         }
     }
     Ok(())
 }
 
-/// Moves the sums of so many columns from one on into the open row.
-#[inline]
-fn emit_stretch(from: u64, many: u64, sums: &mut [Sum], rows: &mut Rows) -> Result<(), AllocError>
-    requires within { from + many ≤ rows.old.columns }
-    requires width { rows.old.columns ≤ length sums.old }
-    requires above { AllByRecursion (λ (c : Cell). c.0 < from) rows.old.opened }
-    ensures emitted { OnOk result ((first : List (Option ℕ)) (run : Run)
-        → IsEmitted rows.old.columns first run from (sums_of sums.old) rows.old
-        → IsEmitted rows.old.columns first run (from + many) (sums_of sums.new) rows.new) }
-    ensures kept { (j v : ℕ) → slot (sums_of sums.new) j ≡ Some v → slot (sums_of sums.old) j ≡ Some v }
-{
-    rows.push_taken(sums, from, many)
-}
-
-/// Moves the sums of all columns into the open row: for rows where many of them have one.
-pub(crate) fn emit_all(columns: u64, sums: &mut [Sum], rows: &mut Rows) -> Result<(), AllocError>
+/// Puts the sums of all columns into the open row: for rows where many of them have one.
+pub(crate) fn emit_all(columns: u64, held: &Held, rows: &mut Rows) -> Result<(), AllocError>
     requires columns { rows.old.columns ≡ columns }
-    requires covers { (j v : ℕ) → slot (sums_of sums.old) j ≡ Some v → j < rows.old.columns }
-    requires width { rows.old.columns ≤ length sums.old }
+    requires wide { rows.old.columns ≤ length held.now }
     requires none_open { rows.old.opened ≡ [] }
-    ensures rows { OnOk result (rows.new ≡ record rows.old { opened = row_by rows.old.columns (λ j. slot (sums_of sums.old) j) }) }
-    ensures gone { OnOk result ((j : ℕ) → slot (sums_of sums.new) j ≡ None) }
-    ensures kept { (j v : ℕ) → slot (sums_of sums.new) j ≡ Some v → slot (sums_of sums.old) j ≡ Some v }
+    ensures { OnOk result (rows.new ≡ record rows.old { opened = row_by rows.old.columns (slot held.now) }) }
 {
-    for k in 0..columns / STRETCH {
-        emit_stretch(k * STRETCH, STRETCH, sums, rows)?;
+    for column in 0..columns {
+        put_sum(column, held, rows)?;
     }
-    let done = columns / STRETCH * STRETCH;
-    emit_stretch(done, columns - done, sums, rows)
-}
-
-/// Moves the sums of the touched columns, which are all that there are, into the open row: in the order of the columns that are put
-/// in order, or, where there are many, of all columns.
-pub(crate) fn emit_row(
-    columns: u64,
-    touched: &mut Vec<u64>,
-    sums: &mut [Sum],
-    rows: &mut Rows,
-) -> Result<(), AllocError>
-    requires columns { rows.old.columns ≡ columns }
-    requires touched { AreTouched rows.old.columns (sums_of sums.old) touched.old.items }
-    requires width { rows.old.columns ≤ length sums.old }
-    requires none_open { rows.old.opened ≡ [] }
-    ensures rows { OnOk result (rows.new ≡ record rows.old { opened = row_by rows.old.columns (λ j. slot (sums_of sums.old) j) }) }
-    ensures gone { OnOk result ((j : ℕ) → slot (sums_of sums.new) j ≡ None) }
-    ensures kept { (j v : ℕ) → slot (sums_of sums.new) j ≡ Some v → slot (sums_of sums.old) j ≡ Some v }
-    ensures touched { AreTouched rows.old.columns (sums_of sums.old) touched.new.items }
-{
-    rows.reserve(touched.len())?;
-    if touched.len() as u64 > columns / COLUMNS_A_SUM {
-        return emit_all(columns, sums, rows);
-    }
-    put_in_order(touched);
-    emit(touched, sums, rows)
-}
-
-/// Empties the sums of the touched columns, which are all that there are.
-pub(crate) fn clear(touched: &[u64], sums: &mut [Sum])
-    requires covers { (j v : ℕ) → slot (sums_of sums.old) j ≡ Some v → Contains touched.now j }
-    requires within { All (λ j. j < length sums.old) touched.now }
-    ensures { (j : ℕ) → slot (sums_of sums.new) j ≡ None }
-{
-    for column in touched {
-        sums[*column as usize] = Sum::Nothing;
-    }
+    Ok(())
 }

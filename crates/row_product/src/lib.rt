@@ -23,15 +23,17 @@
 //! (the columns of these terms), over `specs/inner/Few.antt`.
 #![tactic(auto)]
 
+mod accumulator;
 mod additions;
 mod columns;
 mod emit;
+mod factors;
 mod few;
+mod held;
 mod marks;
 mod product;
+mod progress;
 mod row;
 mod sums;
-mod tagged;
-mod terms;
 
 pub use product::{Scratch, product_rows};

@@ -1,228 +1,125 @@
-//! Rows of B, each times a word, added to the sums of a row of the product.
-ghost use Rattle.std.specs.Prelude.{◌≡◌, ◌≤◌, ◌<◌, ◌+◌, ◌*◌, ◌^◌, ℕ, length, vec_capacity};
-ghost use Rattle.std.specs.FinMap as fin;
-ghost use Rattle.bpf_insn.specs.declared.operands.Kind.TheVariants as kinds;
-ghost use Rattle.bpf_run.specs.Calls.{steps_of};
-ghost use Rattle.csr_store.specs.Along.{along};
-ghost use Rattle.csr_store.specs.Grid.{limit, row_of};
-ghost use Rattle.job_forms.specs.Product.{mults_of};
-ghost use Rattle.row_product.specs.inner.Sums.{
-  slot,
-  sums_of,
-  flag,
-  takes,
-  seen,
-  after,
-  extra,
-  value_of_rest,
-  calls_of_rest,
-  AreTouched,
-  HasRoom,
-};
-ghost use Rattle.row_product.specs.inner.Terms.{sums_then, calls_then, touched_then, AreWithin};
+//! The sums of a row, with a list of the columns that have one as long as they are few.
+ghost use Rattle.std.specs.Prelude.{◌≡◌, ◌≤◌, ◌<◌, ℕ, List, Option, None, Some, [], length, set, OnOk};
+ghost use Rattle.csr_store.specs.Along.{row_by};
+ghost use Rattle.row_product.specs.inner.Sums.{slot};
 
-use crate::tagged::Sum;
-use crate::terms::Terms;
-use bpf_run::{MOST_CALLS, Prepared};
-use csr_store::Matrix;
+use crate::emit::{emit_all, emit_listed};
+use crate::held::Held;
+use csr_store::Rows;
+use std::alloc::{AllocError, Global};
+use std::marker::Model;
 
-/// From so many cells of a row of B on, their products are made and added by themselves: the columns of one row are all
-/// different, so that none of their additions waits for another.
-const CELLS_AT_ONCE: usize = 32;
+/// From one sum in so many columns on, going over all columns is cheaper than putting those that have one in order.
+const COLUMNS_A_SUM: u64 = 16;
 
-/// Adds the allowed columns of row `k` of B, times a word, to the sums as they are when all terms that wait are made.
-fn add_allowed(
-    add: &Prepared,
-    mul: &Prepared,
-    x: u64,
-    b: &Matrix,
-    k: u64,
-    allowed: &[bool],
-    terms: &mut Terms,
-    sums: &mut [Sum],
-    touched: &mut Vec<u64>,
-) -> u64
-    requires add { add.now.kind ≡ kinds.Binary }
-    requires mul { mul.now.kind ≡ kinds.Binary }
-    requires row { k < b.now.rows }
-    requires width { b.now.columns ≤ length sums.old }
-    requires flags { length sums.old ≤ length allowed.now }
-    requires within { AreWithin sums.old terms.old }
-    requires small { steps_of (calls_then add.now mul.now sums.old terms.old) + 8192 * limit < 2 ^ 64 }
-    requires touched { AreTouched b.now.columns (sums_then add.now mul.now sums.old terms.old)
-        (touched_then add.now mul.now sums.old terms.old touched.old.items) }
-    requires room { HasRoom (length (sums_then add.now mul.now sums.old terms.old)) (vec_capacity touched.old)
-        (length (touched_then add.now mul.now sums.old terms.old touched.old.items)) (length (row_of b.now k)) }
-    ensures sums { (j : ℕ) → slot (sums_then add.now mul.now sums.new terms.new) j
-        ≡ after add.now mul.now x (slot (sums_then add.now mul.now sums.old terms.old) j)
-        (seen (flag allowed.now j) (fin.get b.now.cells (k, j))) }
-    ensures within { AreWithin sums.new terms.new }
-    ensures touched { AreTouched b.now.columns (sums_then add.now mul.now sums.new terms.new)
-        (touched_then add.now mul.now sums.new terms.new touched.new.items) }
-    ensures grows { length (touched_then add.now mul.now sums.new terms.new touched.new.items)
-        ≤ length (touched_then add.now mul.now sums.old terms.old touched.old.items) + length (row_of b.now k) }
-    ensures room { vec_capacity touched.old ≤ vec_capacity touched.new }
-    ensures steps { result + steps_of (calls_then add.now mul.now sums.new terms.new)
-        ≡ steps_of (calls_then add.now mul.now sums.old terms.old)
-        + steps_of (along (λ j. extra add.now mul.now x (slot (sums_then add.now mul.now sums.old terms.old) j)
-        (seen (flag allowed.now j) (fin.get b.now.cells (k, j)))) 0 b.now.columns) }
-    ensures few { result + steps_of (calls_then add.now mul.now sums.new terms.new)
-        ≤ steps_of (calls_then add.now mul.now sums.old terms.old) + 8192 * limit }
-{
-    let _columns = b.columns();
-    let _add = add.operator().program();
-    let _mul = mul.operator().program();
-    let row = b.row(k);
-    let mut steps = 0;
-    for cell in row {
-        let j = cell.0 as usize;
-        if allowed[j] {
-            steps += terms.add_term(add, mul, x, cell.1, cell.0, sums, touched);
+/// The sums of the row in progress. A contract sees the sum of each column, if there is one.
+#[derive(Drop)]
+pub(crate) struct Sums {
+    held: Held,
+    /// The columns that have a sum, unless there are `most`.
+    touched: Vec<u64>,
+    most: usize,
+}
+
+impl Model for Sums {
+    ghost use Rattle.std.specs.Prelude.{ℕ, List, Option, ◌≤◌, length, vec_capacity};
+    ghost use Rattle.row_product.specs.inner.Held.{AreListed};
+
+    ghost Value = { List (Option ℕ) };
+
+    ghost view = { λ s. s.held };
+
+    ghost invariant = { λ s. (s.most ≤ vec_capacity s.touched) × AreListed s.most s.held s.touched.items };
+}
+
+impl Sums {
+    /// Of no column yet. Takes no memory.
+    pub(crate) fn new(alloc: Global) -> Self
+        ensures { result ≡ [] }
+    {
+        Sums {
+            held: Held::new(alloc),
+            touched: Vec::new(alloc),
+            most: 0,
         }
     }
-    steps
-}
 
-/// Adds all of row `k` of B, times a word, to the sums as they are when all terms that wait are made.
-fn add_whole(
-    add: &Prepared,
-    mul: &Prepared,
-    x: u64,
-    b: &Matrix,
-    k: u64,
-    terms: &mut Terms,
-    sums: &mut [Sum],
-    touched: &mut Vec<u64>,
-) -> u64
-    requires add { add.now.kind ≡ kinds.Binary }
-    requires mul { mul.now.kind ≡ kinds.Binary }
-    requires row { k < b.now.rows }
-    requires width { b.now.columns ≤ length sums.old }
-    requires within { AreWithin sums.old terms.old }
-    requires small { steps_of (calls_then add.now mul.now sums.old terms.old) + 8192 * limit < 2 ^ 64 }
-    requires touched { AreTouched b.now.columns (sums_then add.now mul.now sums.old terms.old)
-        (touched_then add.now mul.now sums.old terms.old touched.old.items) }
-    requires room { HasRoom (length (sums_then add.now mul.now sums.old terms.old)) (vec_capacity touched.old)
-        (length (touched_then add.now mul.now sums.old terms.old touched.old.items)) (length (row_of b.now k)) }
-    ensures sums { (j : ℕ) → slot (sums_then add.now mul.now sums.new terms.new) j
-        ≡ after add.now mul.now x (slot (sums_then add.now mul.now sums.old terms.old) j)
-        (fin.get b.now.cells (k, j)) }
-    ensures within { AreWithin sums.new terms.new }
-    ensures touched { AreTouched b.now.columns (sums_then add.now mul.now sums.new terms.new)
-        (touched_then add.now mul.now sums.new terms.new touched.new.items) }
-    ensures grows { length (touched_then add.now mul.now sums.new terms.new touched.new.items)
-        ≤ length (touched_then add.now mul.now sums.old terms.old touched.old.items) + length (row_of b.now k) }
-    ensures room { vec_capacity touched.old ≤ vec_capacity touched.new }
-    ensures steps { result + steps_of (calls_then add.now mul.now sums.new terms.new)
-        ≡ steps_of (calls_then add.now mul.now sums.old terms.old)
-        + steps_of (along (λ j. extra add.now mul.now x (slot (sums_then add.now mul.now sums.old terms.old) j)
-        (fin.get b.now.cells (k, j))) 0 b.now.columns) }
-    ensures few { result + steps_of (calls_then add.now mul.now sums.new terms.new)
-        ≤ steps_of (calls_then add.now mul.now sums.old terms.old) + 8192 * limit }
-{
-    let _columns = b.columns();
-    let _add = add.operator().program();
-    let _mul = mul.operator().program();
-    let mut cells = b.row(k);
-    let mut steps = 0;
-    while !cells.is_empty() {
-        if cells.len() >= CELLS_AT_ONCE {
-            let (now, rest) = cells.split_at(cells.len().min(MOST_CALLS));
-            steps += terms.add_cells(add, mul, x, now, sums, touched);
-            cells = rest;
-        } else {
-            steps += terms.make_room(add, mul, sums, touched);
-            let (now, rest) = cells.split_at(cells.len().min(terms.room()));
-            terms.gather_cells(x, now);
-            cells = rest;
+    /// How many columns there are.
+    pub(crate) fn len(&self) -> usize
+        ensures { result ≡ length self.now }
+    {
+        self.held.len()
+    }
+
+    /// Room for so many columns, at least.
+    pub(crate) fn widen(&mut self, columns: u64) -> Result<(), AllocError>
+        ensures { OnOk result (columns ≤ length self.new) }
+    {
+        self.most = 0;
+        self.touched.clear();
+        self.touched.reserve((columns / COLUMNS_A_SUM) as usize)?;
+        self.held.widen(columns as usize)
+    }
+
+    /// Begins a row of so many columns, with no sum.
+    pub(crate) fn begin(&mut self, columns: u64)
+        ensures none { (j : ℕ) → slot self.new j ≡ None }
+        ensures long { length self.new ≡ length self.old }
+    {
+        self.held.forget();
+        self.touched.clear();
+        self.most = self
+            .touched
+            .capacity()
+            .min((columns / COLUMNS_A_SUM) as usize);
+    }
+
+    /// The sum of a column, if there is one.
+    #[inline(always)]
+    pub(crate) fn get(&self, column: u64) -> Option<u64>
+        requires { column < length self.now }
+        ensures { result ≡ slot self.now column }
+    {
+        self.held.get(column)
+    }
+
+    /// Gives a column that has no sum its first.
+    #[inline(always)]
+    pub(crate) fn begin_sum(&mut self, column: u64, sum: u64)
+        requires { column < length self.old }
+        ensures { self.new ≡ set self.old column (Some sum) }
+    {
+        self.held.put(column, sum);
+        if self.touched.len() < self.most {
+            self.touched.push_reserved(column);
         }
     }
-    steps
-}
 
-/// Adds row `k` of B, times a word, to the sums as they are when all terms that wait are made. Where it is masked, the allowed
-/// columns alone take terms.
-fn add_row(
-    add: &Prepared,
-    mul: &Prepared,
-    x: u64,
-    b: &Matrix,
-    k: u64,
-    masked: bool,
-    allowed: &[bool],
-    terms: &mut Terms,
-    sums: &mut [Sum],
-    touched: &mut Vec<u64>,
-) -> u64
-    requires add { add.now.kind ≡ kinds.Binary }
-    requires mul { mul.now.kind ≡ kinds.Binary }
-    requires row { k < b.now.rows }
-    requires width { b.now.columns ≤ length sums.old }
-    requires flags { length sums.old ≤ length allowed.now }
-    requires within { AreWithin sums.old terms.old }
-    requires small { steps_of (calls_then add.now mul.now sums.old terms.old) + 8192 * limit < 2 ^ 64 }
-    requires touched { AreTouched b.now.columns (sums_then add.now mul.now sums.old terms.old)
-        (touched_then add.now mul.now sums.old terms.old touched.old.items) }
-    requires room { HasRoom (length (sums_then add.now mul.now sums.old terms.old)) (vec_capacity touched.old)
-        (length (touched_then add.now mul.now sums.old terms.old touched.old.items)) (length (row_of b.now k)) }
-    ensures sums { (j : ℕ) → slot (sums_then add.now mul.now sums.new terms.new) j
-        ≡ after add.now mul.now x (slot (sums_then add.now mul.now sums.old terms.old) j)
-        (seen (takes masked allowed.now j) (fin.get b.now.cells (k, j))) }
-    ensures within { AreWithin sums.new terms.new }
-    ensures touched { AreTouched b.now.columns (sums_then add.now mul.now sums.new terms.new)
-        (touched_then add.now mul.now sums.new terms.new touched.new.items) }
-    ensures grows { length (touched_then add.now mul.now sums.new terms.new touched.new.items)
-        ≤ length (touched_then add.now mul.now sums.old terms.old touched.old.items) + length (row_of b.now k) }
-    ensures room { vec_capacity touched.old ≤ vec_capacity touched.new }
-    ensures steps { result + steps_of (calls_then add.now mul.now sums.new terms.new)
-        ≡ steps_of (calls_then add.now mul.now sums.old terms.old)
-        + steps_of (along (λ j. extra add.now mul.now x (slot (sums_then add.now mul.now sums.old terms.old) j)
-        (seen (takes masked allowed.now j) (fin.get b.now.cells (k, j)))) 0 b.now.columns) }
-    ensures few { result + steps_of (calls_then add.now mul.now sums.new terms.new)
-        ≤ steps_of (calls_then add.now mul.now sums.old terms.old) + 8192 * limit }
-{
-    if masked {
-        return add_allowed(add, mul, x, b, k, allowed, terms, sums, touched);
+    /// Gives a column that has a sum another.
+    #[inline(always)]
+    pub(crate) fn put(&mut self, column: u64, sum: u64)
+        requires { column < length self.old }
+        ensures { self.new ≡ set self.old column (Some sum) }
+    {
+        match self.held.get(column) {
+            Some(_) => self.held.put(column, sum),
+            None => self.begin_sum(column, sum),
+        }
     }
-    add_whole(add, mul, x, b, k, terms, sums, touched)
-}
 
-/// Adds the rows of B that row `i` of A names, each times the word that names it.
-pub(crate) fn sum_row(
-    add: &Prepared,
-    mul: &Prepared,
-    a: &Matrix,
-    i: u64,
-    b: &Matrix,
-    masked: bool,
-    allowed: &[bool],
-    terms: &mut Terms,
-    sums: &mut [Sum],
-    touched: &mut Vec<u64>,
-) -> u64
-    requires add { add.now.kind ≡ kinds.Binary }
-    requires mul { mul.now.kind ≡ kinds.Binary }
-    requires shapes { a.now.columns ≡ b.now.rows }
-    requires row { i < a.now.rows }
-    requires width { b.now.columns ≤ length sums.old }
-    requires flags { length sums.old ≤ length allowed.now }
-    requires touched { AreTouched b.now.columns (sums_of sums.old) touched.old.items }
-    requires room { HasRoom (length sums.old) (vec_capacity touched.old) (length touched.old.items) (mults_of b.now (row_of a.now
-        i)) }
-    ensures sums { (j : ℕ) → slot (sums_of sums.new) j ≡ value_of_rest add.now mul.now b.now (takes masked allowed.now j) (slot (sums_of sums.old) j)
-        (row_of a.now i) j }
-    ensures touched { AreTouched b.now.columns (sums_of sums.new) touched.new.items }
-    ensures steps { result ≡ steps_of (along (λ j. calls_of_rest add.now mul.now b.now (takes masked allowed.now j) (slot (sums_of sums.old) j)
-        (row_of a.now i) j) 0 b.now.columns) }
-    ensures few { result ≤ 8192 * limit * length (row_of a.now i) }
-{
-    let _columns = a.columns();
-    let row = a.row(i);
-    terms.clear();
-    let mut steps = 0;
-    for k in 0..row.len() {
-        let (named, x) = row[k];
-        steps += add_row(add, mul, x, b, named, masked, allowed, terms, sums, touched);
+    /// Puts the sums into the open row, by ascending column.
+    pub(crate) fn emit(&mut self, columns: u64, rows: &mut Rows) -> Result<(), AllocError>
+        requires columns { rows.old.columns ≡ columns }
+        requires wide { rows.old.columns ≤ length self.old }
+        requires none_open { rows.old.opened ≡ [] }
+        ensures rows { OnOk result (rows.new ≡ record rows.old { opened = row_by rows.old.columns (slot self.old) }) }
+        ensures sums { self.new ≡ self.old }
+    {
+        if self.touched.len() < self.most {
+            rows.reserve(self.touched.len())?;
+            self.touched.sort_unstable();
+            return emit_listed(columns, &self.touched, &self.held, rows);
+        }
+        emit_all(columns, &self.held, rows)
     }
-    steps + terms.finish(add, mul, sums, touched)
 }

@@ -1,64 +1,33 @@
-use Rattle.std.proofs.Common.{◌≡◌, ◌+◌, ◌-◌, ◌*◌, ◌/◌, ◌<◌, subst, sym, ap, ◌∙◌, arith}
-use Rattle.std.specs.List.{AllByRecursion}
-use Rattle.std.proofs.lemmas.Result.{on_ok_weaker}
-use Rattle.csr_store.specs.Along.{row_by}
-use Rattle.csr_store.specs.Grid.{Cell}
+use Rattle.std.proofs.Common.{refl, ap, arith}
 use Rattle.csr_store.specs.Run.{Run}
-use Rattle.row_product.specs.inner.Sums.{slot, sums_of}
-use Rattle.row_product.specs.inner.Emitted.{IsEmitted}
-use Rattle.row_product.proofs.EmittingAll.{emitting_all_end, emitting_all_gone}
+use Rattle.row_product.specs.inner.Sums.{slot}
+use Rattle.row_product.proofs.Putting.{putting_start, putting_cell, putting_end}
 use Rattle.row_product.proofs.emit.emit_all.Goals as goal
 
-pub loop-k-preserved : goal.loop-k-preserved
-loop-k-preserved c =
-    let n = c.args.rows.now.columns in
-    let k = c.loop-k.k in
-    let i = c.loop-k.invariant in
-    let same : c.loop-k.rows.columns ≡ n = ap (λ (r : Run). r.columns) i.run in
-    let next : k * 256 + 256 ≡ (k + 1) * 256 = omega arith in
-    subst (λ m. IsEmitted n (sums_of c.args.sums.now) c.args.rows.now m (sums_of c.emit_stretch.new.sums) c.emit_stretch.new.rows)
-    next (subst (λ m. IsEmitted m (sums_of c.args.sums.now) c.args.rows.now (k * 256 + 256) (sums_of c.emit_stretch.new.sums)
-    c.emit_stretch.new.rows) same (c.in_ok-emit_stretch.ensures.emitted (sums_of c.args.sums.now) c.args.rows.now
-    (subst (λ m. IsEmitted m (sums_of c.args.sums.now) c.args.rows.now (k * 256) (sums_of c.loop-k.sums) c.loop-k.rows) (sym same) i)))
+pub loop-column-init : goal.loop-column-init
+loop-column-init c = putting_start c.args.rows.now.columns (slot c.args.held.now) c.args.rows.now c.requires.none_open
 
-pub emit_stretch-requires-2-clause-above : goal.emit_stretch-requires-2-clause-above
-emit_stretch-requires-2-clause-above c =
-    let t = c.loop-k-test.false in
-    let a = c.loop-k.auto.k-end in
-    let done : c.loop-k.k * 256 ≡ c.args.columns / 256 * 256 = omega (arith, t, a) in
-    subst (λ m. AllByRecursion (λ (d : Cell). d.0 < m) c.loop-k.rows.opened) done c.loop-k.invariant.below
-
-pub returns-clause-rows : goal.returns-clause-rows
-returns-clause-rows c = on_ok_weaker c.emit_stretch-2.result (λ h.
-    let n = c.args.rows.now.columns in
-    let first = sums_of c.args.sums.now in
-    let t = c.loop-k-test.false in
-    let a = c.loop-k.auto.k-end in
+pub put_sum-requires-clause-within : goal.put_sum-requires-clause-within
+put_sum-requires-clause-within c =
+    let r = ap (λ (u : Run). u.columns) c.loop-column.invariant.run in
+    let t = c.loop-column-test.true in
     let m = c.requires.columns in
-    let i = c.loop-k.invariant in
-    let same : c.loop-k.rows.columns ≡ n = ap (λ (r : Run). r.columns) i.run in
-    let done : c.loop-k.k * 256 ≡ c.args.columns / 256 * 256 = omega (arith, t, a) in
-    emitting_all_end c.loop-k.rows.columns first c.args.rows.now (c.args.columns / 256 * 256 + (c.args.columns - c.args.columns / 256 * 256))
-    (sums_of c.emit_stretch-2.new.sums) c.emit_stretch-2.new.rows
-    (h first c.args.rows.now (subst (λ d. IsEmitted c.loop-k.rows.columns first c.args.rows.now d (sums_of c.loop-k.sums)
-    c.loop-k.rows) done (subst (λ d. IsEmitted d first c.args.rows.now (c.loop-k.k * 256) (sums_of c.loop-k.sums) c.loop-k.rows)
-    (sym same) i))) (omega (arith, m, same))
-    ∙ ap (λ d. record c.args.rows.now { opened = row_by d (slot first) }) same) c.emit_stretch-2.ensures.emitted
+    omega (arith, r, t, m)
 
-pub returns-clause-gone : goal.returns-clause-gone
-returns-clause-gone c = on_ok_weaker c.emit_stretch-2.result (λ h.
-    let n = c.args.rows.now.columns in
-    let first = sums_of c.args.sums.now in
-    let t = c.loop-k-test.false in
-    let a = c.loop-k.auto.k-end in
+pub put_sum-requires-clause-above : goal.put_sum-requires-clause-above
+put_sum-requires-clause-above c = c.loop-column.invariant.below
+
+pub loop-column-preserved : goal.loop-column-preserved
+loop-column-preserved c =
+    let t = c.loop-column-test.true in
     let m = c.requires.columns in
-    let i = c.loop-k.invariant in
-    let same : c.loop-k.rows.columns ≡ n = ap (λ (r : Run). r.columns) i.run in
-    let done : c.loop-k.k * 256 ≡ c.args.columns / 256 * 256 = omega (arith, t, a) in
-    emitting_all_gone c.loop-k.rows.columns first c.args.rows.now (c.args.columns / 256 * 256 + (c.args.columns - c.args.columns / 256 *
-    256))
-    (sums_of c.emit_stretch-2.new.sums) c.emit_stretch-2.new.rows
-    (h first c.args.rows.now (subst (λ d. IsEmitted c.loop-k.rows.columns first c.args.rows.now d (sums_of c.loop-k.sums)
-    c.loop-k.rows) done (subst (λ d. IsEmitted d first c.args.rows.now (c.loop-k.k * 256) (sums_of c.loop-k.sums) c.loop-k.rows)
-    (sym same) i))) (λ j v q. let b = c.requires.covers j v q in omega (arith, b, same)) (omega (arith, m, same)))
-    c.emit_stretch-2.ensures.emitted
+    putting_cell c.args.rows.now.columns (slot c.args.held.now) c.args.rows.now c.loop-column.column c.loop-column.rows
+    (slot c.args.held.now c.loop-column.column) c.put_sum.new.rows c.loop-column.invariant (omega (arith, t, m)) refl
+    c.in_ok-put_sum.ensures
+
+pub returns : goal.returns
+returns c =
+    let t = c.loop-column-test.false in
+    let m = c.requires.columns in
+    putting_end c.args.rows.now.columns (slot c.args.held.now) c.args.rows.now c.loop-column.column c.loop-column.rows
+    c.loop-column.invariant (omega (arith, t, m))

@@ -18,7 +18,7 @@ returns-in-Ok-clause-sums c = λ n a.
     spread_set 0 n listed sums place 0 then a c.requires.paired c.in-Ok.ensures.bound
     ∙ (ap (λ k. set (spread n listed sums) k then) found
     ∙ ap (set (spread n listed sums) c.args.column) (c.add_product.ensures.sum
-    ∙ ap (λ o. after c.args.add.now c.args.mul.now c.args.x o (Some c.args.y)) there))
+    ∙ ap (λ o. after c.args.factors.now.add.now c.args.factors.now.mul.now c.args.x o (Some c.args.y)) there))
 
 pub returns-in-Ok-clause-steps : goal.returns-in-Ok-clause-steps
 returns-in-Ok-clause-steps c = λ n a.
@@ -29,4 +29,4 @@ returns-in-Ok-clause-steps c = λ n a.
     let there : slot sums place ≡ slot (spread n listed sums) c.args.column =
     sym (spread_at 0 n listed sums place 0 a c.requires.paired c.in-Ok.ensures.bound) ∙ ap (slot (spread n listed sums)) found in
     c.add_product.ensures.steps
-    ∙ ap (λ o. steps_of (extra c.args.add.now c.args.mul.now c.args.x o (Some c.args.y))) there
+    ∙ ap (λ o. steps_of (extra c.args.factors.now.add.now c.args.factors.now.mul.now c.args.x o (Some c.args.y))) there

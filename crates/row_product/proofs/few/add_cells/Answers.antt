@@ -12,20 +12,20 @@ use Rattle.row_product.proofs.few.add_cells.Goals.{then-lets_pass+in_ok-steps, e
 
 pub loop-cell-init : goal.loop-cell-init
 loop-cell-init c =
-    let n = c.args.b.now.columns in
+    let n = c.args.factors.now.b.now.columns in
     record {
-      adding = adding_start c.args.add.now c.args.mul.now c.args.x n (λ j. passes (mask_of c.args.mask) (c.args.i, j))
+      adding = adding_start c.args.factors.now.add.now c.args.factors.now.mul.now c.args.x n (λ j. passes (mask_of c.args.factors.now.mask) (c.args.i, j))
           (spread n c.args.listed.now c.args.sums.now) c.row-row.result.now
-          (subst (Ascends 0 n) (sym c.row-row.ensures) (row_of-ascends c.args.b.now c.args.k c.columns-columns.ensures.is_grid));
+          (subst (Ascends 0 n) (sym c.row-row.ensures) (row_of-ascends c.args.factors.now.b.now c.args.k c.columns-columns.ensures.is_grid));
       few = omega arith;
     }
 
 pub loop-cell-preserved : goal.loop-cell-preserved
 loop-cell-preserved c =
-    let add = c.args.add.now in
-    let mul = c.args.mul.now in
-    let n = c.args.b.now.columns in
-    let t = λ (j : ℕ). passes (mask_of c.args.mask) (c.args.i, j) in
+    let add = c.args.factors.now.add.now in
+    let mul = c.args.factors.now.mul.now in
+    let n = c.args.factors.now.b.now.columns in
+    let t = λ (j : ℕ). passes (mask_of c.args.factors.now.mask) (c.args.i, j) in
     let listed = c.args.listed.now in
     let first = spread n listed c.args.sums.now in
     let was = spread n listed c.loop-cell.sums in
@@ -63,17 +63,17 @@ loop-cell-preserved c =
 
 pub returns-clause-sums : goal.returns-clause-sums
 returns-clause-sums c =
-    let n = c.args.b.now.columns in
-    (adding_end c.args.add.now c.args.mul.now c.args.x n (λ j. passes (mask_of c.args.mask) (c.args.i, j))
-    (spread n c.args.listed.now c.args.sums.now) c.args.b.now c.args.k c.row-row.result.now
+    let n = c.args.factors.now.b.now.columns in
+    (adding_end c.args.factors.now.add.now c.args.factors.now.mul.now c.args.x n (λ j. passes (mask_of c.args.factors.now.mask) (c.args.i, j))
+    (spread n c.args.listed.now c.args.sums.now) c.args.factors.now.b.now c.args.k c.row-row.result.now
     (spread n c.args.listed.now c.loop-cell.sums) (drop c.loop-cell.cell-index c.row-row.result.now) c.loop-cell.steps
     c.loop-cell.invariant.adding (drop_all c.loop-cell.cell-index c.row-row.result.now c.loop-cell-test.false) c.row-row.ensures).0
 
 pub returns-clause-steps : goal.returns-clause-steps
 returns-clause-steps c =
-    let n = c.args.b.now.columns in
-    (adding_end c.args.add.now c.args.mul.now c.args.x n (λ j. passes (mask_of c.args.mask) (c.args.i, j))
-    (spread n c.args.listed.now c.args.sums.now) c.args.b.now c.args.k c.row-row.result.now
+    let n = c.args.factors.now.b.now.columns in
+    (adding_end c.args.factors.now.add.now c.args.factors.now.mul.now c.args.x n (λ j. passes (mask_of c.args.factors.now.mask) (c.args.i, j))
+    (spread n c.args.listed.now c.args.sums.now) c.args.factors.now.b.now c.args.k c.row-row.result.now
     (spread n c.args.listed.now c.loop-cell.sums) (drop c.loop-cell.cell-index c.row-row.result.now) c.loop-cell.steps
     c.loop-cell.invariant.adding (drop_all c.loop-cell.cell-index c.row-row.result.now c.loop-cell-test.false) c.row-row.ensures).1
 
@@ -82,7 +82,7 @@ returns-clause-few c =
     let f = c.loop-cell.invariant.few in
     let n = c.loop-cell.auto.cell-index-end in
     let e = ap length c.row-row.ensures in
-    let r = row_few c.args.b.now c.args.k c.columns-columns.ensures.is_grid in
+    let r = row_few c.args.factors.now.b.now c.args.k c.columns-columns.ensures.is_grid in
     omega (arith, f, n, e, r)
 
 pub overflow_add-steps : goal.overflow_add-steps
@@ -90,6 +90,6 @@ overflow_add-steps c =
     let f = c.loop-cell.invariant.few in
     let g = c.in_ok-steps.ensures.few in
     let e = ap length c.row-row.ensures in
-    let r = row_few c.args.b.now c.args.k c.columns-columns.ensures.is_grid in
+    let r = row_few c.args.factors.now.b.now c.args.k c.columns-columns.ensures.is_grid in
     let t = c.loop-cell-test.true in
     omega (arith, f, g, e, r, t)

@@ -6,7 +6,7 @@ use Rattle.row_product.proofs.few.add_cells.Given as goal
 
 abbrev pub invariant-loop-cell : goal.invariant-loop-cell
 invariant-loop-cell l = record {
-  adding : Adding l.add l.mul l.x l.b.columns (λ j. passes (mask_of l.fn.mask) (l.i, j)) (spread l.b.columns l.listed l.fn.sums)
-      l.row (spread l.b.columns l.listed l.sums) (drop l.cell-index l.row) l.steps;
+  adding : Adding l.factors.add.now l.factors.mul.now l.x l.factors.b.now.columns (λ j. passes (mask_of l.factors.mask) (l.i, j)) (spread l.factors.b.now.columns l.listed l.fn.sums)
+      l.row (spread l.factors.b.now.columns l.listed l.sums) (drop l.cell-index l.row) l.steps;
   few : l.steps ≤ 8192 * l.cell-index;
 }

@@ -22,15 +22,15 @@ returns-then-not-is_open-clause-rows c =
     let closed = sym c.is_open.ensures ∙ c.if-not-is_open.true in
     on_ok_weaker c.end_row.result
     (λ e. e ∙ ap (λ (r : Row). record c.args.rows.now { ended = c.args.rows.now.ended ++ r ∷ []; opened = [] })
-    (c.requires.none_open ∙ sym (row_closed (mask_of c.args.mask) c.args.b.now.columns
-    (product_at c.args.add.now c.args.mul.now c.args.a.now c.args.b.now) c.args.i closed)))
+    (c.requires.none_open ∙ sym (row_closed (mask_of c.args.factors.now.mask) c.args.factors.now.b.now.columns
+    (product_at c.args.factors.now.add.now c.args.factors.now.mul.now c.args.factors.now.a.now c.args.factors.now.b.now) c.args.i closed)))
     c.end_row.ensures.ended
 
 pub returns-then-not-is_open-clause-steps : goal.returns-then-not-is_open-clause-steps
 returns-then-not-is_open-clause-steps c =
     let closed = sym c.is_open.ensures ∙ c.if-not-is_open.true in
-    let none = ap steps_of (calls_closed (mask_of c.args.mask) c.args.b.now.columns
-    (product_calls_at c.args.add.now c.args.mul.now c.args.a.now c.args.b.now) c.args.i closed) in
+    let none = ap steps_of (calls_closed (mask_of c.args.factors.now.mask) c.args.factors.now.b.now.columns
+    (product_calls_at c.args.factors.now.add.now c.args.factors.now.mul.now c.args.factors.now.a.now c.args.factors.now.b.now) c.args.i closed) in
     on_ok_weaker c.end_row.result (λ e. omega (arith, none)) c.end_row.ensures.ended
 
 pub returns-then-not-is_open-clause-spent : goal.returns-then-not-is_open-clause-spent
@@ -38,8 +38,8 @@ returns-then-not-is_open-clause-spent c = on_err c.end_row.result (charges-none 
 
 pub begin-requires : goal.begin-requires
 begin-requires c = record {
-  within = subst (λ (row : List Cell). AllByRecursion (λ (d : Cell). d.0 < c.args.b.now.rows) row) (sym c.row.ensures)
-      (row_within c.args.a.now c.args.i c.args.b.now.rows c.columns-columns.ensures.is_grid c.requires.shapes);
+  within = subst (λ (row : List Cell). AllByRecursion (λ (d : Cell). d.0 < c.args.factors.now.b.now.rows) row) (sym c.row.ensures)
+      (row_within c.args.factors.now.a.now c.args.i c.args.factors.now.b.now.rows c.columns-columns.ensures.is_grid c.requires.factors.shapes);
 }
 
 pub returns-in_err-begin-clause-spent : goal.returns-in_err-begin-clause-spent
@@ -50,27 +50,27 @@ returns-in_err-steps-clause-spent c = on_err c.from_residual-in_err-steps.result
 
 pub returns-in_err-emit_listed-clause-spent : goal.returns-in_err-emit_listed-clause-spent
 returns-in_err-emit_listed-clause-spent c =
-    let n = c.args.b.now.columns in
-    let mask = mask_of c.args.mask in
+    let n = c.args.factors.now.b.now.columns in
+    let mask = mask_of c.args.factors.now.mask in
     let listed = c.deref.result.now in
     let sums = c.deref_mut.result.now in
     let none = spread_empty n listed sums (λ p. ap (λ us. slot us p) c.deref_mut.ensures.value ∙ c.in_ok-begin.ensures.none p) in
     on_err c.from_residual-in_err-emit_listed.result (charges-all _ c.args.steps.now (c.args.steps.now + c.in_ok-steps.field-0)
     (ap (λ k. c.args.steps.now + k) (c.in_ok-steps.ensures.steps
-    ∙ ap steps_of (calls_cut c.args.add.now c.args.mul.now c.args.a.now c.args.b.now mask c.args.i
+    ∙ ap steps_of (calls_cut c.args.factors.now.add.now c.args.factors.now.mul.now c.args.factors.now.a.now c.args.factors.now.b.now mask c.args.i
     (λ j. passes mask (c.args.i, j)) (spread n listed sums) (λ j. refl) none))))
 
 pub returns-clause-rows : goal.returns-clause-rows
 returns-clause-rows c =
-    let n = c.args.b.now.columns in
-    let mask = mask_of c.args.mask in
+    let n = c.args.factors.now.b.now.columns in
+    let mask = mask_of c.args.factors.now.mask in
     let listed = c.deref.result.now in
     let sums = c.deref_mut.result.now in
-    let values = product_at c.args.add.now c.args.mul.now c.args.a.now c.args.b.now in
+    let values = product_at c.args.factors.now.add.now c.args.factors.now.mul.now c.args.factors.now.a.now c.args.factors.now.b.now in
     let none = spread_empty n listed sums (λ p. ap (λ us. slot us p) c.deref_mut.ensures.value ∙ c.in_ok-begin.ensures.none p) in
     let made = c.sum_listed.new.sums in
-    let row = row_of_sums n (spread n listed made) mask values c.args.i (λ j. value_cut c.args.add.now c.args.mul.now c.args.a.now
-    c.args.b.now mask c.args.i j (passes mask (c.args.i, j)) (slot (spread n listed sums) j) (slot (spread n listed made) j) refl
+    let row = row_of_sums n (spread n listed made) mask values c.args.i (λ j. value_cut c.args.factors.now.add.now c.args.factors.now.mul.now c.args.factors.now.a.now
+    c.args.factors.now.b.now mask c.args.i j (passes mask (c.args.i, j)) (slot (spread n listed sums) j) (slot (spread n listed made) j) refl
     (none j) (c.in_ok-steps.ensures.sums j)) in
     let same_columns : c.deref-2.result.now ≡ listed = c.deref-2.ensures.value ∙ sym c.deref.ensures.value in
     let vector = c.begin.new.self.sums in
@@ -92,24 +92,24 @@ returns-clause-rows c =
 
 pub returns-clause-steps : goal.returns-clause-steps
 returns-clause-steps c =
-    let n = c.args.b.now.columns in
-    let mask = mask_of c.args.mask in
+    let n = c.args.factors.now.b.now.columns in
+    let mask = mask_of c.args.factors.now.mask in
     let listed = c.deref.result.now in
     let sums = c.deref_mut.result.now in
     let none = spread_empty n listed sums (λ p. ap (λ us. slot us p) c.deref_mut.ensures.value ∙ c.in_ok-begin.ensures.none p) in
     let made = c.in_ok-steps.ensures.steps
-    ∙ ap steps_of (calls_cut c.args.add.now c.args.mul.now c.args.a.now c.args.b.now mask c.args.i
+    ∙ ap steps_of (calls_cut c.args.factors.now.add.now c.args.factors.now.mul.now c.args.factors.now.a.now c.args.factors.now.b.now mask c.args.i
     (λ j. passes mask (c.args.i, j)) (spread n listed sums) (λ j. refl) none) in
     on_ok_weaker c.end_row-2.result (λ e. ap (λ k. c.args.steps.now + k) made) c.end_row-2.ensures.ended
 
 pub returns-clause-spent : goal.returns-clause-spent
 returns-clause-spent c =
-    let n = c.args.b.now.columns in
-    let mask = mask_of c.args.mask in
+    let n = c.args.factors.now.b.now.columns in
+    let mask = mask_of c.args.factors.now.mask in
     let listed = c.deref.result.now in
     let sums = c.deref_mut.result.now in
     let none = spread_empty n listed sums (λ p. ap (λ us. slot us p) c.deref_mut.ensures.value ∙ c.in_ok-begin.ensures.none p) in
     on_err c.end_row-2.result (charges-all _ c.args.steps.now (c.args.steps.now + c.in_ok-steps.field-0)
     (ap (λ k. c.args.steps.now + k) (c.in_ok-steps.ensures.steps
-    ∙ ap steps_of (calls_cut c.args.add.now c.args.mul.now c.args.a.now c.args.b.now mask c.args.i
+    ∙ ap steps_of (calls_cut c.args.factors.now.add.now c.args.factors.now.mul.now c.args.factors.now.a.now c.args.factors.now.b.now mask c.args.i
     (λ j. passes mask (c.args.i, j)) (spread n listed sums) (λ j. refl) none))))

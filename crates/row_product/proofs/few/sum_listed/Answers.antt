@@ -11,9 +11,9 @@ use Rattle.row_product.proofs.few.sum_listed.Goals as goal
 
 pub loop-k-init : goal.loop-k-init
 loop-k-init c =
-    let n = c.args.b.now.columns in
+    let n = c.args.factors.now.b.now.columns in
     record {
-      gathering = gathering_start c.args.add.now c.args.mul.now c.args.b.now n (λ j. passes (mask_of c.args.mask) (c.args.i, j))
+      gathering = gathering_start c.args.factors.now.add.now c.args.factors.now.mul.now c.args.factors.now.b.now n (λ j. passes (mask_of c.args.factors.now.mask) (c.args.i, j))
           (spread n c.args.listed.now c.args.sums.now) c.row-row.result.now;
       few = omega arith;
     }
@@ -23,10 +23,10 @@ add_cells-requires-clause-row c =
     let row = c.row-row.result.now in
     let k = c.loop-k.k in
     let e = c.row-row.ensures in
-    let l : k < length (row_of c.args.a.now c.args.i) = let t = c.loop-k-test.true in let n = ap length e in omega (arith, t, n) in
-    let h = (cell_inside c.args.a.now c.args.i k (0, 0) c.columns-columns.ensures.is_grid l).1 in
+    let l : k < length (row_of c.args.factors.now.a.now c.args.i) = let t = c.loop-k-test.true in let n = ap length e in omega (arith, t, n) in
+    let h = (cell_inside c.args.factors.now.a.now c.args.i k (0, 0) c.columns-columns.ensures.is_grid l).1 in
     let s = ap (λ (r : List Cell). (get_or r k (0, 0)).0) e in
-    let w = c.requires.shapes in
+    let w = c.requires.factors.shapes in
     omega (arith, h, s, w)
 
 pub overflow_add-steps : goal.overflow_add-steps
@@ -34,13 +34,13 @@ overflow_add-steps c =
     let i = c.loop-k.invariant.few in
     let f = c.in_ok-steps.ensures.few in
     let e = ap length c.row-row.ensures in
-    let r = row_few c.args.a.now c.args.i c.columns-columns.ensures.is_grid in
+    let r = row_few c.args.factors.now.a.now c.args.i c.columns-columns.ensures.is_grid in
     let t = c.loop-k-test.true in
     omega (arith, i, f, e, r, t)
 
 pub loop-k-preserved : goal.loop-k-preserved
 loop-k-preserved c =
-    let n = c.args.b.now.columns in
+    let n = c.args.factors.now.b.now.columns in
     let row = c.row-row.result.now in
     let k = c.loop-k.k in
     let listed = c.args.listed.now in
@@ -49,7 +49,7 @@ loop-k-preserved c =
     let g = e.few in
     let then = spread n listed c.add_cells.new.sums in
     record {
-      gathering = gathering_step c.args.add.now c.args.mul.now c.args.b.now n (λ j. passes (mask_of c.args.mask) (c.args.i, j))
+      gathering = gathering_step c.args.factors.now.add.now c.args.factors.now.mul.now c.args.factors.now.b.now n (λ j. passes (mask_of c.args.factors.now.mask) (c.args.i, j))
           (spread n listed c.args.sums.now) row (spread n listed c.loop-k.sums) (drop k row) c.loop-k.steps (get_or row k (0, 0))
           (drop (k + 1) row) then _ c.loop-k.invariant.gathering (drop_more row k (0, 0) c.loop-k-test.true)
           (length_spread n listed c.add_cells.new.sums ∙ sym (length_spread n listed c.loop-k.sums)) e.sums e.steps;
@@ -58,17 +58,17 @@ loop-k-preserved c =
 
 pub returns-clause-sums : goal.returns-clause-sums
 returns-clause-sums c =
-    let n = c.args.b.now.columns in
-    (gathering_end c.args.add.now c.args.mul.now c.args.b.now n (λ j. passes (mask_of c.args.mask) (c.args.i, j))
-    (spread n c.args.listed.now c.args.sums.now) c.row-row.result.now (row_of c.args.a.now c.args.i)
+    let n = c.args.factors.now.b.now.columns in
+    (gathering_end c.args.factors.now.add.now c.args.factors.now.mul.now c.args.factors.now.b.now n (λ j. passes (mask_of c.args.factors.now.mask) (c.args.i, j))
+    (spread n c.args.listed.now c.args.sums.now) c.row-row.result.now (row_of c.args.factors.now.a.now c.args.i)
     (spread n c.args.listed.now c.loop-k.sums) (drop c.loop-k.k c.row-row.result.now) c.loop-k.steps
     c.loop-k.invariant.gathering (drop_all c.loop-k.k c.row-row.result.now c.loop-k-test.false) c.row-row.ensures).0
 
 pub returns-clause-steps : goal.returns-clause-steps
 returns-clause-steps c =
-    let n = c.args.b.now.columns in
-    (gathering_end c.args.add.now c.args.mul.now c.args.b.now n (λ j. passes (mask_of c.args.mask) (c.args.i, j))
-    (spread n c.args.listed.now c.args.sums.now) c.row-row.result.now (row_of c.args.a.now c.args.i)
+    let n = c.args.factors.now.b.now.columns in
+    (gathering_end c.args.factors.now.add.now c.args.factors.now.mul.now c.args.factors.now.b.now n (λ j. passes (mask_of c.args.factors.now.mask) (c.args.i, j))
+    (spread n c.args.listed.now c.args.sums.now) c.row-row.result.now (row_of c.args.factors.now.a.now c.args.i)
     (spread n c.args.listed.now c.loop-k.sums) (drop c.loop-k.k c.row-row.result.now) c.loop-k.steps
     c.loop-k.invariant.gathering (drop_all c.loop-k.k c.row-row.result.now c.loop-k-test.false) c.row-row.ensures).1
 

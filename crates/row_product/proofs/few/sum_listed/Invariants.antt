@@ -7,7 +7,7 @@ use Rattle.row_product.proofs.few.sum_listed.Given as goal
 
 abbrev pub invariant-loop-k : goal.invariant-loop-k
 invariant-loop-k l = record {
-  gathering : Gathering l.add l.mul l.b l.b.columns (λ j. passes (mask_of l.fn.mask) (l.i, j))
-      (spread l.b.columns l.listed l.fn.sums) l.row (spread l.b.columns l.listed l.sums) (drop l.k l.row) l.steps;
+  gathering : Gathering l.factors.add.now l.factors.mul.now l.factors.b.now l.factors.b.now.columns (λ j. passes (mask_of l.factors.mask) (l.i, j))
+      (spread l.factors.b.now.columns l.listed l.fn.sums) l.row (spread l.factors.b.now.columns l.listed l.sums) (drop l.k l.row) l.steps;
   few : l.steps ≤ 8192 * limit * l.k;
 }

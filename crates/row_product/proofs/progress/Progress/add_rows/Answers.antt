@@ -1,0 +1,96 @@
+use Rattle.std.proofs.Common.{◌≡◌, ◌<◌, ◌≤◌, ◌+◌, ◌*◌, List, length, drop, get_or, ap, ◌∙◌, subst, sym, refl, arith}
+use Rattle.std.proofs.lemmas.List.{drop_more, drop_all}
+use Rattle.bpf_run.specs.Calls.{steps_of}
+use Rattle.csr_store.specs.Along.{along}
+use Rattle.csr_store.specs.Grid.{Cell, row_of}
+use Rattle.csr_store.proofs.ByRow.{cell_inside}
+use Rattle.job_forms.proofs.Counting.{row_few}
+use Rattle.row_product.specs.inner.Progress.{stands}
+use Rattle.row_product.specs.inner.Sums.{slot, takes, seen, after, extra}
+use Rattle.row_product.proofs.Gathering.{Gathering, gathering_start, gathering_step, gathering_end}
+use Rattle.row_product.proofs.progress.Progress.add_rows.Goals as goal
+use Rattle.std.specs.FinMap as fin
+
+pub loop-k-init : goal.loop-k-init
+loop-k-init c = record {
+  gathering = gathering_start c.args.factors.now.add.now c.args.factors.now.mul.now c.args.factors.now.b.now
+      c.args.factors.now.b.now.columns (takes c.args.masked c.args.self.now.allowed.items) (stands c.args.self.now)
+      c.row-row.result.now;
+  few = omega arith;
+  ready = c.requires.ready;
+  allowed = refl;
+}
+
+pub add_row-steps-requires-clause-row : goal.add_row-steps-requires-clause-row
+add_row-steps-requires-clause-row c =
+    let row = c.row-row.result.now in
+    let k = c.loop-k.k in
+    let e = c.row-row.ensures in
+    let l : k < length (row_of c.args.factors.now.a.now c.args.i) = let t = c.loop-k-test.true in let n = ap length e in omega (
+      arith,
+      t,
+      n,
+    ) in
+    let h = (cell_inside c.args.factors.now.a.now c.args.i k (0, 0) c.columns-columns.ensures.is_grid l).1 in
+    let s = ap (λ (r : List Cell). (get_or r k (0, 0)).0) e in
+    let w = c.requires.factors.shapes in
+    omega (arith, h, s, w)
+
+pub overflow_add-steps : goal.overflow_add-steps
+overflow_add-steps c =
+    let i = c.loop-k.invariant.few in
+    let f = c.add_row-steps.ensures.little in
+    let e = ap length c.row-row.ensures in
+    let r = row_few c.args.factors.now.a.now c.args.i c.columns-columns.ensures.is_grid in
+    let t = c.loop-k-test.true in
+    omega (arith, i, f, e, r, t)
+
+pub loop-k-preserved : goal.loop-k-preserved
+loop-k-preserved c =
+    let add = c.args.factors.now.add.now in
+    let mul = c.args.factors.now.mul.now in
+    let b = c.args.factors.now.b.now in
+    let n = b.columns in
+    let t = takes c.args.masked c.args.self.now.allowed.items in
+    let row = c.row-row.result.now in
+    let k = c.loop-k.k in
+    let cell = get_or row k (0, 0) in
+    let was = stands c.loop-k.self in
+    let then_ = stands c.add_row-steps.new.self in
+    let i = c.loop-k.invariant in
+    let f = i.few in
+    let e = c.add_row-steps.ensures in
+    let g = e.little in
+    let same = ap (λ v. v.items) i.allowed in
+    record {
+      gathering = gathering_step add mul b n t (stands c.args.self.now) row was (drop k row) c.loop-k.steps cell (drop (k + 1) row)
+          then_ _ i.gathering (drop_more row k (0, 0) c.loop-k-test.true) e.ready.2
+          (λ j. e.sums j ∙ ap (λ fs. after add mul cell.1 (slot was j) (seen (takes c.args.masked fs j) (fin.get b.cells (cell.0, j))))
+          same)
+          (e.steps ∙ ap (λ fs. steps_of (along (λ j. extra add mul cell.1 (slot was j) (seen (takes c.args.masked fs j)
+          (fin.get b.cells (cell.0, j)))) 0 n)) same);
+      few = omega (arith, f, g);
+      ready = e.ready.0;
+      allowed = e.ready.1 ∙ i.allowed;
+    }
+
+pub returns-clause-sums : goal.returns-clause-sums
+returns-clause-sums c =
+    (gathering_end c.args.factors.now.add.now c.args.factors.now.mul.now c.args.factors.now.b.now c.args.factors.now.b.now.columns
+    (takes c.args.masked c.args.self.now.allowed.items) (stands c.args.self.now) c.row-row.result.now
+    (row_of c.args.factors.now.a.now c.args.i) (stands c.loop-k.self) (drop c.loop-k.k c.row-row.result.now) c.loop-k.steps
+    c.loop-k.invariant.gathering (drop_all c.loop-k.k c.row-row.result.now c.loop-k-test.false) c.row-row.ensures).0
+
+pub returns-clause-steps : goal.returns-clause-steps
+returns-clause-steps c =
+    (gathering_end c.args.factors.now.add.now c.args.factors.now.mul.now c.args.factors.now.b.now c.args.factors.now.b.now.columns
+    (takes c.args.masked c.args.self.now.allowed.items) (stands c.args.self.now) c.row-row.result.now
+    (row_of c.args.factors.now.a.now c.args.i) (stands c.loop-k.self) (drop c.loop-k.k c.row-row.result.now) c.loop-k.steps
+    c.loop-k.invariant.gathering (drop_all c.loop-k.k c.row-row.result.now c.loop-k-test.false) c.row-row.ensures).1
+
+pub returns-clause-little : goal.returns-clause-little
+returns-clause-little c =
+    let i = c.loop-k.invariant.few in
+    let n = c.loop-k.auto.k-end in
+    let e = ap length c.row-row.ensures in
+    omega (arith, i, n, e)

@@ -1,0 +1,18 @@
+-- Words with marks: a word of a column counts where its mark is the row's own, so that no mark is ever cleared. This project's own.
+use Rattle.std.specs.Prelude.{◌≡◌, ◌≤◌, ◌<◌, ℕ, nat_eq, if◌then◌else◌, List, [], ◌∷◌, Option, None, Some, length}
+use Rattle.std.specs.List.{AllByRecursion, Contains}
+use Rattle.row_product.specs.inner.Sums.{slot}
+
+-- the words whose mark is this
+abbrev pub marked : ℕ → List ℕ → List ℕ → List (Option ℕ)
+marked turn [] words = []
+marked turn (m ∷ marks) [] = []
+marked turn (m ∷ marks) (w ∷ words) = (if nat_eq m turn then Some w else None) ∷ marked turn marks words
+
+-- no mark is above this
+abbrev pub AreUpTo : ℕ → List ℕ → Type 0
+AreUpTo turn marks = AllByRecursion (λ m. m ≤ turn) marks
+
+-- each column that has a sum is listed, unless the list is full
+abbrev pub AreListed : ℕ → List (Option ℕ) → List ℕ → Type 0
+AreListed most sums touched = length touched < most → (j v : ℕ) → slot sums j ≡ Some v → Contains touched j

@@ -1,0 +1,124 @@
+//! A row of sums, to which the cells of rows of B are added, each times a word.
+ghost use Rattle.std.specs.Prelude.{◌≡◌, ◌≤◌, ◌<◌, ◌*◌, ℕ, None, [], length, IfOk, OnOk};
+ghost use Rattle.bpf_verify.specs.Accepted.{Accepted};
+ghost use Rattle.bpf_run.specs.Calls.{steps_of};
+ghost use Rattle.csr_store.specs.Along.{row_by};
+ghost use Rattle.csr_store.specs.Ascending.{Ascends};
+ghost use Rattle.row_product.specs.inner.Adding.{sums_after, calls_after, none_gathered, AreBelow, IsMet};
+ghost use Rattle.row_product.specs.inner.Factors.{AreFactors};
+ghost use Rattle.row_product.specs.inner.Sums.{slot};
+
+use crate::additions::Additions;
+use crate::factors::Factors;
+use crate::sums::Sums;
+use bpf_insn::Kind;
+use bpf_run::Calls;
+use csr_store::Rows;
+use std::alloc::{AllocError, Global};
+use std::marker::Model;
+
+/// The sums of a row, and the calls that add to them. A contract sees the sum of each column, if there is one.
+#[derive(Drop)]
+pub(crate) struct Accumulator {
+    sums: Sums,
+    products: Calls,
+    additions: Additions,
+}
+
+impl Model for Accumulator {
+    ghost use Rattle.std.specs.Prelude.{ℕ, List, Option, ◌≡◌};
+    ghost use Rattle.row_product.specs.inner.Adding.{none_gathered};
+
+    ghost Value = { List (Option ℕ) };
+
+    ghost view = { λ a. a.sums };
+
+    ghost invariant = { λ a. a.additions ≡ none_gathered };
+}
+
+impl Accumulator {
+    /// Of no column yet.
+    pub(crate) fn new(alloc: Global) -> Result<Self, AllocError>
+        ensures { IfOk result (λ a. a ≡ []) }
+    {
+        Ok(Accumulator {
+            sums: Sums::new(alloc),
+            products: Calls::new(alloc)?,
+            additions: Additions::new(alloc)?,
+        })
+    }
+
+    /// How many columns there are.
+    pub(crate) fn len(&self) -> usize
+        ensures { result ≡ length self.now }
+    {
+        self.sums.len()
+    }
+
+    /// Room for so many columns, at least.
+    pub(crate) fn widen(&mut self, columns: u64) -> Result<(), AllocError>
+        ensures { OnOk result (columns ≤ length self.new) }
+    {
+        self.sums.widen(columns)
+    }
+
+    /// Begins a row of so many columns, with no sum.
+    pub(crate) fn begin(&mut self, columns: u64)
+        ensures none { (j : ℕ) → slot self.new j ≡ None }
+        ensures long { length self.new ≡ length self.old }
+    {
+        self.sums.begin(columns);
+    }
+
+    /// Adds a word times each of up to 64 cells of a row of B to the sums of their columns. Answers the steps.
+    pub(crate) fn add_cells(&mut self, factors: &Factors, x: u64, cells: &[(u64, u64)]) -> u64
+        requires factors { AreFactors factors.now }
+        requires few { length cells.now ≤ 64 }
+        requires apart { Ascends 0 (length self.old) cells.now }
+        ensures sums { self.new ≡ sums_after factors.now.add.now factors.now.mul.now x self.old cells.now }
+        ensures steps { result ≡ steps_of (calls_after factors.now.add.now factors.now.mul.now x self.old cells.now) }
+        ensures little { result ≤ 8192 * length cells.now }
+    {
+        let _add = factors.add.operator().program();
+        let _mul = factors.mul.operator().program();
+        self.products.begin(Kind::Binary);
+        self.products.gather_with(x, cells);
+        let multiplied = self.products.make(factors.mul);
+        meet(
+            cells,
+            self.products.values(),
+            &mut self.additions,
+            &mut self.sums,
+        );
+        multiplied + self.additions.make(factors.add, &mut self.sums)
+    }
+
+    /// Puts the sums into the open row, by ascending column.
+    pub(crate) fn emit(&mut self, columns: u64, rows: &mut Rows) -> Result<(), AllocError>
+        requires columns { rows.old.columns ≡ columns }
+        requires wide { rows.old.columns ≤ length self.old }
+        requires none_open { rows.old.opened ≡ [] }
+        ensures rows { OnOk result (rows.new ≡ record rows.old { opened = row_by rows.old.columns (slot self.old) }) }
+        ensures sums { self.new ≡ self.old }
+    {
+        self.sums.emit(columns, rows)
+    }
+}
+
+/// Puts terms at the columns of cells: the first of a column is its sum, and the addition of any other is gathered.
+fn meet(cells: &[(u64, u64)], terms: &[u64], additions: &mut Additions, sums: &mut Sums)
+    requires few { length cells.now ≤ 64 }
+    requires terms { length terms.now ≡ length cells.now }
+    requires apart { Ascends 0 (length sums.old) cells.now }
+    requires none { additions.old ≡ none_gathered }
+    ensures met { (add : Accepted) → IsMet add sums.old cells.now terms.now sums.new additions.new }
+    ensures below { AreBelow (length sums.new) additions.new.columns }
+{
+    for k in 0..cells.len() {
+        let column = cells[k].0;
+        match sums.get(column) {
+            Some(so_far) => additions.gather(column, so_far, terms[k]),
+            None => sums.begin_sum(column, terms[k]),
+        }
+    }
+}
