@@ -19,7 +19,6 @@ pub mod Joining
 pub mod Along
 pub mod Appending
 pub mod Blocks
-pub mod Taking
 pub mod Keeping
 pub mod InRuns
 pub mod Copied

@@ -1,5 +1,5 @@
 -- Cells added to a row, many at a time. This project's own.
-use Rattle.std.specs.Prelude.{ℕ, zero, suc, ◌<◌, length, drop, nat_eq, if◌then◌else◌, List, [], ◌∷◌, Option, None, slice_index_or}
+use Rattle.std.specs.Prelude.{ℕ, zero, suc, ◌<◌, length, drop, nat_eq, if◌then◌else◌, List, [], ◌∷◌}
 use Rattle.std.specs.List.{AllByRecursion}
 use Rattle.csr_store.specs.Grid.{Cell, Grid, row_of}
 use Rattle.csr_store.specs.Run.{Row}
@@ -27,7 +27,3 @@ kept_where (c ∷ cells) (a ∷ answers) = if nat_eq a 0 then kept_where cells a
 abbrev pub kept_rows : Grid → List ℕ → ℕ → ℕ → List Row
 kept_rows a answers i zero = []
 kept_rows a answers i (suc n) = kept_where (row_of a i) answers ∷ kept_rows a (drop (length (row_of a i)) answers) (suc i) n
-
--- the word in the slot of a column, if there is one
-abbrev pub slot_at : List (Option ℕ) → ℕ → Option ℕ
-slot_at words j = slice_index_or words j None

@@ -14,9 +14,8 @@
 //!
 //! Read `specs/Grid.antt` and `specs/Refusal.antt` first, then `error`, `builder`, `matrix`, `rows` and
 //! `stack`; below them `cells` (one list of cells, or many), `filler` (rows filled in ascending order),
-//! `merge` (two lists of entries as one matrix), `kept` (cells of which some are kept), `slots` (words
-//! moved from slots into a row) and `row` (parts of a list of cells, and searches in a row), over
-//! `specs/ByRows.antt`.
+//! `merge` (two lists of entries as one matrix), `kept` (cells of which some are kept)
+//! and `row` (parts of a list of cells, and searches in a row), over `specs/ByRows.antt`.
 #![tactic(auto)]
 
 pub mod builder;
@@ -32,7 +31,6 @@ mod merge;
 mod row;
 mod row_copy;
 mod rows;
-mod slots;
 mod stack;
 
 pub use builder::Builder;
@@ -43,5 +41,4 @@ pub use join::join_rows;
 pub use matrix::{Matrix, Version};
 pub use row_copy::RowCopy;
 pub use rows::Rows;
-pub use slots::Slot;
 pub use stack::stack_runs;

@@ -1,9 +1,9 @@
 //! Runs of rows.
-ghost use Rattle.std.specs.Prelude.{◌≡◌, ◌⊎◌, ◌<◌, ◌≤◌, ◌+◌, ◌-◌, ◌^◌, ◌++◌, ◌∷◌, [], length, map, ℕ, None, IfOk, OnOk, OnErr};
+ghost use Rattle.std.specs.Prelude.{◌≡◌, ◌<◌, ◌≤◌, ◌+◌, ◌-◌, ◌^◌, ◌++◌, ◌∷◌, [], length, map, IfOk, OnOk, OnErr};
 ghost use Rattle.std.specs.List.{AllByRecursion};
 ghost use Rattle.csr_store.specs.Grid.{Cell, limit, row_of};
-ghost use Rattle.csr_store.specs.Added.{ComeBehind, kept_where, kept_rows, slot_at};
-ghost use Rattle.csr_store.specs.Along.{along, cell_at};
+ghost use Rattle.csr_store.specs.Added.{ComeBehind, kept_where, kept_rows};
+ghost use Rattle.csr_store.specs.Along.{along};
 ghost use Rattle.csr_store.specs.ByRows.{ends_of};
 ghost use Rattle.csr_store.specs.Valued.{entries_in, entries_of, with_value, all_cells, valued_from, AreAlike};
 ghost use Rattle.csr_store.specs.inner.Cells.{Stacks, joined};
@@ -12,7 +12,6 @@ ghost use Rattle.csr_store.specs.inner.Run.{AreClosed, AreRows, IsRow, ended_row
 use crate::kept::{add_rows_where, add_where};
 use crate::matrix::{Cell, Matrix};
 use crate::row::{append, put_values};
-use crate::slots::{Slot, move_words};
 use std::alloc::{AllocError, Global};
 use std::marker::Model;
 use std::mem;
@@ -173,35 +172,6 @@ impl Rows {
         add_rows_where(&mut cells, &mut ends, a, rows, answers);
         self.cells = cells;
         self.ends = ends;
-        Ok(())
-    }
-
-    /// Moves the words out of the slots of so many columns from one on into the open row, behind its others. The slot of a
-    /// column has its number. On a refusal the run and the slots are as before.
-    pub fn push_taken<S: Slot>(
-        &mut self,
-        slots: &mut [S],
-        from: u64,
-        many: u64,
-    ) -> Result<(), AllocError>
-        requires within { from + many ≤ self.old.columns }
-        requires slots { from + many ≤ length slots.old }
-        requires above { AllByRecursion (λ (c : Cell). c.0 < from) self.old.opened }
-        ensures pushed { OnOk result (self.new ≡ record self.old {
-          opened = self.old.opened ++ along (λ j. cell_at j (slot_at (map S.word slots.old) j)) from many;
-        }) }
-        ensures gone { OnOk result ((j : ℕ) → from ≤ j → j < from + many → slot_at (map S.word slots.new) j ≡ None) }
-        ensures others { OnOk result ((j : ℕ) → (j < from) ⊎ (from + many ≤ j)
-            → slot_at (map S.word slots.new) j ≡ slot_at (map S.word slots.old) j) }
-        ensures kept { OnErr result (self.new ≡ self.old) }
-        ensures left { OnErr result (slots.new ≡ slots.old) }
-    {
-        self.cells.reserve(many as usize)?;
-        // a list of its own, so that its length and its place are not looked up for each word
-        let none = Vec::new(*self.cells.allocator());
-        let mut cells = mem::replace(&mut self.cells, none);
-        move_words(&mut cells, slots, from, many);
-        self.cells = cells;
         Ok(())
     }
 

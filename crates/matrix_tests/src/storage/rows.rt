@@ -2,7 +2,7 @@
 ghost use Rattle.std.specs.Prelude.{◌≡◌, ◌≤◌, ◌+◌, ◌∷◌, [], length, IfOk, OnOk};
 
 use super::{Triple, assert_count, assert_holds, assert_starts, finish_again, put_again};
-use csr_store::{Builder, Matrix, RowCopy, Rows, Slot, join_rows};
+use csr_store::{Builder, Matrix, RowCopy, Rows, join_rows};
 use std::alloc::{AllocError, Global};
 use std::process::Abort;
 use std::test::Fail;
@@ -214,82 +214,6 @@ fn rows_are_added_at_once(rt: HostRuntime) -> Result<(), Fail> {
         assert_count(&rt, rows.entries() as u64, next);
         assert_count(&rt, rows.len(), matrix.rows().wrapping_sub(from));
     }
-    Ok(())
-}
-
-/// The slot of a column: a word, or none.
-#[derive(Clone, Copy)]
-struct Place(Option<u64>);
-
-impl Slot for Place {
-    ghost word = { λ p. p.0 };
-
-    fn take(&mut self) -> Option<u64> {
-        let word = self.0;
-        self.0 = None;
-        word
-    }
-}
-
-/// The columns of 200 that have a word, which is the column and 1,000.
-const FULL: [u64; 8] = [2, 3, 10, 11, 90, 130, 131, 199];
-
-/// Those that have one when the words from column 3 up to column 131 were moved.
-const LEFT: [u64; 3] = [2, 131, 199];
-
-/// The row to which they were moved, behind a cell that it had.
-const MOVED: [(u64, u64); 6] = [
-    (1, 7),
-    (3, 1003),
-    (10, 1010),
-    (11, 1011),
-    (90, 1090),
-    (130, 1130),
-];
-
-/// The slots of 200 columns.
-fn places() -> [Place; 200] {
-    let mut slots = [Place(None); 200];
-    for column in &FULL {
-        let at = *column as usize;
-        if at < 200 {
-            slots[at] = Place(Some(column.wrapping_add(1000)));
-        }
-    }
-    slots
-}
-
-/// A row with a cell, and with the words of 128 slots behind it.
-fn row_of_slots(alloc: Global, slots: &mut [Place; 200]) -> Result<Rows, AllocError> {
-    let mut rows = Rows::begin(alloc, 0, 200);
-    rows.push(1, 7)?;
-    rows.reserve(5)?;
-    rows.push_taken(slots, 3, 128)?;
-    rows.end_row()?;
-    Ok(rows)
-}
-
-/// Of the slots, those of these columns alone have words.
-fn assert_full(rt: &impl Abort, slots: &[Place; 200], columns: &[u64]) {
-    for column in 0..200u64 {
-        let word = slots[column as usize].0;
-        let full = columns.contains(&column);
-        assert_eq!(rt;
-            word,
-            full.then_some(column.wrapping_add(1000)),
-            "column {column}"
-        );
-    }
-}
-
-#[test]
-fn words_are_moved_out_of_slots(rt: HostRuntime) -> Result<(), Fail> {
-    let mut slots = places();
-    assert_full(&rt, &slots, &FULL);
-    let rows = row_of_slots(rt.alloc(), &mut slots)?;
-    assert_eq!(rt; rows.cells(), MOVED.as_slice());
-    assert_count(&rt, rows.len(), 1);
-    assert_full(&rt, &slots, &LEFT);
     Ok(())
 }
 
