@@ -1,4 +1,4 @@
-"""Jumps that part calls which are made together, and jumps over one move, which such calls do at once with the move."""
+"""Jumps that part calls which are made together, jumps over one move among them."""
 from typing import Dict, Iterator, List, Tuple
 
 from .exchanges import Session
