@@ -1,5 +1,5 @@
 //! The cells of a matrix: in one list, or in runs of rows.
-ghost use Rattle.std.specs.Prelude.{◌≡◌, ◌↔◌, IsTrue, slice_range};
+ghost use Rattle.std.specs.Prelude.{◌≡◌, ◌<◌, ◌*◌, ◌↔◌, IsTrue, length, get_or, slice_range};
 ghost use Rattle.csr_store.specs.inner.Cells.{AreRuns, IsPart, joined_cells};
 
 use crate::matrix::Cell;
@@ -27,16 +27,22 @@ impl Cells {
     }
 
     /// The cells from one place up to another, both counted from the first cell of all. Where there are runs these cells
-    /// stand in one of them, that has so many cells before it.
+    /// stand in one of them, whose first row tells how many cells are before it.
     #[inline(always)]
-    pub fn part(&self, run: usize, before: u64, from: u64, to: u64) -> &[Cell]
-        requires { IsPart self.now run before from to }
+    pub fn part(&self, starts: &[u64], run: u64, from: u64, to: u64) -> &[Cell]
+        requires start { run * 256 < length starts.now }
+        requires part { IsPart self.now run (get_or starts.now (run * 256) 0) from to }
         ensures { result.now ≡ slice_range (joined_cells self.now) from to }
     {
         match self {
             Cells::Whole(cells) => cells_between(cells, from as usize, to as usize),
             Cells::Runs(runs) => {
-                cells_between(&runs[run], (from - before) as usize, (to - before) as usize)
+                let before = starts[(run * HEIGHT) as usize];
+                cells_between(
+                    &runs[run as usize],
+                    (from - before) as usize,
+                    (to - before) as usize,
+                )
             }
         }
     }

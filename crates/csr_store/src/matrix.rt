@@ -130,11 +130,9 @@ impl Matrix {
         requires { i < self.now.rows }
         ensures { result.now ≡ row_of self.now i }
     {
-        let run = i / HEIGHT;
-        let before = self.starts[(run * HEIGHT) as usize];
         let from = self.starts[i as usize];
         let to = self.starts[i as usize + 1];
-        self.cells.part(run as usize, before, from, to)
+        self.cells.part(&self.starts, i / HEIGHT, from, to)
     }
 
     /// The cells of the rows from one up to another, where they stand in one list. They do so where these rows are all of
@@ -152,10 +150,9 @@ impl Matrix {
         if range.end > run * HEIGHT + HEIGHT && self.cells.are_runs() {
             return None;
         }
-        let before = self.starts[(run * HEIGHT) as usize];
         let from = self.starts[range.start as usize];
         let to = self.starts[range.end as usize];
-        Some(self.cells.part(run as usize, before, from, to))
+        Some(self.cells.part(&self.starts, run, from, to))
     }
 
     /// The rows from one up to another, to be copied with other values, where they stand in one list. They do so where these

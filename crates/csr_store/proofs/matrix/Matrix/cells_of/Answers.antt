@@ -1,4 +1,4 @@
-use Rattle.std.proofs.Common.{◌≡◌, ◌-◌, ◌*◌, ◌/◌, get_or, ap, refl, ◌∙◌, arith}
+use Rattle.std.proofs.Common.{◌≡◌, ◌-◌, get_or, ap, refl, ◌∙◌, arith}
 use Rattle.std.proofs.lemmas.List.{get_or_read}
 use Rattle.csr_store.specs.Grid.{Grid, row_of}
 use Rattle.csr_store.specs.Along.{along}
@@ -9,14 +9,13 @@ use Rattle.csr_store.proofs.InRuns.{stretch_part}
 use Rattle.csr_store.proofs.matrix.Matrix.cells_of.Goals as goal
 use Rattle.csr_store.proofs.matrix.Matrix.cells_of.Goals.{else-range-run-via-then-range-run+else-are_runs, else-range-run-via-else-range-run}
 
-pub part-requires : goal.part-requires
-part-requires c =
+pub part-requires-clause-part : goal.part-requires-clause-part
+part-requires-clause-part c =
     let r = ap (λ (g : Grid). g.rows) c.self.view_is in let o = c.requires.range in let l = c.requires.within in
     let n = length_starts c.self.inside.rows c.self.inside.starts.items (joined_cells c.self.inside.cells) c.self.invariant.1 in
-    let before : c.index-before.result.now ≡ get_or c.self.inside.starts.items (c.args.range.start / 256 * 256) 0 = get_or_read c.self.inside.starts.items _ _ (omega (arith, r, n, o, l)) c.index-before.ensures 0 in
     let from : c.index-from.result.now ≡ get_or c.self.inside.starts.items c.args.range.start 0 = get_or_read c.self.inside.starts.items _ _ (omega (arith, r, n, o, l)) c.index-from.ensures 0 in
     let to : c.index-to.result.now ≡ get_or c.self.inside.starts.items c.args.range.end 0 = get_or_read c.self.inside.starts.items _ _ (omega (arith, r, n, l)) c.index-to.ensures 0 in
-    rw (before, from, to)
+    rw (c.deref.ensures.value, from, to)
     (stretch_part c.self.inside.rows c.self.inside.columns c.self.inside.starts.items c.self.inside.cells c.args.range.start c.args.range.end c.self.invariant.1 c.self.invariant.2
     (omega (arith, o, c.if-range.false)) (omega (arith, r, l)) (λ runs.
     elim c.else-range-run.branch [
