@@ -65,7 +65,3 @@ at_row i row = map (λ (c : Cell). ((i, c.0), c.1)) row
 -- how many entries stand in the rows before row i
 abbrev pub row_start : Grid → ℕ → ℕ
 row_start g i = length (filter (λ (e : Entry). nat_lt e.0.0 i) (fin.entries g.cells))
-
--- the columns of a row's cells
-abbrev pub columns_of : List Cell → List ℕ
-columns_of row = map (λ (c : Cell). c.0) row
