@@ -28,7 +28,7 @@ use Rattle.entry_ops.specs.inner.Folding.{
 
 -- ---- a row that the mask may not show
 
-shown_fold : (f : Accepted) (cells : List Cell) (b : Bool)
+pub shown_fold : (f : Accepted) (cells : List Cell) (b : Bool)
     → (if b then fold f (words cells) else None) ≡ fold f (words (if b then cells else []))
 shown_fold f cells true = refl
 shown_fold f cells false = refl
@@ -49,7 +49,7 @@ module _ (f : Accepted) (a : Grid) (mask : Option Grid) where
   abbrev pub all_calls : ℕ → ℕ → List Call
   all_calls first n = all_listed_under mask 1 (reduce_calls_at f a) first n
 
-  steps_here : (i : ℕ) → steps_of (calls_here i) ≡ steps_of (fold_calls f (words (cells_shown i)))
+  pub steps_here : (i : ℕ) → steps_of (calls_here i) ≡ steps_of (fold_calls f (words (cells_shown i)))
   steps_here i = ap steps_of (append-nil (cut_list mask (reduce_calls_at f a) (i, 0)) ∙ shown_calls f (row_of a i) (passes mask (i, 0)))
 
   module _ (first many total : ℕ) where

@@ -17,6 +17,7 @@ pub mod Giving
 pub mod Adding
 pub mod Singly
 pub mod Folding
+pub mod InOrder
 pub mod Reducing
 pub mod Heads
 pub mod Passing

@@ -1,5 +1,5 @@
 -- Copied rows with the values of calls are the rows of apply.
-use Rattle.std.proofs.Common.{◌≡◌, ◌≤◌, ◌<◌, ◌+◌, ◌^◌, ℕ, zero, suc, true, List, [], ◌∷◌, ◌++◌, length, map, Option, None, Some, Result, Ok, Err, OnErr, refl, sym, ap, ◌∙◌, subst, arith, length-append, append_assoc, append-nil}
+use Rattle.std.proofs.Common.{◌≡◌, ◌≤◌, ◌<◌, ◌+◌, ◌^◌, ℕ, zero, suc, true, List, [], ◌∷◌, ◌++◌, length, map, Option, None, Some, refl, sym, ap, ◌∙◌, subst, arith, length-append, append_assoc, append-nil}
 use Rattle.bpf_insn.specs.declared.operands.Operands.{Operands}
 use Rattle.bpf_verify.specs.Accepted.{Accepted, IsAccepted}
 use Rattle.csr_store.specs.Grid.{Grid, IsGrid, Cell, row_of}
@@ -10,7 +10,7 @@ use Rattle.csr_store.specs.Added.{with_values}
 use Rattle.csr_store.specs.Valued.{entries_of as entries_in_run, rows_of, cells_in, all_cells, valued, valued_from, AreAlike}
 use Rattle.csr_store.proofs.Along.{row_of-ascends, along-none}
 use Rattle.csr_store.proofs.Valuing.{alike_then, alike_equal, alike_entries, entries_are}
-use Rattle.bpf_run.specs.Calls.{Call, Gathered, Charges, calls_on, values_on, steps_of, words_of}
+use Rattle.bpf_run.specs.Calls.{Gathered, calls_on, values_on, steps_of, words_of}
 use Rattle.bpf_run.proofs.Charging.{values_on-append, calls_on-append}
 use Rattle.entry_ops.specs.declared.form.Form.TheVariants.{Apply}
 use Rattle.entry_ops.specs.declared.mapping.Mapping.{Mapping}

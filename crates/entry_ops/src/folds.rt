@@ -204,7 +204,7 @@ impl<'m> Folds<'m> {
 }
 
 /// Adds a row with a value in its one column, or with none.
-fn add_row(rows: &mut Rows, value: Option<u64>) -> Result<(), AllocError>
+pub fn add_row(rows: &mut Rows, value: Option<u64>) -> Result<(), AllocError>
     requires columns { rows.old.columns ≡ 1 }
     requires closed { rows.old.opened ≡ [] }
     ensures { OnOk result (rows.new ≡ record rows.old { ended = rows.old.ended ++ cell_at 0 value ∷ []; opened = [] }) }
@@ -227,7 +227,7 @@ fn row_shown(mask: Option<&Matrix>, row: u64) -> bool
 }
 
 /// The cells of a row that are folded: none where the mask doesn't show the row.
-fn shown_cells<'m>(a: &'m Matrix, mask: Option<&'m Matrix>, row: u64) -> &'m [Cell]
+pub fn shown_cells<'m>(a: &'m Matrix, mask: Option<&'m Matrix>, row: u64) -> &'m [Cell]
     requires { row < a.now.rows }
     ensures { result.now ≡ (if passes (mask_of mask.entry) (row, 0) then row_of a.entry.now row else []) }
 {

@@ -15,8 +15,9 @@
 //! `keeping` is select without a mask: a run of cells is called, and those of them that are kept are copied, over
 //! `specs/inner/Keeping.antt`. `select` fills the rows of a selection under a mask, by `sieve`, whose last cells wait for the
 //! answers of gathered calls, over `specs/inner/Sifting.antt`. `specs/inner/Walking.antt` has what a row is, and
-//! `specs/inner/Standing.antt` what is added to rows while calls wait. Apart from these stands `folds`, which folds rows for a
-//! reduction, many at once, in the lanes of `lanes`, over `specs/inner/Folding.antt`.
+//! `specs/inner/Standing.antt` what is added to rows while calls wait. Apart from these stand the two ways of a reduction:
+//! `in_order` folds one row after the other, by a short operator, and `folds` many at once, in the lanes of `lanes`, over
+//! `specs/inner/Folding.antt`.
 #![tactic(auto)]
 
 mod ahead;
@@ -24,6 +25,7 @@ mod apply;
 mod emitter;
 mod folds;
 mod form;
+mod in_order;
 mod joint;
 mod keeping;
 mod lanes;

@@ -8,10 +8,15 @@ ghost use Rattle.job_forms.specs.Forms.{reduce_at, reduce_calls_at};
 ghost use Rattle.entry_ops.specs.inner.Walking.{with_rows};
 
 use crate::folds::{BLOCK_ROWS, Folds};
+use crate::in_order::fill_in_order;
 use bpf_run::{Calls, Prepared};
 use csr_store::{Chunk, Matrix, Rows};
 use std::alloc::{AllocError, Global};
 use std::ops::Range;
+
+/// The rows of an operator of up to so many instructions are folded one after the other: by the clock a call of one that has more is
+/// dearer than its share of a call in lanes, where the next words of many rows are gathered for each.
+const MOST_IN_ORDER: u64 = 5;
 
 /// Adds the reductions of the rows of a range, block by block.
 fn fill_reduced<'m>(
@@ -53,8 +58,8 @@ fn fill_reduced<'m>(
 ///
 /// A row is folded by ascending column, beginning with its first word. With a mask the result has only the rows at
 /// which the mask, of one column, stores something, and calls are made for those alone. The steps are those of all
-/// calls, and on want of memory those of the calls that were made. Rows wait for one another no more than calls do: up
-/// to 64 of them are folded at once, a call of each made together with the others', in the scratch.
+/// calls, and on want of memory those of the calls that were made. By a short operator rows are folded one after the
+/// other; by a longer one up to 64 of them at once, a call of each made together with the others', in the scratch.
 pub fn reduce_rows<'m>(
     alloc: Global,
     calls: &mut Calls,
@@ -80,6 +85,15 @@ pub fn reduce_rows<'m>(
 {
     let _ = operator.operator().program();
     let _ = a.columns();
+    let mut rows = Rows::begin(alloc, range.start, 1);
+    if operator.len() <= MOST_IN_ORDER {
+        let mut steps = 0;
+        let filled = fill_in_order(a, operator, mask, range, &mut rows, &mut steps);
+        return Chunk {
+            result: filled.map(|()| rows),
+            steps,
+        };
+    }
     let mut folds = match Folds::new(alloc) {
         Ok(folds) => folds,
         Err(error) => {
@@ -89,7 +103,6 @@ pub fn reduce_rows<'m>(
             };
         }
     };
-    let mut rows = Rows::begin(alloc, range.start, 1);
     let filled = fill_reduced(calls, &mut folds, a, operator, mask, range, &mut rows);
     Chunk {
         result: filled.map(|()| rows),

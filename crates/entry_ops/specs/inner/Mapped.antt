@@ -1,5 +1,5 @@
 -- Copied rows that get the values of calls, in the order of their entries. This project's own.
-use Rattle.std.specs.Prelude.{◌≡◌, ℕ, ◌+◌, ◌≤◌, List, [], ◌∷◌, Option, None, Some, length}
+use Rattle.std.specs.Prelude.{◌≡◌, ℕ, ◌+◌, ◌≤◌, List, Option, None, Some, length}
 use Rattle.bpf_insn.specs.declared.operands.Operands.{Operands}
 use Rattle.bpf_verify.specs.Accepted.{Accepted}
 use Rattle.csr_store.specs.Grid.{Grid, Cell, row_of}

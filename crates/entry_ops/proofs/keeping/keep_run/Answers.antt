@@ -1,9 +1,9 @@
-use Rattle.std.proofs.Common.{ℕ, ◌≡◌, ◌<◌, ◌≤◌, ◌+◌, ◌-◌, ◌∙◌, [], length, ap, sym, refl, subst, arith, append-nil}
+use Rattle.std.proofs.Common.{ℕ, ◌≡◌, ◌<◌, ◌≤◌, ◌+◌, ◌∙◌, [], ap, sym, refl, subst, arith, append-nil}
 use Rattle.bpf_run.specs.Calls.{Gathered, values_on, entries_of}
 use Rattle.csr_store.specs.Run.{Run}
 use Rattle.entry_ops.specs.inner.Keeping.{IsKept, row_before}
 use Rattle.entry_ops.proofs.Standing.{on_err}
-use Rattle.entry_ops.proofs.Passing.{first_fits, first_spends, first_stop, first_less, values_here, few_here, now_here, cut_here, far_few, far_first, far_left, far_passed, last_passed, far_whole, far_many, far_now, far_cut, far_last, far_even, kept-fits, kept-part, kept-end, kept-whole}
+use Rattle.entry_ops.proofs.Passing.{first_fits, first_spends, first_stop, first_less, values_here, few_here, now_here, cut_here, far_few, far_first, far_passed, far_whole, far_many, far_cut, far_last, far_even, kept-fits, kept-part, kept-end, kept-whole}
 use Rattle.entry_ops.proofs.keeping.keep_run.Goals as goal
 
 pub overflow_add-keeping : goal.overflow_add-keeping

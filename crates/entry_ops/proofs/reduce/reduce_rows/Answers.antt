@@ -13,3 +13,9 @@ fill_reduced-filled-requires-clause-room c =
     let w = c.requires.within in
     few_reduced c.args.operator.now c.args.a.now (mask_of c.args.mask) c.args.range.start (c.args.range.end - c.args.range.start)
     (subst IsAccepted c.operator.ensures c.program.ensures.accepted) c.requires.kind c.columns.ensures.is_grid (omega (arith, w))
+
+pub fill_in_order-filled-requires-clause-room : goal.fill_in_order-filled-requires-clause-room
+fill_in_order-filled-requires-clause-room c =
+    let w = c.requires.within in
+    few_reduced c.args.operator.now c.args.a.now (mask_of c.args.mask) c.args.range.start (c.args.range.end - c.args.range.start)
+    (subst IsAccepted c.operator.ensures c.program.ensures.accepted) c.requires.kind c.columns.ensures.is_grid (omega (arith, w))
