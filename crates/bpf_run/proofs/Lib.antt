@@ -6,6 +6,9 @@ pub mod Flat
 pub mod Running
 pub mod Preparing
 pub mod Folds
+pub mod Exact
+pub mod Families
+pub mod Cells
 pub mod Columns
 pub mod Rows
 pub mod Waiting

@@ -4,6 +4,7 @@ pub mod Columns
 pub mod Even
 pub mod Flat
 pub mod Gathering
+pub mod Known
 pub mod Lanes
 pub mod Micro
 pub mod Ran

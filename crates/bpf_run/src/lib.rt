@@ -6,7 +6,8 @@
 //!
 //! Read `single` first: an operator is prepared once, and called any number of times. `prepare`, with `flatten`, makes its flat code of
 //! `micro` instructions; `step`, with `go`, says what each of these does, and `run` goes from the first to an EXIT. `folding` is such
-//! a run that starts again for each cell. Then `calls`, which gathers operands, and `lanes`, which runs flat code for all of them
+//! a run that starts again for each cell; of a program that `known` finds in the table of `specs/inner/Known.antt`, `native` has a loop
+//! that was compiled for what it computes. Then `calls`, which gathers operands, and `lanes`, which runs flat code for all of them
 //! in one pass. What flat code means stands in `specs/inner/Micro.antt` and `specs/inner/Flat.antt`, what calls in a list cost in
 //! `specs/Calls.antt`, and what a fold is in `specs/Fold.antt`.
 #![tactic(auto)]
@@ -16,9 +17,11 @@ mod cursor;
 mod flatten;
 mod folding;
 mod go;
+mod known;
 mod lanes;
 mod memory;
 mod micro;
+mod native;
 mod operations;
 mod prepare;
 mod run;
