@@ -6,5 +6,6 @@ pub mod Marking
 pub mod Filling
 pub mod Meeting
 pub mod Parts
+pub mod Multiplying
 pub mod Barren
 pub mod Spreading

@@ -4,4 +4,5 @@ pub mod Factors
 pub mod Few
 pub mod Held
 pub mod Progress
+pub mod Single
 pub mod Sums

@@ -1,15 +1,17 @@
 //! A row of sums, to which the cells of rows of B are added, each times a word.
-ghost use Rattle.std.specs.Prelude.{◌≡◌, ◌≤◌, ◌<◌, ◌*◌, ℕ, None, [], length, IfOk, OnOk};
+ghost use Rattle.std.specs.Prelude.{◌≡◌, ◌≤◌, ◌<◌, ◌*◌, ◌++◌, ℕ, None, [], length, IfOk, OnOk};
 ghost use Rattle.bpf_verify.specs.Accepted.{Accepted};
-ghost use Rattle.bpf_run.specs.Calls.{steps_of};
+ghost use Rattle.bpf_run.specs.Calls.{steps_of, calls_on, pairs_with};
 ghost use Rattle.csr_store.specs.Along.{row_by};
 ghost use Rattle.csr_store.specs.Ascending.{Ascends};
 ghost use Rattle.row_product.specs.inner.Adding.{sums_after, calls_after, none_gathered, AreBelow, IsMet};
 ghost use Rattle.row_product.specs.inner.Factors.{AreFactors};
+ghost use Rattle.row_product.specs.inner.Single.{multiplied, IsBehind};
 ghost use Rattle.row_product.specs.inner.Sums.{slot};
 
 use crate::additions::Additions;
 use crate::factors::Factors;
+use crate::single::push_words;
 use crate::sums::Sums;
 use bpf_insn::Kind;
 use bpf_run::Calls;
@@ -91,6 +93,30 @@ impl Accumulator {
             &mut self.sums,
         );
         multiplied + self.additions.make(factors.add, &mut self.sums)
+    }
+
+    /// Puts a word times each of up to 64 cells into the open row, without a sum. Answers the steps.
+    pub(crate) fn push_products(
+        &mut self,
+        factors: &Factors,
+        x: u64,
+        cells: &[(u64, u64)],
+        rows: &mut Rows,
+    ) -> Result<u64, AllocError>
+        requires factors { AreFactors factors.now }
+        requires few { length cells.now ≤ 64 }
+        requires behind { IsBehind rows.old.columns rows.old.opened cells.now }
+        ensures rows { OnOk result (rows.new ≡ record rows.old { opened = rows.old.opened ++ multiplied factors.now.mul.now x cells.now }) }
+        ensures steps { IfOk result (λ s. s ≡ steps_of (calls_on factors.now.mul.now (pairs_with x cells.now))) }
+        ensures little { IfOk result (λ s. s ≤ 8192 * length cells.now) }
+        ensures sums { self.new ≡ self.old }
+    {
+        let _mul = factors.mul.operator().program();
+        self.products.begin(Kind::Binary);
+        self.products.gather_with(x, cells);
+        let multiplied = self.products.make(factors.mul);
+        push_words(cells, self.products.values(), rows)?;
+        Ok(multiplied)
     }
 
     /// Puts the sums into the open row, by ascending column.

@@ -11,6 +11,7 @@ ghost use Rattle.row_product.specs.inner.Sums.{slot};
 use crate::factors::Factors;
 use crate::marks::{allow, forbid};
 use crate::progress::Progress;
+use crate::single::{push_row, sole_entry};
 use csr_store::Rows;
 use job_forms::is_open;
 use std::alloc::AllocError;
@@ -66,7 +67,12 @@ pub(crate) fn fill_row(
     if !is_open(factors.mask, i) {
         return rows.end_row();
     }
+    let columns = factors.b.columns();
+    if let Some((k, x)) = sole_entry(factors, i) {
+        *steps += push_row(factors, x, k, &mut progress.sums, rows)?;
+        return rows.end_row();
+    }
     *steps += sum_under(factors, i, progress);
-    progress.sums.emit(factors.b.columns(), rows)?;
+    progress.sums.emit(columns, rows)?;
     rows.end_row()
 }

@@ -1,4 +1,4 @@
-use Rattle.std.proofs.Common.{length, drop, sym, ◌∙◌, arith}
+use Rattle.std.proofs.Common.{length, drop, sym, ◌∙◌}
 use Rattle.std.proofs.lemmas.List.{drop_all}
 use Rattle.row_product.proofs.Meeting.{meets_start, meets_column, meets_first, meets_further, meeting_end, below_up}
 use Rattle.row_product.proofs.accumulator.meet.Goals as goal

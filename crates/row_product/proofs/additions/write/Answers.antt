@@ -1,4 +1,4 @@
-use Rattle.std.proofs.Common.{◌+◌, Some, length, drop, get_or, set, sym, ap, ◌∙◌, arith}
+use Rattle.std.proofs.Common.{◌+◌, Some, length, drop, get_or, sym, ap, ◌∙◌, arith}
 use Rattle.std.proofs.Math.ListN.{length-set}
 use Rattle.row_product.specs.inner.Adding.{written}
 use Rattle.row_product.proofs.Meeting.{below_at, written_next, written_none}

@@ -1,4 +1,4 @@
-use Rattle.std.proofs.Common.{◌+◌, ◌≤◌, drop, get_or, refl, sym, ap, ◌∙◌, subst, arith}
+use Rattle.std.proofs.Common.{◌+◌, drop, get_or, refl, sym, ap, ◌∙◌, subst, arith}
 use Rattle.std.proofs.lemmas.List.{drop_more, drop_all}
 use Rattle.csr_store.specs.Run.{Run}
 use Rattle.row_product.specs.inner.Sums.{slot}

@@ -1,5 +1,4 @@
-use Rattle.std.proofs.Common.{◌≡◌, ◌≤◌, ◌+◌, ◌++◌, length, drop, vec_capacity}
-use Rattle.csr_store.specs.Ascending.{Ascends}
+use Rattle.std.proofs.Common.{◌≡◌, ◌≤◌, ◌++◌, length, drop, vec_capacity}
 use Rattle.row_product.specs.inner.Sums.{flag}
 use Rattle.row_product.specs.inner.Adding.{taking}
 use Rattle.row_product.proofs.progress.choose.Given as goal

@@ -1,4 +1,4 @@
-use Rattle.std.proofs.Common.{◌≡◌, ◌≤◌, ◌+◌, ◌*◌, ◌++◌, List, length, subst, sym, ap, ◌∙◌, arith}
+use Rattle.std.proofs.Common.{◌++◌, List, length, subst, ap, ◌∙◌, arith}
 use Rattle.bpf_insn.specs.declared.operands.Operands.{Operands}
 use Rattle.bpf_verify.specs.Accepted.{IsAccepted}
 use Rattle.bpf_run.specs.Calls.{Gathered, steps_of, calls_on, pairs_with, values_on}

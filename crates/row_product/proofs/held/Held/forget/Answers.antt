@@ -1,4 +1,4 @@
-use Rattle.std.proofs.Common.{◌≡◌, ◌+◌, None, length, sym, ap, subst, arith}
+use Rattle.std.proofs.Common.{◌≡◌, None, length, sym, ap, subst, arith}
 use Rattle.row_product.specs.inner.Held.{marked}
 use Rattle.row_product.specs.inner.Sums.{slot}
 use Rattle.row_product.proofs.Turns.{length_marked, marked_none}

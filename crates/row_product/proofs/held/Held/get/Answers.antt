@@ -1,4 +1,4 @@
-use Rattle.std.proofs.Common.{◌≡◌, ◌<◌, ◌≤◌, ◌+◌, Some, length, sym, ap, ◌∙◌, arith}
+use Rattle.std.proofs.Common.{◌≡◌, Some, length, sym, ap, ◌∙◌, arith}
 use Rattle.row_product.specs.inner.Held.{marked}
 use Rattle.row_product.specs.inner.Sums.{slot}
 use Rattle.row_product.proofs.Turns.{length_marked, held_some, held_none}

@@ -1,4 +1,4 @@
-use Rattle.std.proofs.Common.{◌≡◌, ◌≤◌, length, ap, arith}
+use Rattle.std.proofs.Common.{◌≡◌, length, ap, arith}
 use Rattle.row_product.specs.inner.Held.{marked}
 use Rattle.row_product.proofs.Turns.{length_marked}
 use Rattle.row_product.proofs.held.Held.widen.Goals as goal

@@ -1,4 +1,4 @@
-use Rattle.std.proofs.Common.{◌≡◌, ◌≤◌, ◌*◌, length, subst, sym, ap, ◌∙◌, refl, arith}
+use Rattle.std.proofs.Common.{length, subst, sym, ap, ◌∙◌, refl, arith}
 use Rattle.bpf_run.specs.Calls.{steps_of}
 use Rattle.csr_store.specs.Ascending.{Ascends}
 use Rattle.row_product.specs.inner.Adding.{taking, sums_after, calls_after}

@@ -1,5 +1,5 @@
 use Rattle.std.proofs.Common.{◌≡◌, ◌≤◌, ◌+◌, ◌*◌, length}
-use Rattle.csr_store.specs.Grid.{limit, row_of}
+use Rattle.csr_store.specs.Grid.{row_of}
 use Rattle.row_product.specs.inner.Progress.{IsReady, stands}
 use Rattle.row_product.specs.inner.Sums.{takes}
 use Rattle.row_product.proofs.Adding.{Adding}

@@ -1,4 +1,4 @@
-use Rattle.std.proofs.Common.{◌≡◌, ◌<◌, ◌≤◌, ◌+◌, ◌*◌, List, length, drop, get_or, ap, ◌∙◌, subst, sym, refl, arith}
+use Rattle.std.proofs.Common.{◌<◌, ◌+◌, List, length, drop, get_or, ap, ◌∙◌, refl, arith}
 use Rattle.std.proofs.lemmas.List.{drop_more, drop_all}
 use Rattle.bpf_run.specs.Calls.{steps_of}
 use Rattle.csr_store.specs.Along.{along}
@@ -7,7 +7,7 @@ use Rattle.csr_store.proofs.ByRow.{cell_inside}
 use Rattle.job_forms.proofs.Counting.{row_few}
 use Rattle.row_product.specs.inner.Progress.{stands}
 use Rattle.row_product.specs.inner.Sums.{slot, takes, seen, after, extra}
-use Rattle.row_product.proofs.Gathering.{Gathering, gathering_start, gathering_step, gathering_end}
+use Rattle.row_product.proofs.Gathering.{gathering_start, gathering_step, gathering_end}
 use Rattle.row_product.proofs.progress.Progress.add_rows.Goals as goal
 use Rattle.std.specs.FinMap as fin
 

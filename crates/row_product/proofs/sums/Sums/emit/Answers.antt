@@ -1,4 +1,4 @@
-use Rattle.std.proofs.Common.{ℕ, length, subst, sym, ap, ◌∙◌, arith}
+use Rattle.std.proofs.Common.{ℕ, subst, sym, arith}
 use Rattle.std.proofs.lemmas.List.Sorted.{IsNonDecreasingBy-from_sort, Contains-permutation, length_permutation}
 use Rattle.std.specs.List.{Contains}
 use Rattle.std.specs.List.Sorted.{IsNonDecreasing}
