@@ -8,4 +8,5 @@ pub mod Meeting
 pub mod Parts
 pub mod Multiplying
 pub mod Barren
+pub mod Bits
 pub mod Spreading

@@ -1,20 +1,19 @@
 -- A row of A with one entry makes the row of B that it names, each word multiplied, and that alone is called.
-use Rattle.std.proofs.Common.{◌≡◌, ℕ, zero, suc, ◌+◌, ◌*◌, ◌<◌, ◌≤◌, List, [], ◌∷◌, ◌++◌, Option, None, Some, length, drop, get_or, refl, sym, ap, ◌∙◌, subst, append_assoc, append-nil, arith}
+use Rattle.std.proofs.Common.{◌≡◌, ℕ, suc, ◌+◌, ◌*◌, ◌<◌, ◌≤◌, List, [], ◌∷◌, ◌++◌, Option, None, length, drop, get_or, refl, sym, ap, ◌∙◌, subst, append_assoc, append-nil, arith}
 use Rattle.std.proofs.lemmas.List.{drop_more}
 use Rattle.std.specs.List.{AllByRecursion}
-use Rattle.std.specs.FinMap.{get}
 use Rattle.bpf_insn.specs.declared.operands.Kind.TheVariants as kinds
 use Rattle.bpf_insn.specs.declared.operands.Operands.TheVariants.{Binary}
 use Rattle.bpf_verify.specs.Accepted.{Accepted, IsAccepted}
 use Rattle.bpf_run.specs.Meaning.{value_of}
-use Rattle.bpf_run.specs.Calls.{Call, call_of, steps_of, calls_on, values_on, pairs_with}
+use Rattle.bpf_run.specs.Calls.{call_of, steps_of, calls_on, values_on, pairs_with}
 use Rattle.bpf_run.specs.Fold.{fold, fold_calls}
-use Rattle.bpf_run.proofs.Charging.{steps-append, cost-few}
+use Rattle.bpf_run.proofs.Charging.{cost-few}
 use Rattle.csr_store.specs.Along.{along, cell_at, row_by}
 use Rattle.csr_store.specs.Grid.{Grid, Cell, IsGrid, row_of}
-use Rattle.csr_store.specs.Mask.{cut, cut_list, row_under, listed_under}
+use Rattle.csr_store.specs.Mask.{row_under, listed_under}
 use Rattle.csr_store.specs.Run.{Run}
-use Rattle.csr_store.proofs.Along.{Ascends, along-same, along-row_of, each, row_of-ascends}
+use Rattle.csr_store.proofs.Along.{Ascends, along-row_of, each}
 use Rattle.job_forms.specs.Product.{term, term_calls, terms, mul_calls, product_at, product_calls_at}
 use Rattle.row_product.specs.inner.Single.{multiplied, with_words, IsBehind}
 use Rattle.row_product.proofs.Putting.{cells_below, cells_joined, same_run}

@@ -1,5 +1,5 @@
 -- Words whose marks count: one more is given, and all are forgotten.
-use Rattle.std.proofs.Common.{◌≡◌, ℕ, zero, suc, ◌+◌, ◌<◌, ◌≤◌, true, false, nat_eq, cond, if◌then◌else◌, List, [], ◌∷◌, ◌++◌, Option, None, Some, length, get_or, set, replicate, take, drop, refl, sym, ap, ◌∙◌, subst, arith, eq-eqb}
+use Rattle.std.proofs.Common.{◌≡◌, ℕ, zero, suc, ◌+◌, ◌<◌, ◌≤◌, nat_eq, if◌then◌else◌, List, [], ◌∷◌, ◌++◌, None, Some, length, get_or, set, replicate, take, refl, ap, arith, eq-eqb}
 use Rattle.std.proofs.lemmas.Bool.{ne_eqb}
 use Rattle.row_product.specs.inner.Held.{marked, AreUpTo}
 use Rattle.row_product.specs.inner.Sums.{slot}

@@ -1,9 +1,10 @@
 //! The sums of a row, put into the open row of the result.
-ghost use Rattle.std.specs.Prelude.{◌≡◌, ◌≤◌, ◌<◌, ◌++◌, ℕ, true, false, Some, [], length, OnOk};
+ghost use Rattle.std.specs.Prelude.{◌≡◌, ◌≤◌, ◌<◌, ◌*◌, ◌++◌, ℕ, true, false, Some, [], length, OnOk};
 ghost use Rattle.std.specs.List.{AllByRecursion, Contains};
 ghost use Rattle.std.specs.List.Sorted.{IsNonDecreasing};
 ghost use Rattle.csr_store.specs.Along.{cell_at, row_by};
 ghost use Rattle.csr_store.specs.Grid.{Cell};
+ghost use Rattle.row_product.specs.inner.Held.{AreMarked};
 ghost use Rattle.row_product.specs.inner.Sums.{slot};
 
 use crate::held::Held;
@@ -57,15 +58,33 @@ pub(crate) fn emit_listed(
     Ok(())
 }
 
-/// Puts the sums of all columns into the open row: for rows where many of them have one.
-pub(crate) fn emit_all(columns: u64, held: &Held, rows: &mut Rows) -> Result<(), AllocError>
+/// Puts the sums of the columns whose bit is set into the open row: for rows where many columns have one.
+pub(crate) fn emit_marked(
+    columns: u64,
+    bits: &[u64],
+    held: &Held,
+    rows: &mut Rows,
+) -> Result<(), AllocError>
     requires columns { rows.old.columns ≡ columns }
     requires wide { rows.old.columns ≤ length held.now }
+    requires long { columns ≤ 64 * length bits.now }
+    requires covers { AreMarked bits.now held.now }
     requires none_open { rows.old.opened ≡ [] }
     ensures { OnOk result (rows.new ≡ record rows.old { opened = row_by rows.old.columns (slot held.now) }) }
 {
-    for column in 0..columns {
-        put_sum(column, held, rows)?;
+    let mut next = 0;
+    while next < columns {
+        let end = next + (columns - next).min(64);
+        let mut left = bits[(next / 64) as usize];
+        // of 0 there are 64 zeros, so that the walk ends
+        while (left.trailing_zeros() as u64) < end - next {
+            let skip = left.trailing_zeros();
+            next += skip as u64;
+            put_sum(next, held, rows)?;
+            left = left >> skip >> 1;
+            next += 1;
+        }
+        next = end;
     }
     Ok(())
 }

@@ -1,5 +1,5 @@
 //! A word for each column, which counts where its mark is the row's.
-ghost use Rattle.std.specs.Prelude.{◌≡◌, ◌≤◌, ◌<◌, ℕ, None, Some, [], length, set, OnOk};
+ghost use Rattle.std.specs.Prelude.{◌≡◌, ◌≤◌, ◌<◌, ℕ, None, Some, [], length, max, set, OnOk};
 ghost use Rattle.row_product.specs.inner.Held.{AreUpTo};
 ghost use Rattle.row_product.specs.inner.Sums.{slot};
 
@@ -47,7 +47,8 @@ impl Held {
 
     /// Room for so many columns, at least.
     pub(crate) fn widen(&mut self, columns: usize) -> Result<(), AllocError>
-        ensures { OnOk result (columns ≤ length self.new) }
+        ensures wide { OnOk result (columns ≤ length self.new) }
+        ensures no_wider { length self.new ≤ max columns (length self.old) }
     {
         if columns > self.marks.len() {
             self.words.resize(columns.max(self.words.len()), 0)?;

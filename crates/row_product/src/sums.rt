@@ -1,15 +1,16 @@
-//! The sums of a row, with a list of the columns that have one as long as they are few.
+//! The sums of a row, with a bit for each column that has one, and a list of these columns as long as they are few.
 ghost use Rattle.std.specs.Prelude.{◌≡◌, ◌≤◌, ◌<◌, ℕ, List, Option, None, Some, [], length, set, OnOk};
 ghost use Rattle.csr_store.specs.Along.{row_by};
 ghost use Rattle.row_product.specs.inner.Sums.{slot};
 
-use crate::emit::{emit_all, emit_listed};
+use crate::emit::{emit_listed, emit_marked};
 use crate::held::Held;
+use crate::marked::{clear_bits, set_bit};
 use csr_store::Rows;
 use std::alloc::{AllocError, Global};
 use std::marker::Model;
 
-/// From one sum in so many columns on, going over all columns is cheaper than putting those that have one in order.
+/// From one sum in so many columns on, going over the bits of all columns is cheaper than putting those that have one in order.
 const COLUMNS_A_SUM: u64 = 16;
 
 /// The sums of the row in progress. A contract sees the sum of each column, if there is one.
@@ -19,17 +20,20 @@ pub(crate) struct Sums {
     /// The columns that have a sum, unless there are `most`.
     touched: Vec<u64>,
     most: usize,
+    /// A bit for each column, in words of 64. Those that have a sum have theirs set, and others may.
+    bits: Vec<u64>,
 }
 
 impl Model for Sums {
-    ghost use Rattle.std.specs.Prelude.{ℕ, List, Option, ◌≤◌, length, vec_capacity};
-    ghost use Rattle.row_product.specs.inner.Held.{AreListed};
+    ghost use Rattle.std.specs.Prelude.{ℕ, List, Option, ◌≤◌, ◌*◌, length, vec_capacity};
+    ghost use Rattle.row_product.specs.inner.Held.{AreListed, AreMarked};
 
     ghost Value = { List (Option ℕ) };
 
     ghost view = { λ s. s.held };
 
-    ghost invariant = { λ s. (s.most ≤ vec_capacity s.touched) × AreListed s.most s.held s.touched.items };
+    ghost invariant = { λ s. (s.most ≤ vec_capacity s.touched) × AreListed s.most s.held s.touched.items
+        × (length s.held ≤ 64 * length s.bits.items) × AreMarked s.bits.items s.held };
 }
 
 impl Sums {
@@ -41,6 +45,7 @@ impl Sums {
             held: Held::new(alloc),
             touched: Vec::new(alloc),
             most: 0,
+            bits: Vec::new(alloc),
         }
     }
 
@@ -58,7 +63,13 @@ impl Sums {
         self.most = 0;
         self.touched.clear();
         self.touched.reserve((columns / COLUMNS_A_SUM) as usize)?;
-        self.held.widen(columns as usize)
+        let words = (columns / 64) as usize + 1;
+        if words > self.bits.len() {
+            self.bits.resize(words, 0)?;
+        }
+        let widened = self.held.widen(columns as usize);
+        self.held.forget();
+        widened
     }
 
     /// Begins a row of so many columns, with no sum.
@@ -67,6 +78,9 @@ impl Sums {
         ensures long { length self.new ≡ length self.old }
     {
         self.held.forget();
+        if self.touched.len() >= self.most {
+            clear_bits(columns, &mut self.bits);
+        }
         self.touched.clear();
         self.most = self
             .touched
@@ -90,6 +104,7 @@ impl Sums {
         ensures { self.new ≡ set self.old column (Some sum) }
     {
         self.held.put(column, sum);
+        set_bit(&mut self.bits, column);
         if self.touched.len() < self.most {
             self.touched.push_reserved(column);
         }
@@ -120,6 +135,6 @@ impl Sums {
             self.touched.sort_unstable();
             return emit_listed(columns, &self.touched, &self.held, rows);
         }
-        emit_all(columns, &self.held, rows)
+        emit_marked(columns, &self.bits, &self.held, rows)
     }
 }

@@ -1,6 +1,6 @@
 -- Terms of one row of B added to the sums of a row: the cells that take part, what they make of the sums, and additions that are
 -- made together. This project's own.
-use Rattle.std.specs.Prelude.{◌≡◌, ◌+◌, ◌<◌, ℕ, Bool, if◌then◌else◌, List, [], ◌∷◌, ◌++◌, Option, None, Some, set}
+use Rattle.std.specs.Prelude.{◌≡◌, ◌<◌, ℕ, Bool, if◌then◌else◌, List, [], ◌∷◌, ◌++◌, Option, Some, set}
 use Rattle.std.specs.List.{AllByRecursion}
 use Rattle.bpf_insn.specs.declared.operands.Operands.{Operands}
 use Rattle.bpf_insn.specs.declared.operands.Operands.TheVariants.{Binary}

@@ -1,0 +1,112 @@
+-- Columns by their bits, in words of 64: a bit that is set, and a word that is read off from its lowest bit on.
+use Rattle.std.proofs.Common.{◌≡◌, ℕ, zero, suc, ◌+◌, ◌-◌, ◌*◌, ◌/◌, ◌%◌, ◌^◌, ◌<◌, ◌≤◌, ◌++◌, w64, List, Option, None, Some, length, get_or, set, refl, sym, ap, ◌∙◌, subst, inl, inr, arith, get_or-set_same, get_or-set_other}
+use Rattle.std.proofs.lemmas.Bool.Decides.{eqb_tells}
+use Rattle.std.proofs.Math.Nat.{div-div-eq-div-mul}
+use Rattle.std.proofs.lemmas.Nat.{pow-add, shr_le}
+use Rattle.std.proofs.lemmas.Nat.Bits.{bit_at_set_same, bit_at_set_other, bit_at-trailing_zeros, bit_at-zero}
+use Rattle.std.specs.Int.{bit_at, trailing_zeros}
+use Rattle.std.specs.Int.RustNames.{bit_or}
+use Rattle.csr_store.specs.Run.{Run}
+use Rattle.csr_store.specs.Along.{cell_at}
+use Rattle.row_product.specs.inner.Held.{bit_of}
+use Rattle.row_product.proofs.Putting.{Putting, putting_skip, putting_cell}
+
+-- ---- a bit that is set
+
+pub bit_set : (bits : List ℕ) (j : ℕ) → j < 64 * length bits
+    → bit_of (set bits (j / 64) (bit_or (get_or bits (j / 64) 0) (1 * 2 ^ (j % 64) % 2 ^ 64))) j ≡ 1
+bit_set bits j l =
+    ap (λ w. bit_at w (j % 64)) (get_or-set_same bits (j / 64) (bit_or (get_or bits (j / 64) 0) (1 * 2 ^ (j % 64) % 2 ^ 64)) 0
+    (omega (arith, l)))
+    ∙ bit_at_set_same w64 (get_or bits (j / 64) 0) (j % 64) (omega arith)
+
+pub bit_kept : (bits : List ℕ) (j i : ℕ) → j < 64 * length bits → bit_of bits i ≡ 1
+    → bit_of (set bits (j / 64) (bit_or (get_or bits (j / 64) 0) (1 * 2 ^ (j % 64) % 2 ^ 64))) i ≡ 1
+bit_kept bits j i l h = elim (eqb_tells (i / 64) (j / 64)) [
+  | inl d ↦ elim (eqb_tells (i % 64) (j % 64)) [
+    | inl e ↦ let q = d.1 in let r = e.1 in let same : i ≡ j = omega (arith, q, r) in
+        subst (λ k. bit_of (set bits (j / 64) (bit_or (get_or bits (j / 64) 0) (1 * 2 ^ (j % 64) % 2 ^ 64))) k ≡ 1) (sym same)
+        (bit_set bits j l)
+    | inr e ↦
+        ap (λ k. bit_at (get_or (set bits (j / 64) (bit_or (get_or bits (j / 64) 0) (1 * 2 ^ (j % 64) % 2 ^ 64))) k 0) (i % 64)) d.1
+        ∙ (ap (λ w. bit_at w (i % 64)) (get_or-set_same bits (j / 64) (bit_or (get_or bits (j / 64) 0) (1 * 2 ^ (j % 64) % 2 ^ 64)) 0
+        (omega (arith, l)))
+        ∙ (bit_at_set_other w64 (get_or bits (j / 64) 0) (j % 64) (omega arith) (i % 64) e.1
+        ∙ (ap (λ k. bit_at (get_or bits k 0) (i % 64)) (sym d.1) ∙ h)))
+  ]
+  | inr d ↦ ap (λ w. bit_at w (i % 64)) (get_or-set_other bits (j / 64) (i / 64)
+      (bit_or (get_or bits (j / 64) 0) (1 * 2 ^ (j % 64) % 2 ^ 64)) 0 d.1) ∙ h
+]
+
+-- ---- a word that is read off
+
+-- the columns from p up to q that have something have their bit in what is left of a word
+pub record Reading (n : ℕ) (whole : ℕ → Option ℕ) (from : Run) (q p left : ℕ) (now : Run) : Type 0 where
+  pub putting : Putting n whole from p now
+  pub within : p ≤ q
+  pub inside : q ≤ n
+  pub small : left < 2 ^ 64
+  pub covers : (j v : ℕ) → p ≤ j → j < q → whole j ≡ Some v → bit_at left (j - p) ≡ 1
+
+low_clear : (left i : ℕ) → left < 2 ^ 64 → i < trailing_zeros w64 left → bit_at left i ≡ 0
+low_clear zero i s l = bit_at-zero i
+low_clear (suc k) i s l = (bit_at-trailing_zeros w64 (suc k) (omega arith) s).2 i l
+
+no_sum : (whole : ℕ → Option ℕ) (j b : ℕ) (o : Option ℕ) → whole j ≡ o → b ≡ 0 → ((v : ℕ) → whole j ≡ Some v → b ≡ 1) → o ≡ None
+no_sum whole j b None e z h = refl
+no_sum whole j b (Some v) e z h = absurd (let o = h v e in omega (arith, o, z))
+
+skipped : (n : ℕ) (whole : ℕ → Option ℕ) (from : Run) (q p left to : ℕ) (now : Run) → Reading n whole from q p left now
+    → p ≤ to → to ≤ q → to ≤ p + trailing_zeros w64 left → Putting n whole from to now
+skipped n whole from q p left to now m a b z =
+    let i = m.inside in
+    putting_skip n whole from p to now m.putting a (omega (arith, b, i))
+    (λ j l u. no_sum whole j (bit_at left (j - p)) (whole j) refl (low_clear left (j - p) m.small (omega (arith, l, u, z)))
+    (λ v e. m.covers j v l (omega (arith, u, b)) e))
+
+shifted : (left s i : ℕ) → bit_at (left / 2 ^ s / 2 ^ 1) i ≡ bit_at left (s + 1 + i)
+shifted left s i =
+    ap (λ n. n / 2 ^ i % 2) (div-div-eq-div-mul left (2 ^ s) (2 ^ 1))
+    ∙ (ap (λ n. n % 2) (div-div-eq-div-mul left (2 ^ s * 2 ^ 1) (2 ^ i))
+    ∙ ap (λ n. left / n % 2) (sym (pow-add 2 (s + 1) i ∙ ap (λ n. n * 2 ^ i) (pow-add 2 s 1))))
+
+smaller : (left s : ℕ) → left < 2 ^ 64 → left / 2 ^ s / 2 ^ 1 < 2 ^ 64
+smaller left s h = let a = shr_le left s in let b = shr_le (left / 2 ^ s) 1 in omega (arith, a, b, h)
+
+pub reading_step : (n : ℕ) (whole : ℕ → Option ℕ) (from : Run) (q p left : ℕ) (now next : Run) → Reading n whole from q p left now
+    → trailing_zeros w64 left < q - p
+    → next ≡ record now { opened = now.opened ++ cell_at (p + trailing_zeros w64 left) (whole (p + trailing_zeros w64 left)) }
+    → Reading n whole from q (p + trailing_zeros w64 left + 1) (left / 2 ^ trailing_zeros w64 left / 2 ^ 1) next
+reading_step n whole from q p left now next m l r =
+    let s = trailing_zeros w64 left in
+    let i = m.inside in
+    record {
+      putting = putting_cell n whole from (p + s) now (whole (p + s)) next
+          (skipped n whole from q p left (p + s) now m (omega arith) (omega (arith, l)) (omega arith)) (omega (arith, l, i)) refl r;
+      within = omega (arith, l);
+      inside = i;
+      small = smaller left s m.small;
+      covers = λ j v a b e. shifted left s (j - (p + s + 1))
+          ∙ (ap (bit_at left) (let k : s + 1 + (j - (p + s + 1)) ≡ j - p = omega (arith, a) in k)
+          ∙ m.covers j v (omega (arith, a)) b e);
+    }
+
+pub reading_end : (n : ℕ) (whole : ℕ → Option ℕ) (from : Run) (q p left : ℕ) (now : Run) → Reading n whole from q p left now
+    → q - p ≤ trailing_zeros w64 left → Putting n whole from q now
+reading_end n whole from q p left now m l =
+    let w = m.within in skipped n whole from q p left q now m w (omega arith) (omega (arith, l, w))
+
+-- the next word
+pub reading_start : (n : ℕ) (whole : ℕ → Option ℕ) (from : Run) (q p : ℕ) (bits : List ℕ) (now : Run) → Putting n whole from p now
+    → p ≤ q → q ≤ n → q ≤ p + 64 → p % 64 ≡ 0 → get_or bits (p / 64) 0 < 2 ^ 64
+    → ((j v : ℕ) → whole j ≡ Some v → bit_of bits j ≡ 1) → Reading n whole from q p (get_or bits (p / 64) 0) now
+reading_start n whole from q p bits now m a b w z s h = record {
+  putting = m;
+  within = a;
+  inside = b;
+  small = s;
+  covers = λ j v l u e.
+      let k : j / 64 ≡ p / 64 = omega (arith, l, u, w, z) in
+      let i : j % 64 ≡ j - p = omega (arith, l, u, w, z) in
+      sym (ap (λ t. bit_at (get_or bits t 0) (j % 64)) k ∙ ap (bit_at (get_or bits (p / 64) 0)) i) ∙ h j v e;
+}
