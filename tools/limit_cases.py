@@ -14,6 +14,7 @@ from sessions import (EXIT, RESULT_IS_OPERAND, add, assembly_command, instructio
                       run_words, show_reply, wide_load)
 
 MOST = 1 << 24
+FEW = 1000
 SIDE = 1 << 12
 MOST_SLOTS = 4096
 MOST_WORKERS = 64
@@ -134,13 +135,16 @@ def most_columns(program: str) -> None:
     run_streamed(program, run_words(), given(), wanted())
 
 
+def few_entries(value: Callable[[int], int], columns: int = MOST) -> bytes:
+    """The text of a matrix of 16,777,216 rows with 1,000 entries, whose values go by their rows. With as many columns, row and column of an
+    entry are one number, so that the matrix times itself has as many entries."""
+    places = [at * 16777 + 1 for at in range(FEW)]
+    return matrix_text(MOST, columns, [(place, min(place, columns), value(place)) for place in places])
+
+
 def most_rows(program: str) -> None:
     """Jobs of 65,536 chunks, over 16,777,216 rows and as many columns with 1,000 entries, on as many workers as there may be."""
-    count = 1000
-    # row and column of an entry are one number, so that the matrix times itself has as many entries
-    places = [at * 16777 + 1 for at in range(count)]
-    def text(value: Callable[[int], int], columns: int = MOST) -> bytes:
-        return matrix_text(MOST, columns, [(place, min(place, columns), value(place)) for place in places])
+    count, text = FEW, few_entries
     shape = (MOST, MOST)
     jobs = [
         (job(b'apply B inc A', 3 * count, ran(b'B', *shape, count, 3 * count)), text(lambda value: value + 1)),
@@ -159,11 +163,7 @@ def most_rows(program: str) -> None:
 
 def results_of_most_rows(program: str) -> None:
     """A result of 16,777,216 rows as operand of each form and as its mask, shown, and read again; a reduction as the mask of one."""
-    count = 1000
-    places = [at * 16777 + 1 for at in range(count)]
-
-    def text(value: Callable[[int], int], columns: int = MOST) -> bytes:
-        return matrix_text(MOST, columns, [(place, min(place, columns), value(place)) for place in places])
+    count, text = FEW, few_entries
     shape = (MOST, MOST)
     more = text(lambda value: value + 1)
     read = b'ok matrix %d %d %d\n' % (*shape, count)

@@ -1,0 +1,52 @@
+"""Folds by operators that the program knows by their code, and by operators that nearly are one: another register, another order, another
+width, one more instruction, a jump over two. Values and steps are those of the plain server in Python (tools/reference)."""
+import os
+import subprocess
+import sys
+from typing import Callable, Dict, Iterator
+
+from large_cases import many_entries
+from session_runs import Wrong, run_session
+from sessions import TOP, assembly_command, matrix_command, matrix_text, run_words
+
+REFERENCE = os.path.join(TOP, 'tools', 'reference', '__main__.py')
+OPERATIONS = ('add', 'sub', 'mul', 'div', 'mod', 'sdiv', 'smod', 'or', 'and', 'xor', 'lsh', 'rsh', 'arsh', 'mov')
+CONDITIONS = ('eq', 'ne', 'gt', 'ge', 'lt', 'le', 'set', 'sgt', 'sge', 'slt', 'sle')
+
+
+def operators() -> Iterator[str]:
+    """Assembly texts of binary operators, each in the spellings that are known and in some that are not."""
+    for first, other in (('r1', 'r2'), ('r2', 'r1')):
+        move = 'mov64 r0, %s\n' % first
+        yield move + 'exit\n'
+        yield 'mov32 r0, %s\nexit\n' % first
+        for name in OPERATIONS:
+            yield move + '%s64 r0, %s\nexit\n' % (name, other)
+            yield move + '%s32 r0, %s\nexit\n' % (name, other)
+            yield move + '%s64 r0, %s\nexit\n' % (name, first)
+            yield move + '%s64 r0, 3\nexit\n' % name
+            yield move + '%s64 r0, %s\nadd64 r0, 1\nexit\n' % (name, other)
+            yield 'mov64 r3, %s\n%s64 r3, %s\nmov64 r0, r3\nexit\n' % (first, name, other)
+        for name in CONDITIONS:
+            for left, right in ((first, other), (other, first), ('r0', other), (other, 'r0'), (first, first)):
+                yield move + 'j%s64 %s, %s, 1\nmov64 r0, %s\nexit\n' % (name, left, right, other)
+                yield move + 'j%s32 %s, %s, 1\nmov64 r0, %s\nexit\n' % (name, left, right, other)
+            yield move + 'j%s64 %s, %s, 1\nmov64 r0, 7\nexit\n' % (name, first, other)
+            yield move + 'j%s64 %s, %s, 2\nmov64 r0, %s\nadd64 r0, 1\nexit\n' % (name, first, other, other)
+
+
+def folds_by_known_operators(program: str) -> None:
+    """Each operator reduces rows of no entry, of one, and of up to thirty, with values of both signs and all lengths."""
+    entries = [entry for entry in many_entries(300, 30) if entry[1] <= entry[0] * 3] + [(12, 1, 5), (13, 1, -1), (13, 2, 0)]
+    given = matrix_command('A', matrix_text(14, 30, entries))
+    assemblies = 0
+    for text in operators():
+        given += assembly_command('f', text.encode(), 'binary') + b'reduce R f A\nrun\nshow R\n'
+        assemblies += 1
+    done = subprocess.run([sys.executable, REFERENCE] + run_words(), input=given, stdout=subprocess.PIPE, check=True)
+    if done.stdout.count(b'ok run 1 ') != assemblies:
+        raise Wrong('the reference ran %d of %d operators' % (done.stdout.count(b'ok run 1 '), assemblies))
+    run_session(program, run_words(), given, done.stdout)
+
+
+KNOWN_CASES: Dict[str, Callable[[str], None]] = {'folds-by-known-operators': folds_by_known_operators}
