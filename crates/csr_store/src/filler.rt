@@ -7,6 +7,7 @@ ghost use Rattle.csr_store.specs.inner.ByRows.{Closes, Starts, Within};
 
 use crate::matrix::{Cell, Matrix};
 use crate::row::{cells_between, value_at};
+use crate::starts::RowStarts;
 use std::alloc::{AllocError, Global};
 use std::marker::Model;
 
@@ -133,13 +134,26 @@ impl Filler {
     }
 
     /// The matrix of the entries, or the filler back where there is no memory for it.
-    pub fn finish(mut self) -> Result<Matrix, Filler>
+    pub fn finish(self) -> Result<Matrix, Filler>
         ensures ok { IfOk result (λ m. m ≡ self) }
         ensures err { IfErr result (λ f. f ≡ self) }
     {
-        match start_rows(&mut self.ends, self.rows, self.cells.len() as u64) {
-            Ok(()) => Ok(Matrix::from_rows(self.rows, self.columns, self.ends, self.cells)),
-            Err(_) => Err(self),
+        let Filler {
+            rows,
+            columns,
+            ends,
+            cells,
+            next,
+        } = self;
+        match starts_of(ends, rows, cells.len() as u64) {
+            Ok(starts) => Ok(Matrix::from_rows(rows, columns, starts, cells)),
+            Err(ends) => Err(Filler {
+                rows,
+                columns,
+                ends,
+                cells,
+                next,
+            }),
         }
     }
 }
@@ -178,6 +192,27 @@ pub(crate) fn start_rows(ends: &mut Vec<u64>, rows: u64, end: u64) -> Result<(),
     ends.reserve_exact(rows as usize + 1 - len)?;
     close(ends, rows, end)?;
     ends.insert(0, 0).map_err(|_| AllocError)
+}
+
+/// The starts of all rows, or the ends back where there is no memory for them, with those of some more rows.
+fn starts_of(ends: Vec<u64>, rows: u64, end: u64) -> Result<RowStarts, Vec<u64>>
+    requires left { length ends.items ≤ rows }
+    requires small { rows ≤ limit }
+    ensures started { IfOk result (λ s. Starts ends.items end rows s) }
+    ensures closed { IfErr result (λ es. Closes ends.items end es.items × (length es.items ≤ rows)) }
+{
+    let mut starts = ends;
+    if start_rows(&mut starts, rows, end).is_err() {
+        return Err(starts);
+    }
+    let alloc = *starts.allocator();
+    match RowStarts::or_back(alloc, starts) {
+        Ok(starts) => Ok(starts),
+        Err(mut starts) => {
+            starts.remove(0);
+            Err(starts)
+        }
+    }
 }
 
 /// Where row `i` starts.

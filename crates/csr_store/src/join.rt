@@ -6,6 +6,7 @@ ghost use Rattle.csr_store.specs.Run.{Follow, all_ended, numbered};
 
 use crate::matrix::Matrix;
 use crate::rows::Rows;
+use crate::starts::RowStarts;
 use std::alloc::{AllocError, Global};
 
 /// The matrix of runs of rows that follow one another from row 0 to the last, each with these columns and
@@ -28,6 +29,7 @@ pub fn join_rows(
     for piece in &pieces {
         piece.append_to(&mut starts, &mut cells)?;
     }
+    let starts = RowStarts::new(alloc, starts)?;
     Ok(Matrix::from_rows(rows, columns, starts, cells))
 }
 

@@ -4,18 +4,19 @@
 //! [`Matrix`], which never changes; a [`Version`] is a matrix with several owners.
 //!
 //! The one contract: a `Matrix` is a finite map from positions to words with its two sizes, a `Grid` of
-//! `specs/Grid.antt`. That it is kept as compressed rows is no caller's business, but that a row is a
-//! slice, and that the starts of the rows are lent. [`Rows`] is a run of rows, a `Run` of
-//! `specs/Run.antt`. [`stack_runs`] makes a matrix of runs of 256 rows, whose cells stay where they are,
-//! and [`join_rows`] one of any runs that follow one another, by copying. [`RowCopy`] copies rows of a
-//! matrix with other values. What callers need to know of grids is proved in `proofs/Laws.antt` (single
-//! entries), `proofs/ByRow.antt` (a grid row by row) and `proofs/Copying.antt` (a matrix put into a
-//! builder, entry by entry).
+//! `specs/Grid.antt`. That it is kept as compressed rows is no caller's business, but that a row is a slice,
+//! and that the starts of the rows are lent. [`Rows`] is a run of rows, a `Run` of `specs/Run.antt`.
+//! [`stack_runs`] makes a matrix of runs of 256 rows, whose cells stay where they are, and whose starts are
+//! another matrix's where they are the same; and [`join_rows`] one of any runs that follow one another, by
+//! copying. [`RowCopy`] copies rows of a matrix with other values. What callers need to know of grids is
+//! proved in `proofs/Laws.antt` (single entries), `proofs/ByRow.antt` (a grid row by row) and
+//! `proofs/Copying.antt` (a matrix put into a builder, entry by entry).
 //!
 //! Read `specs/Grid.antt` and `specs/Refusal.antt` first, then `error`, `builder`, `matrix`, `rows` and
-//! `stack`; below them `cells` (one list of cells, or many), `filler` (rows filled in ascending order),
-//! `merge` (two lists of entries as one matrix), `kept` (cells of which some are kept)
-//! and `row` (parts of a list of cells, and searches in a row), over `specs/ByRows.antt`.
+//! `stack`; below them `cells` (one list of cells, or many), `starts` (where rows start, in a list that
+//! matrices may share), `filler` (rows filled in ascending order), `merge` (two lists of entries as one
+//! matrix), `kept` (cells of which some are kept) and `row` (parts of a list of cells, and searches in a
+//! row), over `specs/ByRows.antt`.
 #![tactic(auto)]
 
 pub mod builder;
@@ -32,6 +33,7 @@ mod row;
 mod row_copy;
 mod rows;
 mod stack;
+mod starts;
 
 pub use builder::Builder;
 pub use chunk::Chunk;

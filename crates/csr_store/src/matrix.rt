@@ -12,6 +12,7 @@ ghost use Rattle.csr_store.specs.inner.Cells.{AreBases, joined};
 use crate::cells::{Cells, HEIGHT};
 use crate::row::value_at;
 use crate::row_copy::RowCopy;
+use crate::starts::RowStarts;
 use std::alloc::{AllocError, Global};
 use std::marker::Model;
 use std::ops::Range;
@@ -24,13 +25,14 @@ pub type Cell = (u64, u64);
 ///
 /// It is kept as compressed rows: where each row starts, and behind the last row where it ends, and the
 /// cells of all rows. So it takes 16 bytes an entry and 8 a row. The cells stand in one list where they
-/// were read, and in the runs of rows that they were computed in where they are a result.
+/// were read, and in the runs of rows that they were computed in where they are a result. Matrices whose rows start alike may
+/// share where they do.
 #[derive(Drop)]
 pub struct Matrix {
     rows: u64,
     columns: u64,
     entries: u64,
-    starts: Vec<u64>,
+    starts: RowStarts,
     cells: Cells,
 }
 
@@ -45,20 +47,20 @@ impl Model for Matrix {
 
     ghost coded = { grid_code };
 
-    ghost view = { λ m. grid m.rows m.columns (by_rows (ends_of m.starts.items) (joined_cells m.cells)) };
+    ghost view = { λ m. grid m.rows m.columns (by_rows (ends_of m.starts) (joined_cells m.cells)) };
 
-    ghost invariant = { λ m. IsGrid (grid m.rows m.columns (by_rows (ends_of m.starts.items) (joined_cells m.cells)))
-        × AreStarts m.rows m.starts.items (joined_cells m.cells)
-        × AreParts m.rows m.starts.items m.cells
+    ghost invariant = { λ m. IsGrid (grid m.rows m.columns (by_rows (ends_of m.starts) (joined_cells m.cells)))
+        × AreStarts m.rows m.starts (joined_cells m.cells)
+        × AreParts m.rows m.starts m.cells
         × (m.entries ≡ length (joined_cells m.cells)) };
 }
 
 impl Matrix {
     /// The matrix of compressed rows whose cells stand in one list.
-    pub(crate) fn from_rows(rows: u64, columns: u64, starts: Vec<u64>, cells: Vec<Cell>) -> Self
-        requires is_grid { IsGrid (grid rows columns (by_rows (ends_of starts.items) cells.items)) }
-        requires starts { AreStarts rows starts.items cells.items }
-        ensures { result ≡ grid rows columns (by_rows (ends_of starts.items) cells.items) }
+    pub(crate) fn from_rows(rows: u64, columns: u64, starts: RowStarts, cells: Vec<Cell>) -> Self
+        requires is_grid { IsGrid (grid rows columns (by_rows (ends_of starts) cells.items)) }
+        requires starts { AreStarts rows starts cells.items }
+        ensures { result ≡ grid rows columns (by_rows (ends_of starts) cells.items) }
     {
         Matrix {
             rows,
@@ -74,15 +76,15 @@ impl Matrix {
         rows: u64,
         columns: u64,
         entries: u64,
-        starts: Vec<u64>,
+        starts: RowStarts,
         lists: Vec<Vec<Cell>>,
     ) -> Self
-        requires is_grid { IsGrid (grid rows columns (by_rows (ends_of starts.items) (joined lists.items))) }
-        requires starts { AreStarts rows starts.items (joined lists.items) }
-        requires bases { AreBases starts.items lists.items }
+        requires is_grid { IsGrid (grid rows columns (by_rows (ends_of starts) (joined lists.items))) }
+        requires starts { AreStarts rows starts (joined lists.items) }
+        requires bases { AreBases starts lists.items }
         requires cover { rows ≤ length lists.items * 256 }
         requires entries { entries ≡ length (joined lists.items) }
-        ensures { result ≡ grid rows columns (by_rows (ends_of starts.items) (joined lists.items)) }
+        ensures { result ≡ grid rows columns (by_rows (ends_of starts) (joined lists.items)) }
     {
         Matrix {
             rows,
@@ -122,7 +124,18 @@ impl Matrix {
     pub fn starts(&self) -> &[u64]
         ensures { result.now ≡ map (row_start self.now) (range_with_len 0 (self.now.rows + 1)) }
     {
-        &self.starts
+        self.starts.list()
+    }
+
+    /// Where the rows of another matrix start: in one list with this one's, if they are the same.
+    pub(crate) fn starts_like(
+        &self,
+        alloc: Global,
+        starts: Vec<u64>,
+    ) -> Result<RowStarts, AllocError>
+        ensures { IfOk result (λ s. s ≡ starts.items) }
+    {
+        self.starts.shared_or(alloc, starts)
     }
 
     /// The entries of row `i`, counted from 0, by ascending column.
@@ -130,9 +143,10 @@ impl Matrix {
         requires { i < self.now.rows }
         ensures { result.now ≡ row_of self.now i }
     {
-        let from = self.starts[i as usize];
-        let to = self.starts[i as usize + 1];
-        self.cells.part(&self.starts, i / HEIGHT, from, to)
+        let starts = self.starts.list();
+        let from = starts[i as usize];
+        let to = starts[i as usize + 1];
+        self.cells.part(starts, i / HEIGHT, from, to)
     }
 
     /// The cells of the rows from one up to another, where they stand in one list. They do so where these rows are all of
@@ -150,9 +164,10 @@ impl Matrix {
         if range.end > run * HEIGHT + HEIGHT && self.cells.are_runs() {
             return None;
         }
-        let from = self.starts[range.start as usize];
-        let to = self.starts[range.end as usize];
-        Some(self.cells.part(&self.starts, run, from, to))
+        let starts = self.starts.list();
+        let from = starts[range.start as usize];
+        let to = starts[range.end as usize];
+        Some(self.cells.part(starts, run, from, to))
     }
 
     /// The rows from one up to another, to be copied with other values, where they stand in one list. They do so where these
@@ -175,7 +190,8 @@ impl Matrix {
         let Some(source) = self.cells_of(range.start..range.end) else {
             return Ok(None);
         };
-        let ends = ends_behind(alloc, &self.starts[from + 1..to + 1], self.starts[from])?;
+        let starts = self.starts.list();
+        let ends = ends_behind(alloc, &starts[from + 1..to + 1], starts[from])?;
         let written = Vec::with_capacity(alloc, source.len())?;
         Ok(Some(RowCopy::of_ends(range.start, self.columns, ends, written, source)))
     }

@@ -11,13 +11,14 @@ use std::alloc::{AllocError, Global};
 /// The matrix of runs of rows that follow one another from row 0 to the last, 256 in each but the last, which has no more;
 /// each with these columns and without an entry in its open row.
 ///
-/// The cells stay where the runs have them, so this takes 8 bytes a row and no time for an entry. Its two growths are taken
-/// first.
+/// The cells stay where the runs have them, so this takes 8 bytes a row and no time for an entry; and where the rows start as those
+/// of a matrix that it is like, as a result of apply is like its operand, both keep one list of starts.
 pub fn stack_runs(
     alloc: Global,
     rows: u64,
     columns: u64,
     runs: Vec<Rows>,
+    like: &Matrix,
 ) -> Result<Matrix, AllocError>
     requires rows { rows ≤ limit }
     requires columns { columns ≤ limit }
@@ -34,5 +35,6 @@ pub fn stack_runs(
     while let Some(run) = rest.next() {
         entries = run.stack_on(entries, &mut starts, &mut lists)?;
     }
+    let starts = like.starts_like(alloc, starts)?;
     Ok(Matrix::from_lists(rows, columns, entries, starts, lists))
 }

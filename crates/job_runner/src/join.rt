@@ -11,7 +11,7 @@ ghost use Rattle.job_runner.specs.inner.Pieces.{AreAll, BeginsWith, listed, runs
 
 use crate::answer::JobResult;
 use crate::piece::Piece;
-use csr_store::{Rows, stack_runs};
+use csr_store::{Matrix, Rows, stack_runs};
 use job_plan::{Form, Job, Plan, Priced, price};
 use std::alloc::{AllocError, Global};
 use std::sync::Arc;
@@ -57,7 +57,8 @@ fn join_job(
     let job = job.job();
     let (rows, columns) = sizes(job);
     let (runs, steps) = gather(alloc, job, (rows + 255) / 256, pieces)?;
-    let version = Arc::new(alloc, stack_runs(alloc, rows, columns, runs)?)?;
+    let matrix = stack_runs(alloc, rows, columns, runs, first_operand(job))?;
+    let version = Arc::new(alloc, matrix)?;
     Ok(JobResult { version, steps })
 }
 
@@ -104,5 +105,15 @@ fn sizes(job: &Job) -> (u64, u64)
         Form::Union { left, .. } | Form::Both { left, .. } => (left.rows(), left.columns()),
         Form::Product { left, right, .. } => (left.rows(), right.columns()),
         Form::Reduce { operand, .. } => (operand.rows(), 1),
+    }
+}
+
+/// The first operand of a job. What apply makes of it without a mask has its entries at the same positions.
+fn first_operand(job: &Job) -> &Matrix {
+    match job.form() {
+        Form::Apply { operand, .. }
+        | Form::Select { operand, .. }
+        | Form::Reduce { operand, .. } => operand,
+        Form::Union { left, .. } | Form::Both { left, .. } | Form::Product { left, .. } => left,
     }
 }

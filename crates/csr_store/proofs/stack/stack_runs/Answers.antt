@@ -1,7 +1,7 @@
 use Rattle.std.proofs.Common.{◌≡◌, ◌+◌, ◌++◌, ◌∷◌, [], ℕ, List, length, ap, sym, ◌∙◌, subst, arith, refl, append_assoc}
 use Rattle.std.specs.List.{AllByRecursion}
 use Rattle.std.specs.Vec.Iter.{into_iter_items}
-use Rattle.csr_store.specs.ByRows.{grid, ends_of}
+use Rattle.csr_store.specs.ByRows.{grid, by_rows, ends_of}
 use Rattle.csr_store.specs.Run.{Run, Row, Follow, all_ended}
 use Rattle.csr_store.specs.inner.Run.{IsRow, ended_rows}
 use Rattle.csr_store.specs.inner.Cells.{joined}
@@ -85,22 +85,30 @@ module _ (c : In_default) where
 
 pub from_lists-requires-clause-cover : goal.from_lists-requires-clause-cover
 from_lists-requires-clause-cover c =
-    let follow = subst (λ (rs : List Run). Follow c.args.columns (length (ends_of c.loop-run.starts.items)) c.args.rows rs) (gone c) c.loop-run.invariant.follow in
-    let fits = fits_end (length (ends_of c.loop-run.starts.items)) (length c.loop-run.lists.items) (into_iter_items c.loop-run.rest) (gone c) c.loop-run.invariant.fits in
+    let d = c.before.before.before in
+    let follow = subst (λ (rs : List Run). Follow c.args.columns (length (ends_of c.loop-run.starts.items)) c.args.rows rs) (gone d) c.loop-run.invariant.follow in
+    let fits = fits_end (length (ends_of c.loop-run.starts.items)) (length c.loop-run.lists.items) (into_iter_items c.loop-run.rest) (gone d) c.loop-run.invariant.fits in
     omega (arith, follow, fits)
 
 pub from_lists-requires-clause-is_grid : goal.from_lists-requires-clause-is_grid
 from_lists-requires-clause-is_grid c =
-    joined_grid c.args.rows c.args.columns c.loop-run.starts.items (joined c.loop-run.lists.items) c.args.runs.items c.requires.rows c.requires.columns c.requires.follow c.requires.small
-    c.loop-run.invariant.closed (all_listed c) (are_all c)
+    rw c.in_ok-starts-2.ensures
+    (joined_grid c.args.rows c.args.columns c.loop-run.starts.items (joined c.loop-run.lists.items) c.args.runs.items c.requires.rows c.requires.columns c.requires.follow c.requires.small
+    c.loop-run.invariant.closed (all_listed c.before.before.before) (are_all c.before.before.before))
 
 pub from_lists-requires-clause-starts : goal.from_lists-requires-clause-starts
 from_lists-requires-clause-starts c =
-    joined_starts c.args.rows c.args.columns c.loop-run.starts.items (joined c.loop-run.lists.items) c.args.runs.items c.requires.rows c.requires.columns c.requires.follow c.requires.small
-    c.loop-run.invariant.closed (all_listed c) (are_all c)
+    rw c.in_ok-starts-2.ensures
+    (joined_starts c.args.rows c.args.columns c.loop-run.starts.items (joined c.loop-run.lists.items) c.args.runs.items c.requires.rows c.requires.columns c.requires.follow c.requires.small
+    c.loop-run.invariant.closed (all_listed c.before.before.before) (are_all c.before.before.before))
+
+pub from_lists-requires-clause-bases : goal.from_lists-requires-clause-bases
+from_lists-requires-clause-bases c = rw c.in_ok-starts-2.ensures c.loop-run.invariant.bases
 
 pub returns : goal.returns
 returns c =
-    c.from_lists.ensures ∙ ap (grid c.args.rows c.args.columns)
+    c.from_lists.ensures
+    ∙ ap (λ (ss : List ℕ). grid c.args.rows c.args.columns (by_rows (ends_of ss) (joined c.loop-run.lists.items))) c.in_ok-starts-2.ensures
+    ∙ ap (grid c.args.rows c.args.columns)
     (joined_entries c.args.rows c.args.columns c.loop-run.starts.items (joined c.loop-run.lists.items) c.args.runs.items c.requires.rows c.requires.columns c.requires.follow c.requires.small
-    c.loop-run.invariant.closed (all_listed c.before.before) (are_all c.before.before))
+    c.loop-run.invariant.closed (all_listed c.before.before.before.before.before) (are_all c.before.before.before.before.before))

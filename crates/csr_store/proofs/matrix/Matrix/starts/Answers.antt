@@ -7,4 +7,4 @@ use Rattle.csr_store.proofs.matrix.Matrix.starts.Goals as goal
 
 pub returns : goal.returns
 returns c =
-    c.deref.ensures.value ∙ starts_are c.self.inside.rows c.self.inside.columns c.self.inside.starts.items (joined_cells c.self.inside.cells) c.self.invariant.1 ∙ ap (λ (g : Grid). map (row_start g) (range_with_len 0 (g.rows + 1))) c.self.view_is
+    c.list.ensures ∙ starts_are c.self.inside.rows c.self.inside.columns c.self.inside.starts (joined_cells c.self.inside.cells) c.self.invariant.1 ∙ ap (λ (g : Grid). map (row_start g) (range_with_len 0 (g.rows + 1))) c.self.view_is

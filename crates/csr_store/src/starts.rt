@@ -1,0 +1,64 @@
+//! Where the rows of a matrix start: a list that matrices of which each row has as many entries may share.
+ghost use Rattle.std.specs.Prelude.{◌≡◌, IfOk, IfErr, IfSome};
+
+use std::alloc::{AllocError, Global};
+use std::marker::Model;
+use std::sync::Arc;
+
+/// How many entries stand in the rows before each row, and at last before the end. A contract sees the list.
+#[derive(Drop)]
+pub struct RowStarts {
+    list: Arc<Vec<u64>>,
+}
+
+impl Model for RowStarts {
+    ghost use Rattle.std.specs.Prelude.{ℕ, List};
+    ghost use Rattle.std.specs.Coded.{coded_list, coded_ℕ};
+    ghost use Rattle.std.specs.Arc.{arc_value};
+
+    ghost Value = { List ℕ };
+
+    ghost coded = { coded_list coded_ℕ };
+
+    ghost view = { λ s. (arc_value s.list).items };
+}
+
+impl RowStarts {
+    /// Of a list.
+    pub(crate) fn new(alloc: Global, list: Vec<u64>) -> Result<Self, AllocError>
+        ensures { IfOk result (λ s. s ≡ list.items) }
+    {
+        let list = Arc::new(alloc, list)?;
+        Ok(RowStarts { list })
+    }
+
+    /// The same, or the list back where there is no memory to share it.
+    pub(crate) fn or_back(alloc: Global, list: Vec<u64>) -> Result<Self, Vec<u64>>
+        ensures ok { IfOk result (λ s. s ≡ list.items) }
+        ensures err { IfErr result (λ l. l.items ≡ list.items) }
+    {
+        match Arc::new(alloc, list) {
+            Ok(list) => Ok(RowStarts { list }),
+            Err(refused) => Err(refused.value),
+        }
+    }
+
+    /// The list.
+    #[inline(always)]
+    pub(crate) fn list(&self) -> &[u64]
+        ensures { result.now ≡ self.now }
+    {
+        &self.list
+    }
+
+    /// Of a list too: it is one more owner of this one where both are the same.
+    pub(crate) fn shared_or(&self, alloc: Global, list: Vec<u64>) -> Result<Self, AllocError>
+        ensures { IfOk result (λ s. s ≡ list.items) }
+    {
+        if self.list() == list.as_slice() {
+            let list = Arc::try_clone(&self.list)?;
+            return Ok(RowStarts { list });
+        }
+        RowStarts::new(alloc, list)
+    }
+}
