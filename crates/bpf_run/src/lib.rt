@@ -4,31 +4,23 @@
 //! the machine of `bpf_insn` has for its program (`HasValue`; as functions, `value_of` and `cost_of` of `specs/Meaning.antt`).
 //! `fold` promises the same of calls of which each is on what the one before gave, and `Calls` of calls that are made together.
 //!
-//! Read `single` first: an operator is prepared once, and called any number of times. `prepare`, with `flatten`, makes its flat code of
-//! `micro` instructions; `step`, with `go`, says what each of these does, and `run` goes from the first to an EXIT. `folding` is such
-//! a run that starts again for each cell; of a program that `known` finds in the table of `specs/inner/Known.antt`, `native` has a loop
-//! that was compiled for what it computes. Then `calls`, which gathers operands, and `lanes`, which runs flat code for all of them
-//! in one pass. What flat code means stands in `specs/inner/Micro.antt` and `specs/inner/Flat.antt`, what calls in a list cost in
-//! `specs/Calls.antt`, and what a fold is in `specs/Fold.antt`.
+//! Read `single` first: an operator is prepared once, and called any number of times. `prepare`, with `flatten`, makes its flat code,
+//! which `bpf_flat` runs; that a run of it is a call is the law of `specs/inner/Flat.antt`. `folding` is such a run that starts again
+//! for each cell; of a program that `known` finds in the table of `specs/inner/Known.antt`, `native` has a loop that was compiled for
+//! what it computes. Then `calls`, which gathers operands, and `lanes`, which has `bpf_lanes` run the flat code for all of them in one
+//! pass. What calls in a list cost stands in `specs/Calls.antt`, and what a fold is in `specs/Fold.antt`.
 #![tactic(auto)]
 
 mod calls;
-mod cursor;
 mod flatten;
 mod folding;
-mod go;
 mod known;
 mod lanes;
-mod memory;
-mod micro;
 mod native;
-mod operations;
 mod prepare;
-mod run;
 mod single;
-mod step;
-mod words;
 
+pub use bpf_flat::Outcome;
 pub use calls::{Calls, MOST_CALLS};
 pub use folding::fold;
-pub use single::{Outcome, Prepared, call};
+pub use single::{Prepared, call};
