@@ -1,14 +1,15 @@
--- Cells added to the open row of a run, many at a time.
+-- Cells added to an open row that has none, many at a time.
 use Rattle.std.proofs.Common.{◌≡◌, ◌≤◌, ◌<◌, ◌+◌, ◌-◌, ◌^◌, ℕ, zero, suc, Bool, true, false, nat_eq, if◌then◌else◌, List, [], ◌∷◌, ◌++◌, length, take, drop, get_or, refl, sym, ap, ◌∙◌, subst, arith, length-append, length-drop, append-nil, append_assoc}
 use Rattle.std.specs.List.{AllByRecursion}
 use Rattle.std.proofs.lemmas.List.{take-append-le, drop-append-le, take_all, drop_all, drop_more}
 use Rattle.csr_store.specs.Grid.{Cell}
 use Rattle.csr_store.specs.Ascending.{Ascends}
-use Rattle.csr_store.specs.Added.{ComeBehind, kept_where}
+use Rattle.csr_store.specs.Added.{kept_where}
 use Rattle.csr_store.proofs.Along.{ascends-weaken}
 use Rattle.csr_store.specs.Run.{Run, Row}
+use Rattle.csr_store.specs.inner.Kept.{kept_count}
 use Rattle.csr_store.specs.inner.Run.{IsRow, AreRows, AreEnds, ended_rows, open_row}
-use Rattle.csr_store.proofs.Runs.{ends_below, ends_push, all_push, row_push, run}
+use Rattle.csr_store.proofs.Runs.{ends_below, ends_push, all_push, row_push, row_none, run}
 
 ended_append : (from : ℕ) (ends : List ℕ) (cells more : Row) → AreEnds from ends (from + length cells) → ended_rows from ends (cells ++ more) ≡ ended_rows from ends cells
 ended_append from [] cells more h = refl
@@ -41,15 +42,15 @@ row_append columns low row (c ∷ more) h a b w =
     (row_append columns (suc c.0) (row ++ c ∷ []) more (row_push columns row c h (b.1, w.0) below)
     (all_push (λ (d : Cell). d.0 < suc c.0) row c (all_below c.0 (suc c.0) row (omega arith) below) (omega arith)) b.2 w.1)
 
-pub rows_append : (columns : ℕ) (ends : List ℕ) (cells more : Row) → AreRows columns ends cells → ComeBehind columns (open_row 0 ends cells) more
+pub rows_append : (columns : ℕ) (ends : List ℕ) (cells more : Row) → AreRows columns ends cells → open_row 0 ends cells ≡ [] → Ascends 0 columns more
     → AllByRecursion (λ (c : Cell). c.1 < 2 ^ 64) more → AreRows columns ends (cells ++ more)
-rows_append columns ends cells more h b w =
+rows_append columns ends cells more h none a w =
     let z : length cells ≡ 0 + length cells = omega arith in
     let r : AreEnds 0 ends (0 + length cells) = rw z at h.ends_rise in
     record {
       ends_rise = ends_push 0 ends (length cells) (length (cells ++ more)) h.ends_rise (omega (arith, length-append cells more));
       ended_are = rw (ended_append 0 ends cells more r) h.ended_are;
-      open_is = rw (open_append 0 ends cells more r) (row_append columns b.low (open_row 0 ends cells) more h.open_is b.above b.ascend w);
+      open_is = rw (open_append 0 ends cells more r, none) (row_append columns 0 [] more (row_none columns) tt a w);
     }
 
 pub run_append : (first columns : ℕ) (ends : List ℕ) (cells now more : Row) (r : Run) → AreRows columns ends cells → now ≡ cells ++ more → run first columns ends cells ≡ r
@@ -65,13 +66,10 @@ kept_or_left : (low n : ℕ) (c : Cell) (more : Row) → low ≤ c.0 → c.0 < n
 kept_or_left low n c more l m h true = ascends-weaken low (suc c.0) n more (omega arith) h
 kept_or_left low n c more l m h false = (l, m, h)
 
-ascends_kept : (low n : ℕ) (cells : Row) (answers : List ℕ) → Ascends low n cells → Ascends low n (kept_where cells answers)
+pub ascends_kept : (low n : ℕ) (cells : Row) (answers : List ℕ) → Ascends low n cells → Ascends low n (kept_where cells answers)
 ascends_kept low n [] answers h = tt
 ascends_kept low n (c ∷ cells) [] h = tt
 ascends_kept low n (c ∷ cells) (a ∷ answers) h = kept_or_left low n c (kept_where cells answers) h.0 h.1 (ascends_kept (suc c.0) n cells answers h.2) (nat_eq a 0)
-
-pub kept_behind : (columns : ℕ) (row cells : Row) (answers : List ℕ) → ComeBehind columns row cells → ComeBehind columns row (kept_where cells answers)
-kept_behind columns row cells answers h = record { low = h.low; above = h.above; ascend = ascends_kept h.low columns cells answers h.ascend }
 
 word_or_left : (c : Cell) (more : Row) → c.1 < 2 ^ 64 → AllByRecursion (λ (d : Cell). d.1 < 2 ^ 64) more → (b : Bool) → AllByRecursion (λ (d : Cell). d.1 < 2 ^ 64) (if b then more else c ∷ more)
 word_or_left c more w h true = h
@@ -92,11 +90,24 @@ all_taken P (x ∷ xs) (suc k) d l h p = (h.0, all_taken P xs k d (omega arith) 
 pub record AreKept (cells : Row) (answers : List ℕ) (start : Row) (k next : ℕ) (now : Row) (room : ℕ) : Type 0 where
   pub same : now ++ kept_where (drop k cells) (drop k answers) ≡ start ++ kept_where cells answers
   pub words : AllByRecursion (λ (c : Cell). c.1 < 2 ^ 64) (take k cells)
-  pub fits : length now + length (drop k cells) ≤ room
+  pub fits : length now + kept_count (drop k answers) ≤ room
   pub at : next ≡ k
 
-pub are_kept_none : (cells : Row) (answers : List ℕ) (start : Row) (room : ℕ) → length start + length cells ≤ room → AreKept cells answers start 0 0 start room
+pub are_kept_none : (cells : Row) (answers : List ℕ) (start : Row) (room : ℕ) → length start + kept_count answers ≤ room → AreKept cells answers start 0 0 start room
 are_kept_none cells answers start room h = record { same = refl; words = tt; fits = h; at = refl }
+
+module _ (cells : Row) (answers : List ℕ) (start : Row) (k next : ℕ) (now : Row) (room : ℕ) (h : AreKept cells answers start k next now room)
+    (l : k < length cells) (n : length answers ≡ length cells) where
+  kept_here : kept_count (drop k answers) ≡ (if nat_eq (get_or answers k 0) 0 then kept_count (drop (k + 1) answers) else suc (kept_count (drop (k + 1) answers)))
+  kept_here = ap kept_count (drop_more answers k 0 (omega arith))
+
+  -- there is room for the next one
+  pub kept_fits : length now + kept_count (get_or answers next 0 ∷ []) ≤ room
+  kept_fits = subst (λ m. length now + kept_count (get_or answers m 0 ∷ []) ≤ room) (sym h.at) (go (nat_eq (get_or answers k 0) 0) kept_here) where
+    go : (b : Bool) → kept_count (drop k answers) ≡ (if b then kept_count (drop (k + 1) answers) else suc (kept_count (drop (k + 1) answers)))
+        → length now + (if b then 0 else 1) ≤ room
+    go true m = let f = h.fits in omega (arith, f)
+    go false m = let f = h.fits in omega (arith, f, m)
 
 module _ (cells : Row) (answers : List ℕ) (start : Row) (k next : ℕ) (now : Row) (room : ℕ) (d : Cell) (h : AreKept cells answers start k next now room)
     (l : k < length cells) (n : length answers ≡ length cells) (w : (get_or cells k d).1 < 2 ^ 64) where
@@ -116,14 +127,16 @@ module _ (cells : Row) (answers : List ℕ) (start : Row) (k next : ℕ) (now : 
   kept_by true new more e is r = record {
     same = ap (λ cs. cs ++ kept_where (drop (k + 1) cells) (drop (k + 1) answers)) is ∙ chosen true e;
     words = taken;
-    fits = let f = h.fits in let m = ap length (drop_more cells k d l) in let p = ap length is in omega arith;
+    fits = let f = h.fits in let p = ap length is in
+        let m = kept_here cells answers start k next now room h l n ∙ ap (λ t. if t then kept_count (drop (k + 1) answers) else suc (kept_count (drop (k + 1) answers))) e in omega (arith, f, m, p, r);
     at = let a = h.at in omega arith;
   }
   kept_by false new more e is r = record {
     same = ap (λ cs. cs ++ kept_where (drop (k + 1) cells) (drop (k + 1) answers)) is
         ∙ append_assoc now (get_or cells k d ∷ []) (kept_where (drop (k + 1) cells) (drop (k + 1) answers)) ∙ chosen false e;
     words = taken;
-    fits = let f = h.fits in let m = ap length (drop_more cells k d l) in let q = ap length is in let p = length-append now (get_or cells k d ∷ []) in omega arith;
+    fits = let f = h.fits in let q = ap length is in let p = length-append now (get_or cells k d ∷ []) in
+        let m = kept_here cells answers start k next now room h l n ∙ ap (λ t. if t then kept_count (drop (k + 1) answers) else suc (kept_count (drop (k + 1) answers))) e in omega (arith, f, m, q, p, r);
     at = let a = h.at in omega arith;
   }
 

@@ -5,11 +5,12 @@ use Rattle.std.proofs.lemmas.List.{take-append-drop, length-take-le}
 use Rattle.csr_store.specs.Grid.{Cell, Grid, IsGrid, row_of}
 use Rattle.csr_store.specs.Along.{along}
 use Rattle.csr_store.specs.Ascending.{Ascends}
-use Rattle.csr_store.specs.Added.{ComeBehind, kept_where, kept_rows}
+use Rattle.csr_store.specs.Added.{kept_where, kept_rows}
 use Rattle.csr_store.specs.Run.{Row, Run}
+use Rattle.csr_store.specs.inner.Kept.{kept_count}
 use Rattle.csr_store.specs.inner.Run.{AreRows, ended_rows, open_row}
 use Rattle.csr_store.proofs.Along.{along-next, row_of-ascends}
-use Rattle.csr_store.proofs.Appending.{rows_append, run_append, kept_behind, kept_words}
+use Rattle.csr_store.proofs.Appending.{rows_append, run_append, ascends_kept, kept_words}
 use Rattle.csr_store.proofs.Runs.{rows_more, run, run_end}
 
 one_kept : (c : Cell) (more others : Row) (b : Bool)
@@ -35,10 +36,10 @@ all_both P (c ∷ cells) others h g = (h.0, all_both P cells others h.1 g)
 pub record AreBehind (cells : Row) (answers : List ℕ) (start rest : Row) (left : List ℕ) (now : Row) (room : ℕ) : Type 0 where
   pub same : now ++ kept_where rest left ≡ start ++ kept_where cells answers
   pub words : AllByRecursion (λ (c : Cell). c.1 < 2 ^ 64) rest → AllByRecursion (λ (c : Cell). c.1 < 2 ^ 64) cells
-  pub fits : length now + length rest ≤ room
+  pub fits : length now + kept_count left ≤ room
   pub alike : length left ≡ length rest
 
-pub behind_none : (cells : Row) (answers : List ℕ) (start : Row) (room : ℕ) → length answers ≡ length cells → length start + length cells ≤ room
+pub behind_none : (cells : Row) (answers : List ℕ) (start : Row) (room : ℕ) → length answers ≡ length cells → length start + kept_count answers ≤ room
     → AreBehind cells answers start cells answers start room
 behind_none cells answers start room e h = record { same = refl; words = λ w. w; fits = h; alike = e }
 
@@ -47,13 +48,24 @@ kept_of : (rest block behind : Row) (left here later : List ℕ) → rest ≡ bl
 kept_of rest block behind left here later e f l =
     ap (λ r. kept_where r left) e ∙ ap (kept_where (block ++ behind)) f ∙ kept_both block behind here later l
 
-length_kept : (cells : Row) (answers : List ℕ) → length (kept_where cells answers) ≤ length cells
-length_kept [] answers = omega arith
-length_kept (c ∷ cells) [] = omega arith
-length_kept (c ∷ cells) (a ∷ answers) = go (nat_eq a 0) (length_kept cells answers) where
-  go : (b : Bool) → length (kept_where cells answers) ≤ length cells
-      → length (if b then kept_where cells answers else c ∷ kept_where cells answers) ≤ suc (length cells)
-  go true h = omega (arith, h)
+-- as many are kept as have an answer that is not 0
+length_kept : (cells : Row) (answers : List ℕ) → length answers ≡ length cells → length (kept_where cells answers) ≡ kept_count answers
+length_kept [] [] e = refl
+length_kept [] (a ∷ answers) e = absurd (omega (arith, e))
+length_kept (c ∷ cells) [] e = absurd (omega (arith, e))
+length_kept (c ∷ cells) (a ∷ answers) e = go (nat_eq a 0) (length_kept cells answers (omega (arith, e))) where
+  go : (b : Bool) → length (kept_where cells answers) ≡ kept_count answers
+      → length (if b then kept_where cells answers else c ∷ kept_where cells answers) ≡ (if b then kept_count answers else suc (kept_count answers))
+  go true h = h
+  go false h = ap suc h
+
+kept_count-append : (answers more : List ℕ) → kept_count (answers ++ more) ≡ kept_count answers + kept_count more
+kept_count-append [] more = omega arith
+kept_count-append (a ∷ answers) more = go (nat_eq a 0) (kept_count-append answers more) where
+  go : (b : Bool) → kept_count (answers ++ more) ≡ kept_count answers + kept_count more
+      → (if b then kept_count (answers ++ more) else suc (kept_count (answers ++ more)))
+      ≡ (if b then kept_count answers else suc (kept_count answers)) + kept_count more
+  go true h = h
   go false h = omega (arith, h)
 
 parts : {X : Type 0} (k : ℕ) (all front back : List X) → front ≡ take k all → back ≡ drop k all → all ≡ front ++ back
@@ -70,8 +82,8 @@ behind_more cells answers start rest left now room k block behind here later new
   same = ap (λ cs. cs ++ kept_where behind later) n ∙ append_assoc now (kept_where block here) (kept_where behind later)
       ∙ ap (λ cs. now ++ cs) (sym (kept_of rest block behind left here later whole answered few)) ∙ h.same;
   words = λ v. h.words (rw whole (all_both (λ (c : Cell). c.1 < 2 ^ 64) block behind w v));
-  fits = let f = h.fits in let m = ap length whole ∙ length-append block behind in
-      let q = ap length n ∙ length-append now (kept_where block here) in let t = length_kept block here in omega (arith, f, m, q, t, r);
+  fits = let f = h.fits in let m = ap kept_count answered ∙ kept_count-append here later in
+      let q = ap length n ∙ length-append now (kept_where block here) in let t = length_kept block here few in omega (arith, f, m, q, t, r);
   alike = let a = h.alike in let m = ap length whole ∙ length-append block behind in
       let p = ap length answered ∙ length-append here later in let f = few in omega (arith, a, m, p, f);
 }
@@ -99,7 +111,7 @@ pub record AreRowsKept (a : Grid) (first end : ℕ) (answers : List ℕ) (start 
   pub none_open : open_row 0 ends cells ≡ []
   pub same : ended_rows 0 ends cells ++ kept_rows a left i (end - i) ≡ start ++ kept_rows a answers first (end - first)
   pub many : length left ≡ length (along (row_of a) i (end - i))
-  pub fits : length cells + length left ≤ room
+  pub fits : length cells + kept_count left ≤ room
   pub fits_ends : length ends + (end - i) ≤ most
 
 -- cells of one row, of those that are left
@@ -113,8 +125,17 @@ module _ (a : Grid) (first end : ℕ) (answers : List ℕ) (start : List Row) (i
   there : length left ≡ length row + length (along (row_of a) (i + 1) (end - (i + 1)))
   there = row_there a i end left l h.many ∙ ap (λ (r : Row). length r + length (along (row_of a) (i + 1) (end - (i + 1)))) (sym is)
 
+  even : length now ≡ length row
+  even = let t = there in ap length f ∙ length-take-le (length row) left (omega (arith, t))
+
   kept_now : kept_where row now ≡ kept_where (row_of a i) left
   kept_now = ap (kept_where row) f ∙ kept_first row left ∙ ap (λ (r : Row). kept_where r left) is
+
+  counted : kept_count left ≡ kept_count now + kept_count later
+  counted = ap kept_count (parts (length row) left now later f b) ∙ kept_count-append now later
+
+  pub row_fits : length cells + kept_count now ≤ room
+  row_fits = let q = h.fits in let m = counted in omega (arith, q, m)
 
   next : kept_rows a left i (end - i) ≡ kept_where row now ∷ kept_rows a later (i + 1) (end - (i + 1))
   next =
@@ -128,15 +149,9 @@ module _ (a : Grid) (first end : ℕ) (answers : List ℕ) (start : List Row) (i
 
   module _ (new : Row) (added : new ≡ cells ++ kept_where row now) (w : AllByRecursion (λ (c : Cell). c.1 < 2 ^ 64) row)
       (n : ℕ) (long : n ≡ length new) (more : List ℕ) (pushed : more ≡ ends ++ n ∷ []) where
-    comes : ComeBehind a.columns (open_row 0 ends cells) (kept_where row now)
-    comes = kept_behind a.columns (open_row 0 ends cells) row now (record {
-      low = 0;
-      above = subst (AllByRecursion (λ (c : Cell). c.0 < 0)) (sym h.none_open) tt;
-      ascend = subst (Ascends 0 a.columns) (sym is) (row_of-ascends a i g);
-    })
-
     appended : AreRows a.columns ends new
-    appended = subst (AreRows a.columns ends) (sym added) (rows_append a.columns ends cells (kept_where row now) h.rows comes (kept_words row now w))
+    appended = subst (AreRows a.columns ends) (sym added) (rows_append a.columns ends cells (kept_where row now) h.rows h.none_open
+        (ascends_kept 0 a.columns row now (subst (Ascends 0 a.columns) (sym is) (row_of-ascends a i g))) (kept_words row now w))
 
     run_is : run 0 a.columns more new ≡ record {
       first = 0;
@@ -157,8 +172,9 @@ module _ (a : Grid) (first end : ℕ) (answers : List ℕ) (start : List Row) (i
           ∙ append_assoc (ended_rows 0 ends cells) (kept_where row now ∷ []) (kept_rows a later (i + 1) (end - (i + 1)))
           ∙ ap (λ rs. ended_rows 0 ends cells ++ rs) (sym next) ∙ h.same;
       many = let t = there in let d = ap length b in omega (arith, t, d, length-drop (length row) left);
-      fits = let q = h.fits in let t = there in let d = ap length b in let e = ap length added in let s = length-append cells (kept_where row now) in
-          let k = length_kept row now in omega (arith, q, t, d, e, s, k, v, length-drop (length row) left);
+      fits = let q = h.fits in let e = ap length added in let s = length-append cells (kept_where row now) in
+          let k = length_kept row now even in let m = counted in
+          omega (arith, q, e, s, k, m, v);
       fits_ends = let q = h.fits_ends in let e = ap length pushed in let s = length-append ends (n ∷ []) in omega (arith, q, e, s, l, u);
     }
 

@@ -1,15 +1,7 @@
 -- Cells added to a row, many at a time. This project's own.
-use Rattle.std.specs.Prelude.{ℕ, zero, suc, ◌<◌, length, drop, nat_eq, if◌then◌else◌, List, [], ◌∷◌}
-use Rattle.std.specs.List.{AllByRecursion}
-use Rattle.csr_store.specs.Grid.{Cell, Grid, row_of}
+use Rattle.std.specs.Prelude.{ℕ, zero, suc, length, drop, nat_eq, if◌then◌else◌, List, [], ◌∷◌}
+use Rattle.csr_store.specs.Grid.{Grid, row_of}
 use Rattle.csr_store.specs.Run.{Row}
-use Rattle.csr_store.specs.Ascending.{Ascends}
-
--- cells that may be added to a row: by ascending column, behind its own and below a bound
-pub record ComeBehind (columns : ℕ) (row cells : Row) : Type 0 where
-  pub low : ℕ
-  pub above : AllByRecursion (λ (c : Cell). c.0 < low) row
-  pub ascend : Ascends low columns cells
 
 -- cells with other values, as far as there are values
 abbrev pub with_values : Row → List ℕ → Row

@@ -2,6 +2,7 @@
 pub mod ByRows
 pub mod Collected
 pub mod Grid
+pub mod Kept
 pub mod Merged
 pub mod Packed
 pub mod Run

@@ -4,6 +4,7 @@ ghost use Rattle.std.specs.List.{AllByRecursion};
 ghost use Rattle.csr_store.specs.Grid.{Cell, row_of};
 ghost use Rattle.csr_store.specs.Added.{kept_where, kept_rows};
 ghost use Rattle.csr_store.specs.Along.{along};
+ghost use Rattle.csr_store.specs.inner.Kept.{kept_count};
 ghost use Rattle.csr_store.specs.inner.Run.{AreRows, ended_rows, open_row};
 
 use crate::matrix::{Cell, Matrix};
@@ -12,11 +13,24 @@ use std::ops::Range;
 /// So many cells are looked at by code without a loop.
 const BLOCK_OF_CELLS: usize = 4;
 
-/// Adds those of some cells whose answer is not 0 to a list that has room for all of them.
+/// How many of some answers are not 0.
+pub fn count_kept(answers: &[u64]) -> usize
+    ensures { result ≡ kept_count answers.now }
+{
+    let mut kept = 0;
+    for answer in answers {
+        if *answer != 0 {
+            kept += 1;
+        }
+    }
+    kept
+}
+
+/// Adds those of some cells whose answer is not 0 to a list that has room for them.
 #[inline(always)]
-pub fn add_where(kept: &mut Vec<Cell>, cells: &[Cell], answers: &[u64])
+fn add_where(kept: &mut Vec<Cell>, cells: &[Cell], answers: &[u64])
     requires answers { length answers.now ≡ length cells.now }
-    requires room { length kept.old.items + length cells.now ≤ vec_capacity kept.old }
+    requires room { length kept.old.items + kept_count answers.now ≤ vec_capacity kept.old }
     ensures added { kept.new.items ≡ kept.old.items ++ kept_where cells.now answers.now }
     ensures words { AllByRecursion (λ (c : Cell). c.1 < 2 ^ 64) cells.now }
     ensures room { vec_capacity kept.old ≤ vec_capacity kept.new }
@@ -37,7 +51,7 @@ pub fn add_where(kept: &mut Vec<Cell>, cells: &[Cell], answers: &[u64])
 #[inline(always)]
 fn add_each(kept: &mut Vec<Cell>, cells: &[Cell], answers: &[u64])
     requires answers { length answers.now ≡ length cells.now }
-    requires room { length kept.old.items + length cells.now ≤ vec_capacity kept.old }
+    requires room { length kept.old.items + kept_count answers.now ≤ vec_capacity kept.old }
     ensures added { kept.new.items ≡ kept.old.items ++ kept_where cells.now answers.now }
     ensures words { AllByRecursion (λ (c : Cell). c.1 < 2 ^ 64) cells.now }
     ensures room { vec_capacity kept.old ≤ vec_capacity kept.new }
@@ -49,10 +63,10 @@ fn add_each(kept: &mut Vec<Cell>, cells: &[Cell], answers: &[u64])
     }
 }
 
-/// Adds a cell to a list that has room for it, where an answer is not 0.
+/// Adds a cell to a list where an answer is not 0. There the list has room for it.
 #[inline(always)]
 fn push_if(kept: &mut Vec<Cell>, column: u64, word: u64, answer: u64)
-    requires room { length kept.old.items < vec_capacity kept.old }
+    requires room { length kept.old.items + kept_count (answer ∷ []) ≤ vec_capacity kept.old }
     ensures added { kept.new.items
         ≡ (if nat_eq answer 0 then kept.old.items else kept.old.items ++ (column, word) ∷ []) }
     ensures room { vec_capacity kept.old ≤ vec_capacity kept.new }
@@ -64,7 +78,7 @@ fn push_if(kept: &mut Vec<Cell>, column: u64, word: u64, answer: u64)
 }
 
 /// Adds those of the cells of a matrix's rows whose answer is not 0, and where each row ends then, to lists that have room for
-/// all of them.
+/// them.
 #[inline(always)]
 pub fn add_rows_where(
     cells: &mut Vec<Cell>,
@@ -76,7 +90,7 @@ pub fn add_rows_where(
     requires range { rows.start ≤ rows.end }
     requires within { rows.end ≤ a.now.rows }
     requires answers { length answers.now ≡ length (along (row_of a.now) rows.start (rows.end - rows.start)) }
-    requires room { length cells.old.items + length answers.now ≤ vec_capacity cells.old }
+    requires room { length cells.old.items + kept_count answers.now ≤ vec_capacity cells.old }
     requires room_of_ends { length ends.old.items + (rows.end - rows.start) ≤ vec_capacity ends.old }
     requires rows { AreRows a.now.columns ends.old.items cells.old.items }
     requires none_open { open_row 0 ends.old.items cells.old.items ≡ [] }

@@ -2,19 +2,18 @@
 ghost use Rattle.std.specs.Prelude.{◌≡◌, ◌<◌, ◌≤◌, ◌+◌, ◌-◌, ◌^◌, ◌++◌, ◌∷◌, [], length, map, IfOk, OnOk, OnErr};
 ghost use Rattle.std.specs.List.{AllByRecursion};
 ghost use Rattle.csr_store.specs.Grid.{Cell, limit, row_of};
-ghost use Rattle.csr_store.specs.Added.{ComeBehind, kept_where, kept_rows};
+ghost use Rattle.csr_store.specs.Added.{kept_rows};
 ghost use Rattle.csr_store.specs.Along.{along};
 ghost use Rattle.csr_store.specs.ByRows.{ends_of};
 ghost use Rattle.csr_store.specs.Valued.{entries_in, entries_of, with_value, all_cells, valued_from, AreAlike};
 ghost use Rattle.csr_store.specs.inner.Cells.{Stacks, joined};
 ghost use Rattle.csr_store.specs.inner.Run.{AreClosed, AreRows, IsRow, ended_rows, open_row};
 
-use crate::kept::{add_rows_where, add_where};
+use crate::kept::{add_rows_where, count_kept};
 use crate::matrix::{Cell, Matrix};
 use crate::row::{append, put_values};
 use std::alloc::{AllocError, Global};
 use std::marker::Model;
-use std::mem;
 use std::ops::Range;
 
 /// A run of rows that follow one another: the ended ones, and the one that is open.
@@ -75,6 +74,35 @@ impl Rows {
         }
     }
 
+    /// The rows of a range of a matrix, with those of their cells whose answer is not 0. Takes just the memory that they need.
+    pub fn kept(
+        alloc: Global,
+        a: &Matrix,
+        range: Range<u64>,
+        answers: &[u64],
+    ) -> Result<Self, AllocError>
+        requires range { range.start ≤ range.end }
+        requires within { range.end ≤ a.now.rows }
+        requires answers { length answers.now ≡ length (along (row_of a.now) range.start (range.end - range.start)) }
+        ensures { IfOk result (λ r. r ≡ record {
+          first = range.start;
+          columns = a.now.columns;
+          ended = kept_rows a.now answers.now range.start (range.end - range.start);
+          opened = [];
+        }) }
+    {
+        let first = range.start;
+        let mut ends = Vec::with_capacity(alloc, (range.end - range.start) as usize)?;
+        let mut cells = Vec::with_capacity(alloc, count_kept(answers))?;
+        add_rows_where(&mut cells, &mut ends, a, range, answers);
+        Ok(Rows {
+            first,
+            columns: a.columns(),
+            ends,
+            cells,
+        })
+    }
+
     /// Makes room for so many entries more: where there is none, for as many more as there are, at least.
     #[inline]
     pub fn reserve(&mut self, entries: usize) -> Result<(), AllocError>
@@ -122,56 +150,6 @@ impl Rows {
         ensures kept { OnErr result (self.new ≡ self.old) }
     {
         self.cells.push((column, value))?;
-        Ok(())
-    }
-
-    /// Adds those of some cells whose answer is not 0 to the open row, behind its others. On a refusal the run is as
-    /// before.
-    #[inline(always)]
-    pub fn push_where(&mut self, cells: &[Cell], answers: &[u64]) -> Result<(), AllocError>
-        requires behind { ComeBehind self.old.columns self.old.opened cells.now }
-        requires answers { length answers.now ≡ length cells.now }
-        ensures pushed { OnOk result
-            (self.new ≡ record self.old { opened = self.old.opened ++ kept_where cells.now answers.now }) }
-        ensures kept { OnErr result (self.new ≡ self.old) }
-    {
-        self.cells.reserve(cells.len())?;
-        // a list of its own, so that its length and its place are not looked up for each cell
-        let none = Vec::new(*self.cells.allocator());
-        let mut kept = mem::replace(&mut self.cells, none);
-        add_where(&mut kept, cells, answers);
-        self.cells = kept;
-        Ok(())
-    }
-
-    /// Adds those of the cells of a matrix's rows whose answer is not 0, and ends each row. On a refusal the run is as before.
-    #[inline(never)]
-    pub fn push_rows_where(
-        &mut self,
-        a: &Matrix,
-        rows: Range<u64>,
-        answers: &[u64],
-    ) -> Result<(), AllocError>
-        requires range { rows.start ≤ rows.end }
-        requires within { rows.end ≤ a.now.rows }
-        requires columns { self.old.columns ≡ a.now.columns }
-        requires none_open { self.old.opened ≡ [] }
-        requires answers { length answers.now ≡ length (along (row_of a.now) rows.start (rows.end - rows.start)) }
-        ensures pushed { OnOk result (self.new ≡ record self.old {
-          ended = self.old.ended ++ kept_rows a.now answers.now rows.start (rows.end - rows.start);
-        }) }
-        ensures kept { OnErr result (self.new ≡ self.old) }
-    {
-        self.cells.reserve(answers.len())?;
-        self.ends.reserve((rows.end - rows.start) as usize)?;
-        // lists of their own, so that their lengths and places are not looked up for each cell
-        let none = Vec::new(*self.cells.allocator());
-        let mut cells = mem::replace(&mut self.cells, none);
-        let none = Vec::new(*self.ends.allocator());
-        let mut ends = mem::replace(&mut self.ends, none);
-        add_rows_where(&mut cells, &mut ends, a, rows, answers);
-        self.cells = cells;
-        self.ends = ends;
         Ok(())
     }
 

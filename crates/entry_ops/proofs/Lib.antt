@@ -20,4 +20,5 @@ pub mod Folding
 pub mod InOrder
 pub mod Reducing
 pub mod Heads
-pub mod Passing
+pub mod Comings
+pub mod Answering

@@ -1,11 +1,10 @@
--- The words of a row that an operator keeps, some cells at a time.
+-- The words of a row that an operator keeps.
 use Rattle.std.proofs.Common.{◌≡◌, ◌<◌, ◌+◌, ℕ, suc, Bool, true, false, nat_eq, if◌then◌else◌, List, [], ◌∷◌, ◌++◌, Option, None, Some, refl, sym, ap, ◌∙◌, subst, arith, append_assoc, append-nil}
-use Rattle.std.specs.List.{AllByRecursion}
 use Rattle.bpf_insn.specs.declared.operands.Operands.TheVariants.{Index}
 use Rattle.bpf_verify.specs.Accepted.{Accepted}
 use Rattle.csr_store.specs.Grid.{Cell}
 use Rattle.csr_store.specs.Run.{Row}
-use Rattle.csr_store.specs.Added.{ComeBehind, kept_where}
+use Rattle.csr_store.specs.Added.{kept_where}
 use Rattle.csr_store.specs.Along.{cell_at}
 use Rattle.csr_store.specs.Ascending.{Ascends}
 use Rattle.csr_store.proofs.Along.{along-none}
@@ -17,14 +16,6 @@ use Rattle.entry_ops.specs.inner.Sifting.{with_kept}
 use Rattle.entry_ops.specs.inner.Walking.{row_cells, row_calls}
 use Rattle.entry_ops.proofs.Nexts.{next_left, next_first}
 use Rattle.entry_ops.proofs.Merging.{cells_here, calls_here, no_cell, no_call}
-use Rattle.entry_ops.proofs.Standing.{above_all}
-
-pub front_behind : (n : ℕ) (opened now rest : Row) → ComeBehind n opened (now ++ rest) → ComeBehind n opened now
-front_behind n opened now rest h = record { low = h.low; above = h.above; ascend = front h.low now h.ascend }
-  where
-    front : (low : ℕ) (cs : Row) → Ascends low n (cs ++ rest) → Ascends low n cs
-    front low [] a = tt
-    front low (c ∷ cs) a = (a.0, a.1, front (suc c.0) cs a.2)
 
 module _ (f : Accepted) (i thunk : ℕ) where
   -- the cells that are kept, and the calls that are made for them
@@ -44,27 +35,6 @@ module _ (f : Accepted) (i thunk : ℕ) where
   kept-first : (c : Cell) (cs : Row) → kept (c ∷ cs) ≡ cell_at c.0 (here c) ++ kept cs
   unfolding here
   kept-first c cs = kept-or-not c (kept cs) (nat_eq (value_of f (Index c.1 i c.0 thunk)) 0)
-
-  pub kept-append : (now rest : Row) → kept (now ++ rest) ≡ kept now ++ kept rest
-  kept-append [] rest = refl
-  kept-append (c ∷ cs) rest =
-      kept-first c (cs ++ rest) ∙ (ap (λ us. cell_at c.0 (here c) ++ us) (kept-append cs rest)
-      ∙ (sym (append_assoc (cell_at c.0 (here c)) (kept cs) (kept rest)) ∙ ap (λ us. us ++ kept rest) (sym (kept-first c cs))))
-
-  -- cells behind those that are kept
-  pub rest_behind : (n : ℕ) (opened now rest : Row) → ComeBehind n opened (now ++ rest) → ComeBehind n (opened ++ kept now) rest
-  rest_behind n opened [] rest h = subst (λ (o : Row). ComeBehind n o rest) (sym (append-nil opened)) h
-  rest_behind n opened (c ∷ cs) rest h =
-      let above : AllByRecursion (λ (d : Cell). d.0 < c.0 + 1) (opened ++ cell_at c.0 (here c)) =
-      above_all h.low c.0 0 (here c) opened h.above h.ascend.0 in
-      let same : c.0 + 1 ≡ suc c.0 = omega arith in
-      subst (λ (o : Row). ComeBehind n o rest)
-      (append_assoc opened (cell_at c.0 (here c)) (kept cs) ∙ ap (λ us. opened ++ us) (sym (kept-first c cs)))
-      (rest_behind n (opened ++ cell_at c.0 (here c)) cs rest (record {
-        low = suc c.0;
-        above = subst (λ m. AllByRecursion (λ (d : Cell). d.0 < m) (opened ++ cell_at c.0 (here c))) same above;
-        ascend = h.ascend.2;
-      }))
 
   -- ---- the row of the form is what is kept of the operand's cells
 

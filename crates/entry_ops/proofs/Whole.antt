@@ -10,12 +10,12 @@ use Rattle.csr_store.specs.Added.{with_values}
 use Rattle.csr_store.specs.Valued.{entries_of as entries_in_run, rows_of, cells_in, all_cells, valued, valued_from, AreAlike}
 use Rattle.csr_store.proofs.Along.{row_of-ascends, along-none}
 use Rattle.csr_store.proofs.Valuing.{alike_then, alike_equal, alike_entries, entries_are}
-use Rattle.bpf_run.specs.Calls.{Gathered, calls_on, values_on, steps_of, words_of}
+use Rattle.bpf_run.specs.Calls.{calls_on, values_on, steps_of, words_of}
 use Rattle.bpf_run.proofs.Charging.{values_on-append, calls_on-append}
 use Rattle.entry_ops.specs.declared.form.Form.TheVariants.{Apply}
 use Rattle.entry_ops.specs.declared.mapping.Mapping.{Mapping}
 use Rattle.job_forms.specs.Forms.{apply_kind}
-use Rattle.entry_ops.specs.inner.Mapped.{row_operands, range_operands, settled, HasEntries, IsFurther}
+use Rattle.entry_ops.specs.inner.Mapped.{row_operands, range_operands, IsFurther}
 use Rattle.entry_ops.specs.inner.Walking.{
   kind_for,
   form_at,
@@ -187,45 +187,26 @@ module _ (f p : Accepted) (a : Grid) (g : IsGrid a) (thunk : Option ℕ) (first 
   pub whole-room : 0 + steps_of (calls_on f (range_operands thunk a first n)) < 2 ^ 64
   whole-room = let w = whole-few in omega (arith, w)
 
-  module _ (m o : Mapping) (was now : Gathered) (begun : m.rows.run ≡ rows_of a first n) (none_done : m.rows.written ≡ 0) (none_made : m.steps ≡ 0) (none : was.operands ≡ [])
-      (added : IsFurther f (range_operands thunk a first n) m was o now) where
-    pub added-entries : HasEntries o now 0
-    added-entries =
-        let e = copied-entries a thunk first n in
-        let r = ap (λ (q : Run). entries_in_run q) begun in
-        let k = alike_entries m.rows.run o.rows.run added.alike in
-        let z = ap (λ (os : List Operands). length os) none in
-        let q = added.place in
-        omega (arith, e, r, k, z, q, none_done)
-
-    pub added-room : o.steps + steps_of (calls_on f now.operands) < 2 ^ 64
-    added-room =
-        let w = whole-few in let s = added.steps in let z = ap (λ os. steps_of (calls_on f os)) none in
-        omega (arith, w, s, z, none_made)
-
+  module _ (m o : Mapping) (begun : m.rows.run ≡ rows_of a first n) (none_done : m.rows.written ≡ 0) (none_made : m.steps ≡ 0)
+      (added : IsFurther f (range_operands thunk a first n) m o) where
     -- all entries were written
-    pub made-all : (written : ℕ) (r : Run) → AreAlike o.rows.run r → written ≡ o.rows.written + length now.operands → written ≡ entries_in_run r
-    made-all written r h w =
+    pub made-all : o.rows.written ≡ entries_in_run o.rows.run
+    made-all =
         let e = copied-entries a thunk first n in
         let b = ap (λ (q : Run). entries_in_run q) begun in
         let k = alike_entries m.rows.run o.rows.run added.alike in
-        let l = alike_entries o.rows.run r h in
-        let z = ap (λ (os : List Operands). length os) none in
-        let q = added.place in
-        omega (arith, e, b, k, l, z, q, none_done, w)
+        let p = added.place in
+        omega (arith, e, b, k, p, none_done)
 
-    pub made-rows : (r : Run) → AreAlike o.rows.run r → all_cells r ≡ settled f o now
-        → r ≡ record { first = first; columns = a.columns; ended = form_rows (Apply thunk) f a None None first n; opened = [] }
-    made-rows r h c =
-        let z : m.rows.written + length was.operands ≡ 0 = let e = ap (λ (os : List Operands). length os) none in omega (arith, e, none_done) in
-        whole-rows f a g thunk first n r (subst (λ (q : Run). AreAlike q r) begun (alike_then m.rows.run o.rows.run r added.alike h))
-        (c ∙ (added.cells
-        ∙ (ap (λ k. valued_from k (values_on f (range_operands thunk a first n)) (settled f m was)) z
-        ∙ ap (valued_from 0 (values_on f (range_operands thunk a first n)))
-        (ap (λ os. valued_from m.rows.written (values_on f os) (all_cells m.rows.run)) none ∙ ap all_cells begun))))
+    pub made-rows : o.rows.run ≡ record { first = first; columns = a.columns; ended = form_rows (Apply thunk) f a None None first n; opened = [] }
+    made-rows =
+        whole-rows f a g thunk first n o.rows.run (subst (λ (q : Run). AreAlike q o.rows.run) begun added.alike)
+        (added.cells
+        ∙ (ap (λ k. valued_from k (values_on f (range_operands thunk a first n)) (all_cells m.rows.run)) none_done
+        ∙ ap (λ (q : Run). valued_from 0 (values_on f (range_operands thunk a first n)) (all_cells q)) begun))
 
-    pub made-steps : (steps : ℕ) → steps ≡ o.steps + steps_of (calls_on f now.operands) → steps ≡ steps_of (form_all_calls (Apply thunk) f a None None first n)
-    made-steps steps h =
-        let s = added.steps in let z = ap (λ os. steps_of (calls_on f os)) none in
+    pub made-steps : o.steps ≡ steps_of (form_all_calls (Apply thunk) f a None None first n)
+    made-steps =
+        let s = added.steps in
         let e = ap steps_of (range-calls f a g thunk first n) in
-        omega (arith, h, s, z, none_made, e)
+        omega (arith, s, none_made, e)

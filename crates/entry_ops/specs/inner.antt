@@ -1,7 +1,7 @@
 -- What serves this crate's own modules: contracts between them, invariants and proofs. No public contract reaches it.
+pub mod Coming
 pub mod Folding
 pub mod Heads
-pub mod Keeping
 pub mod Mapped
 pub mod Placing
 pub mod Sifting

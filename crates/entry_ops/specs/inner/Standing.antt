@@ -3,7 +3,7 @@ use Rattle.std.specs.Prelude.{◌≡◌, ◌<◌, ℕ, List, [], ◌∷◌, ◌+
 use Rattle.std.specs.List.{AllByRecursion}
 use Rattle.csr_store.specs.Grid.{Cell}
 use Rattle.csr_store.specs.Run.{Row, Run}
-use Rattle.csr_store.specs.Added.{ComeBehind}
+use Rattle.csr_store.specs.Ascending.{Ascends}
 use Rattle.bpf_run.specs.Calls.{Call}
 use Rattle.bpf_run.proofs.Charging.{Spends}
 
@@ -23,9 +23,11 @@ with_end run = record run { ended = run.ended ++ run.opened ∷ []; opened = [] 
 abbrev pub CanPush : ℕ → Run → Type 0
 CanPush column run = (column < run.columns) × AllByRecursion (λ (c : Cell). c.0 < column) run.opened
 
--- cells may be added
-abbrev pub FollowIn : Row → Run → Type 0
-FollowIn cells run = ComeBehind run.columns run.opened cells
+-- cells may be added: by ascending column, behind those of the open row
+pub record FollowIn (cells : Row) (run : Run) : Type 0 where
+  pub low : ℕ
+  pub above : AllByRecursion (λ (c : Cell). c.0 < low) run.opened
+  pub ascend : Ascends low run.columns cells
 
 -- the rows as if the calls that wait were made, those calls, and the steps of the calls that were made
 pub record Standing : Type 0 where

@@ -145,27 +145,6 @@ fn entries_get_other_values(rt: HostRuntime) -> Result<(), Fail> {
     Ok(())
 }
 
-/// A row with a cell, and with two of four that were added behind it.
-fn added_at_once(alloc: Global) -> Result<Rows, AllocError> {
-    let mut rows = Rows::begin(alloc, 4, 10);
-    rows.push(0, 1)?;
-    rows.push_where(&[(2, 5), (3, 6), (4, 7), (9, 8)], &[0, 1, u64::MAX, 0])?;
-    rows.end_row()?;
-    Ok(rows)
-}
-
-/// What that row has.
-const ADDED: [(u64, u64); 3] = [(0, 1), (3, 6), (4, 7)];
-
-#[test]
-fn cells_are_added_at_once(rt: HostRuntime) -> Result<(), Fail> {
-    let rows = added_at_once(rt.alloc())?;
-    assert_eq!(rt; rows.cells(), ADDED.as_slice());
-    assert_count(&rt, rows.entries() as u64, 3);
-    assert_count(&rt, rows.len(), 1);
-    Ok(())
-}
-
 /// Adds an answer for each cell: 0 where its column is even.
 fn push_answers(answers: &mut Vec<u64>, cells: &[(u64, u64)]) -> Result<(), AllocError>
     ensures many { OnOk result (length answers.new.items ≡ length answers.old.items + length cells.now) }
@@ -185,9 +164,7 @@ fn odd_columns(alloc: Global, matrix: &Matrix, from: u64, to: u64) -> Result<Row
     for row in from..to {
         push_answers(&mut answers, matrix.row(row))?;
     }
-    let mut rows = Rows::begin(alloc, from, matrix.columns());
-    rows.push_rows_where(matrix, from..to, &answers)?;
-    Ok(rows)
+    Rows::kept(alloc, matrix, from..to, &answers)
 }
 
 /// A run of rows has from a place on those cells of a row that stand in odd columns. The place behind them.
@@ -203,7 +180,7 @@ fn assert_odd_at(rt: &impl Abort, rows: &Rows, place: u64, cells: &[(u64, u64)])
 }
 
 #[test]
-fn rows_are_added_at_once(rt: HostRuntime) -> Result<(), Fail> {
+fn cells_are_kept_by_their_answers(rt: HostRuntime) -> Result<(), Fail> {
     let matrix = uneven(&rt)?;
     for from in 0..matrix.rows() {
         let rows = odd_columns(rt.alloc(), &matrix, from, matrix.rows())?;

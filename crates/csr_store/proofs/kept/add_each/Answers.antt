@@ -1,5 +1,5 @@
-use Rattle.std.proofs.Common.{arith, vec_capacity, length-drop}
-use Rattle.csr_store.proofs.Appending.{are_kept_none, kept_step, are_kept}
+use Rattle.std.proofs.Common.{arith, vec_capacity}
+use Rattle.csr_store.proofs.Appending.{are_kept_none, kept_fits, kept_step, are_kept}
 use Rattle.csr_store.proofs.kept.add_each.Goals as goal
 
 pub loop-column-init : goal.loop-column-init
@@ -9,11 +9,10 @@ pub bounds-answers-next : goal.bounds-answers-next
 bounds-answers-next c = let a = c.loop-column.invariant.0.at in let t = c.loop-column-test.true in omega (arith, a, t, c.requires.answers)
 
 pub push_if-requires : goal.push_if-requires
-push_if-requires c =
-    let f = c.loop-column.invariant.0.fits in
-    let m = length-drop c.loop-column.column-index c.args.cells.now in
-    let t = c.loop-column-test.true in
-    omega (arith, f, m, t)
+push_if-requires c = record {
+  room = kept_fits c.args.cells.now c.args.answers.now c.args.kept.now.items c.loop-column.column-index c.loop-column.next c.loop-column.kept.items
+      (vec_capacity c.loop-column.kept) c.loop-column.invariant.0 c.loop-column-test.true c.requires.answers;
+}
 
 pub loop-column-preserved : goal.loop-column-preserved
 loop-column-preserved c = (

@@ -1,5 +1,5 @@
 use Rattle.std.proofs.Common.{◌∙◌, ap, arith, length}
-use Rattle.csr_store.proofs.Keeping.{row_there, rows_kept_more}
+use Rattle.csr_store.proofs.Keeping.{row_there, row_fits, rows_kept_more}
 use Rattle.csr_store.proofs.kept.add_rows_where.Goals as goal
 
 pub split_at-requires : goal.split_at-requires
@@ -7,6 +7,12 @@ split_at-requires c =
     let t = row_there c.args.a.now c.loop-row.row c.args.rows.end c.loop-row.left.now c.loop-row-test.true c.loop-row.invariant.many in
     let e = ap length c.row-here.ensures in
     omega (arith, t, e)
+
+pub add_where-requires-clause-room : goal.add_where-requires-clause-room
+add_where-requires-clause-room c =
+    row_fits c.args.a.now c.args.rows.start c.args.rows.end c.args.answers.now _ c.loop-row.row c.loop-row.left.now _ _ _ _
+    c.loop-row.invariant c.loop-row-test.true c.columns.ensures.is_grid c.row-here.result.now c.row-here.ensures
+    c.split_at.result.0.now c.split_at.result.1.now c.split_at.ensures.front c.split_at.ensures.back
 
 pub loop-row-preserved : goal.loop-row-preserved
 loop-row-preserved c =

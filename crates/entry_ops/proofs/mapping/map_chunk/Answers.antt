@@ -1,7 +1,7 @@
 use Rattle.std.proofs.Common.{◌≡◌, ◌-◌, ◌∙◌, Option, Some, IfSome, ap, arith, refl, subst}
 use Rattle.csr_store.specs.Copied.{Copied}
 use Rattle.bpf_run.proofs.Charging.{charges-none}
-use Rattle.entry_ops.proofs.Whole.{whole-room, made-all, added-entries, added-room, made-rows, made-steps}
+use Rattle.entry_ops.proofs.Whole.{whole-room, made-all, made-rows, made-steps}
 use Rattle.entry_ops.proofs.mapping.map_chunk.Goals as goal
 
 copying_is : (o : Option Copied) (x d : Copied) → o ≡ Some x → IfSome o (λ c. c ≡ d) → x ≡ d
@@ -11,33 +11,20 @@ pub add_all-requires-clause-room : goal.add_all-requires-clause-room
 add_all-requires-clause-room c = whole-room c.args.operator.now c.operator.result.now c.args.a.now c.columns.ensures.is_grid c.args.thunk c.args.range.start (c.args.range.end - c.args.range.start)
     c.requires.kind c.program.ensures.accepted c.operator.ensures (let w = c.requires.within in omega (arith, w))
 
-pub make-requires-clause-entries : goal.make-requires-clause-entries
-make-requires-clause-entries c = added-entries c.args.operator.now c.operator.result.now c.args.a.now c.columns.ensures.is_grid c.args.thunk c.args.range.start (c.args.range.end - c.args.range.start)
-    c.requires.kind c.program.ensures.accepted c.operator.ensures (let w = c.requires.within in omega (arith, w))
-    (record { rows = c.in-Ok-Some.rows; steps = 0 }) c.add_all.new.self c.begin.new.self c.add_all.new.calls (ap (λ (d : Copied). d.run) (copying_is _ _ _ c.in-Ok-Some.field-0-is c.in-Ok-Some.ensures.rows)) (ap (λ (d : Copied). d.written) (copying_is _ _ _ c.in-Ok-Some.field-0-is c.in-Ok-Some.ensures.rows)) refl c.begin.ensures.none c.add_all.ensures
-
-pub make-requires-clause-room : goal.make-requires-clause-room
-make-requires-clause-room c = added-room c.args.operator.now c.operator.result.now c.args.a.now c.columns.ensures.is_grid c.args.thunk c.args.range.start (c.args.range.end - c.args.range.start)
-    c.requires.kind c.program.ensures.accepted c.operator.ensures (let w = c.requires.within in omega (arith, w))
-    (record { rows = c.in-Ok-Some.rows; steps = 0 }) c.add_all.new.self c.begin.new.self c.add_all.new.calls (ap (λ (d : Copied). d.run) (copying_is _ _ _ c.in-Ok-Some.field-0-is c.in-Ok-Some.ensures.rows)) (ap (λ (d : Copied). d.written) (copying_is _ _ _ c.in-Ok-Some.field-0-is c.in-Ok-Some.ensures.rows)) refl c.begin.ensures.none c.add_all.ensures
-
 pub finish-requires : goal.finish-requires
 finish-requires c = made-all c.args.operator.now c.operator.result.now c.args.a.now c.columns.ensures.is_grid c.args.thunk c.args.range.start (c.args.range.end - c.args.range.start)
     c.requires.kind c.program.ensures.accepted c.operator.ensures (let w = c.requires.within in omega (arith, w))
-    (record { rows = c.in-Ok-Some.rows; steps = 0 }) c.add_all.new.self c.begin.new.self c.add_all.new.calls (ap (λ (d : Copied). d.run) (copying_is _ _ _ c.in-Ok-Some.field-0-is c.in-Ok-Some.ensures.rows)) (ap (λ (d : Copied). d.written) (copying_is _ _ _ c.in-Ok-Some.field-0-is c.in-Ok-Some.ensures.rows)) refl c.begin.ensures.none c.add_all.ensures
-    c.make.new.self.rows.written c.make.new.self.rows.run c.make.ensures.alike c.make.ensures.done
+    (record { rows = c.in-Ok-Some.rows; steps = 0 }) c.add_all.new.self (ap (λ (d : Copied). d.run) (copying_is _ _ _ c.in-Ok-Some.field-0-is c.in-Ok-Some.ensures.rows)) (ap (λ (d : Copied). d.written) (copying_is _ _ _ c.in-Ok-Some.field-0-is c.in-Ok-Some.ensures.rows)) refl c.add_all.ensures
 
 pub returns-clause-rows : goal.returns-clause-rows
 returns-clause-rows c = c.finish.ensures ∙ made-rows c.args.operator.now c.operator.result.now c.args.a.now c.columns.ensures.is_grid c.args.thunk c.args.range.start (c.args.range.end - c.args.range.start)
     c.requires.kind c.program.ensures.accepted c.operator.ensures (let w = c.requires.within in omega (arith, w))
-    (record { rows = c.in-Ok-Some.rows; steps = 0 }) c.add_all.new.self c.begin.new.self c.add_all.new.calls (ap (λ (d : Copied). d.run) (copying_is _ _ _ c.in-Ok-Some.field-0-is c.in-Ok-Some.ensures.rows)) (ap (λ (d : Copied). d.written) (copying_is _ _ _ c.in-Ok-Some.field-0-is c.in-Ok-Some.ensures.rows)) refl c.begin.ensures.none c.add_all.ensures
-    c.make.new.self.rows.run c.make.ensures.alike c.make.ensures.cells
+    (record { rows = c.in-Ok-Some.rows; steps = 0 }) c.add_all.new.self (ap (λ (d : Copied). d.run) (copying_is _ _ _ c.in-Ok-Some.field-0-is c.in-Ok-Some.ensures.rows)) (ap (λ (d : Copied). d.written) (copying_is _ _ _ c.in-Ok-Some.field-0-is c.in-Ok-Some.ensures.rows)) refl c.add_all.ensures
 
 pub returns-clause-steps : goal.returns-clause-steps
 returns-clause-steps c = made-steps c.args.operator.now c.operator.result.now c.args.a.now c.columns.ensures.is_grid c.args.thunk c.args.range.start (c.args.range.end - c.args.range.start)
     c.requires.kind c.program.ensures.accepted c.operator.ensures (let w = c.requires.within in omega (arith, w))
-    (record { rows = c.in-Ok-Some.rows; steps = 0 }) c.add_all.new.self c.begin.new.self c.add_all.new.calls (ap (λ (d : Copied). d.run) (copying_is _ _ _ c.in-Ok-Some.field-0-is c.in-Ok-Some.ensures.rows)) (ap (λ (d : Copied). d.written) (copying_is _ _ _ c.in-Ok-Some.field-0-is c.in-Ok-Some.ensures.rows)) refl c.begin.ensures.none c.add_all.ensures
-    c.make.new.self.steps c.make.ensures.steps
+    (record { rows = c.in-Ok-Some.rows; steps = 0 }) c.add_all.new.self (ap (λ (d : Copied). d.run) (copying_is _ _ _ c.in-Ok-Some.field-0-is c.in-Ok-Some.ensures.rows)) (ap (λ (d : Copied). d.written) (copying_is _ _ _ c.in-Ok-Some.field-0-is c.in-Ok-Some.ensures.rows)) refl c.add_all.ensures
 
 pub returns-in-Err-clause-spent : goal.returns-in-Err-clause-spent
 returns-in-Err-clause-spent c = charges-none _ 0

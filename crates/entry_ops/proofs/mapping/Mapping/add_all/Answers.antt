@@ -20,11 +20,11 @@ add_entries-requires-clause-entries c =
     let n = copied-entries c.args.a.now (Some c.in-Some.thunk) c.args.range.start (c.args.range.end - c.args.range.start) in
     let r = ap (λ (r : Run). entries_of r) c.requires.copied in
     let z = c.requires.first in
-    let o = ap (λ (os : List Operands). length os) c.requires.none in
+    let o = ap (λ (os : List Operands). length os) c.of_rows.ensures in
     omega (arith, n, r, z, o)
 
 pub returns-in-None : goal.returns-in-None
 returns-in-None c =
     let w = ap (λ (r : Run). words_of (all_cells r)) c.requires.copied ∙ copied-words c.args.a.now c.args.range.start (c.args.range.end - c.args.range.start)
     ∙ ap (λ t. range_operands t c.args.a.now c.args.range.start (c.args.range.end - c.args.range.start)) (sym c.in-None.is) in
-    subst (λ os. IsFurther c.args.operator.now os c.args.self.now c.args.calls.now c.add_words.new.self c.add_words.new.calls) w c.add_words.ensures
+    subst (λ os. IsFurther c.args.operator.now os c.args.self.now c.add_words.new.self) w c.add_words.ensures

@@ -1,5 +1,6 @@
-use Rattle.std.proofs.Common.{◌∙◌, ap, length, arith, ℕ, List}
+use Rattle.std.proofs.Common.{◌∙◌, ◌+◌, ap, length, arith, ℕ, List}
 use Rattle.bpf_run.specs.Calls.{Gathered}
+use Rattle.csr_store.specs.Valued.{all_cells, valued_from}
 use Rattle.entry_ops.proofs.Mapped.{length_values}
 use Rattle.entry_ops.proofs.mapping.Mapping.make.Goals as goal
 
@@ -10,9 +11,13 @@ write_values-requires c =
     let e = c.requires.entries in
     omega (arith, v, n, e)
 
-pub returns-clause-done : goal.returns-clause-done
-returns-clause-done c =
-    let v = ap (λ (vs : List ℕ). length vs) (c.values.ensures ∙ (ap (λ (g : Gathered). g.values) c.make.ensures.values)) in
-    let n = length_values c.args.operator.now c.args.calls.now.operands in
-    let w = c.write_values.ensures.written in
-    omega (arith, v, n, w)
+pub returns-clause-further : goal.returns-clause-further
+returns-clause-further c =
+    let v = c.values.ensures ∙ (ap (λ (g : Gathered). g.values) c.make.ensures.values) in
+    record {
+      alike = c.write_values.ensures.alike;
+      place = let k = ap (λ (vs : List ℕ). length vs) v in let n = length_values c.args.operator.now c.args.calls.now.operands in
+          let w = c.write_values.ensures.written in omega (arith, k, n, w);
+      cells = c.write_values.ensures.values ∙ ap (λ vs. valued_from c.args.self.now.rows.written vs (all_cells c.args.self.now.rows.run)) v;
+      steps = ap (λ n. c.args.self.now.steps + n) c.make.ensures.steps;
+    }

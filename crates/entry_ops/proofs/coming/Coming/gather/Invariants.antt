@@ -1,0 +1,15 @@
+use Rattle.std.proofs.Common.{◌≡◌, ◌<◌, ◌≤◌, ◌-◌, ◌++◌}
+use Rattle.bpf_insn.specs.declared.operands.Kind.TheVariants as kinds
+use Rattle.entry_ops.specs.inner.Coming.{coming}
+use Rattle.entry_ops.proofs.coming.Coming.gather.Given as goal
+
+abbrev pub invariant-loop-left : goal.invariant-loop-left
+invariant-loop-left l = record {
+  kind : l.calls.kind ≡ kinds.Index;
+  parts : l.fn.self ≡ l.calls.operands ++ coming l.self-inside.a.now l.self-inside.thunk l.row l.self-inside.end l.left;
+  within : l.row < l.self-inside.end;
+  rows : l.self-inside.end ≤ l.self-inside.a.now.rows;
+}
+
+abbrev pub decreases-loop-left : goal.decreases-loop-left
+decreases-loop-left l = l.self-inside.end - l.row
