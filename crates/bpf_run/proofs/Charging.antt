@@ -1,10 +1,12 @@
 -- Steps of lists of calls, and charges for some of them.
-use Rattle.std.proofs.Common.{◌≡◌, ◌≤◌, ◌+◌, ℕ, List, [], ◌∷◌, ◌++◌, refl, sym, ap, subst, arith, inl, inr}
+use Rattle.std.proofs.Common.{◌≡◌, ◌≤◌, ◌+◌, ◌*◌, ℕ, List, length, [], ◌∷◌, ◌++◌, refl, sym, ap, subst, arith, inl, inr}
+use Rattle.bpf_insn.specs.declared.operands.Kind.TheVariants as kinds
 use Rattle.bpf_insn.specs.declared.operands.Operands.{Operands}
+use Rattle.bpf_insn.specs.declared.operands.Operands.TheVariants.{Binary}
 use Rattle.bpf_insn.specs.Machine.{kind_of}
 use Rattle.bpf_verify.specs.Accepted.{Accepted, IsAccepted}
 use Rattle.bpf_run.specs.Meaning.{value_of, cost_of}
-use Rattle.bpf_run.specs.Calls.{Call, call_of, steps_of, Charges, calls_on, values_on}
+use Rattle.bpf_run.specs.Calls.{Call, call_of, steps_of, Charges, calls_on, values_on, pairs_with}
 use Rattle.bpf_run.proofs.Meaning.{has_value}
 use Rattle.bpf_run.proofs.Calling.{few_steps}
 
@@ -121,3 +123,11 @@ spends-room all old left steps made rest h is =
 
 pub cost-few : (f : Accepted) (o : Operands) → IsAccepted f → kind_of o ≡ f.kind → cost_of f o ≤ 4096
 cost-few f o a k = let h = (has_value f o a k).1 in let l = few_steps f a in omega arith
+
+pub with_few : (f : Accepted) (x : ℕ) (cs : List (ℕ × ℕ)) → IsAccepted f → f.kind ≡ kinds.Binary
+    → steps_of (calls_on f (pairs_with x cs)) ≤ 4096 * length cs
+with_few f x [] a k = omega arith
+with_few f x (c ∷ cs) a k =
+    let h = cost-few f (Binary x c.1) a (sym k) in
+    let r = with_few f x cs a k in
+    omega (arith, h, r)

@@ -8,5 +8,6 @@ pub mod Folds
 pub mod Exact
 pub mod Families
 pub mod Cells
+pub mod Placing
 pub mod Gathering
 pub mod LaneCalls

@@ -1,4 +1,5 @@
 pub mod Meaning
 pub mod Calls
 pub mod Fold
+pub mod Known
 pub mod inner

@@ -14,13 +14,17 @@
 mod calls;
 mod flatten;
 mod folding;
+mod function;
 mod known;
 mod lanes;
 mod native;
 mod prepare;
+mod products;
 mod single;
 
 pub use bpf_flat::Outcome;
 pub use calls::{Calls, MOST_CALLS};
 pub use folding::fold;
+pub use function::Function;
+pub use native::{Loop, call_by, run_known};
 pub use single::{Prepared, call};
