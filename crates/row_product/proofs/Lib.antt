@@ -5,6 +5,7 @@ pub mod Putting
 pub mod Marking
 pub mod Filling
 pub mod Meeting
+pub mod Summing
 pub mod Parts
 pub mod Multiplying
 pub mod Barren

@@ -292,14 +292,13 @@ length_pairs x [] = refl
 length_pairs x (c ∷ cs) = ap suc (length_pairs x cs)
 
 -- all together
-pub added_together : (add mul : Accepted) (x : ℕ) (first : List (Option ℕ)) (cs : List Cell) (ts : List ℕ) (sums : List (Option ℕ))
-    (g : Gathered) → IsMet add first cs ts sums g → ts ≡ values_on mul (pairs_with x cs)
-    → (written sums g.columns (values_on add g.operands) ≡ sums_after add mul x first cs)
-    × (steps_of (calls_on mul (pairs_with x cs)) + steps_of (calls_on add g.operands) ≡ steps_of (calls_after add mul x first cs))
-added_together add mul x first cs ts sums g m e = (
-  m.sums_are ∙ (ap (put_terms add first cs) e ∙ sums_by_terms add mul x first cs),
-  let s = m.steps_are in
-      let t = ap (λ us. steps_of (put_calls add first cs us)) e in
+pub added_by_terms : (add mul : Accepted) (x : ℕ) (first : List (Option ℕ)) (cs : List Cell) (ts : List ℕ)
+    → ts ≡ values_on mul (pairs_with x cs)
+    → (put_terms add first cs ts ≡ sums_after add mul x first cs)
+    × (steps_of (calls_on mul (pairs_with x cs)) + steps_of (put_calls add first cs ts) ≡ steps_of (calls_after add mul x first cs))
+added_by_terms add mul x first cs ts e = (
+  ap (put_terms add first cs) e ∙ sums_by_terms add mul x first cs,
+  let t = ap (λ us. steps_of (put_calls add first cs us)) e in
       let r = steps_by_terms add mul x first cs in
-      omega (arith, s, t, r),
+      omega (arith, t, r),
 )

@@ -1,14 +1,12 @@
 -- A row of A with one entry makes the row of B that it names, each word multiplied, and that alone is called.
-use Rattle.std.proofs.Common.{◌≡◌, ℕ, suc, ◌+◌, ◌*◌, ◌<◌, ◌≤◌, List, [], ◌∷◌, ◌++◌, Option, None, length, drop, get_or, refl, sym, ap, ◌∙◌, subst, append_assoc, append-nil, arith}
+use Rattle.std.proofs.Common.{◌≡◌, ℕ, suc, ◌+◌, ◌<◌, List, [], ◌∷◌, ◌++◌, Option, None, length, drop, get_or, refl, sym, ap, ◌∙◌, subst, append_assoc, append-nil, arith}
 use Rattle.std.proofs.lemmas.List.{drop_more}
 use Rattle.std.specs.List.{AllByRecursion}
-use Rattle.bpf_insn.specs.declared.operands.Kind.TheVariants as kinds
 use Rattle.bpf_insn.specs.declared.operands.Operands.TheVariants.{Binary}
-use Rattle.bpf_verify.specs.Accepted.{Accepted, IsAccepted}
+use Rattle.bpf_verify.specs.Accepted.{Accepted}
 use Rattle.bpf_run.specs.Meaning.{value_of}
 use Rattle.bpf_run.specs.Calls.{call_of, steps_of, calls_on, values_on, pairs_with}
 use Rattle.bpf_run.specs.Fold.{fold, fold_calls}
-use Rattle.bpf_run.proofs.Charging.{cost-few}
 use Rattle.csr_store.specs.Along.{along, cell_at, row_by}
 use Rattle.csr_store.specs.Grid.{Grid, Cell, IsGrid, row_of}
 use Rattle.csr_store.specs.Mask.{row_under, listed_under}
@@ -33,14 +31,6 @@ pub steps_by_parts : (mul : Accepted) (x : ℕ) (cs ds : List Cell) → steps_of
     ≡ steps_of (calls_on mul (pairs_with x cs)) + steps_of (calls_on mul (pairs_with x ds))
 steps_by_parts mul x [] ds = omega arith
 steps_by_parts mul x (c ∷ cs) ds = let r = steps_by_parts mul x cs ds in omega (arith, r)
-
-pub products_few : (mul : Accepted) (x : ℕ) (cs : List Cell) → IsAccepted mul → mul.kind ≡ kinds.Binary
-    → steps_of (calls_on mul (pairs_with x cs)) ≤ 4096 * length cs
-products_few mul x [] m k = omega arith
-products_few mul x (c ∷ cs) m k =
-    let f = cost-few mul (Binary x c.1) m (sym k) in
-    let r = products_few mul x cs m k in
-    omega (arith, f, r)
 
 behind_cell : (n : ℕ) (os : List Cell) (c : Cell) (v : ℕ) (cs : List Cell) → IsBehind n os (c ∷ cs)
     → IsBehind n (os ++ (c.0, v) ∷ []) cs

@@ -1,10 +1,11 @@
 //! A row of sums, to which the cells of rows of B are added, each times a word.
-ghost use Rattle.std.specs.Prelude.{◌≡◌, ◌≤◌, ◌<◌, ◌*◌, ◌++◌, ℕ, None, [], length, IfOk, OnOk};
+ghost use Rattle.std.specs.Prelude.{◌≡◌, ◌≤◌, ◌<◌, ◌*◌, ◌^◌, ◌++◌, ℕ, None, [], length, IfOk, OnOk};
+ghost use Rattle.bpf_insn.specs.declared.operands.Kind.TheVariants as kinds;
 ghost use Rattle.bpf_verify.specs.Accepted.{Accepted};
 ghost use Rattle.bpf_run.specs.Calls.{steps_of, calls_on, pairs_with};
 ghost use Rattle.csr_store.specs.Along.{row_by};
 ghost use Rattle.csr_store.specs.Ascending.{Ascends};
-ghost use Rattle.row_product.specs.inner.Adding.{sums_after, calls_after, none_gathered, AreBelow, IsMet};
+ghost use Rattle.row_product.specs.inner.Adding.{sums_after, calls_after, put_terms, put_calls, none_gathered, AreBelow, IsMet};
 ghost use Rattle.row_product.specs.inner.Factors.{AreFactors};
 ghost use Rattle.row_product.specs.inner.Single.{multiplied, IsBehind};
 ghost use Rattle.row_product.specs.inner.Sums.{slot};
@@ -13,8 +14,8 @@ use crate::additions::Additions;
 use crate::factors::Factors;
 use crate::single::push_words;
 use crate::sums::Sums;
-use bpf_insn::Kind;
-use bpf_run::Calls;
+use crate::terms::Terms;
+use bpf_run::{Calls, Prepared, run_known};
 use csr_store::Rows;
 use std::alloc::{AllocError, Global};
 use std::marker::Model;
@@ -83,16 +84,16 @@ impl Accumulator {
     {
         let _add = factors.add.operator().program();
         let _mul = factors.mul.operator().program();
-        self.products.begin(Kind::Binary);
-        self.products.gather_with(x, cells);
-        let multiplied = self.products.make(factors.mul);
-        meet(
-            cells,
-            self.products.values(),
-            &mut self.additions,
-            &mut self.sums,
-        );
-        multiplied + self.additions.make(factors.add, &mut self.sums)
+        let multiplied = self.products.make_with(factors.mul, x, cells);
+        let terms = self.products.values();
+        multiplied
+            + add_terms(
+                factors.add,
+                cells,
+                terms,
+                &mut self.additions,
+                &mut self.sums,
+            )
     }
 
     /// Puts a word times each of up to 64 cells into the open row, without a sum. Answers the steps.
@@ -112,9 +113,7 @@ impl Accumulator {
         ensures sums { self.new ≡ self.old }
     {
         let _mul = factors.mul.operator().program();
-        self.products.begin(Kind::Binary);
-        self.products.gather_with(x, cells);
-        let multiplied = self.products.make(factors.mul);
+        let multiplied = self.products.make_with(factors.mul, x, cells);
         push_words(cells, self.products.values(), rows)?;
         Ok(multiplied)
     }
@@ -129,6 +128,31 @@ impl Accumulator {
     {
         self.sums.emit(columns, rows)
     }
+}
+
+/// Adds terms to the sums of the columns of cells. Answers the steps.
+fn add_terms(
+    add: &Prepared,
+    cells: &[(u64, u64)],
+    terms: &[u64],
+    additions: &mut Additions,
+    sums: &mut Sums,
+) -> u64
+    requires add { add.now.kind ≡ kinds.Binary }
+    requires few { length cells.now ≤ 64 }
+    requires terms { length terms.now ≡ length cells.now }
+    requires apart { Ascends 0 (length sums.old) cells.now }
+    requires none { additions.old ≡ none_gathered }
+    requires room { steps_of (put_calls add.now sums.old cells.now terms.now) < 2 ^ 64 }
+    ensures sums { sums.new ≡ put_terms add.now sums.old cells.now terms.now }
+    ensures steps { result ≡ steps_of (put_calls add.now sums.old cells.now terms.now) }
+    ensures none { additions.new ≡ none_gathered }
+{
+    if let Some(steps) = run_known(&Terms { cells, terms }, add, sums) {
+        return steps;
+    }
+    meet(cells, terms, additions, sums);
+    additions.make(add, sums)
 }
 
 /// Puts terms at the columns of cells: the first of a column is its sum, and the addition of any other is gathered.

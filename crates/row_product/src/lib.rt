@@ -35,5 +35,6 @@ mod progress;
 mod row;
 mod single;
 mod sums;
+mod terms;
 
 pub use product::{Scratch, product_rows};

@@ -1,11 +1,14 @@
 //! The sums of a row, with a bit for each column that has one, and a list of these columns as long as they are few.
 ghost use Rattle.std.specs.Prelude.{◌≡◌, ◌≤◌, ◌<◌, ℕ, List, Option, None, Some, [], length, set, OnOk};
 ghost use Rattle.csr_store.specs.Along.{row_by};
-ghost use Rattle.row_product.specs.inner.Sums.{slot};
+ghost use Rattle.bpf_run.specs.Calls.{steps_of};
+ghost use Rattle.bpf_run.specs.Known.{Computes};
+ghost use Rattle.row_product.specs.inner.Sums.{slot, added, added_calls};
 
 use crate::emit::{emit_listed, emit_marked};
 use crate::held::Held;
 use crate::marked::{clear_bits, set_bit};
+use bpf_run::{Function, Prepared, call_by};
 use csr_store::Rows;
 use std::alloc::{AllocError, Global};
 use std::marker::Model;
@@ -119,6 +122,27 @@ impl Sums {
         match self.held.get(column) {
             Some(_) => self.held.put(column, sum),
             None => self.begin_sum(column, sum),
+        }
+    }
+
+    /// Adds a term to the sum of a column, or begins it, by an operator that computes a function. Answers the steps.
+    #[inline(always)]
+    pub(crate) fn add<F: Function>(&mut self, add: &Prepared, column: u64, term: u64) -> u64
+        requires computes { Computes add.now F.meaning F.price }
+        requires within { column < length self.old }
+        ensures sum { self.new ≡ set self.old column (Some (added add.now (slot self.old column) term)) }
+        ensures steps { result ≡ steps_of (added_calls add.now (slot self.old column) term) }
+    {
+        match self.get(column) {
+            Some(so_far) => {
+                let sum = call_by::<F>(add, so_far, term);
+                self.put(column, sum.value);
+                sum.steps
+            }
+            None => {
+                self.begin_sum(column, term);
+                0
+            }
         }
     }
 
