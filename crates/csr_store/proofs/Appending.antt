@@ -90,24 +90,16 @@ all_taken P (x ∷ xs) (suc k) d l h p = (h.0, all_taken P xs k d (omega arith) 
 pub record AreKept (cells : Row) (answers : List ℕ) (start : Row) (k next : ℕ) (now : Row) (room : ℕ) : Type 0 where
   pub same : now ++ kept_where (drop k cells) (drop k answers) ≡ start ++ kept_where cells answers
   pub words : AllByRecursion (λ (c : Cell). c.1 < 2 ^ 64) (take k cells)
-  pub fits : length now + kept_count (drop k answers) ≤ room
+  pub fits : k < length cells → length now + kept_count (drop k answers) < room
   pub at : next ≡ k
 
-pub are_kept_none : (cells : Row) (answers : List ℕ) (start : Row) (room : ℕ) → length start + kept_count answers ≤ room → AreKept cells answers start 0 0 start room
+pub are_kept_none : (cells : Row) (answers : List ℕ) (start : Row) (room : ℕ) → (0 < length cells → length start + kept_count answers < room) → AreKept cells answers start 0 0 start room
 are_kept_none cells answers start room h = record { same = refl; words = tt; fits = h; at = refl }
 
 module _ (cells : Row) (answers : List ℕ) (start : Row) (k next : ℕ) (now : Row) (room : ℕ) (h : AreKept cells answers start k next now room)
     (l : k < length cells) (n : length answers ≡ length cells) where
   kept_here : kept_count (drop k answers) ≡ (if nat_eq (get_or answers k 0) 0 then kept_count (drop (k + 1) answers) else suc (kept_count (drop (k + 1) answers)))
   kept_here = ap kept_count (drop_more answers k 0 (omega arith))
-
-  -- there is room for the next one
-  pub kept_fits : length now + kept_count (get_or answers next 0 ∷ []) ≤ room
-  kept_fits = subst (λ m. length now + kept_count (get_or answers m 0 ∷ []) ≤ room) (sym h.at) (go (nat_eq (get_or answers k 0) 0) kept_here) where
-    go : (b : Bool) → kept_count (drop k answers) ≡ (if b then kept_count (drop (k + 1) answers) else suc (kept_count (drop (k + 1) answers)))
-        → length now + (if b then 0 else 1) ≤ room
-    go true m = let f = h.fits in omega (arith, f)
-    go false m = let f = h.fits in omega (arith, f, m)
 
 module _ (cells : Row) (answers : List ℕ) (start : Row) (k next : ℕ) (now : Row) (room : ℕ) (d : Cell) (h : AreKept cells answers start k next now room)
     (l : k < length cells) (n : length answers ≡ length cells) (w : (get_or cells k d).1 < 2 ^ 64) where
@@ -127,7 +119,7 @@ module _ (cells : Row) (answers : List ℕ) (start : Row) (k next : ℕ) (now : 
   kept_by true new more e is r = record {
     same = ap (λ cs. cs ++ kept_where (drop (k + 1) cells) (drop (k + 1) answers)) is ∙ chosen true e;
     words = taken;
-    fits = let f = h.fits in let p = ap length is in
+    fits = λ u. let f = h.fits l in let p = ap length is in
         let m = kept_here cells answers start k next now room h l n ∙ ap (λ t. if t then kept_count (drop (k + 1) answers) else suc (kept_count (drop (k + 1) answers))) e in omega (arith, f, m, p, r);
     at = let a = h.at in omega arith;
   }
@@ -135,7 +127,7 @@ module _ (cells : Row) (answers : List ℕ) (start : Row) (k next : ℕ) (now : 
     same = ap (λ cs. cs ++ kept_where (drop (k + 1) cells) (drop (k + 1) answers)) is
         ∙ append_assoc now (get_or cells k d ∷ []) (kept_where (drop (k + 1) cells) (drop (k + 1) answers)) ∙ chosen false e;
     words = taken;
-    fits = let f = h.fits in let q = ap length is in let p = length-append now (get_or cells k d ∷ []) in
+    fits = λ u. let f = h.fits l in let q = ap length is in let p = length-append now (get_or cells k d ∷ []) in
         let m = kept_here cells answers start k next now room h l n ∙ ap (λ t. if t then kept_count (drop (k + 1) answers) else suc (kept_count (drop (k + 1) answers))) e in omega (arith, f, m, q, p, r);
     at = let a = h.at in omega arith;
   }

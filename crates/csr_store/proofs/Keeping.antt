@@ -1,4 +1,4 @@
--- Cells kept a block at a time.
+-- Cells of whole rows kept by their answers.
 use Rattle.std.proofs.Common.{◌≡◌, ◌≤◌, ◌<◌, ◌+◌, ◌-◌, ◌^◌, ℕ, suc, Bool, true, false, nat_eq, if◌then◌else◌, List, [], ◌∷◌, ◌++◌, length, take, drop, refl, sym, ap, ◌∙◌, subst, arith, length-append, length-drop, append_assoc, append-nil}
 use Rattle.std.specs.List.{AllByRecursion}
 use Rattle.std.proofs.lemmas.List.{take-append-drop, length-take-le}
@@ -12,41 +12,6 @@ use Rattle.csr_store.specs.inner.Run.{AreRows, ended_rows, open_row}
 use Rattle.csr_store.proofs.Along.{along-next, row_of-ascends}
 use Rattle.csr_store.proofs.Appending.{rows_append, run_append, ascends_kept, kept_words}
 use Rattle.csr_store.proofs.Runs.{rows_more, run, run_end}
-
-one_kept : (c : Cell) (more others : Row) (b : Bool)
-    → (if b then more ++ others else c ∷ (more ++ others)) ≡ (if b then more else c ∷ more) ++ others
-one_kept c more others true = refl
-one_kept c more others false = refl
-
--- those kept of some cells, and then of others
-kept_both : (cells others : Row) (answers more : List ℕ) → length answers ≡ length cells
-    → kept_where (cells ++ others) (answers ++ more) ≡ kept_where cells answers ++ kept_where others more
-kept_both [] others [] more e = refl
-kept_both [] others (a ∷ answers) more e = absurd (omega (arith, e))
-kept_both (c ∷ cells) others [] more e = absurd (omega (arith, e))
-kept_both (c ∷ cells) others (a ∷ answers) more e =
-    ap (λ r. if nat_eq a 0 then r else c ∷ r) (kept_both cells others answers more (omega (arith, e)))
-    ∙ one_kept c (kept_where cells answers) (kept_where others more) (nat_eq a 0)
-
-all_both : (P : Cell → Type 0) (cells others : Row) → AllByRecursion P cells → AllByRecursion P others → AllByRecursion P (cells ++ others)
-all_both P [] others h g = g
-all_both P (c ∷ cells) others h g = (h.0, all_both P cells others h.1 g)
-
--- those that are kept of what is behind are all that is missing
-pub record AreBehind (cells : Row) (answers : List ℕ) (start rest : Row) (left : List ℕ) (now : Row) (room : ℕ) : Type 0 where
-  pub same : now ++ kept_where rest left ≡ start ++ kept_where cells answers
-  pub words : AllByRecursion (λ (c : Cell). c.1 < 2 ^ 64) rest → AllByRecursion (λ (c : Cell). c.1 < 2 ^ 64) cells
-  pub fits : length now + kept_count left ≤ room
-  pub alike : length left ≡ length rest
-
-pub behind_none : (cells : Row) (answers : List ℕ) (start : Row) (room : ℕ) → length answers ≡ length cells → length start + kept_count answers ≤ room
-    → AreBehind cells answers start cells answers start room
-behind_none cells answers start room e h = record { same = refl; words = λ w. w; fits = h; alike = e }
-
-kept_of : (rest block behind : Row) (left here later : List ℕ) → rest ≡ block ++ behind → left ≡ here ++ later → length here ≡ length block
-    → kept_where rest left ≡ kept_where block here ++ kept_where behind later
-kept_of rest block behind left here later e f l =
-    ap (λ r. kept_where r left) e ∙ ap (kept_where (block ++ behind)) f ∙ kept_both block behind here later l
 
 -- as many are kept as have an answer that is not 0
 length_kept : (cells : Row) (answers : List ℕ) → length answers ≡ length cells → length (kept_where cells answers) ≡ kept_count answers
@@ -71,35 +36,6 @@ kept_count-append (a ∷ answers) more = go (nat_eq a 0) (kept_count-append answ
 parts : {X : Type 0} (k : ℕ) (all front back : List X) → front ≡ take k all → back ≡ drop k all → all ≡ front ++ back
 parts k all front back f b = sym (ap (λ r. r ++ back) f ∙ (ap (λ r. take k all ++ r) b ∙ take-append-drop k all))
 
--- a block more
-pub behind_more : (cells : Row) (answers : List ℕ) (start rest : Row) (left : List ℕ) (now : Row) (room k : ℕ)
-    (block behind : Row) (here later : List ℕ) (new : Row) (more : ℕ)
-    → AreBehind cells answers start rest left now room → k ≤ length rest → block ≡ take k rest → behind ≡ drop k rest
-    → here ≡ take k left → later ≡ drop k left → new ≡ now ++ kept_where block here
-    → AllByRecursion (λ (c : Cell). c.1 < 2 ^ 64) block → room ≤ more
-    → AreBehind cells answers start behind later new more
-behind_more cells answers start rest left now room k block behind here later new more h l b o e g n w r = record {
-  same = ap (λ cs. cs ++ kept_where behind later) n ∙ append_assoc now (kept_where block here) (kept_where behind later)
-      ∙ ap (λ cs. now ++ cs) (sym (kept_of rest block behind left here later whole answered few)) ∙ h.same;
-  words = λ v. h.words (rw whole (all_both (λ (c : Cell). c.1 < 2 ^ 64) block behind w v));
-  fits = let f = h.fits in let m = ap kept_count answered ∙ kept_count-append here later in
-      let q = ap length n ∙ length-append now (kept_where block here) in let t = length_kept block here few in omega (arith, f, m, q, t, r);
-  alike = let a = h.alike in let m = ap length whole ∙ length-append block behind in
-      let p = ap length answered ∙ length-append here later in let f = few in omega (arith, a, m, p, f);
-}
-  where
-    whole : rest ≡ block ++ behind
-    whole = parts k rest block behind b o
-
-    answered : left ≡ here ++ later
-    answered = parts k left here later e g
-
-    few : length here ≡ length block
-    few = let a = h.alike in let x = ap length e ∙ length-take-le k left (omega (arith, a, l)) in
-        let y = ap length b ∙ length-take-le k rest l in omega (arith, x, y)
-
--- ---- whole rows, one after the other
-
 -- answers beyond those of the cells don't matter
 kept_first : (cells : Row) (answers : List ℕ) → kept_where cells (take (length cells) answers) ≡ kept_where cells answers
 kept_first [] answers = refl
@@ -111,7 +47,7 @@ pub record AreRowsKept (a : Grid) (first end : ℕ) (answers : List ℕ) (start 
   pub none_open : open_row 0 ends cells ≡ []
   pub same : ended_rows 0 ends cells ++ kept_rows a left i (end - i) ≡ start ++ kept_rows a answers first (end - first)
   pub many : length left ≡ length (along (row_of a) i (end - i))
-  pub fits : length cells + kept_count left ≤ room
+  pub fits : 0 < length left → length cells + kept_count left < room
   pub fits_ends : length ends + (end - i) ≤ most
 
 -- cells of one row, of those that are left
@@ -134,8 +70,8 @@ module _ (a : Grid) (first end : ℕ) (answers : List ℕ) (start : List Row) (i
   counted : kept_count left ≡ kept_count now + kept_count later
   counted = ap kept_count (parts (length row) left now later f b) ∙ kept_count-append now later
 
-  pub row_fits : length cells + kept_count now ≤ room
-  row_fits = let q = h.fits in let m = counted in omega (arith, q, m)
+  pub row_fits : 0 < length now → length cells + kept_count now < room
+  row_fits u = let t = there in let e = even in let q = h.fits (omega (arith, t, e, u)) in let m = counted in omega (arith, q, m)
 
   next : kept_rows a left i (end - i) ≡ kept_where row now ∷ kept_rows a later (i + 1) (end - (i + 1))
   next =
@@ -172,7 +108,7 @@ module _ (a : Grid) (first end : ℕ) (answers : List ℕ) (start : List Row) (i
           ∙ append_assoc (ended_rows 0 ends cells) (kept_where row now ∷ []) (kept_rows a later (i + 1) (end - (i + 1)))
           ∙ ap (λ rs. ended_rows 0 ends cells ++ rs) (sym next) ∙ h.same;
       many = let t = there in let d = ap length b in omega (arith, t, d, length-drop (length row) left);
-      fits = let q = h.fits in let e = ap length added in let s = length-append cells (kept_where row now) in
+      fits = λ o. let t = there in let d = ap length b in let q = h.fits (omega (arith, t, d, o, length-drop (length row) left)) in let e = ap length added in let s = length-append cells (kept_where row now) in
           let k = length_kept row now even in let m = counted in
           omega (arith, q, e, s, k, m, v);
       fits_ends = let q = h.fits_ends in let e = ap length pushed in let s = length-append ends (n ∷ []) in omega (arith, q, e, s, l, u);

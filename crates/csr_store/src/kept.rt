@@ -10,12 +10,21 @@ ghost use Rattle.csr_store.specs.inner.Run.{AreRows, ended_rows, open_row};
 use crate::matrix::{Cell, Matrix};
 use std::ops::Range;
 
-/// So many cells are looked at by code without a loop.
-const BLOCK_OF_CELLS: usize = 4;
+/// Room for the cells that some answers keep. Where there are any answers it has a place more, in which a cell stands until its
+/// answer is looked at.
+pub fn room_for(answers: &[u64]) -> usize
+    ensures { 0 < length answers.now → kept_count answers.now < result }
+{
+    if answers.is_empty() {
+        return 0;
+    }
+    count_kept(answers) + 1
+}
 
 /// How many of some answers are not 0.
-pub fn count_kept(answers: &[u64]) -> usize
-    ensures { result ≡ kept_count answers.now }
+fn count_kept(answers: &[u64]) -> usize
+    ensures count { result ≡ kept_count answers.now }
+    ensures few { result ≤ length answers.now }
 {
     let mut kept = 0;
     for answer in answers {
@@ -26,32 +35,11 @@ pub fn count_kept(answers: &[u64]) -> usize
     kept
 }
 
-/// Adds those of some cells whose answer is not 0 to a list that has room for them.
+/// Adds those of some cells whose answer is not 0 to a list that has room for them, and for one more.
 #[inline(always)]
 fn add_where(kept: &mut Vec<Cell>, cells: &[Cell], answers: &[u64])
     requires answers { length answers.now ≡ length cells.now }
-    requires room { length kept.old.items + kept_count answers.now ≤ vec_capacity kept.old }
-    ensures added { kept.new.items ≡ kept.old.items ++ kept_where cells.now answers.now }
-    ensures words { AllByRecursion (λ (c : Cell). c.1 < 2 ^ 64) cells.now }
-    ensures room { vec_capacity kept.old ≤ vec_capacity kept.new }
-{
-    let mut rest = cells;
-    let mut left = answers;
-    while rest.len() >= BLOCK_OF_CELLS {
-        let (block, behind) = rest.split_at(BLOCK_OF_CELLS);
-        let (here, later) = left.split_at(BLOCK_OF_CELLS);
-        add_each(kept, block, here);
-        rest = behind;
-        left = later;
-    }
-    add_each(kept, rest, left);
-}
-
-/// The same, one cell after the other.
-#[inline(always)]
-fn add_each(kept: &mut Vec<Cell>, cells: &[Cell], answers: &[u64])
-    requires answers { length answers.now ≡ length cells.now }
-    requires room { length kept.old.items + kept_count answers.now ≤ vec_capacity kept.old }
+    requires room { 0 < length answers.now → length kept.old.items + kept_count answers.now < vec_capacity kept.old }
     ensures added { kept.new.items ≡ kept.old.items ++ kept_where cells.now answers.now }
     ensures words { AllByRecursion (λ (c : Cell). c.1 < 2 ^ 64) cells.now }
     ensures room { vec_capacity kept.old ≤ vec_capacity kept.new }
@@ -63,22 +51,24 @@ fn add_each(kept: &mut Vec<Cell>, cells: &[Cell], answers: &[u64])
     }
 }
 
-/// Adds a cell to a list where an answer is not 0. There the list has room for it.
+/// Adds a cell to a list that has room for it, and takes it back where an answer is 0. So nothing waits for the answer: which
+/// cells are kept can't be foretold.
 #[inline(always)]
 fn push_if(kept: &mut Vec<Cell>, column: u64, word: u64, answer: u64)
-    requires room { length kept.old.items + kept_count (answer ∷ []) ≤ vec_capacity kept.old }
+    requires room { length kept.old.items < vec_capacity kept.old }
     ensures added { kept.new.items
         ≡ (if nat_eq answer 0 then kept.old.items else kept.old.items ++ (column, word) ∷ []) }
     ensures room { vec_capacity kept.old ≤ vec_capacity kept.new }
     ensures word { word < 2 ^ 64 }
 {
-    if answer != 0 {
-        kept.push_reserved((column, word));
+    kept.push_reserved((column, word));
+    if answer == 0 {
+        let _ = kept.take_last();
     }
 }
 
 /// Adds those of the cells of a matrix's rows whose answer is not 0, and where each row ends then, to lists that have room for
-/// them.
+/// them, and the first for one more.
 #[inline(always)]
 pub fn add_rows_where(
     cells: &mut Vec<Cell>,
@@ -90,7 +80,7 @@ pub fn add_rows_where(
     requires range { rows.start ≤ rows.end }
     requires within { rows.end ≤ a.now.rows }
     requires answers { length answers.now ≡ length (along (row_of a.now) rows.start (rows.end - rows.start)) }
-    requires room { length cells.old.items + kept_count answers.now ≤ vec_capacity cells.old }
+    requires room { 0 < length answers.now → length cells.old.items + kept_count answers.now < vec_capacity cells.old }
     requires room_of_ends { length ends.old.items + (rows.end - rows.start) ≤ vec_capacity ends.old }
     requires rows { AreRows a.now.columns ends.old.items cells.old.items }
     requires none_open { open_row 0 ends.old.items cells.old.items ≡ [] }

@@ -9,7 +9,7 @@ ghost use Rattle.csr_store.specs.Valued.{entries_in, entries_of, with_value, all
 ghost use Rattle.csr_store.specs.inner.Cells.{Stacks, joined};
 ghost use Rattle.csr_store.specs.inner.Run.{AreClosed, AreRows, IsRow, ended_rows, open_row};
 
-use crate::kept::{add_rows_where, count_kept};
+use crate::kept::{add_rows_where, room_for};
 use crate::matrix::{Cell, Matrix};
 use crate::row::{append, put_values};
 use std::alloc::{AllocError, Global};
@@ -74,7 +74,8 @@ impl Rows {
         }
     }
 
-    /// The rows of a range of a matrix, with those of their cells whose answer is not 0. Takes just the memory that they need.
+    /// The rows of a range of a matrix, with those of their cells whose answer is not 0. Takes memory for these, and for one
+    /// cell more.
     pub fn kept(
         alloc: Global,
         a: &Matrix,
@@ -93,7 +94,7 @@ impl Rows {
     {
         let first = range.start;
         let mut ends = Vec::with_capacity(alloc, (range.end - range.start) as usize)?;
-        let mut cells = Vec::with_capacity(alloc, count_kept(answers))?;
+        let mut cells = Vec::with_capacity(alloc, room_for(answers))?;
         add_rows_where(&mut cells, &mut ends, a, range, answers);
         Ok(Rows {
             first,

@@ -6,7 +6,7 @@ use Rattle.std.proofs.lemmas.List.{take-append-drop, length-take-le, drop-drop}
 use Rattle.bpf_verify.specs.Accepted.{Accepted}
 use Rattle.csr_store.specs.Grid.{Cell}
 use Rattle.csr_store.specs.Run.{Row}
-use Rattle.csr_store.specs.Valued.{entries_of as entries_in_run, all_cells, valued, valued_from, AreAlike}
+use Rattle.csr_store.specs.Valued.{entries_of as entries_in_run, all_cells, valued, valued_from}
 use Rattle.csr_store.proofs.Valuing.{alike_entries, alike_same, alike_then, entries_are, valued_behind}
 use Rattle.bpf_run.specs.Calls.{calls_on, values_on, steps_of, words_of, entries_of}
 use Rattle.bpf_run.proofs.Charging.{values_on-append, calls_on-append, steps-append}

@@ -1,6 +1,5 @@
 -- Copied rows with the values of calls are the rows of apply.
 use Rattle.std.proofs.Common.{◌≡◌, ◌≤◌, ◌<◌, ◌+◌, ◌^◌, ℕ, zero, suc, true, List, [], ◌∷◌, ◌++◌, length, map, Option, None, Some, refl, sym, ap, ◌∙◌, subst, arith, length-append, append_assoc, append-nil}
-use Rattle.bpf_insn.specs.declared.operands.Operands.{Operands}
 use Rattle.bpf_verify.specs.Accepted.{Accepted, IsAccepted}
 use Rattle.csr_store.specs.Grid.{Grid, IsGrid, Cell, row_of}
 use Rattle.csr_store.specs.Along.{along, cell_at}

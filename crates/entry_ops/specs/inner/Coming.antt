@@ -1,5 +1,5 @@
 -- The entries of rows that are called one after another, whichever rows they stand in. This project's own.
-use Rattle.std.specs.Prelude.{◌≡◌, ℕ, ◌+◌, ◌-◌, ◌≤◌, List, [], ◌++◌}
+use Rattle.std.specs.Prelude.{ℕ, ◌+◌, ◌-◌, List, ◌++◌}
 use Rattle.bpf_insn.specs.declared.operands.Operands.{Operands}
 use Rattle.csr_store.specs.Grid.{Grid, row_of}
 use Rattle.csr_store.specs.Along.{along}

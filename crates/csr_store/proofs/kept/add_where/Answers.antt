@@ -1,13 +1,32 @@
-use Rattle.std.proofs.Common.{vec_capacity, arith}
-use Rattle.csr_store.proofs.Keeping.{behind_more}
+use Rattle.std.proofs.Common.{arith, vec_capacity}
+use Rattle.csr_store.proofs.Appending.{are_kept_none, kept_step, are_kept}
 use Rattle.csr_store.proofs.kept.add_where.Goals as goal
 
-pub loop-rest-preserved : goal.loop-rest-preserved
-loop-rest-preserved c = (
-  behind_more c.args.cells.now c.args.answers.now c.args.kept.now.items c.loop-rest.rest.now c.loop-rest.left.now c.loop-rest.kept.items
-      (vec_capacity c.loop-rest.kept) 4 c.split_at.result.0.now c.split_at.result.1.now c.split_at-in-loop-rest.result.0.now c.split_at-in-loop-rest.result.1.now
-      c.add_each.new.kept.items (vec_capacity c.add_each.new.kept) c.loop-rest.invariant.0 c.loop-rest-test.true
-      c.split_at.ensures.front c.split_at.ensures.back c.split_at-in-loop-rest.ensures.front c.split_at-in-loop-rest.ensures.back
-      c.add_each.ensures.added c.add_each.ensures.words c.add_each.ensures.room,
-  let a = c.loop-rest.invariant.1 in let b = c.add_each.ensures.room in omega (arith, a, b),
+pub loop-column-init : goal.loop-column-init
+loop-column-init c = (
+  are_kept_none c.args.cells.now c.args.answers.now c.args.kept.now.items (vec_capacity c.args.kept.now)
+      (λ u. c.requires.room (let a = c.requires.answers in omega (arith, a, u))),
+  omega arith,
 )
+
+pub bounds-answers-next : goal.bounds-answers-next
+bounds-answers-next c = let a = c.loop-column.invariant.0.at in let t = c.loop-column-test.true in omega (arith, a, t, c.requires.answers)
+
+pub push_if-requires : goal.push_if-requires
+push_if-requires c = record { room = let f = c.loop-column.invariant.0.fits c.loop-column-test.true in omega (arith, f) }
+
+pub loop-column-preserved : goal.loop-column-preserved
+loop-column-preserved c = (
+  kept_step c.args.cells.now c.args.answers.now c.args.kept.now.items c.loop-column.column-index c.loop-column.next c.loop-column.kept.items
+      (vec_capacity c.loop-column.kept) (0, 0) c.loop-column.invariant.0 c.loop-column-test.true c.requires.answers c.push_if.ensures.word _ _ c.push_if.ensures.added c.push_if.ensures.room,
+  let a = c.loop-column.invariant.1 in let b = c.push_if.ensures.room in omega (arith, a, b),
+)
+
+pub returns-clause-added : goal.returns-clause-added
+returns-clause-added c = (are_kept _ _ _ _ _ _ _ c.loop-column.invariant.0 (let l = c.loop-column-test.false in omega (arith, l))).0
+
+pub returns-clause-words : goal.returns-clause-words
+returns-clause-words c = (are_kept _ _ _ _ _ _ _ c.loop-column.invariant.0 (let l = c.loop-column-test.false in omega (arith, l))).1
+
+pub returns-clause-room : goal.returns-clause-room
+returns-clause-room c = c.loop-column.invariant.1

@@ -1,4 +1,4 @@
-use Rattle.std.proofs.Common.{◌+◌, ◌-◌, ◌++◌, [], ◌∙◌, refl, ap, sym, arith}
+use Rattle.std.proofs.Common.{◌+◌, ◌-◌, ◌++◌, ◌∙◌, ap, sym}
 use Rattle.bpf_run.specs.Calls.{Gathered, entries_of}
 use Rattle.entry_ops.specs.inner.Coming.{coming}
 use Rattle.entry_ops.proofs.Mapped.{parts}

@@ -1,4 +1,4 @@
-use Rattle.std.proofs.Common.{◌-◌, ◌∙◌, [], ap, sym, arith}
+use Rattle.std.proofs.Common.{◌∙◌, ap, sym}
 use Rattle.csr_store.proofs.Along.{along-over}
 use Rattle.csr_store.specs.Grid.{row_of}
 use Rattle.bpf_run.specs.Calls.{entries_of}

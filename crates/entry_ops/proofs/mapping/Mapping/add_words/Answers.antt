@@ -1,5 +1,4 @@
-use Rattle.std.proofs.Common.{◌+◌, ◌++◌, List, length, drop, refl, ap, sym, ◌∙◌, subst, arith}
-use Rattle.bpf_insn.specs.declared.operands.Operands.{Operands}
+use Rattle.std.proofs.Common.{◌+◌, ◌++◌, drop, refl, ap, sym, ◌∙◌, subst, arith}
 use Rattle.std.proofs.lemmas.List.{drop_all}
 use Rattle.csr_store.specs.Valued.{all_cells}
 use Rattle.csr_store.proofs.Valuing.{entries_are, alike_entries}
