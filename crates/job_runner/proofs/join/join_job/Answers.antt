@@ -55,6 +55,6 @@ returns-clause-result c =
       matrix = subst (λ j. IsMatrixOf j (arc_value c.in_ok-version.version)) c.job-job.ensures.job
           (joined_matrix 0 job c.in_ok-runs.runs.items c.sizes-rows.result.0 c.sizes-rows.result.1 (arc_value c.in_ok-version.version)
           cover runs c.sizes-rows.ensures.rows
-          c.sizes-rows.ensures.columns (c.in_ok-version.ensures.ok ∙ c.in_ok-stack_runs.ensures));
+          c.sizes-rows.ensures.columns (c.in_ok-version.ensures.ok ∙ c.in_ok-matrix.ensures));
       steps = c.in_ok-runs.ensures.sum ∙ count ∙ steps_all 0 job cover ∙ ap steps_of_job c.job-job.ensures.job;
     }
