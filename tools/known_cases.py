@@ -1,4 +1,4 @@
-"""Folds by operators that the program knows by their code, and by operators that nearly are one: another register, another order, another
+"""Folds and products by operators that the program knows by their code, and by operators that nearly are one: another register, another order, another
 width, one more instruction, a jump over two. Values and steps are those of the plain server in Python (tools/reference)."""
 import os
 import subprocess
@@ -43,10 +43,38 @@ def folds_by_known_operators(program: str) -> None:
     for text in operators():
         given += assembly_command('f', text.encode(), 'binary') + b'reduce R f A\nrun\nshow R\n'
         assemblies += 1
+    run_as_reference(program, given, b'ok run 1 ', assemblies)
+
+
+def products_by_known_operators(program: str) -> None:
+    """Each operator adds, multiplies, and does both under a mask and where terms are few beside the columns. The first factor has rows of
+    no entry, of one, and of up to six; the second a row of no entry, and one of more entries than are called together."""
+    factor = [(2, 3, -7), (3, 1, 5), (3, 4, 1 << 40), (4, 3, 0), (4, 5, -1), (4, 6, 3)] + [(5, k, k * k - 9) for k in range(1, 7)]
+    second = [(k, j, value) for k, j, value in many_entries(40, 10) if j % 4 != k % 4] + [(6, j, j - 35) for j in range(1, 71)]
+    wide = [(k, j * 9973 + k * (k % 2), value) for k, j, value in many_entries(18, 3)]
+    mask = [(i, j, 1) for i in (2, 4, 5) for j in range(i, 71, 3)]
+    given = assembly_command('plus', b'mov64 r0, r1\nadd64 r0, r2\nexit\n', 'binary')
+    given += assembly_command('times', b'mov64 r0, r1\nmul64 r0, r2\nexit\n', 'binary')
+    for name, rows, columns, entries in (('A', 5, 6, factor), ('B', 6, 70, second), ('W', 6, 100000, wide), ('K', 5, 70, mask)):
+        given += matrix_command(name, matrix_text(rows, columns, entries))
+    assemblies = 0
+    for text in operators():
+        given += assembly_command('f', text.encode(), 'binary')
+        given += b'product P f times A B\nproduct Q plus f A B\nproduct R f f A B mask K\nproduct S f f A W\nrun\n'
+        given += b'show P\nshow Q\nshow R\nshow S\n'
+        assemblies += 1
+    run_as_reference(program, given, b'ok run 4 ', assemblies)
+
+
+def run_as_reference(program: str, given: bytes, ran: bytes, times: int) -> None:
+    """The program replies to a session what the reference does, which ran so many times."""
     done = subprocess.run([sys.executable, REFERENCE] + run_words(), input=given, stdout=subprocess.PIPE, check=True)
-    if done.stdout.count(b'ok run 1 ') != assemblies:
-        raise Wrong('the reference ran %d of %d operators' % (done.stdout.count(b'ok run 1 '), assemblies))
+    if done.stdout.count(ran) != times:
+        raise Wrong('the reference ran %d of %d operators' % (done.stdout.count(ran), times))
     run_session(program, run_words(), given, done.stdout)
 
 
-KNOWN_CASES: Dict[str, Callable[[str], None]] = {'folds-by-known-operators': folds_by_known_operators}
+KNOWN_CASES: Dict[str, Callable[[str], None]] = {
+    'folds-by-known-operators': folds_by_known_operators,
+    'products-by-known-operators': products_by_known_operators,
+}

@@ -6,18 +6,20 @@
 //!
 //! A row of the result is summed in a [`Scratch`], which a caller keeps from call to call: a word for each column, with a mark that
 //! tells whether the word is of this row, so that none is ever emptied (`held`). The rows of B that A's row names are added one after
-//! another, up to 64 cells at a time: their products are made together, the terms whose column has a sum already are added together, since
-//! no two cells of one row of B have one column, and the others begin a sum (`accumulator`). Nothing waits from row to row of B. The columns
-//! that have a sum are listed as long as they are fewer than one in 16, and the list is put in order; else a bit a column is read off.
-//! Where there is no mask, a row of A with one entry is not summed at all: it makes the row of B that it names, each word multiplied.
+//! another, up to 64 cells at a time: their products are made together, and then the terms are added. An operator that is known by its
+//! program adds each term to its sum, or begins it, in a loop that was compiled for it (`terms`). By any other the terms whose column has a
+//! sum already are added together, since no two cells of one row of B have one column, and the others begin a sum (`accumulator`). Nothing
+//! waits from row to row of B. The columns that have a sum are listed as long as they are fewer than one in 16, and the list is put in
+//! order; else a bit a column is read off. Where there is no mask, a row of A with one entry is not summed at all: it makes the row of B
+//! that it names, each word multiplied.
 //!
 //! The sums have their room when a range has a term, never before, and not while the terms so far are few beside many columns: each row is
 //! then summed in lists that are as long as it has terms. So the work is linear in the multiplications, the rows and the entries, but for
 //! the order of a row's columns; and the room of the result is taken row by row.
 //!
 //! Read `factors` and `product`, `row` (one row), `single` (a row of A with one entry, over `specs/inner/Single.antt`), `progress` (rows
-//! of B, under the mask), `accumulator` (cells of one row of B) with `additions`, `sums`, `held` and `marked` (what is kept of columns), `emit`
-//! (sums into the result) and `marks` (the mask's row), over `specs/inner/Sums.antt`, `specs/inner/Adding.antt` and
+//! of B, under the mask), `accumulator` (cells of one row of B) with `terms`, `additions`, `sums`, `held` and `marked` (what is kept of
+//! columns), `emit` (sums into the result) and `marks` (the mask's row), over `specs/inner/Sums.antt`, `specs/inner/Adding.antt` and
 //! `specs/inner/Held.antt`; and `few` (rows of few terms) with `columns` (the columns of these terms), over `specs/inner/Few.antt`.
 #![tactic(auto)]
 
