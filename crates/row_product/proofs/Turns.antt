@@ -59,13 +59,6 @@ zero_all k [] l h = tt
 zero_all zero (m ∷ marks) l h = absurd (omega (arith, l))
 zero_all (suc k) (m ∷ marks) l h = (h.0, zero_all k marks (omega (arith, l)) h.1)
 
-pub held_at : (turn : ℕ) (marks words : List ℕ) (j d e : ℕ) → length marks ≤ length words → j < length marks
-    → slot (marked turn marks words) j ≡ (if nat_eq (get_or marks j d) turn then Some (get_or words j e) else None)
-held_at turn [] words j d e h l = absurd (omega (arith, l))
-held_at turn (m ∷ marks) [] j d e h l = absurd (omega (arith, h))
-held_at turn (m ∷ marks) (w ∷ words) zero d e h l = refl
-held_at turn (m ∷ marks) (w ∷ words) (suc j) d e h l = held_at turn marks words j d e (omega (arith, h)) (omega (arith, l))
-
 pub held_some : (turn : ℕ) (marks words : List ℕ) (j d e : ℕ) → length marks ≤ length words → j < length marks
     → get_or marks j d ≡ turn → slot (marked turn marks words) j ≡ Some (get_or words j e)
 held_some turn [] words j d e h l q = absurd (omega (arith, l))

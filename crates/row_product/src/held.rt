@@ -1,5 +1,5 @@
 //! A word for each column, which counts where its mark is the row's.
-ghost use Rattle.std.specs.Prelude.{◌≡◌, ◌≤◌, ◌<◌, ℕ, None, Some, [], length, max, set, if◌then◌else◌, OnOk};
+ghost use Rattle.std.specs.Prelude.{◌≡◌, ◌≤◌, ◌<◌, ℕ, None, Some, [], length, max, set, OnOk};
 ghost use Rattle.row_product.specs.inner.Held.{AreUpTo};
 ghost use Rattle.row_product.specs.inner.Sums.{slot};
 
@@ -89,16 +89,6 @@ impl Held {
         } else {
             None
         }
-    }
-
-    /// Whether a column has a sum, and the word that is it then; else any word. Unlike `get` it takes no jump.
-    #[inline(always)]
-    pub(crate) fn look(&self, column: u64) -> (bool, u64)
-        requires { column < length self.now }
-        ensures { slot self.now column ≡ (if result.0 then Some result.1 else None) }
-    {
-        let column = column as usize;
-        (self.marks[column] == self.turn, self.words[column])
     }
 
     /// Gives a column a sum.

@@ -20,7 +20,7 @@ const COLUMNS_A_SUM: u64 = 16;
 #[derive(Drop)]
 pub(crate) struct Sums {
     held: Held,
-    /// The columns that have a sum, some more than once, unless there are `most`.
+    /// The columns that have a sum, unless there are `most`.
     touched: Vec<u64>,
     most: usize,
     /// A bit for each column, in words of 64. Those that have a sum have theirs set, and others may.
@@ -100,7 +100,7 @@ impl Sums {
         self.held.get(column)
     }
 
-    /// Gives a column a sum, and notes the column, which its first sum wants; a further one may note it again.
+    /// Gives a column that has no sum its first.
     #[inline(always)]
     pub(crate) fn begin_sum(&mut self, column: u64, sum: u64)
         requires { column < length self.old }
@@ -125,8 +125,7 @@ impl Sums {
         }
     }
 
-    /// Adds a term to the sum of a column, or begins it, by an operator that computes a function. Answers the steps. Which of both it is
-    /// can't be foretold, so all that both need is done without a jump.
+    /// Adds a term to the sum of a column, or begins it, by an operator that computes a function. Answers the steps.
     #[inline(always)]
     pub(crate) fn add<F: Function>(&mut self, add: &Prepared, column: u64, term: u64) -> u64
         requires computes { Computes add.now F.meaning F.price }
@@ -134,15 +133,17 @@ impl Sums {
         ensures sum { self.new ≡ set self.old column (Some (added add.now (slot self.old column) term)) }
         ensures steps { result ≡ steps_of (added_calls add.now (slot self.old column) term) }
     {
-        let (is_further, so_far) = self.held.look(column);
-        let further = call_by::<F>(add, so_far, term);
-        let sum = if is_further {
-            further.value
-        } else {
-            term
-        };
-        self.begin_sum(column, sum);
-        if is_further { further.steps } else { 0 }
+        match self.get(column) {
+            Some(so_far) => {
+                let sum = call_by::<F>(add, so_far, term);
+                self.put(column, sum.value);
+                sum.steps
+            }
+            None => {
+                self.begin_sum(column, term);
+                0
+            }
+        }
     }
 
     /// Puts the sums into the open row, by ascending column.
