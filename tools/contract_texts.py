@@ -14,6 +14,7 @@ FUNCTION = re.compile(r'^( *)(pub(?:\([a-z]+\))? )?(?:const )?fn (\w+)', re.M)
 BLOCK = re.compile(r'^(?:(?:pub(?:\(\w+\))? )?trait (\w+)|impl(?:<.*?>)? (?:(\w+)(?:<.*?>)? for )?(\w+))', re.M)
 ITEM = re.compile(r'^(?:pub(?:\(\w+\))? )?(?:struct|enum|trait) (\w+)', re.M)
 CLAUSE = re.compile(r'\{$|;$|^ *(?:requires|ensures) ', re.M)
+LABEL = re.compile(r'^( *(?:requires|ensures)) \w+ (?=\{)', re.M)
 MEMBER = re.compile(r'^ +ghost (?!use|invariant)\w.*?;$', re.M | re.S)
 
 
@@ -56,7 +57,7 @@ class Crate:
         return name in self.exported or name not in self.own
 
     def contracts(self, path: str) -> Iterator[str]:
-        """The signature and clauses of each function of a file that other crates can call."""
+        """The signature and clauses of each function of a file that other crates can call, without the clauses' own names."""
         text = read(path)
         blocks = blocks_of(text)
         for head in FUNCTION.finditer(text):
@@ -68,7 +69,7 @@ class Crate:
             else:
                 seen = head.group(2) == 'pub ' and (path in self.open or head.group(3) in self.exported)
             if seen:
-                yield clauses_of(text[head.start():], head.group(1))
+                yield LABEL.sub(r'\1 ', clauses_of(text[head.start():], head.group(1)))
 
     def views(self, path: str) -> Iterator[str]:
         """The ghost members of a file's types and traits, but for invariants, that contracts of other crates see."""

@@ -111,9 +111,8 @@ fn sizes(job: &Job) -> (u64, u64)
 /// The first operand of a job. What apply makes of it without a mask has its entries at the same positions.
 fn first_operand(job: &Job) -> &Matrix {
     match job.form() {
-        Form::Apply { operand, .. }
-        | Form::Select { operand, .. }
-        | Form::Reduce { operand, .. } => operand,
+        Form::Apply { operand, .. } | Form::Select { operand, .. } | Form::Reduce { operand, .. } =>
+            operand,
         Form::Union { left, .. } | Form::Both { left, .. } | Form::Product { left, .. } => left,
     }
 }
