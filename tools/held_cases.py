@@ -66,6 +66,8 @@ def size_sessions() -> List[Held]:
         Held('a row that is mapped', rows + b'apply B inc A\nrun\n', MANY_ROWS),
         Held('a row that is mapped four times',
              rows + b'apply B inc A\napply C inc A\napply D inc A\napply E inc A\nrun\n', MANY_ROWS),
+        Held('a row that is mapped in four batches, whose results share where rows start',
+             rows + b'apply B inc A\nrun\napply C inc A\nrun\napply D inc A\nrun\napply E inc A\nrun\n', MANY_ROWS),
         Held('a row that is selected from, joined and reduced',
              rows + b'select B all A 0\nunion C plus A A\nreduce D plus A\nrun\n', MANY_ROWS),
         Held('a text that declares 16,777,216 entries and has one', OPERATORS + matrix_command('A', promised), 1, 1),
