@@ -262,7 +262,7 @@ def bytes_held(program):
         ('an entry of a text that goes backwards', backwards, count, 38),
         ('a slot', b''.join(operator_command('n%d' % number, longest) for number in range(100)), 100 * MOST_SLOTS, 178),
         ('a slot of assembly', b''.join(assembly_command('n%d' % number, lines) for number in range(100)), 100 * MOST_SLOTS, 178),
-        ('a name', b''.join(matrix_command('n%d' % number, matrix_text(1, 1, [])) for number in range(5000)), 5000, 226),
+        ('a name', b''.join(matrix_command('n%d' % number, matrix_text(1, 1, [])) for number in range(5000)), 5000, 270),
     ]
     with Witness() as witness:
         for what, input_, units, bound in sessions:
