@@ -1,8 +1,9 @@
 /* bench_peers MATRIX FACTOR THREADS ROUNDS: what SuiteSparse:GraphBLAS takes for the jobs of tools/bench_peers.py, which compiles it.
  *
  * MATRIX and FACTOR are texts of the Matrix Market, `integer general`; the products are of FACTOR, all else is of MATRIX. A line a
- * measurement: form, operators (user or builtin), names of the result (same or new), the least milliseconds of a round, the number of
- * the result's entries, and a sum over them all, for comparing results. The first line has the version of the library. */
+ * measurement: form, operators (user or builtin; or short or long, also the user's own), names of the result (same or new), the least
+ * milliseconds of a round, the number of the result's entries, and a sum over them all, for comparing results. The first line has the
+ * version of the library. */
 #if __has_include(<GraphBLAS.h>)
 #include <GraphBLAS.h>
 #else
@@ -31,6 +32,15 @@ struct operators {
     GrB_BinaryOp plus, times;
     GrB_Monoid sum;
     GrB_Semiring plus_times, min_plus;
+};
+
+/* Functions of the user's own for one set of operators. */
+struct functions {
+    const char *name;
+    GxB_unary_function increment;
+    GxB_index_unary_function row, lower;
+    GxB_binary_function plus, times, lesser; /* plus is associative and commutative, with this zero; lesser may lack */
+    int64_t zero;
 };
 
 /* The result of a job: a matrix, but a vector of `reduce`. */
@@ -67,21 +77,55 @@ static void lower(void *z, const void *x, GrB_Index i, GrB_Index j, const void *
     *(bool *)z = (int64_t)j <= (int64_t)(i + WORD(thunk));
 }
 
-static struct operators user_operators(void)
+/* What the program doesn't know by its code, of up to five BPF instructions and of ten: tools/bench_peers.py has the same as code. */
+static void plus_short(void *z, const void *x, const void *y) { *(uint64_t *)z = WORD(x) + WORD(y) + 5; }
+static void times_short(void *z, const void *x, const void *y) { *(uint64_t *)z = WORD(x) * WORD(y) ^ 85; }
+static void increment_long(void *z, const void *x)
 {
-    struct operators made = {.name = "user"};
-    GrB_BinaryOp min;
-    GrB_Monoid least;
-    OK(GrB_UnaryOp_new(&made.increment, increment, GrB_INT64, GrB_INT64));
-    OK(GrB_IndexUnaryOp_new(&made.row, row, GrB_INT64, GrB_INT64, GrB_INT64));
-    OK(GrB_IndexUnaryOp_new(&made.lower, lower, GrB_BOOL, GrB_INT64, GrB_INT64));
-    OK(GrB_BinaryOp_new(&made.plus, plus, GrB_INT64, GrB_INT64, GrB_INT64));
-    OK(GrB_BinaryOp_new(&made.times, times, GrB_INT64, GrB_INT64, GrB_INT64));
-    OK(GrB_BinaryOp_new(&min, lesser, GrB_INT64, GrB_INT64, GrB_INT64));
-    OK(GrB_Monoid_new_INT64(&made.sum, made.plus, (int64_t)0));
-    OK(GrB_Monoid_new_INT64(&least, min, INT64_MAX));
+    uint64_t word = WORD(x);
+    *(uint64_t *)z = ((((((word + 1) ^ 85) << 1) - word) ^ 51) + word) >> 3 ^ word;
+}
+static void row_long(void *z, const void *x, GrB_Index i, GrB_Index j, const void *thunk)
+{
+    *(uint64_t *)z = ((((((i + WORD(thunk)) ^ j) << 1) + WORD(x)) ^ 51) - i) >> 2 ^ j;
+}
+static void lower_long(void *z, const void *x, GrB_Index i, GrB_Index j, const void *thunk)
+{
+    *(bool *)z = (int64_t)j <= (int64_t)(i + WORD(thunk) + (((WORD(x) ^ 5) * 3 & 7) ^ 1));
+}
+static void plus_long(void *z, const void *x, const void *y)
+{
+    *(uint64_t *)z = (((WORD(x) ^ 85) + 51) + ((WORD(y) ^ 85) + 51) - 51) ^ 85;
+}
+static void times_long(void *z, const void *x, const void *y)
+{
+    uint64_t left = WORD(x), right = WORD(y);
+    *(uint64_t *)z = (((((left * right ^ 85) + left) << 1) ^ right) - left) >> 3 ^ right;
+}
+
+static const struct functions own[] = {
+    {"user", increment, row, lower, plus, times, lesser, 0},
+    {"short", increment, row, lower, plus_short, times_short, NULL, -5},
+    {"long", increment_long, row_long, lower_long, plus_long, times_long, NULL, -51 ^ 85},
+};
+
+static struct operators user_operators(const struct functions *by)
+{
+    struct operators made = {.name = by->name};
+    OK(GrB_UnaryOp_new(&made.increment, by->increment, GrB_INT64, GrB_INT64));
+    OK(GrB_IndexUnaryOp_new(&made.row, by->row, GrB_INT64, GrB_INT64, GrB_INT64));
+    OK(GrB_IndexUnaryOp_new(&made.lower, by->lower, GrB_BOOL, GrB_INT64, GrB_INT64));
+    OK(GrB_BinaryOp_new(&made.plus, by->plus, GrB_INT64, GrB_INT64, GrB_INT64));
+    OK(GrB_BinaryOp_new(&made.times, by->times, GrB_INT64, GrB_INT64, GrB_INT64));
+    OK(GrB_Monoid_new_INT64(&made.sum, made.plus, by->zero));
     OK(GrB_Semiring_new(&made.plus_times, made.sum, made.times));
-    OK(GrB_Semiring_new(&made.min_plus, least, made.plus));
+    if (by->lesser) {
+        GrB_BinaryOp min;
+        GrB_Monoid least;
+        OK(GrB_BinaryOp_new(&min, by->lesser, GrB_INT64, GrB_INT64, GrB_INT64));
+        OK(GrB_Monoid_new_INT64(&least, min, INT64_MAX));
+        OK(GrB_Semiring_new(&made.min_plus, least, made.plus));
+    }
     return made;
 }
 
@@ -210,10 +254,16 @@ int main(int count, char **words)
     OK(GrB_Matrix_new(&turned, GrB_INT64, columns, rows));
     OK(GrB_transpose(turned, NULL, NULL, whole, NULL));
     OK(GrB_Matrix_wait(turned, GrB_MATERIALIZE));
-    const struct operators with[] = {user_operators(), builtin_operators()};
+    const struct operators with[] = {user_operators(&own[0]), builtin_operators()};
     for (int form = 0; form < FORMS; form++)
         for (int which = 0; which < 4; which++)
             measure((enum form)form, &with[which / 2], which % 2, rounds);
+    const enum form others[] = {APPLY, APPLY_INDEX, SELECT, UNION, BOTH, REDUCE, PRODUCT};
+    for (int set = 1; set < 3; set++) {
+        const struct operators these = user_operators(&own[set]);
+        for (size_t at = 0; at < sizeof others / sizeof *others; at++)
+            measure(others[at], &these, 0, rounds);
+    }
     OK(GrB_finalize());
     return 0;
 }

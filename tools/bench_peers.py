@@ -20,35 +20,70 @@ ROUNDS = 5
 QUIET = 0.5  # the load average up to which a machine has little else to do
 WORD = (1 << 64) - 1
 
-# The name of a form in bench_peers.c, and the job; `%s` is where its result's name stands.
+# The name of a form in bench_peers.c, and the job; `out` is where its result's name stands, and the others are operators.
 FORMS = [
-    ('apply', b'apply %s inc A'),
-    ('apply-index', b'apply %s row A 5'),
-    ('select', b'select %s low A 0'),
-    ('union', b'union %s plus A A'),
-    ('union-turned', b'union %s plus A T'),
-    ('both', b'both %s times A A'),
-    ('both-turned', b'both %s times A T'),
-    ('reduce', b'reduce %s plus A'),
-    ('product', b'product %s plus times S S'),
-    ('product-min-plus', b'product %s min plus S S'),
-    ('product-masked', b'product %s plus times S S mask S'),
-    ('apply-masked', b'apply %s inc A mask T'),
+    ('apply', 'apply {out} {inc} A'),
+    ('apply-index', 'apply {out} {row} A 5'),
+    ('select', 'select {out} {low} A 0'),
+    ('union', 'union {out} {plus} A A'),
+    ('union-turned', 'union {out} {plus} A T'),
+    ('both', 'both {out} {times} A A'),
+    ('both-turned', 'both {out} {times} A T'),
+    ('reduce', 'reduce {out} {plus} A'),
+    ('product', 'product {out} {plus} {times} S S'),
+    ('product-min-plus', 'product {out} {min} {plus} S S'),
+    ('product-masked', 'product {out} {plus} {times} S S mask S'),
+    ('apply-masked', 'apply {out} {inc} A mask T'),
 ]
 
-OPERATORS = [
-    ('inc', 'unary', b'mov64 r0, r1\nadd64 r0, 1\nexit\n'),
-    ('row', 'index', b'mov64 r0, r2\nadd64 r0, r4\nexit\n'),
-    ('low', 'index', b'mov64 r0, 1\nadd64 r2, r4\njsle64 r3, r2, 1\nmov64 r0, 0\nexit\n'),
-    ('plus', 'binary', b'mov64 r0, r1\nadd64 r0, r2\nexit\n'),
-    ('times', 'binary', b'mov64 r0, r1\nmul64 r0, r2\nexit\n'),
-    ('min', 'binary', b'mov64 r0, r1\njsle64 r1, r2, 1\nmov64 r0, r2\nexit\n'),
-]
+OPERATORS = {
+    'inc': ('unary', 'mov64 r0, r1; add64 r0, 1; exit'),
+    'row': ('index', 'mov64 r0, r2; add64 r0, r4; exit'),
+    'low': ('index', 'mov64 r0, 1; add64 r2, r4; jsle64 r3, r2, 1; mov64 r0, 0; exit'),
+    'plus': ('binary', 'mov64 r0, r1; add64 r0, r2; exit'),
+    'times': ('binary', 'mov64 r0, r1; mul64 r0, r2; exit'),
+    'min': ('binary', 'mov64 r0, r1; jsle64 r1, r2, 1; mov64 r0, r2; exit'),
+}
+
+# Operators that the program doesn't know by their code, of three to five instructions and of ten. The library has the same as
+# operators of the user's own. The sums are associative and commutative, since the library adds in an order of its own.
+OTHERS = {
+    'short': dict(OPERATORS,
+                  plus=('binary', 'mov64 r0, r1; add64 r0, r2; add64 r0, 5; exit'),
+                  times=('binary', 'mov64 r0, r1; mul64 r0, r2; xor64 r0, 85; exit')),
+    'long': {
+        'inc': ('unary', 'mov64 r0, r1; add64 r0, 1; xor64 r0, 85; lsh64 r0, 1; sub64 r0, r1; xor64 r0, 51; add64 r0, r1; rsh64 r0, 3; '
+                'xor64 r0, r1; exit'),
+        'row': ('index', 'mov64 r0, r2; add64 r0, r4; xor64 r0, r3; lsh64 r0, 1; add64 r0, r1; xor64 r0, 51; sub64 r0, r2; rsh64 r0, 2; '
+                'xor64 r0, r3; exit'),
+        'low': ('index', 'xor64 r1, 5; mul64 r1, 3; and64 r1, 7; xor64 r1, 1; add64 r2, r4; add64 r2, r1; mov64 r0, 1; jsle64 r3, r2, 1; '
+                'mov64 r0, 0; exit'),
+        'plus': ('binary', 'mov64 r3, r2; mov64 r0, r1; xor64 r0, 85; add64 r0, 51; xor64 r3, 85; add64 r3, 51; add64 r0, r3; sub64 r0, 51; '
+                 'xor64 r0, 85; exit'),
+        'times': ('binary', 'mov64 r0, r1; mul64 r0, r2; xor64 r0, 85; add64 r0, r1; lsh64 r0, 1; xor64 r0, r2; sub64 r0, r1; rsh64 r0, 3; '
+                  'xor64 r0, r2; exit'),
+    },
+}
+OTHER_FORMS = ['apply', 'apply-index', 'select', 'union', 'both', 'reduce', 'product']
 
 # The number of a result's entries, and the sum that bench_peers.c makes of them.
 Summary = Tuple[int, int]
-# Whose operators (spmat's, or the library's `user` or `builtin` ones), the form, the names of results, and the threads.
+# Whose operators (spmat's, or the library's `user` or `builtin` ones; or a set of others, behind whose it is), the form, the names of
+# results, and the threads.
 Key = Tuple[str, str, str, int]
+
+
+def job(form: str, out: str, operators: str = '') -> bytes:
+    """The command for a form, by the operators of a set."""
+    names = {name: name + operators for name in OPERATORS}
+    return dict(FORMS)[form].format(out=out, **names).encode()
+
+
+def uploads() -> bytes:
+    """The commands that upload all operators."""
+    sets = [('', OPERATORS)] + sorted(OTHERS.items())
+    return b''.join(assembly_command(name + operators, code.replace('; ', '\n').encode() + b'\n', kind)
+                    for operators, made in sets for name, (kind, code) in made.items())
 
 
 class Graphs(NamedTuple):
@@ -98,10 +133,11 @@ class Measured:
 
     def __init__(self) -> None:
         self.least: Dict[Key, float] = {}
-        self.results: Dict[str, Tuple[Summary, Key]] = {}
+        self.results: Dict[Tuple[str, str], Tuple[Summary, Key]] = {}
 
     def take(self, key: Key, milliseconds: float, result: Summary) -> None:
-        expected, by = self.results.setdefault(key[1], (result, key))
+        operators = key[0].split()[-1]
+        expected, by = self.results.setdefault((key[1], operators if operators in OTHERS else ''), (result, key))
         if result != expected:
             raise SystemExit('bench: results differ (entries, sum): %s is %s, but %s is %s' % (key, result, by, expected))
         self.least[key] = min(milliseconds, self.least.get(key, milliseconds))
@@ -113,7 +149,7 @@ class Ours:
     def __init__(self, program: str, given: Graphs) -> None:
         self.program = program
         self.setup = matrix_command('A', given.whole) + matrix_command('T', given.turned) + matrix_command('S', given.factor)
-        self.setup += b''.join(assembly_command(name, text, kind) for name, kind, text in OPERATORS)
+        self.setup += uploads()
         self.summaries: Dict[bytes, Summary] = {}
 
     def summary(self, text: bytes) -> Summary:
@@ -124,13 +160,19 @@ class Ours:
         return self.summaries[digest]
 
     def measure(self, threads: int, measured: Measured) -> None:
-        for form, job in FORMS:
+        for form, _ in FORMS:
             for names in NAMES:
-                outs = [b'R%d' % at if names == 'new' else b'R' for at in range(ROUNDS)]
-                with TimedSession(self.program, threads, self.setup) as session:
-                    taken = min(session.seconds(job % out + b'\n') for out in outs)
-                    shown = session.shown(outs[-1])
-                measured.take(('spmat', form, names, threads), taken * 1e3, self.summary(shown))
+                self.measure_form('', form, names, threads, measured)
+        for operators in OTHERS:
+            for form in OTHER_FORMS:
+                self.measure_form(operators, form, NAMES[0], threads, measured)
+
+    def measure_form(self, operators: str, form: str, names: str, threads: int, measured: Measured) -> None:
+        outs = ['R%d' % at if names == 'new' else 'R' for at in range(ROUNDS)]
+        with TimedSession(self.program, threads, self.setup) as session:
+            taken = min(session.seconds(job(form, out, operators) + b'\n') for out in outs)
+            shown = session.shown(outs[-1].encode())
+        measured.take(('spmat %s' % operators if operators else 'spmat', form, names, threads), taken * 1e3, self.summary(shown))
 
 
 class Theirs:
@@ -149,7 +191,8 @@ class Theirs:
         self.library, *lines = said.splitlines()
         for line in lines:
             form, operators, names, milliseconds, entries, total = line.split()
-            measured.take((operators, form, names, threads), float(milliseconds), (int(entries), int(total)))
+            whose = 'user %s' % operators if operators in OTHERS else operators
+            measured.take((whose, form, names, threads), float(milliseconds), (int(entries), int(total)))
 
 
 def cells(least: Dict[Key, float], form: str, names: str) -> List[str]:
@@ -158,6 +201,12 @@ def cells(least: Dict[Key, float], form: str, names: str) -> List[str]:
     ratios = [mine / other for theirs in (user, builtin) for mine, other in zip(ours, theirs)]
     return (['%.2f' % taken for taken in ours] + ['%.1f' % (ours[0] / ours[1])] + ['%.2f' % taken for taken in user + builtin]
             + ['%.2f' % ratio for ratio in ratios])
+
+
+def other_cells(least: Dict[Key, float], form: str, operators: str) -> List[str]:
+    """The cells of a form by a set of other operators: ours, theirs, and ours divided by theirs."""
+    ours, user = ([least['%s %s' % (who, operators), form, NAMES[0], threads] for threads in THREADS] for who in ('spmat', 'user'))
+    return ['%.2f' % taken for taken in ours + user] + ['%.2f' % (mine / other) for mine, other in zip(ours, user)]
 
 
 def say_load(load: float) -> None:
@@ -188,6 +237,11 @@ def peers(program: str, table: Callable[..., None], row: Callable[..., None]) ->
         table('Batches beside %s, results under %s, ms of the best of %d rounds; %s' % (theirs.library, how, PASSES * ROUNDS, given.title),
               'job', 'spmat, 1 worker', '4 workers', 'times faster', "user's operators, 1 thread", '4 threads', 'built-in, 1 thread',
               '4 threads', "spmat / user's, 1", '4', 'spmat / built-in, 1', '4')
-        for form, job in FORMS:
-            row('`%s`' % (job % b'R').decode(), *cells(measured.least, form, names))
+        for form, _ in FORMS:
+            row('`%s`' % job(form, 'R').decode(), *cells(measured.least, form, names))
+    table('The same by operators that are not known by their code, of 3 to 5 instructions and of 10, beside the user\'s own; one name',
+          'job', '3 to 5: spmat, 1 worker', '4 workers', "user's, 1 thread", '4 threads', "spmat / user's, 1", '4',
+          '10: spmat, 1 worker', '4 workers', "user's, 1 thread", '4 threads', "spmat / user's, 1", '4')
+    for form in OTHER_FORMS:
+        row('`%s`' % job(form, 'R').decode(), *(cell for operators in OTHERS for cell in other_cells(measured.least, form, operators)))
     print('\nBoth sides computed the same in each of %d forms.' % len(measured.results))
