@@ -21,7 +21,6 @@
 
 pub mod builder;
 mod cells;
-mod chunk;
 mod entry_list;
 pub mod error;
 mod filler;
@@ -36,7 +35,6 @@ mod stack;
 mod starts;
 
 pub use builder::Builder;
-pub use chunk::Chunk;
 pub use entry_list::EntryList;
 pub use error::StoreError;
 pub use join::join_rows;

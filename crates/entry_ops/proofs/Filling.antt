@@ -1,5 +1,25 @@
 -- The rows of a range, row by row: what is still to come completes the range.
-use Rattle.std.proofs.Common.{◌≡◌, ◌≤◌, ◌<◌, ◌+◌, ◌-◌, ◌^◌, ℕ, List, [], ◌++◌, Option, Some, refl, sym, ap, ◌∙◌, subst, arith, append_assoc}
+use Rattle.std.proofs.Common.{
+  ◌≡◌,
+  ◌≤◌,
+  ◌<◌,
+  ◌+◌,
+  ◌-◌,
+  ◌^◌,
+  ℕ,
+  List,
+  [],
+  ◌++◌,
+  Option,
+  Some,
+  refl,
+  sym,
+  ap,
+  ◌∙◌,
+  subst,
+  arith,
+  append_assoc,
+}
 use denote.Ref.{Bor}
 use Rattle.bpf_verify.specs.Accepted.{Accepted}
 use Rattle.csr_store.specs.Grid.{Grid, IsGrid, Cell, row_of}
@@ -10,10 +30,9 @@ use Rattle.csr_store.proofs.Along.{along-next, along-over, row_of-ascends, Fills
 use Rattle.bpf_run.specs.Calls.{Call, steps_of, Charges}
 use Rattle.bpf_run.proofs.Charging.{Spends, spends-start, spends-further, spends-stop, steps-append}
 use Rattle.entry_ops.specs.declared.form.Form.{Form}
-use Rattle.entry_ops.specs.inner.Standing.{Standing, Adds, with_end, with_cells}
+use Rattle.entry_ops.specs.inner.Standing.{Standing, Adds, with_end, with_cells, IsOpen}
 use Rattle.entry_ops.specs.declared.line.Line.{Line}
 use Rattle.entry_ops.specs.inner.Walking.{
-  IsOpen,
   IsLine,
   cells_of,
   form_row,
@@ -41,7 +60,8 @@ pub lent_row_ascends : (rows columns : ℕ) (lent : Option (Bor Grid)) (g : Bor 
     → HasShape rows columns (mask_of lent) → IsGrid g.now → row ≡ row_of g.now i → Ascends 0 columns row
 lent_row_ascends rows columns lent g i row e h is r = row_ascends g.now i columns row is (shape_of rows columns lent g e h) r
 
-pub line_is : (line : Line) (n : ℕ) → line.columns ≡ n → Ascends 0 n line.left.now → Ascends 0 n line.right.now → AscendsIn n (cells_of line.mask)
+pub line_is : (line : Line) (n : ℕ) → line.columns ≡ n → Ascends 0 n line.left.now → Ascends 0 n line.right.now → AscendsIn n
+    (cells_of line.mask)
     → IsLine line
 line_is line n e l r m = record {
   left = subst (λ k. Ascends 0 k line.left.now) (sym e) l;
@@ -97,7 +117,8 @@ module _ (form : Form) (f : Accepted) (a : Grid) (b mask : Option Grid) (from to
 
       -- a row more
       pub filling-step : (mid new : Standing) (made : List Call) (cells : Row) → made ≡ form_row_calls form f a b mask i
-          → cells ≡ form_row form f a b mask i → Adds made (with_cells cells) now mid → Adds [] with_end mid new → IsFilling (i + 1) new
+          → cells ≡ form_row form f a b mask i → Adds made (with_cells cells) now mid → Adds [] with_end mid new → IsFilling
+          (i + 1) new
       filling-step mid new made cells is row d ended =
           let later = form_all_calls form f a b mask (i + 1) (to - (i + 1)) in
           record {

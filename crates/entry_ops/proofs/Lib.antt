@@ -10,7 +10,7 @@ pub mod Mapped
 pub mod Whole
 pub mod Filling
 pub mod Bounds
-pub mod Chunks
+pub mod Regions
 pub mod Positions
 pub mod OpenRows
 pub mod Giving

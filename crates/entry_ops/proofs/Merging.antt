@@ -1,5 +1,29 @@
 -- The rows of two operands, position by position: what is still to come completes the row.
-use Rattle.std.proofs.Common.{◌≡◌, ◌<◌, ◌+◌, ℕ, suc, Bool, true, false, if◌then◌else◌, List, [], ◌∷◌, ◌++◌, Option, None, Some, refl, sym, ap, ◌∙◌, subst, arith, append-nil}
+use Rattle.std.proofs.Common.{
+  ◌≡◌,
+  ◌<◌,
+  ◌+◌,
+  ℕ,
+  suc,
+  Bool,
+  true,
+  false,
+  if◌then◌else◌,
+  List,
+  [],
+  ◌∷◌,
+  ◌++◌,
+  Option,
+  None,
+  Some,
+  refl,
+  sym,
+  ap,
+  ◌∙◌,
+  subst,
+  arith,
+  append-nil,
+}
 use Rattle.std.specs.List.{AllByRecursion}
 use Rattle.bpf_verify.specs.Accepted.{Accepted}
 use Rattle.csr_store.specs.Grid.{Cell}
@@ -11,10 +35,19 @@ use Rattle.bpf_run.specs.Calls.{Call}
 use Rattle.job_forms.specs.Forms.{joint, joint_calls}
 use Rattle.entry_ops.specs.declared.form.Form.{Form}
 use Rattle.entry_ops.specs.declared.form.Form.TheVariants.{Apply, Select, Union, Both}
-use Rattle.entry_ops.specs.inner.Standing.{CanPush, FollowIn, Standing, Adds, with_cells}
-use Rattle.entry_ops.specs.inner.Walking.{form_at, form_calls, row_cells, row_calls, IsNext, IsOpen}
+use Rattle.entry_ops.specs.inner.Standing.{CanPush, FollowIn, Standing, Adds, with_cells, IsOpen}
+use Rattle.entry_ops.specs.inner.Walking.{form_at, form_calls, row_cells, row_calls, is_joint, left_over, IsNext}
 use Rattle.entry_ops.proofs.Nexts.{next_left, next_right, next_first}
-use Rattle.entry_ops.proofs.Standing.{Completes, completes-start, completes-same, completes-step, completes-end, adds-nothing, above_all, above_less}
+use Rattle.entry_ops.proofs.Standing.{
+  Completes,
+  completes-start,
+  completes-same,
+  completes-step,
+  completes-end,
+  adds-nothing,
+  above_all,
+  above_less,
+}
 
 -- ---- a form gives nothing where nothing stands
 
@@ -86,13 +119,18 @@ module _ (form : Form) (f : Accepted) (i n : ℕ) (cells : Row) (calls : List Ca
         above = subst (λ (r : Run). AllByRecursion (λ (d : Cell). d.0 < c + 1) r.opened) (sym d.rows)
             (above_all m.low c 0 (form_at form f (i, c) p q) now.rows.opened m.above next.from);
         columns = ap (λ (r : Run). r.columns) d.rows ∙ m.columns;
-        completes = completes-step cells calls old (cell_at c (form_at form f (i, c) p q)) _ (form_calls form f (i, c) p q) _ now new
+        completes = completes-step cells calls old (cell_at c (form_at form f (i, c) p q)) _ (form_calls form f (i, c) p q) _ now
+            new
             (completes-same cells calls old _ _ _ _ now m.completes cells_next calls_next) d;
       }
 
 -- a position at which nothing is added
 pub adds-none : (s : Standing) → Adds [] (with_cells []) s s
-adds-none s = record { rows = ap (λ cs. record s.rows { opened = cs }) (sym (append-nil s.rows.opened)); spends = (adds-nothing s).spends }
+adds-none s = record {
+  rows = ap (λ cs. record s.rows { opened = cs }) (sym (append-nil s.rows.opened));
+  spends =
+      (adds-nothing s).spends;
+}
 
 -- ---- what is left where one of two rows has ended
 
@@ -100,13 +138,15 @@ module _ (f : Accepted) (i n : ℕ) where
   union_left : (low : ℕ) (xs : List Cell) → Ascends low n xs → row_cells Union f i n xs [] None ≡ xs
   union_left low [] h = along-none (λ j. cells_here Union f i true j None None) 0 n (λ j. no_cell Union f i true j)
   union_left low (x ∷ xs) h =
-      next_first (cells_here Union f i) (no_cell Union f i) n low (x ∷ xs) [] None None x.0 (Some x.1) None xs [] (next_left n low x xs [] h tt) (λ j l. refl)
+      next_first (cells_here Union f i) (no_cell Union f i) n low (x ∷ xs) [] None None x.0 (Some x.1) None xs []
+      (next_left n low x xs [] h tt) (λ j l. refl)
       ∙ ap (λ us. x ∷ us) (union_left (suc x.0) xs h.2)
 
   union_right : (low : ℕ) (ys : List Cell) → Ascends low n ys → row_cells Union f i n [] ys None ≡ ys
   union_right low [] h = along-none (λ j. cells_here Union f i true j None None) 0 n (λ j. no_cell Union f i true j)
   union_right low (y ∷ ys) h =
-      next_first (cells_here Union f i) (no_cell Union f i) n low [] (y ∷ ys) None None y.0 None (Some y.1) [] ys (next_right n low [] y ys h tt) (λ j l. refl)
+      next_first (cells_here Union f i) (no_cell Union f i) n low [] (y ∷ ys) None None y.0 None (Some y.1) [] ys
+      (next_right n low [] y ys h tt) (λ j l. refl)
       ∙ ap (λ us. y ∷ us) (union_right (suc y.0) ys h.2)
 
   joint_left : (x : Option ℕ) → joint_calls f x None ≡ []
@@ -123,36 +163,65 @@ module _ (f : Accepted) (i n : ℕ) where
   calls_right : (ys : List Cell) → along (λ j. joint_calls f None (at ys j)) 0 n ≡ []
   calls_right ys = along-none (λ j. joint_calls f None (at ys j)) 0 n (λ j. refl)
 
-  module _ (cells : Row) (calls : List Call) (old : Standing) (xs ys : List Cell) (now : Standing) where
-    module _ (m : IsMerging Union f i n cells calls old xs ys now) where
-      pub union-end-left : ys ≡ [] → (new : Standing) → Adds [] (with_cells xs) now new → Adds calls (with_cells cells) old new
-      union-end-left e new d =
-          completes-end cells calls old new (completes-step cells calls old xs [] [] [] now new
-          (completes-same cells calls old _ _ _ _ now m.completes
-          (ap (λ us. row_cells Union f i n xs us None) e ∙ (union_left m.low xs m.left_row ∙ sym (append-nil xs)))
-          (ap (λ us. row_calls Union f i n xs us None) e ∙ calls_left xs)) d)
+-- of a union it is copied, and of where both have a word it is left out
 
-      pub union-end-right : xs ≡ [] → (new : Standing) → Adds [] (with_cells ys) now new → Adds calls (with_cells cells) old new
-      union-end-right e new d =
-          completes-end cells calls old new (completes-step cells calls old ys [] [] [] now new
-          (completes-same cells calls old _ _ _ _ now m.completes
-          (ap (λ us. row_cells Union f i n us ys None) e ∙ (union_right m.low ys m.right_row ∙ sym (append-nil ys)))
-          (ap (λ us. row_calls Union f i n us ys None) e ∙ calls_right ys)) d)
+left_cells : (form : Form) → is_joint form ≡ true → (f : Accepted) (i n low : ℕ) (xs : List Cell) → Ascends low n xs
+    → row_cells form f i n xs [] None ≡ left_over form xs
+left_cells (Apply thunk) e f i n low xs h = absurd (cc)
+left_cells (Select thunk) e f i n low xs h = absurd (cc)
+left_cells Union e f i n low xs h = union_left f i n low xs h
+left_cells Both e f i n low xs h = along-none (λ j. cell_at j (joint f (at xs j) None)) 0 n (λ j. both_left f i n j (at xs j))
 
-      -- the cells of either row may be added
-      pub merging-follow-left : FollowIn xs now.rows
-      merging-follow-left = record { low = m.low; above = m.above; ascend = subst (λ k. Ascends m.low k xs) (sym m.columns) m.left_row }
+right_cells : (form : Form) → is_joint form ≡ true → (f : Accepted) (i n low : ℕ) (ys : List Cell) → Ascends low n ys
+    → row_cells form f i n [] ys None ≡ left_over form ys
+right_cells (Apply thunk) e f i n low ys h = absurd (cc)
+right_cells (Select thunk) e f i n low ys h = absurd (cc)
+right_cells Union e f i n low ys h = union_right f i n low ys h
+right_cells Both e f i n low ys h = along-none (λ j. cell_at j (joint f None (at ys j))) 0 n (λ j. refl)
 
-      pub merging-follow-right : FollowIn ys now.rows
-      merging-follow-right = record { low = m.low; above = m.above; ascend = subst (λ k. Ascends m.low k ys) (sym m.columns) m.right_row }
+no_calls_left : (form : Form) → is_joint form ≡ true → (f : Accepted) (i n : ℕ) (xs : List Cell) → row_calls form f i n xs [] None
+    ≡ []
+no_calls_left (Apply thunk) e f i n xs = absurd (cc)
+no_calls_left (Select thunk) e f i n xs = absurd (cc)
+no_calls_left Union e f i n xs = calls_left f i n xs
+no_calls_left Both e f i n xs = calls_left f i n xs
 
-    module _ (m : IsMerging Both f i n cells calls old xs ys now) where
-      pub both-end-left : ys ≡ [] → Adds calls (with_cells cells) old now
-      both-end-left e = completes-end cells calls old now (completes-same cells calls old _ _ _ _ now m.completes
-          (ap (λ us. row_cells Both f i n xs us None) e ∙ along-none (λ j. cell_at j (joint f (at xs j) None)) 0 n (λ j. both_left j (at xs j)))
-          (ap (λ us. row_calls Both f i n xs us None) e ∙ calls_left xs))
+no_calls_right : (form : Form) → is_joint form ≡ true → (f : Accepted) (i n : ℕ) (ys : List Cell) → row_calls form f i n [] ys
+    None ≡ []
+no_calls_right (Apply thunk) e f i n ys = absurd (cc)
+no_calls_right (Select thunk) e f i n ys = absurd (cc)
+no_calls_right Union e f i n ys = calls_right f i n ys
+no_calls_right Both e f i n ys = calls_right f i n ys
 
-      pub both-end-right : xs ≡ [] → Adds calls (with_cells cells) old now
-      both-end-right e = completes-end cells calls old now (completes-same cells calls old _ _ _ _ now m.completes
-          (ap (λ us. row_cells Both f i n us ys None) e ∙ along-none (λ j. cell_at j (joint f None (at ys j))) 0 n (λ j. refl))
-          (ap (λ us. row_calls Both f i n us ys None) e ∙ calls_right ys))
+module _ (form : Form) (f : Accepted) (i n : ℕ) (cells : Row) (calls : List Call) (old : Standing) (xs ys : List Cell)
+    (now : Standing)
+    (m : IsMerging form f i n cells calls old xs ys now) where
+  pub merging-end-left : is_joint form ≡ true → ys ≡ [] → (new : Standing) → Adds [] (with_cells (left_over form xs)) now new
+      → Adds calls (with_cells cells) old new
+  merging-end-left j e new d =
+      completes-end cells calls old new (completes-step cells calls old (left_over form xs) [] [] [] now new
+      (completes-same cells calls old _ _ _ _ now m.completes
+      (ap (λ us. row_cells form f i n xs us None) e ∙
+      (left_cells form j f i n m.low xs m.left_row ∙ sym (append-nil (left_over form xs))))
+      (ap (λ us. row_calls form f i n xs us None) e ∙ no_calls_left form j f i n xs)) d)
+
+  pub merging-end-right : is_joint form ≡ true → xs ≡ [] → (new : Standing) → Adds [] (with_cells (left_over form ys)) now new
+      → Adds calls (with_cells cells) old new
+  merging-end-right j e new d =
+      completes-end cells calls old new (completes-step cells calls old (left_over form ys) [] [] [] now new
+      (completes-same cells calls old _ _ _ _ now m.completes
+      (ap (λ us. row_cells form f i n us ys None) e ∙
+      (right_cells form j f i n m.low ys m.right_row ∙ sym (append-nil (left_over form ys))))
+      (ap (λ us. row_calls form f i n us ys None) e ∙ no_calls_right form j f i n ys)) d)
+
+  -- the cells of either row may be added
+  pub merging-follow-left : FollowIn xs now.rows
+  merging-follow-left = record { low = m.low; above = m.above; ascend = subst (λ k. Ascends m.low k xs) (sym m.columns) m.left_row }
+
+  pub merging-follow-right : FollowIn ys now.rows
+  merging-follow-right = record {
+    low = m.low;
+    above = m.above;
+    ascend = subst (λ k. Ascends m.low k ys) (sym m.columns)
+        m.right_row;
+  }

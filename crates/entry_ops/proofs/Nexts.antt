@@ -1,5 +1,26 @@
 -- What is listed along two rows begins with what stands at their next column.
-use Rattle.std.proofs.Common.{◌≡◌, ◌<◌, ◌+◌, ℕ, suc, Bool, List, [], ◌∷◌, ◌++◌, length, Option, None, Some, refl, ap, ◌∙◌, arith, subst, sym}
+use Rattle.std.proofs.Common.{
+  ◌≡◌,
+  ◌<◌,
+  ◌+◌,
+  ℕ,
+  suc,
+  Bool,
+  List,
+  [],
+  ◌∷◌,
+  ◌++◌,
+  length,
+  Option,
+  None,
+  Some,
+  refl,
+  ap,
+  ◌∙◌,
+  arith,
+  subst,
+  sym,
+}
 use Rattle.csr_store.specs.Grid.{Cell}
 use Rattle.csr_store.specs.Along.{along}
 use Rattle.csr_store.specs.Ascending.{Ascends, at, shows}
@@ -67,24 +88,6 @@ later_row n low c y ys l h = (omega arith, h.1, h.2)
 
 -- the same by what the rows are
 module _ (n low : ℕ) (left right : List Cell) (l : Ascends low n left) (r : Ascends low n right) where
-  pub alone_left : (x : Cell) (xs : List Cell) → left ≡ x ∷ xs → length right ≡ 0
-      → IsNext n low left right x.0 (Some x.1) None xs right
-  alone_left x xs e z = subst (λ us. IsNext n low us right x.0 (Some x.1) None xs right) (sym e)
-      (next_left n low x xs right (subst (Ascends low n) e l) (nothing right z))
-    where
-      nothing : (ys : List Cell) → length ys ≡ 0 → Ascends (suc x.0) n ys
-      nothing [] z = tt
-      nothing (y ∷ ys) z = absurd (omega arith)
-
-  pub alone_right : (y : Cell) (ys : List Cell) → right ≡ y ∷ ys → length left ≡ 0
-      → IsNext n low left right y.0 None (Some y.1) left ys
-  alone_right y ys e z = subst (λ us. IsNext n low left us y.0 None (Some y.1) left ys) (sym e)
-      (next_right n low left y ys (subst (Ascends low n) e r) (nothing left z))
-    where
-      nothing : (xs : List Cell) → length xs ≡ 0 → Ascends (suc y.0) n xs
-      nothing [] z = tt
-      nothing (x ∷ xs) z = absurd (omega arith)
-
   module _ (x y : Cell) (xs ys : List Cell) (e : left ≡ x ∷ xs) (f : right ≡ y ∷ ys) where
     pub first_left : x.0 < y.0 → IsNext n low left right x.0 (Some x.1) None xs right
     first_left h = subst (λ us. IsNext n low us right x.0 (Some x.1) None xs right) (sym e)

@@ -3,6 +3,7 @@ pub mod Coming
 pub mod Folding
 pub mod Heads
 pub mod Mapped
+pub mod Masked
 pub mod Placing
 pub mod Sifting
 pub mod Standing

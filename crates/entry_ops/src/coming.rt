@@ -1,7 +1,7 @@
 //! The entries of rows that an index operator is called on, 64 at a time, whichever rows they stand in.
-ghost use Rattle.std.specs.Prelude.{◌≡◌, ◌<◌, ◌≤◌, ◌-◌, ◌++◌, [], length, nat_lt, false};
+ghost use Rattle.std.specs.Prelude.{◌≡◌, ◌<◌, ◌≤◌, ◌-◌, length, nat_lt};
 ghost use Rattle.bpf_insn.specs.declared.operands.Kind.TheVariants as kinds;
-ghost use Rattle.entry_ops.specs.inner.Coming.{entries_along};
+ghost use Rattle.entry_ops.specs.inner.Coming.{entries_along, NoneWaits, Gathers};
 
 use crate::line::Cell;
 use bpf_run::{Calls, MOST_CALLS};
@@ -54,12 +54,9 @@ impl<'m> Coming<'m> {
     /// Gathers the calls on the entries that come next, as many as fit in. Answers whether there are any.
     #[inline(always)]
     pub fn gather(&mut self, calls: &mut Calls) -> bool
-        requires begun { calls.old.kind ≡ kinds.Index }
-        requires none { calls.old.operands ≡ [] }
-        ensures kind { calls.new.kind ≡ calls.old.kind }
-        ensures parts { self.old ≡ calls.new.operands ++ self.new }
+        requires { NoneWaits kinds.Index calls.old }
+        ensures gathers { Gathers self.old calls.old self.new calls.new result }
         ensures some { result ≡ nat_lt 0 (length calls.new.operands) }
-        ensures over { result ≡ false → self.new ≡ [] }
     {
         if self.row >= self.end {
             return false;

@@ -2,10 +2,10 @@
 ghost use Rattle.std.specs.Prelude.{◌≡◌, ◌<◌, ◌+◌, ◌^◌, ◌∷◌, [], length, OnOk, OnErr};
 ghost use Rattle.bpf_insn.specs.Machine.{kind_of};
 ghost use Rattle.bpf_run.specs.Meaning.{value_of};
-ghost use Rattle.bpf_run.specs.Calls.{call_of, calls_on, steps_of, Charges};
+ghost use Rattle.bpf_run.specs.Calls.{call_of, calls_on, steps_of};
 ghost use Rattle.csr_store.specs.Valued.{entries_of};
 ghost use Rattle.entry_ops.specs.inner.Standing.{CanPush, FollowIn, with_cell, with_cells, with_end};
-ghost use Rattle.entry_ops.specs.inner.Placing.{placed, HavePlaces, Rise, final, Holds, Does};
+ghost use Rattle.entry_ops.specs.inner.Placing.{placed, HavePlaces, Rise, Holds, Does, CanAdd, Puts, IsFlushed};
 
 use crate::line::Cell;
 use bpf_insn::Operands;
@@ -74,10 +74,7 @@ impl Emitter {
     pub fn flush(&mut self, operator: &Prepared, calls: &mut Calls)
         requires holds { Holds operator.now self.old calls.old }
         requires room { self.old.steps + steps_of (calls_on operator.now calls.old.operands) < 2 ^ 64 }
-        ensures rows { self.new.rows ≡ final operator.now self.old calls.old }
-        ensures steps { self.new.steps ≡ self.old.steps + steps_of (calls_on operator.now calls.old.operands) }
-        ensures none { calls.new.operands ≡ [] }
-        ensures kind { calls.new.kind ≡ operator.now.kind }
+        ensures { IsFlushed operator.now self.old calls.old self.new calls.new }
     {
         self.steps += calls.make(operator);
         place(&self.places, calls.values(), &mut self.rows);
@@ -105,13 +102,10 @@ impl Emitter {
         column: u64,
         operands: Operands,
     ) -> Result<(), AllocError>
-        requires holds { Holds operator.now self.old calls.old }
         requires kind { kind_of operands ≡ operator.now.kind }
-        requires fits { CanPush column (final operator.now self.old calls.old) }
-        requires room { self.old.steps + steps_of (calls_on operator.now calls.old.operands) < 2 ^ 64 }
-        ensures does { OnOk result (Does operator.now (call_of operator.now operands ∷ [])
-            (with_cell column (value_of operator.now operands)) self.old calls.old self.new calls.new) }
-        ensures spent { OnErr result (Charges (calls_on operator.now calls.old.operands) self.old.steps self.new.steps) }
+        requires can { CanAdd operator.now column self.old calls.old }
+        ensures { Puts operator.now (call_of operator.now operands ∷ []) (with_cell column (value_of operator.now operands))
+            self.old calls.old self.new calls.new result }
     {
         self.make_room(operator, calls);
         self.places[calls.len()] = self.rows.entries();

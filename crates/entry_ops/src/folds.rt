@@ -1,13 +1,22 @@
 //! Rows folded many at once: each row that is open has a lane, and a call is made of each together with the others'.
-ghost use Rattle.std.specs.Prelude.{◌≡◌, ◌<◌, ◌≤◌, ◌+◌, ◌-◌, ◌^◌, ◌++◌, ◌∷◌, [], ℕ, if◌then◌else◌, length, map, IfOk, OnOk};
+ghost use Rattle.std.specs.Prelude.{◌≡◌, ◌<◌, ◌≤◌, ◌+◌, ◌++◌, ◌∷◌, [], ℕ, if◌then◌else◌, length, map, IfOk, OnOk};
 ghost use Rattle.bpf_insn.specs.declared.operands.Kind.TheVariants as kinds;
-ghost use Rattle.bpf_verify.specs.Accepted.{Accepted, IsAccepted};
+ghost use Rattle.bpf_verify.specs.Accepted.{Accepted};
 ghost use Rattle.csr_store.specs.Along.{cell_at};
 ghost use Rattle.csr_store.specs.Grid.{row_of};
-ghost use Rattle.csr_store.specs.Mask.{all_listed_under, mask_of, passes};
-ghost use Rattle.bpf_run.specs.Calls.{steps_of};
-ghost use Rattle.job_forms.specs.Forms.{reduce_calls_at};
-ghost use Rattle.entry_ops.specs.inner.Folding.{due, Goes, Begins, IsFolding, AreResults};
+ghost use Rattle.csr_store.specs.Mask.{mask_of, passes};
+ghost use Rattle.entry_ops.specs.inner.Coming.{NoneWaits};
+ghost use Rattle.entry_ops.specs.inner.Folding.{
+  Goes,
+  TakesSteps,
+  Begins,
+  CanGo,
+  IsBlock,
+  AreBegun,
+  IsFolding,
+  CanFold,
+  IsFolded,
+};
 
 use crate::lanes::{Lanes, OpenRow};
 use crate::line::Cell;
@@ -22,6 +31,13 @@ pub const BLOCK_ROWS: usize = 256;
 
 /// Fewer lanes are folded to their ends, one after the other. There are so few only where no row is left to begin.
 const FEW_LANES: usize = 20;
+
+/// Rows that follow one another: so many from the first on.
+#[derive(Clone, Copy)]
+pub struct Block {
+    pub first: u64,
+    pub many: usize,
+}
 
 /// The folds of a block of rows, up to 64 of them at once, and the steps of the calls that were made.
 #[derive(Drop)]
@@ -65,8 +81,7 @@ impl<'m> Folds<'m> {
 
     /// Begins the next row of the block, by its cells.
     fn begin_row(&mut self, cells: &'m [Cell])
-        requires lanes { length self.old.lanes < 64 }
-        requires rows { length self.old.results < 256 }
+        requires room { (length self.old.lanes < 64) × (length self.old.results < 256) }
         ensures rows { length self.new.results ≡ length self.old.results + 1 }
         ensures steps { self.new.steps ≡ self.old.steps }
         ensures folds { (f : Accepted) → Begins f cells.entry.now self.old self.new }
@@ -88,44 +103,34 @@ impl<'m> Folds<'m> {
     }
 
     /// Begins rows of a block until no further lane is free, or all are begun.
-    fn fill(&mut self, a: &'m Matrix, mask: Option<&'m Matrix>, first: u64, many: usize)
-        requires fits { first + many < 2 ^ 64 }
-        requires within { first + many ≤ a.now.rows }
-        requires block { many ≤ 256 }
-        requires few { length self.old.results ≤ many }
-        ensures few { length self.new.results ≤ many }
-        ensures all { length self.new.lanes < 64 → length self.new.results ≡ many }
-        ensures steps { self.new.steps ≡ self.old.steps }
-        ensures folding { (f : Accepted) (total : ℕ) → IsFolding f a.entry.now (mask_of mask.entry) first many total self.old
-            → IsFolding f a.entry.now (mask_of mask.entry) first many total self.new }
+    fn fill(&mut self, a: &'m Matrix, mask: Option<&'m Matrix>, block: Block)
+        requires block { IsBlock a.now block }
+        requires few { length self.old.results ≤ block.many }
+        ensures begun { AreBegun block.many self.old self.new }
+        ensures folding { (f : Accepted) (total : ℕ)
+            → IsFolding f a.entry.now (mask_of mask.entry) block.first block.many total self.old
+            → IsFolding f a.entry.now (mask_of mask.entry) block.first block.many total self.new }
     {
-        while self.lanes.len() < MOST_CALLS && self.results.len() < many {
-            let row = first + self.results.len() as u64;
+        while self.lanes.len() < MOST_CALLS && self.results.len() < block.many {
+            let row = block.first + self.results.len() as u64;
             self.begin_row(shown_cells(a, mask, row));
         }
     }
 
     /// Makes the next call of each lane, all of them together.
     fn call_all(&mut self, operator: &Prepared, calls: &mut Calls)
-        requires kind { operator.now.kind ≡ kinds.Binary }
-        requires accepted { IsAccepted operator.now }
-        requires begun { calls.old.kind ≡ kinds.Binary }
-        requires none { calls.old.operands ≡ [] }
-        requires room { self.old.steps + due operator.now self.old.lanes < 2 ^ 64 }
-        ensures goes { Goes operator.now self.old self.new }
-        ensures more { 0 < length self.old.lanes → self.old.steps < self.new.steps }
-        ensures begun { calls.new.kind ≡ kinds.Binary }
-        ensures none { calls.new.operands ≡ [] }
+        requires can { CanGo operator.now self.old }
+        requires waits { NoneWaits kinds.Binary calls.old }
+        ensures goes { Goes operator.now self.old self.new × TakesSteps self.old self.new }
+        ensures waits { NoneWaits kinds.Binary calls.new }
     {
         self.steps += self.lanes.call(operator, calls, &mut self.results);
     }
 
     /// Makes all the calls of the last lane, in one run.
     fn finish_last(&mut self, operator: &Prepared)
-        requires kind { operator.now.kind ≡ kinds.Binary }
-        requires accepted { IsAccepted operator.now }
+        requires can { CanGo operator.now self.old }
         requires some { 0 < length self.old.lanes }
-        requires room { self.old.steps + due operator.now self.old.lanes < 2 ^ 64 }
         ensures goes { Goes operator.now self.old self.new }
         ensures more { self.old.steps < self.new.steps }
     {
@@ -137,16 +142,11 @@ impl<'m> Folds<'m> {
 
     /// Makes the next calls: those of the lanes together, unless they are few.
     fn go(&mut self, operator: &Prepared, calls: &mut Calls)
-        requires kind { operator.now.kind ≡ kinds.Binary }
-        requires accepted { IsAccepted operator.now }
+        requires can { CanGo operator.now self.old }
         requires some { 0 < length self.old.lanes }
-        requires begun { calls.old.kind ≡ kinds.Binary }
-        requires none { calls.old.operands ≡ [] }
-        requires room { self.old.steps + due operator.now self.old.lanes < 2 ^ 64 }
-        ensures goes { Goes operator.now self.old self.new }
-        ensures more { self.old.steps < self.new.steps }
-        ensures begun { calls.new.kind ≡ kinds.Binary }
-        ensures none { calls.new.operands ≡ [] }
+        requires waits { NoneWaits kinds.Binary calls.old }
+        ensures goes { Goes operator.now self.old self.new × (self.old.steps < self.new.steps) }
+        ensures waits { NoneWaits kinds.Binary calls.new }
     {
         if self.lanes.len() < FEW_LANES {
             self.finish_last(operator);
@@ -155,34 +155,25 @@ impl<'m> Folds<'m> {
         }
     }
 
-    /// Folds a block of rows: so many from `first` on.
+    /// Folds a block of rows.
     pub fn fold(
         &mut self,
         operator: &Prepared,
         calls: &mut Calls,
         a: &'m Matrix,
         mask: Option<&'m Matrix>,
-        first: u64,
-        many: usize,
+        block: Block,
     )
-        requires kind { operator.now.kind ≡ kinds.Binary }
-        requires accepted { IsAccepted operator.now }
-        requires fits { first + many < 2 ^ 64 }
-        requires within { first + many ≤ a.now.rows }
-        requires block { many ≤ 256 }
-        requires room { self.old.steps
-            + steps_of (all_listed_under (mask_of mask) 1 (reduce_calls_at operator.now a.now) first many) < 2 ^ 64 }
-        ensures results { AreResults operator.now a.entry.now (mask_of mask.entry) first many self.new.results }
-        ensures steps { self.new.steps ≡ self.old.steps
-            + steps_of (all_listed_under (mask_of mask.entry) 1 (reduce_calls_at operator.now a.entry.now) first many) }
+        requires { CanFold operator.now a.now (mask_of mask) block self.old }
+        ensures { IsFolded operator.now a.entry.now (mask_of mask.entry) block self.old self.new }
     {
         self.lanes.clear();
         self.results.clear();
         calls.begin(Kind::Binary);
-        self.fill(a, mask, first, many);
+        self.fill(a, mask, block);
         while self.lanes.len() > 0 {
             self.go(operator, calls);
-            self.fill(a, mask, first, many);
+            self.fill(a, mask, block);
         }
     }
 

@@ -1,11 +1,10 @@
 //! What each form makes of a position.
-ghost use Rattle.std.specs.Prelude.{◌≡◌, ◌<◌, ◌+◌, ◌^◌, OnOk, OnErr, true};
-ghost use Rattle.bpf_run.specs.Calls.{calls_on, steps_of, Charges};
+ghost use Rattle.std.specs.Prelude.{◌≡◌};
 ghost use Rattle.csr_store.specs.Along.{cell_at};
 ghost use Rattle.job_forms.specs.Forms.{operands_at};
-ghost use Rattle.entry_ops.specs.inner.Standing.{CanPush, with_cells};
-ghost use Rattle.entry_ops.specs.inner.Placing.{final, Holds, Does};
-ghost use Rattle.entry_ops.specs.inner.Walking.{kind_for, of_values, form_at, form_calls};
+ghost use Rattle.entry_ops.specs.inner.Standing.{with_cells};
+ghost use Rattle.entry_ops.specs.inner.Placing.{CanAdd, Puts};
+ghost use Rattle.entry_ops.specs.inner.Walking.{Suits, form_at, form_calls};
 
 use crate::emitter::Emitter;
 use bpf_insn::Operands;
@@ -43,15 +42,11 @@ pub fn emit(
     emitter: &mut Emitter,
     place: Place,
 ) -> Result<(), AllocError>
-    requires kind { operator.now.kind ≡ kind_for form }
-    requires values { of_values form ≡ true }
-    requires holds { Holds operator.now emitter.old calls.old }
-    requires fits { CanPush place.column (final operator.now emitter.old calls.old) }
-    requires room { emitter.old.steps + steps_of (calls_on operator.now calls.old.operands) < 2 ^ 64 }
-    ensures does { OnOk result (Does operator.now (form_calls form operator.now (place.row, place.column) place.left place.right)
+    requires form { Suits form operator.now }
+    requires can { CanAdd operator.now place.column emitter.old calls.old }
+    ensures { Puts operator.now (form_calls form operator.now (place.row, place.column) place.left place.right)
         (with_cells (cell_at place.column (form_at form operator.now (place.row, place.column) place.left place.right)))
-        emitter.old calls.old emitter.new calls.new) }
-    ensures spent { OnErr result (Charges (calls_on operator.now calls.old.operands) emitter.old.steps emitter.new.steps) }
+        emitter.old calls.old emitter.new calls.new result }
 {
     let column = place.column;
     match form {

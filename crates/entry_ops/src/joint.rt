@@ -1,112 +1,87 @@
 //! Union and both of two rows read side by side.
-ghost use Rattle.std.specs.Prelude.{◌≡◌, ◌<◌, ◌+◌, ◌^◌, ◌++◌, OnOk, OnErr, None, List};
-ghost use Rattle.bpf_insn.specs.declared.operands.Kind.TheVariants as kinds;
-ghost use Rattle.bpf_run.specs.Calls.{Call, calls_on, steps_of, Charges};
-ghost use Rattle.entry_ops.specs.declared.form.Form.TheVariants as forms;
-ghost use Rattle.entry_ops.specs.inner.Standing.{with_cells};
-ghost use Rattle.entry_ops.specs.inner.Placing.{final, Holds, Does};
-ghost use Rattle.entry_ops.specs.inner.Walking.{cells_of, IsLine, IsOpen, cells_along, calls_along};
+ghost use Rattle.std.specs.Prelude.{◌≡◌, OnOk, OnErr};
+ghost use Rattle.entry_ops.specs.inner.Standing.{FollowIn, with_cells};
+ghost use Rattle.entry_ops.specs.inner.Placing.{IsReady, Fills};
+ghost use Rattle.entry_ops.specs.inner.Walking.{Joins, IsWhole, left_over, cells_along, calls_along};
 
 use crate::emitter::Emitter;
-use crate::line::Line;
-use bpf_insn::Operands;
+use crate::form::{Form, Place, emit};
+use crate::line::{Cell, Line};
 use bpf_run::{Calls, Prepared};
 use std::alloc::AllocError;
 
-/// Adds the cells of a row of a union, all of which pass.
-pub fn fill_union(
-    operator: &Prepared,
-    calls: &mut Calls,
-    emitter: &mut Emitter,
-    line: Line,
-) -> Result<(), AllocError>
-    requires kind { operator.now.kind ≡ kinds.Binary }
-    requires whole { cells_of line.mask ≡ None }
-    requires holds { Holds operator.now emitter.old calls.old }
-    requires line { IsLine line }
-    requires open { IsOpen line.columns (final operator.now emitter.old calls.old) }
-    requires room { emitter.old.steps + (steps_of (calls_on operator.now calls.old.operands)
-        + steps_of (calls_along forms.Union operator.now line)) < 2 ^ 64 }
-    ensures does { OnOk result (Does operator.now (calls_along forms.Union operator.now line.entry)
-        (with_cells (cells_along forms.Union operator.now line.entry)) emitter.old calls.old emitter.new calls.new) }
-    ensures spent { OnErr result ((rest : List Call) → Charges (calls_on operator.now calls.old.operands
-        ++ (calls_along forms.Union operator.now line.entry ++ rest)) emitter.old.steps emitter.new.steps) }
+/// Adds what a form makes of the cells that are left of one row where the other has none.
+#[inline(always)]
+fn add_rest(form: Form, emitter: &mut Emitter, cells: &[Cell]) -> Result<(), AllocError>
+    requires { FollowIn cells.now emitter.old.rows }
+    ensures copied { OnOk result
+        (emitter.new ≡ record emitter.old { rows = with_cells (left_over form cells.now) emitter.old.rows }) }
+    ensures kept { OnErr result (emitter.new.steps ≡ emitter.old.steps) }
 {
-    let mut lefts = line.left;
-    let mut rights = line.right;
-    while let Some((x, xs)) = lefts.split_first() {
-        let Some((y, ys)) = rights.split_first() else {
-            return emitter.copy_all(lefts);
-        };
-        if x.0 < y.0 {
-            emitter.copy(x.0, x.1)?;
-            lefts = xs;
-        } else if y.0 < x.0 {
-            emitter.copy(y.0, y.1)?;
-            rights = ys;
-        } else {
-            // behind a column of both the next ones often are of both, so these have a loop of their own
-            let most = lefts.len().min(rights.len());
-            let mut place = 0;
-            while place < most && lefts[place].0 == rights[place].0 {
-                let operands = Operands::Binary {
-                    x: lefts[place].1,
-                    y: rights[place].1,
-                };
-                emitter.call(operator, calls, lefts[place].0, operands)?;
-                place += 1;
-            }
-            lefts = &lefts[place..];
-            rights = &rights[place..];
-        }
+    match form {
+        Form::Union => emitter.copy_all(cells),
+        Form::Both => Ok(()),
+        Form::Apply(_) => Ok(()),
+        Form::Select(_) => Ok(()),
     }
-    emitter.copy_all(rights)
 }
 
-/// Adds the cells of a row of where both have a word, all of which pass.
-pub fn fill_both(
+/// Adds the cells of a row of a union, or of where both have a word, all of which pass. Behind a column of both the next ones often
+/// are of both, so these have a loop of their own.
+#[inline(always)]
+pub fn fill_joint(
+    form: Form,
     operator: &Prepared,
     calls: &mut Calls,
     emitter: &mut Emitter,
     line: Line,
 ) -> Result<(), AllocError>
-    requires kind { operator.now.kind ≡ kinds.Binary }
-    requires whole { cells_of line.mask ≡ None }
-    requires holds { Holds operator.now emitter.old calls.old }
-    requires line { IsLine line }
-    requires open { IsOpen line.columns (final operator.now emitter.old calls.old) }
-    requires room { emitter.old.steps + (steps_of (calls_on operator.now calls.old.operands)
-        + steps_of (calls_along forms.Both operator.now line)) < 2 ^ 64 }
-    ensures does { OnOk result (Does operator.now (calls_along forms.Both operator.now line.entry)
-        (with_cells (cells_along forms.Both operator.now line.entry)) emitter.old calls.old emitter.new calls.new) }
-    ensures spent { OnErr result ((rest : List Call) → Charges (calls_on operator.now calls.old.operands
-        ++ (calls_along forms.Both operator.now line.entry ++ rest)) emitter.old.steps emitter.new.steps) }
+    requires form { Joins form operator.now }
+    requires line { IsWhole line }
+    requires ready { IsReady operator.now line.columns (calls_along form operator.now line) emitter.old calls.old }
+    ensures { Fills operator.now (calls_along form operator.now line.entry) (with_cells (cells_along form operator.now line.entry))
+        emitter.old calls.old emitter.new calls.new result }
 {
     let mut lefts = line.left;
     let mut rights = line.right;
     while let Some((x, xs)) = lefts.split_first() {
         let Some((y, ys)) = rights.split_first() else {
-            return Ok(());
+            return add_rest(form, emitter, lefts);
         };
         if x.0 < y.0 {
+            let place = Place {
+                row: line.row,
+                column: x.0,
+                left: Some(x.1),
+                right: None,
+            };
+            emit(form, operator, calls, emitter, place)?;
             lefts = xs;
         } else if y.0 < x.0 {
+            let place = Place {
+                row: line.row,
+                column: y.0,
+                left: None,
+                right: Some(y.1),
+            };
+            emit(form, operator, calls, emitter, place)?;
             rights = ys;
         } else {
-            // behind a column of both the next ones often are of both, so these have a loop of their own
             let most = lefts.len().min(rights.len());
-            let mut place = 0;
-            while place < most && lefts[place].0 == rights[place].0 {
-                let operands = Operands::Binary {
-                    x: lefts[place].1,
-                    y: rights[place].1,
+            let mut next = 0;
+            while next < most && lefts[next].0 == rights[next].0 {
+                let place = Place {
+                    row: line.row,
+                    column: lefts[next].0,
+                    left: Some(lefts[next].1),
+                    right: Some(rights[next].1),
                 };
-                emitter.call(operator, calls, lefts[place].0, operands)?;
-                place += 1;
+                emit(form, operator, calls, emitter, place)?;
+                next += 1;
             }
-            lefts = &lefts[place..];
-            rights = &rights[place..];
+            lefts = &lefts[next..];
+            rights = &rights[next..];
         }
     }
-    Ok(())
+    add_rest(form, emitter, rights)
 }

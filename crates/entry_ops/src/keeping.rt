@@ -1,14 +1,16 @@
 //! Select without a mask: all cells are called, and then those that are kept are copied.
-ghost use Rattle.std.specs.Prelude.{◌≡◌, ◌≤◌, ◌<◌, ◌+◌, ◌-◌, ◌^◌, [], None, IfOk, OnOk, OnErr};
+ghost use Rattle.std.specs.Prelude.{◌≡◌, ◌≤◌, ◌<◌, ◌+◌, ◌-◌, ◌^◌, None, IfOk, OnOk, OnErr};
 ghost use Rattle.bpf_insn.specs.declared.operands.Kind.TheVariants as kinds;
 ghost use Rattle.bpf_run.specs.Calls.{calls_on, values_on, steps_of, Charges};
 ghost use Rattle.entry_ops.specs.declared.form.Form.TheVariants as forms;
-ghost use Rattle.entry_ops.specs.inner.Walking.{form_rows, form_all_calls};
+ghost use Rattle.entry_ops.specs.inner.Coming.{NoneWaits};
+ghost use Rattle.entry_ops.specs.inner.Walking.{IsFormMade};
 
 use crate::coming::Coming;
 use crate::line::entries_between;
 use bpf_run::{Calls, Prepared};
-use csr_store::{Chunk, Matrix, Rows};
+use csr_store::{Matrix, Rows};
+use job_forms::Made;
 use std::alloc::{AllocError, Global};
 use std::ops::Range;
 
@@ -23,8 +25,7 @@ fn answers_of(
     steps: &mut u64,
 ) -> Result<Vec<u64>, AllocError>
     requires kind { operator.now.kind ≡ kinds.Index }
-    requires begun { calls.old.kind ≡ kinds.Index }
-    requires none { calls.old.operands ≡ [] }
+    requires waits { NoneWaits kinds.Index calls.old }
     requires few { steps.old + steps_of (calls_on operator.now coming) < 2 ^ 64 }
     ensures answers { IfOk result (λ answers. answers.items ≡ values_on operator.now coming.entry) }
     ensures steps { OnOk result (steps.new ≡ steps.old + steps_of (calls_on operator.now coming.entry)) }
@@ -39,27 +40,18 @@ fn answers_of(
 }
 
 /// The rows of a range of what an operator keeps, without a mask. On want of memory for the answers no call was made.
-pub fn keep_chunk(
+pub fn keep_region(
     alloc: Global,
     calls: &mut Calls,
     a: &Matrix,
     operator: &Prepared,
     thunk: u64,
     range: Range<u64>,
-) -> Chunk
+) -> Made
     requires kind { operator.now.kind ≡ kinds.Index }
     requires range { range.start ≤ range.end }
     requires within { range.end ≤ a.now.rows }
-    ensures rows { IfOk result.result (λ r. r ≡ record {
-      first = range.start;
-      columns = a.now.columns;
-      ended = form_rows (forms.Select thunk) operator.now a.now None None range.start (range.end - range.start);
-      opened = [];
-    }) }
-    ensures steps { OnOk result.result (result.steps
-        ≡ steps_of (form_all_calls (forms.Select thunk) operator.now a.now None None range.start (range.end - range.start))) }
-    ensures spent { OnErr result.result (Charges
-        (form_all_calls (forms.Select thunk) operator.now a.now None None range.start (range.end - range.start)) 0 result.steps) }
+    ensures { IsFormMade (forms.Select thunk) operator.now a.now None None range.start (range.end - range.start) result }
 {
     let _ = operator.operator().program();
     let _ = a.columns();
@@ -68,11 +60,11 @@ pub fn keep_chunk(
     let mut steps = 0;
     calls.begin(operator.kind());
     match answers_of(alloc, calls, operator, coming, room, &mut steps) {
-        Ok(answers) => Chunk {
+        Ok(answers) => Made {
             result: Rows::kept(alloc, a, range, &answers),
             steps,
         },
-        Err(error) => Chunk {
+        Err(error) => Made {
             result: Err(error),
             steps,
         },

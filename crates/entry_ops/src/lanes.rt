@@ -3,6 +3,7 @@
 ghost use Rattle.std.specs.Prelude.{◌≡◌, ◌<◌, ◌≤◌, ◌++◌, ◌∷◌, [], length, take, IfOk};
 ghost use Rattle.bpf_insn.specs.declared.operands.Kind.TheVariants as kinds;
 ghost use Rattle.bpf_verify.specs.Accepted.{Accepted, IsAccepted};
+ghost use Rattle.entry_ops.specs.inner.Coming.{NoneWaits};
 ghost use Rattle.entry_ops.specs.inner.Folding.{open_of, in_columns, in_two_columns, ArePlaced, Gives};
 
 use crate::line::Cell;
@@ -128,13 +129,11 @@ impl<'m> Lanes<'m> {
         requires accepted { IsAccepted operator.now }
         requires few { length results.old ≤ 256 }
         requires lanes { ArePlaced (length results.old) self.old }
-        requires begun { calls.old.kind ≡ kinds.Binary }
-        requires none { calls.old.operands ≡ [] }
+        requires waits { NoneWaits kinds.Binary calls.old }
         ensures lanes { ArePlaced (length results.new) self.new }
         ensures gives { Gives operator.now result self.old results.old self.new results.new }
         ensures more { 0 < length self.old → 0 < result }
-        ensures begun { calls.new.kind ≡ kinds.Binary }
-        ensures none { calls.new.operands ≡ [] }
+        ensures waits { NoneWaits kinds.Binary calls.new }
     {
         calls.gather_pairs(&self.so_far, &self.next);
         let steps = calls.make(operator);

@@ -1,19 +1,8 @@
 //! The rows of operands and mask that are read for a row of a result.
 ghost use Rattle.std.specs.Prelude.{◌≡◌, ◌<◌};
-ghost use Rattle.bpf_verify.specs.Accepted.{Accepted};
 ghost use Rattle.csr_store.specs.Ascending.{Ascends, AscendsIn};
 ghost use Rattle.csr_store.specs.Mask.{HasShape, mask_of};
-ghost use Rattle.entry_ops.specs.declared.form.Form.{Form};
-ghost use Rattle.entry_ops.specs.inner.Walking.{
-  cells_of,
-  row_or_none,
-  mask_row,
-  IsLine,
-  cells_along,
-  calls_along,
-  form_row,
-  form_row_calls,
-};
+ghost use Rattle.entry_ops.specs.inner.Walking.{cells_of, row_or_none, mask_row, AreAlike, IsLineOf};
 
 use csr_store::Matrix;
 
@@ -72,15 +61,9 @@ fn row_of_mask<'a>(first: &Matrix, mask: Option<&'a Matrix>, row: u64) -> Option
 
 /// The rows of operands and mask that are read for a row of the result.
 pub fn read_line<'a>(sources: Sources<'a>, row: u64) -> Line<'a>
-    requires right { HasShape sources.left.now.rows sources.left.now.columns (mask_of sources.right) }
-    requires mask { HasShape sources.left.now.rows sources.left.now.columns (mask_of sources.mask) }
+    requires alike { AreAlike sources }
     requires within { row < sources.left.now.rows }
-    ensures columns { result.columns ≡ sources.entry.left.now.columns }
-    ensures ascends { IsLine result }
-    ensures cells { (form : Form) (f : Accepted) → cells_along form f result
-        ≡ form_row form f sources.entry.left.now (mask_of sources.entry.right) (mask_of sources.entry.mask) row }
-    ensures calls { (form : Form) (f : Accepted) → calls_along form f result
-        ≡ form_row_calls form f sources.entry.left.now (mask_of sources.entry.right) (mask_of sources.entry.mask) row }
+    ensures { IsLineOf sources.entry row result }
 {
     Line {
         row,

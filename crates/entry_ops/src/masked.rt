@@ -1,10 +1,8 @@
 //! The row of a mask walked along, and rows read beside it.
-ghost use Rattle.std.specs.Prelude.{◌≡◌, ℕ, ◌<◌, ◌≤◌, ◌+◌, ◌^◌, ◌++◌, OnOk, OnErr, Some, List, true};
-ghost use Rattle.bpf_run.specs.Calls.{Call, calls_on, steps_of, Charges};
-ghost use Rattle.csr_store.specs.Ascending.{Ascends, at};
+ghost use Rattle.std.specs.Prelude.{Some};
 ghost use Rattle.entry_ops.specs.inner.Standing.{with_cells};
-ghost use Rattle.entry_ops.specs.inner.Placing.{final, Holds, Does};
-ghost use Rattle.entry_ops.specs.inner.Walking.{kind_for, of_values, row_cells, row_calls, IsLine, IsOpen};
+ghost use Rattle.entry_ops.specs.inner.Placing.{IsReady, Fills};
+ghost use Rattle.entry_ops.specs.inner.Walking.{Suits, IsLine, cells_along, calls_along};
 
 use crate::ahead::{begin_walk, second_for, value_here, walk_to};
 use crate::emitter::Emitter;
@@ -12,36 +10,6 @@ use crate::form::{Form, Place, emit};
 use crate::line::{Cell, Line};
 use bpf_run::{Calls, Prepared};
 use std::alloc::AllocError;
-
-/// The cells from a column on.
-#[inline(always)]
-pub fn from_column(cells: &[Cell], column: u64) -> &[Cell]
-    ensures { (n : ℕ) → Ascends 0 n cells.now
-        → Ascends column n result.now × ((j : ℕ) → column ≤ j → at cells.now j ≡ at result.now j) }
-{
-    let mut rest = cells;
-    while let Some((first, more)) = rest.split_first() {
-        if column <= first.0 {
-            break;
-        }
-        rest = more;
-    }
-    rest
-}
-
-/// The value at a column, of cells from that column on.
-#[inline(always)]
-pub fn first_at(cells: &[Cell], column: u64) -> Option<u64>
-    ensures { (n : ℕ) → Ascends column n cells.now → result ≡ at cells.now column }
-{
-    let Some(cell) = cells.first() else {
-        return None;
-    };
-    if cell.0 == column {
-        return Some(cell.1);
-    }
-    None
-}
 
 /// Adds the cells of a row, of those positions that a mask's row stores.
 #[inline(always)]
@@ -53,21 +21,13 @@ pub fn fill_masked(
     line: Line,
     mask: &[Cell],
 ) -> Result<(), AllocError>
-    requires kind { operator.now.kind ≡ kind_for form }
-    requires values { of_values form ≡ true }
-    requires holds { Holds operator.now emitter.old calls.old }
-    requires line { IsLine line }
-    requires mask { Ascends 0 line.columns mask.now }
-    requires open { IsOpen line.columns (final operator.now emitter.old calls.old) }
-    requires room { emitter.old.steps + (steps_of (calls_on operator.now calls.old.operands)
-        + steps_of (row_calls form operator.now line.row line.columns line.left.now line.right.now (Some mask.now))) < 2 ^ 64 }
-    ensures does { OnOk result (Does operator.now (row_calls form operator.now line.entry.row line.entry.columns
-        line.entry.left.now line.entry.right.now (Some mask.entry.now)) (with_cells (row_cells form operator.now line.entry.row
-        line.entry.columns line.entry.left.now line.entry.right.now (Some mask.entry.now)))
-        emitter.old calls.old emitter.new calls.new) }
-    ensures spent { OnErr result ((rest : List Call) → Charges (calls_on operator.now calls.old.operands
-        ++ (row_calls form operator.now line.entry.row line.entry.columns line.entry.left.now line.entry.right.now
-        (Some mask.entry.now) ++ rest)) emitter.old.steps emitter.new.steps) }
+    requires form { Suits form operator.now }
+    requires line { IsLine (record line { mask = Some mask }) }
+    requires ready { IsReady operator.now line.columns (calls_along form operator.now (record line { mask = Some mask }))
+        emitter.old calls.old }
+    ensures { Fills operator.now (calls_along form operator.now (record line.entry { mask = Some mask.entry }))
+        (with_cells (cells_along form operator.now (record line.entry { mask = Some mask.entry })))
+        emitter.old calls.old emitter.new calls.new result }
 {
     let mut lefts = begin_walk(line.left);
     let mut rights = begin_walk(second_for(form, line.right));

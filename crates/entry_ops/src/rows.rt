@@ -1,28 +1,27 @@
 //! The rows of a range, of forms whose cells are copies and values of calls.
-ghost use Rattle.std.specs.Prelude.{◌≡◌, ◌<◌, ◌≤◌, ◌+◌, ◌-◌, ◌^◌, ◌++◌, [], IfOk, OnOk, OnErr, List, true};
-ghost use Rattle.csr_store.specs.Mask.{HasShape, mask_of};
-ghost use Rattle.bpf_run.specs.Calls.{Call, calls_on, steps_of, Charges};
+ghost use Rattle.std.specs.Prelude.{◌-◌};
+ghost use Rattle.csr_store.specs.Mask.{mask_of};
 ghost use Rattle.entry_ops.specs.inner.Standing.{with_cells};
-ghost use Rattle.entry_ops.specs.inner.Placing.{final, Holds, Does};
+ghost use Rattle.entry_ops.specs.inner.Placing.{IsReady, Fills};
 ghost use Rattle.entry_ops.specs.inner.Walking.{
-  kind_for,
-  of_values,
+  Suits,
   IsLine,
-  IsOpen,
+  HaveRows,
   cells_along,
   calls_along,
+  rows_from,
+  calls_from,
   with_rows,
-  form_rows,
-  form_all_calls,
+  IsFormMade,
 };
 
 use crate::emitter::Emitter;
 use crate::form::Form;
-use crate::joint::{fill_both, fill_union};
+use crate::joint::fill_joint;
 use crate::line::{Cell, Line, MOST_ROOM, Sources, entries_between, read_line};
 use crate::masked::fill_masked;
 use bpf_run::{Calls, Prepared};
-use csr_store::Chunk;
+use job_forms::Made;
 use std::alloc::{AllocError, Global};
 use std::ops::Range;
 
@@ -34,17 +33,11 @@ fn fill_line(
     emitter: &mut Emitter,
     line: Line,
 ) -> Result<(), AllocError>
-    requires kind { operator.now.kind ≡ kind_for form }
-    requires values { of_values form ≡ true }
-    requires holds { Holds operator.now emitter.old calls.old }
+    requires form { Suits form operator.now }
     requires line { IsLine line }
-    requires open { IsOpen line.columns (final operator.now emitter.old calls.old) }
-    requires room { emitter.old.steps + (steps_of (calls_on operator.now calls.old.operands)
-        + steps_of (calls_along form operator.now line)) < 2 ^ 64 }
-    ensures does { OnOk result (Does operator.now (calls_along form operator.now line.entry)
-        (with_cells (cells_along form operator.now line.entry)) emitter.old calls.old emitter.new calls.new) }
-    ensures spent { OnErr result ((rest : List Call) → Charges (calls_on operator.now calls.old.operands
-        ++ (calls_along form operator.now line.entry ++ rest)) emitter.old.steps emitter.new.steps) }
+    requires ready { IsReady operator.now line.columns (calls_along form operator.now line) emitter.old calls.old }
+    ensures { Fills operator.now (calls_along form operator.now line.entry) (with_cells (cells_along form operator.now line.entry))
+        emitter.old calls.old emitter.new calls.new result }
 {
     match (form, line.mask) {
         (Form::Apply(thunk), Some(mask)) => fill_masked(
@@ -65,9 +58,9 @@ fn fill_line(
         ),
         (Form::Select(_), _) => Ok(()),
         (Form::Union, Some(mask)) => fill_masked(Form::Union, operator, calls, emitter, line, mask),
-        (Form::Union, None) => fill_union(operator, calls, emitter, line),
+        (Form::Union, None) => fill_joint(Form::Union, operator, calls, emitter, line),
         (Form::Both, Some(mask)) => fill_masked(Form::Both, operator, calls, emitter, line, mask),
-        (Form::Both, None) => fill_both(operator, calls, emitter, line),
+        (Form::Both, None) => fill_joint(Form::Both, operator, calls, emitter, line),
     }
 }
 
@@ -80,25 +73,13 @@ fn fill(
     sources: Sources,
     range: Range<u64>,
 ) -> Result<(), AllocError>
-    requires kind { operator.now.kind ≡ kind_for form }
-    requires values { of_values form ≡ true }
-    requires holds { Holds operator.now emitter.old calls.old }
-    requires right { HasShape sources.left.now.rows sources.left.now.columns (mask_of sources.right) }
-    requires mask { HasShape sources.left.now.rows sources.left.now.columns (mask_of sources.mask) }
-    requires range { range.start ≤ range.end }
-    requires within { range.end ≤ sources.left.now.rows }
-    requires open { IsOpen sources.left.now.columns (final operator.now emitter.old calls.old) }
-    requires room { emitter.old.steps + (steps_of (calls_on operator.now calls.old.operands) + steps_of (form_all_calls form
-        operator.now
-        sources.left.now (mask_of sources.right) (mask_of sources.mask) range.start (range.end - range.start))) < 2 ^ 64 }
-    ensures does { OnOk result (Does operator.now (form_all_calls form operator.now sources.entry.left.now (mask_of
-        sources.entry.right)
-        (mask_of sources.entry.mask) range.start (range.end - range.start))
-        (with_rows (form_rows form operator.now sources.entry.left.now (mask_of sources.entry.right) (mask_of sources.entry.mask)
-        range.start (range.end - range.start))) emitter.old calls.old emitter.new calls.new) }
-    ensures spent { OnErr result ((rest : List Call) → Charges (calls_on operator.now calls.old.operands ++ (form_all_calls form
-        operator.now sources.entry.left.now (mask_of sources.entry.right) (mask_of sources.entry.mask) range.start
-        (range.end - range.start) ++ rest)) emitter.old.steps emitter.new.steps) }
+    requires form { Suits form operator.now }
+    requires rows { HaveRows sources range.start range.end }
+    requires ready { IsReady operator.now sources.left.now.columns (calls_from form operator.now sources range.start range.end)
+        emitter.old calls.old }
+    ensures { Fills operator.now (calls_from form operator.now sources.entry range.start range.end)
+        (with_rows (rows_from form operator.now sources.entry range.start range.end))
+        emitter.old calls.old emitter.new calls.new result }
 {
     for row in range.start..range.end {
         fill_line(form, operator, calls, emitter, read_line(sources, row))?;
@@ -128,32 +109,18 @@ fn room_for(form: Form, sources: Sources, first: u64, end: u64) -> usize {
 }
 
 /// The rows of a range of a form's result.
-pub fn fill_chunk(
+pub fn fill_region(
     alloc: Global,
     calls: &mut Calls,
     form: Form,
     operator: &Prepared,
     sources: Sources,
     range: Range<u64>,
-) -> Chunk
-    requires kind { operator.now.kind ≡ kind_for form }
-    requires values { of_values form ≡ true }
-    requires right { HasShape sources.left.now.rows sources.left.now.columns (mask_of sources.right) }
-    requires mask { HasShape sources.left.now.rows sources.left.now.columns (mask_of sources.mask) }
-    requires range { range.start ≤ range.end }
-    requires within { range.end ≤ sources.left.now.rows }
-    ensures rows { IfOk result.result (λ r. r ≡ record {
-      first = range.start;
-      columns = sources.entry.left.now.columns;
-      ended = form_rows form operator.now sources.entry.left.now (mask_of sources.entry.right) (mask_of sources.entry.mask)
-          range.start
-          (range.end - range.start);
-      opened = [];
-    }) }
-    ensures steps { OnOk result.result (result.steps ≡ steps_of (form_all_calls form operator.now sources.entry.left.now
-        (mask_of sources.entry.right) (mask_of sources.entry.mask) range.start (range.end - range.start))) }
-    ensures spent { OnErr result.result (Charges (form_all_calls form operator.now sources.entry.left.now
-        (mask_of sources.entry.right) (mask_of sources.entry.mask) range.start (range.end - range.start)) 0 result.steps) }
+) -> Made
+    requires form { Suits form operator.now }
+    requires rows { HaveRows sources range.start range.end }
+    ensures { IsFormMade form operator.now sources.entry.left.now (mask_of sources.entry.right) (mask_of sources.entry.mask)
+        range.start (range.end - range.start) result }
 {
     let _ = operator.operator().program();
     let mut emitter = Emitter::begin(alloc, range.start, sources.left.columns());
@@ -161,7 +128,7 @@ pub fn fill_chunk(
     match emitter.reserve(rows, room_for(form, sources, range.start, range.end)) {
         Ok(()) => {}
         Err(error) => {
-            return Chunk {
+            return Made {
                 result: Err(error),
                 steps: 0,
             };
@@ -171,7 +138,7 @@ pub fn fill_chunk(
     match fill(form, operator, calls, &mut emitter, sources, range) {
         Ok(()) => {}
         Err(error) => {
-            return Chunk {
+            return Made {
                 result: Err(error),
                 steps: emitter.steps(),
             };
@@ -179,7 +146,7 @@ pub fn fill_chunk(
     }
     emitter.flush(operator, calls);
     let steps = emitter.steps();
-    Chunk {
+    Made {
         result: Ok(emitter.into_rows()),
         steps,
     }

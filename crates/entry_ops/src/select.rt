@@ -1,20 +1,28 @@
 //! The words at positions of a mask for which the answer of an index operator is not 0, row by row.
-ghost use Rattle.std.specs.Prelude.{◌≡◌, ◌<◌, ◌≤◌, ◌+◌, ◌-◌, ◌^◌, ◌++◌, [], IfOk, OnOk, OnErr, None, Some, List};
+ghost use Rattle.std.specs.Prelude.{◌≡◌, ◌<◌, ◌-◌, None, Some};
 ghost use Rattle.bpf_insn.specs.declared.operands.Kind.TheVariants as kinds;
 ghost use Rattle.csr_store.specs.Mask.{HasShape};
-ghost use Rattle.bpf_run.specs.Calls.{Call, calls_on, steps_of, Charges};
 ghost use Rattle.entry_ops.specs.declared.form.Form.TheVariants as forms;
 ghost use Rattle.entry_ops.specs.inner.Standing.{with_cells};
-ghost use Rattle.entry_ops.specs.inner.Sifting.{final, Holds, Does};
-ghost use Rattle.entry_ops.specs.inner.Walking.{IsOpen, with_rows, form_row, form_row_calls, form_rows, form_all_calls};
+ghost use Rattle.entry_ops.specs.inner.Sifting.{IsReady, Fills};
+ghost use Rattle.entry_ops.specs.inner.Masked.{HasMaskedRows, rows_kept, calls_kept};
+ghost use Rattle.entry_ops.specs.inner.Walking.{with_rows, form_row, form_row_calls, IsFormMade};
 
+use crate::ahead::{begin_walk, value_here, walk_to};
 use crate::form::operands_of;
-use crate::masked::{first_at, from_column};
 use crate::sieve::Sieve;
 use bpf_run::{Calls, Prepared};
-use csr_store::{Chunk, Matrix};
+use csr_store::Matrix;
+use job_forms::Made;
 use std::alloc::{AllocError, Global};
 use std::ops::Range;
+
+/// A matrix with a mask of its shape.
+#[derive(Clone, Copy)]
+pub struct Masked<'a> {
+    pub a: &'a Matrix,
+    pub mask: &'a Matrix,
+}
 
 /// Adds the words of a row that the operator keeps, of those at positions that the mask's row stores.
 fn keep_row(
@@ -22,33 +30,26 @@ fn keep_row(
     operator: &Prepared,
     calls: &mut Calls,
     sieve: &mut Sieve,
-    a: &Matrix,
-    mask: &Matrix,
+    masked: Masked,
     row: u64,
 ) -> Result<(), AllocError>
     requires kind { operator.now.kind ≡ kinds.Index }
-    requires shape { HasShape a.now.rows a.now.columns (Some mask.now) }
-    requires within { row < a.now.rows }
-    requires holds { Holds operator.now sieve.old calls.old }
-    requires open { IsOpen a.now.columns (final operator.now sieve.old calls.old) }
-    requires room { sieve.old.steps + (steps_of (calls_on operator.now calls.old.operands)
-        + steps_of (form_row_calls (forms.Select thunk) operator.now a.now None (Some mask.now) row)) < 2 ^ 64 }
-    ensures does { OnOk result (Does operator.now
-        (form_row_calls (forms.Select thunk) operator.now a.now None (Some mask.now) row)
-        (with_cells (form_row (forms.Select thunk) operator.now a.now None (Some mask.now) row))
-        sieve.old calls.old sieve.new calls.new) }
-    ensures spent { OnErr result ((rest : List Call) → Charges (calls_on operator.now calls.old.operands
-        ++ (form_row_calls (forms.Select thunk) operator.now a.now None (Some mask.now) row ++ rest))
-        sieve.old.steps sieve.new.steps) }
+    requires row { HasShape masked.a.now.rows masked.a.now.columns (Some masked.mask.now) × (row < masked.a.now.rows) }
+    requires ready { IsReady operator.now masked.a.now.columns
+        (form_row_calls (forms.Select thunk) operator.now masked.a.now None (Some masked.mask.now) row) sieve.old calls.old }
+    ensures { Fills operator.now
+        (form_row_calls (forms.Select thunk) operator.now masked.entry.a.now None (Some masked.entry.mask.now) row)
+        (with_cells (form_row (forms.Select thunk) operator.now masked.entry.a.now None (Some masked.entry.mask.now) row))
+        sieve.old calls.old sieve.new calls.new result }
 {
-    let _ = a.columns();
-    let _ = mask.columns();
-    let mut cells = a.row(row);
-    let mut masks = mask.row(row);
+    let _ = masked.a.columns();
+    let _ = masked.mask.columns();
+    let mut cells = begin_walk(masked.a.row(row));
+    let mut masks = masked.mask.row(row);
     while let Some((shown, rest)) = masks.split_first() {
         let column = shown.0;
-        cells = from_column(cells, column);
-        if let Some(word) = first_at(cells, column) {
+        cells = walk_to(cells, column);
+        if let Some(word) = value_here(cells, column) {
             let operands = operands_of(Some(thunk), row, column, word);
             sieve.keep(operator, calls, column, word, operands)?;
         }
@@ -63,73 +64,53 @@ fn keep_rows(
     operator: &Prepared,
     calls: &mut Calls,
     sieve: &mut Sieve,
-    a: &Matrix,
-    mask: &Matrix,
+    masked: Masked,
     range: Range<u64>,
 ) -> Result<(), AllocError>
     requires kind { operator.now.kind ≡ kinds.Index }
-    requires holds { Holds operator.now sieve.old calls.old }
-    requires shape { HasShape a.now.rows a.now.columns (Some mask.now) }
-    requires range { range.start ≤ range.end }
-    requires within { range.end ≤ a.now.rows }
-    requires open { IsOpen a.now.columns (final operator.now sieve.old calls.old) }
-    requires room { sieve.old.steps + (steps_of (calls_on operator.now calls.old.operands) + steps_of (form_all_calls
-        (forms.Select thunk) operator.now a.now None (Some mask.now) range.start (range.end - range.start))) < 2 ^ 64 }
-    ensures does { OnOk result (Does operator.now
-        (form_all_calls (forms.Select thunk) operator.now a.now None (Some mask.now) range.start (range.end - range.start))
-        (with_rows (form_rows (forms.Select thunk) operator.now a.now None (Some mask.now) range.start (range.end - range.start)))
-        sieve.old calls.old sieve.new calls.new) }
-    ensures spent { OnErr result ((rest : List Call) → Charges (calls_on operator.now calls.old.operands
-        ++ (form_all_calls (forms.Select thunk) operator.now a.now None (Some mask.now) range.start (range.end - range.start)
-        ++ rest)) sieve.old.steps sieve.new.steps) }
+    requires rows { HasMaskedRows masked range.start range.end }
+    requires ready { IsReady operator.now masked.a.now.columns (calls_kept thunk operator.now masked range.start range.end)
+        sieve.old calls.old }
+    ensures { Fills operator.now (calls_kept thunk operator.now masked.entry range.start range.end)
+        (with_rows (rows_kept thunk operator.now masked.entry range.start range.end))
+        sieve.old calls.old sieve.new calls.new result }
 {
     for row in range.start..range.end {
-        keep_row(thunk, operator, calls, sieve, a, mask, row)?;
+        keep_row(thunk, operator, calls, sieve, masked, row)?;
         sieve.end_row(operator, calls)?;
     }
     Ok(())
 }
 
 /// The rows of a range of what an operator keeps, under a mask.
-pub fn select_chunk(
+pub fn select_region(
     alloc: Global,
     calls: &mut Calls,
-    a: &Matrix,
     operator: &Prepared,
     thunk: u64,
-    mask: &Matrix,
+    masked: Masked,
     range: Range<u64>,
-) -> Chunk
+) -> Made
     requires kind { operator.now.kind ≡ kinds.Index }
-    requires shape { HasShape a.now.rows a.now.columns (Some mask.now) }
-    requires range { range.start ≤ range.end }
-    requires within { range.end ≤ a.now.rows }
-    ensures rows { IfOk result.result (λ r. r ≡ record {
-      first = range.start;
-      columns = a.now.columns;
-      ended = form_rows (forms.Select thunk) operator.now a.now None (Some mask.now) range.start (range.end - range.start);
-      opened = [];
-    }) }
-    ensures steps { OnOk result.result (result.steps ≡ steps_of (form_all_calls (forms.Select thunk) operator.now
-        a.now None (Some mask.now) range.start (range.end - range.start))) }
-    ensures spent { OnErr result.result (Charges (form_all_calls (forms.Select thunk) operator.now
-        a.now None (Some mask.now) range.start (range.end - range.start)) 0 result.steps) }
+    requires rows { HasMaskedRows masked range.start range.end }
+    ensures { IsFormMade (forms.Select thunk) operator.now masked.entry.a.now None (Some masked.entry.mask.now) range.start
+        (range.end - range.start) result }
 {
     let _ = operator.operator().program();
-    let mut sieve = match Sieve::begin(alloc, range.start, a.columns()) {
+    let mut sieve = match Sieve::begin(alloc, range.start, masked.a.columns()) {
         Ok(sieve) => sieve,
         Err(error) => {
-            return Chunk {
+            return Made {
                 result: Err(error),
                 steps: 0,
             };
         }
     };
     calls.begin(operator.kind());
-    match keep_rows(thunk, operator, calls, &mut sieve, a, mask, range) {
+    match keep_rows(thunk, operator, calls, &mut sieve, masked, range) {
         Ok(()) => {}
         Err(error) => {
-            return Chunk {
+            return Made {
                 result: Err(error),
                 steps: sieve.steps(),
             };
@@ -138,14 +119,14 @@ pub fn select_chunk(
     match sieve.flush(operator, calls) {
         Ok(()) => {}
         Err(error) => {
-            return Chunk {
+            return Made {
                 result: Err(error),
                 steps: sieve.steps(),
             };
         }
     }
     let steps = sieve.steps();
-    Chunk {
+    Made {
         result: Ok(sieve.into_rows()),
         steps,
     }

@@ -2,9 +2,9 @@
 ghost use Rattle.std.specs.Prelude.{◌≡◌, ◌<◌, ◌≤◌, ◌+◌, ◌^◌, ◌∷◌, [], length, vec_capacity, OnOk, OnErr, IfOk};
 ghost use Rattle.bpf_insn.specs.Machine.{kind_of};
 ghost use Rattle.bpf_run.specs.Meaning.{value_of};
-ghost use Rattle.bpf_run.specs.Calls.{call_of, calls_on, steps_of, Charges};
+ghost use Rattle.bpf_run.specs.Calls.{call_of, calls_on, steps_of};
 ghost use Rattle.entry_ops.specs.inner.Standing.{CanPush, with_end};
-ghost use Rattle.entry_ops.specs.inner.Sifting.{placed, Fits, final, Holds, Does, with_kept};
+ghost use Rattle.entry_ops.specs.inner.Sifting.{placed, Fits, Holds, with_kept, CanAdd, Puts, IsFlushed};
 
 use bpf_insn::Operands;
 use bpf_run::{Calls, MOST_CALLS, Prepared};
@@ -77,13 +77,7 @@ impl Sieve {
     pub fn flush(&mut self, operator: &Prepared, calls: &mut Calls) -> Result<(), AllocError>
         requires holds { Holds operator.now self.old calls.old }
         requires room { self.old.steps + steps_of (calls_on operator.now calls.old.operands) < 2 ^ 64 }
-        ensures made { OnOk result (self.new ≡ record {
-          rows = final operator.now self.old calls.old;
-          marks = [];
-          steps = self.old.steps + steps_of (calls_on operator.now calls.old.operands);
-        }) }
-        ensures none { OnOk result (calls.new.operands ≡ []) }
-        ensures kind { OnOk result (calls.new.kind ≡ operator.now.kind) }
+        ensures made { OnOk result (IsFlushed operator.now self.old calls.old self.new calls.new) }
         ensures spent { OnErr result (self.new.steps ≡ self.old.steps + steps_of (calls_on operator.now calls.old.operands)) }
     {
         self.steps += calls.make(operator);
@@ -97,10 +91,8 @@ impl Sieve {
     pub fn make_room(&mut self, operator: &Prepared, calls: &mut Calls) -> Result<(), AllocError>
         requires holds { Holds operator.now self.old calls.old }
         requires room { self.old.steps + steps_of (calls_on operator.now calls.old.operands) < 2 ^ 64 }
-        ensures does { OnOk result (Does operator.now [] (λ run. run) self.old calls.old self.new calls.new) }
-        ensures marks { OnOk result (length self.new.marks < 256) }
-        ensures calls { OnOk result (length calls.new.operands < 64) }
-        ensures spent { OnErr result (Charges (calls_on operator.now calls.old.operands) self.old.steps self.new.steps) }
+        ensures puts { Puts operator.now [] (λ run. run) self.old calls.old self.new calls.new result }
+        ensures fits { OnOk result ((length self.new.marks < 256) × (length calls.new.operands < 64)) }
     {
         if self.marks.len() < MOST_MARKS && calls.len() < MOST_CALLS {
             return Ok(());
@@ -119,13 +111,10 @@ impl Sieve {
         word: u64,
         operands: Operands,
     ) -> Result<(), AllocError>
-        requires holds { Holds operator.now self.old calls.old }
         requires kind { kind_of operands ≡ operator.now.kind }
-        requires fits { CanPush column (final operator.now self.old calls.old) }
-        requires room { self.old.steps + steps_of (calls_on operator.now calls.old.operands) < 2 ^ 64 }
-        ensures does { OnOk result (Does operator.now (call_of operator.now operands ∷ [])
-            (with_kept column word (value_of operator.now operands)) self.old calls.old self.new calls.new) }
-        ensures spent { OnErr result (Charges (calls_on operator.now calls.old.operands) self.old.steps self.new.steps) }
+        requires can { CanAdd operator.now column self.old calls.old }
+        ensures { Puts operator.now (call_of operator.now operands ∷ []) (with_kept column word (value_of operator.now operands))
+            self.old calls.old self.new calls.new result }
     {
         self.make_room(operator, calls)?;
         self.marks.push(Mark::Kept { column, word }).unwrap();
@@ -137,8 +126,7 @@ impl Sieve {
     pub fn end_row(&mut self, operator: &Prepared, calls: &mut Calls) -> Result<(), AllocError>
         requires holds { Holds operator.now self.old calls.old }
         requires room { self.old.steps + steps_of (calls_on operator.now calls.old.operands) < 2 ^ 64 }
-        ensures does { OnOk result (Does operator.now [] with_end self.old calls.old self.new calls.new) }
-        ensures spent { OnErr result (Charges (calls_on operator.now calls.old.operands) self.old.steps self.new.steps) }
+        ensures { Puts operator.now [] with_end self.old calls.old self.new calls.new result }
     {
         self.make_room(operator, calls)?;
         self.marks.push(Mark::End).unwrap();

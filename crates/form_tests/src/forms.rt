@@ -10,8 +10,9 @@ use crate::masks::{has_shape, passes};
 use crate::operators::{EXIT, operator};
 use bpf_insn::{Kind, Operands, Ran, run_tagged};
 use bpf_run::{Calls, Prepared};
-use csr_store::{Builder, Chunk, Matrix, Rows, join_rows};
+use csr_store::{Builder, Matrix, Rows, join_rows};
 use entry_ops::{apply_rows, both_rows, reduce_rows, select_rows, union_rows};
+use job_forms::{Made, Region};
 use std::alloc::{AllocError, Global};
 use std::ops::Range;
 use std::process::Abort;
@@ -111,15 +112,16 @@ fn rows_of<'m>(
     mask: Option<&'m Matrix>,
     columns: u64,
     range: Range<u64>,
-) -> Option<Chunk>
+) -> Option<Made>
     ensures { IfSome result (λ c. IfOk c.result (λ r. IsPiece range.start columns (range.end - range.start) r)) }
 {
     if range.start > range.end || range.end > a.rows() || !has_shape(mask, a.rows(), columns) {
         return None;
     }
+    let region = Region { range, mask };
     if columns == 1 && operator.kind() == Kind::Binary {
         if let Job::Reduce = job {
-            return Some(reduce_rows(alloc, calls, a, operator, mask, range));
+            return Some(reduce_rows(alloc, calls, a, operator, region));
         }
     }
     if columns != a.columns() || b.rows() != a.rows() || b.columns() != columns {
@@ -127,16 +129,16 @@ fn rows_of<'m>(
     }
     match (job, operator.kind()) {
         (Job::Apply(None), Kind::Unary) => Some(apply_rows(
-            alloc, calls, a, operator, None, mask, range,
+            alloc, calls, a, operator, None, region,
         )),
         (Job::Apply(Some(thunk)), Kind::Index) => {
-            Some(apply_rows(alloc, calls, a, operator, Some(thunk), mask, range))
+            Some(apply_rows(alloc, calls, a, operator, Some(thunk), region))
         }
-        (Job::Select(thunk), Kind::Index) => Some(select_rows(
-            alloc, calls, a, operator, thunk, mask, range,
-        )),
-        (Job::Union, Kind::Binary) => Some(union_rows(alloc, calls, a, b, operator, mask, range)),
-        (Job::Both, Kind::Binary) => Some(both_rows(alloc, calls, a, b, operator, mask, range)),
+        (Job::Select(thunk), Kind::Index) => {
+            Some(select_rows(alloc, calls, a, operator, thunk, region))
+        }
+        (Job::Union, Kind::Binary) => Some(union_rows(alloc, calls, a, b, operator, region)),
+        (Job::Both, Kind::Binary) => Some(both_rows(alloc, calls, a, b, operator, region)),
         _ => None,
     }
 }

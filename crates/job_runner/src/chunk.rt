@@ -1,16 +1,16 @@
 //! One chunk of a batch.
-ghost use Rattle.std.specs.Prelude.{◌≡◌, ◌<◌, ◌≤◌, ◌-◌, [], length, IfOk, OnOk, OnErr};
-ghost use Rattle.bpf_run.specs.Calls.{steps_of, Charges};
+ghost use Rattle.std.specs.Prelude.{◌<◌, ◌≤◌, ◌-◌, [], length};
+ghost use Rattle.job_forms.specs.Region.{IsMade};
 ghost use Rattle.job_plan.specs.Chunks.{plan_chunks};
 ghost use Rattle.job_plan.specs.Meaning.{row_count, column_count, rows_in, calls_in};
 ghost use Rattle.job_plan.specs.Refusal.{IsPriced};
 ghost use Rattle.job_runner.specs.Chunk.{run_of, calls_of};
 
 use bpf_run::Calls;
-use csr_store::Chunk;
 use entry_ops::{apply_rows, both_rows, reduce_rows, select_rows, union_rows};
+use job_forms::{Made, Region};
 use job_plan::{Form, Job, Plan};
-use row_product::product_rows;
+use row_product::{Factors, product_rows};
 use std::alloc::{AllocError, Global};
 use std::ops::Range;
 
@@ -33,11 +33,9 @@ impl Scratch {
 
 /// The rows of a chunk of a plan, with the steps of the calls that were made for them. Where memory is wanted, the steps are those
 /// of some of these calls.
-pub fn compute(alloc: Global, scratch: &mut Scratch, plan: &Plan, chunk: u64) -> Chunk
+pub fn compute(alloc: Global, scratch: &mut Scratch, plan: &Plan, chunk: u64) -> Made
     requires { chunk < length (plan_chunks plan.now) }
-    ensures rows { IfOk result.result (λ r. r ≡ run_of plan.now chunk) }
-    ensures steps { OnOk result.result (result.steps ≡ steps_of (calls_of plan.now chunk)) }
-    ensures spent { OnErr result.result (Charges (calls_of plan.now chunk) 0 result.steps) }
+    ensures { IsMade (run_of plan.now chunk) (calls_of plan.now chunk) result }
 {
     let (job, range, _price) = plan.chunk(chunk);
     let jobs = plan.jobs();
@@ -45,50 +43,57 @@ pub fn compute(alloc: Global, scratch: &mut Scratch, plan: &Plan, chunk: u64) ->
 }
 
 /// Some rows of a job's matrix: the six forms, each by its operation.
-fn compute_rows(alloc: Global, scratch: &mut Scratch, job: &Job, range: Range<u64>) -> Chunk
+fn compute_rows(alloc: Global, scratch: &mut Scratch, job: &Job, range: Range<u64>) -> Made
     requires priced { IsPriced job.now }
     requires range { range.start ≤ range.end }
     requires within { range.end ≤ row_count job.now }
-    ensures rows { IfOk result.result (λ r. r ≡ record {
+    ensures { IsMade (record {
       first = range.start;
       columns = column_count job.now;
       ended = rows_in job.now range.start (range.end - range.start);
       opened = [];
-    }) }
-    ensures steps { OnOk result.result (result.steps ≡ steps_of (calls_in job.now range.start (range.end - range.start))) }
-    ensures spent { OnErr result.result (Charges (calls_in job.now range.start (range.end - range.start)) 0 result.steps) }
+    }) (calls_in job.now range.start (range.end - range.start)) result }
 {
     let Scratch { calls, row } = scratch;
-    let mask = job.mask();
+    let region = Region {
+        range,
+        mask: job.mask(),
+    };
     match job.form() {
         Form::Apply {
             operator,
             thunk,
             operand,
-        } => apply_rows(alloc, calls, operand, operator, *thunk, mask, range),
+        } => apply_rows(alloc, calls, operand, operator, *thunk, region),
         Form::Select {
             operator,
             thunk,
             operand,
-        } => select_rows(alloc, calls, operand, operator, *thunk, mask, range),
+        } => select_rows(alloc, calls, operand, operator, *thunk, region),
         Form::Union {
             operator,
             left,
             right,
-        } => union_rows(alloc, calls, left, right, operator, mask, range),
+        } => union_rows(alloc, calls, left, right, operator, region),
         Form::Both {
             operator,
             left,
             right,
-        } => both_rows(alloc, calls, left, right, operator, mask, range),
+        } => both_rows(alloc, calls, left, right, operator, region),
         Form::Product {
             add,
             mul,
             left,
             right,
-        } => product_rows(alloc, row, left, right, add, mul, mask, range),
-        Form::Reduce { operator, operand } => {
-            reduce_rows(alloc, calls, operand, operator, mask, range)
+        } => {
+            let factors = Factors {
+                add,
+                mul,
+                a: left,
+                b: right,
+            };
+            product_rows(alloc, row, &factors, region)
         }
+        Form::Reduce { operator, operand } => reduce_rows(alloc, calls, operand, operator, region),
     }
 }

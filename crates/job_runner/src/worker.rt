@@ -11,7 +11,7 @@ ghost use Rattle.job_runner.specs.inner.Worked.{Adds};
 use crate::chunk::{Scratch, compute};
 use crate::gate::Gate;
 use crate::piece::Piece;
-use csr_store::Chunk;
+use job_forms::Made;
 use job_plan::Plan;
 use race_board::{Board, BoardSeat};
 use std::alloc::{AllocError, Global};
@@ -173,7 +173,7 @@ fn compute_piece(
     ensures most { steps.new ≤ chunk_steps plan.now chunk }
 {
     let _chunks = plan.chunks();
-    let Chunk {
+    let Made {
         result,
         steps: taken,
     } = compute(alloc, scratch, plan, chunk);

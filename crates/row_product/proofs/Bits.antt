@@ -29,7 +29,8 @@ bit_kept bits j i l h = elim (eqb_tells (i / 64) (j / 64)) [
         (bit_set bits j l)
     | inr e ↦
         ap (λ k. bit_at (get_or (set bits (j / 64) (bit_or (get_or bits (j / 64) 0) (1 * 2 ^ (j % 64) % 2 ^ 64))) k 0) (i % 64)) d.1
-        ∙ (ap (λ w. bit_at w (i % 64)) (get_or-set_same bits (j / 64) (bit_or (get_or bits (j / 64) 0) (1 * 2 ^ (j % 64) % 2 ^ 64)) 0
+        ∙ (ap (λ w. bit_at w (i % 64)) (get_or-set_same bits (j / 64) (bit_or (get_or bits (j / 64) 0) (1 * 2 ^
+        (j % 64) % 2 ^ 64)) 0
         (omega (arith, l)))
         ∙ (bit_at_set_other w64 (get_or bits (j / 64) 0) (j % 64) (omega arith) (i % 64) e.1
         ∙ (ap (λ k. bit_at (get_or bits k 0) (i % 64)) (sym d.1) ∙ h)))
@@ -95,18 +96,3 @@ pub reading_end : (n : ℕ) (whole : ℕ → Option ℕ) (from : Run) (q p left 
     → q - p ≤ trailing_zeros w64 left → Putting n whole from q now
 reading_end n whole from q p left now m l =
     let w = m.within in skipped n whole from q p left q now m w (omega arith) (omega (arith, l, w))
-
--- the next word
-pub reading_start : (n : ℕ) (whole : ℕ → Option ℕ) (from : Run) (q p : ℕ) (bits : List ℕ) (now : Run) → Putting n whole from p now
-    → p ≤ q → q ≤ n → q ≤ p + 64 → p % 64 ≡ 0 → get_or bits (p / 64) 0 < 2 ^ 64
-    → ((j v : ℕ) → whole j ≡ Some v → bit_of bits j ≡ 1) → Reading n whole from q p (get_or bits (p / 64) 0) now
-reading_start n whole from q p bits now m a b w z s h = record {
-  putting = m;
-  within = a;
-  inside = b;
-  small = s;
-  covers = λ j v l u e.
-      let k : j / 64 ≡ p / 64 = omega (arith, l, u, w, z) in
-      let i : j % 64 ≡ j - p = omega (arith, l, u, w, z) in
-      sym (ap (λ t. bit_at (get_or bits t 0) (j % 64)) k ∙ ap (bit_at (get_or bits (p / 64) 0)) i) ∙ h j v e;
-}

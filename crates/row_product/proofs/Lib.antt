@@ -4,6 +4,7 @@ pub mod Turns
 pub mod Putting
 pub mod Marking
 pub mod Filling
+pub mod Ending
 pub mod Meeting
 pub mod Summing
 pub mod Parts
@@ -11,3 +12,4 @@ pub mod Multiplying
 pub mod Barren
 pub mod Bits
 pub mod Spreading
+pub mod Passing

@@ -1,36 +1,39 @@
 -- A row of A with one entry makes the row of B that it names, each word multiplied, and that alone is called.
-use Rattle.std.proofs.Common.{◌≡◌, ℕ, suc, ◌+◌, ◌<◌, List, [], ◌∷◌, ◌++◌, Option, None, length, drop, get_or, refl, sym, ap, ◌∙◌, subst, append_assoc, append-nil, arith}
+use Rattle.std.proofs.Common.{◌≡◌, ℕ, suc, ◌+◌, ◌<◌, Bool, true, false, if◌then◌else◌, List, [], ◌∷◌, ◌++◌, Option, None, Some, length, drop, get_or, refl, sym, ap, ◌∙◌, subst, append_assoc, append-nil, arith}
 use Rattle.std.proofs.lemmas.List.{drop_more}
 use Rattle.std.specs.List.{AllByRecursion}
 use Rattle.bpf_insn.specs.declared.operands.Operands.TheVariants.{Binary}
 use Rattle.bpf_verify.specs.Accepted.{Accepted}
 use Rattle.bpf_run.specs.Meaning.{value_of}
-use Rattle.bpf_run.specs.Calls.{call_of, steps_of, calls_on, values_on, pairs_with}
+use Rattle.bpf_run.specs.Calls.{Call, call_of, calls_on, values_on, pairs_with}
 use Rattle.bpf_run.specs.Fold.{fold, fold_calls}
 use Rattle.csr_store.specs.Along.{along, cell_at, row_by}
 use Rattle.csr_store.specs.Grid.{Grid, Cell, IsGrid, row_of}
-use Rattle.csr_store.specs.Mask.{row_under, listed_under}
+use Rattle.csr_store.specs.Mask.{passes, row_under, listed_under}
 use Rattle.csr_store.specs.Run.{Run}
 use Rattle.csr_store.proofs.Along.{Ascends, along-row_of, each}
 use Rattle.job_forms.specs.Product.{term, term_calls, terms, mul_calls, product_at, product_calls_at}
+use Rattle.row_product.specs.inner.Adding.{taking}
 use Rattle.row_product.specs.inner.Single.{multiplied, with_words, IsBehind}
 use Rattle.row_product.proofs.Putting.{cells_below, cells_joined, same_run}
 
 -- ---- what is put
 
-pub words_by_terms : (mul : Accepted) (x : ℕ) (cs : List Cell) → with_words cs (values_on mul (pairs_with x cs)) ≡ multiplied mul x cs
+pub words_by_terms : (mul : Accepted) (x : ℕ) (cs : List Cell) → with_words cs (values_on mul
+    (pairs_with x cs)) ≡ multiplied mul x cs
 words_by_terms mul x [] = refl
 words_by_terms mul x (c ∷ cs) = ap (λ us. (c.0, value_of mul (Binary x c.1)) ∷ us) (words_by_terms mul x cs)
 
-pub multiplied-append : (mul : Accepted) (x : ℕ) (cs ds : List Cell) → multiplied mul x (cs ++ ds) ≡ multiplied mul x cs ++ multiplied
+pub multiplied-append : (mul : Accepted) (x : ℕ) (cs ds : List Cell) → multiplied mul x
+    (cs ++ ds) ≡ multiplied mul x cs ++ multiplied
     mul x ds
 multiplied-append mul x [] ds = refl
 multiplied-append mul x (c ∷ cs) ds = ap (λ us. (c.0, value_of mul (Binary x c.1)) ∷ us) (multiplied-append mul x cs ds)
 
-pub steps_by_parts : (mul : Accepted) (x : ℕ) (cs ds : List Cell) → steps_of (calls_on mul (pairs_with x (cs ++ ds)))
-    ≡ steps_of (calls_on mul (pairs_with x cs)) + steps_of (calls_on mul (pairs_with x ds))
-steps_by_parts mul x [] ds = omega arith
-steps_by_parts mul x (c ∷ cs) ds = let r = steps_by_parts mul x cs ds in omega (arith, r)
+pub calls_by_parts : (mul : Accepted) (x : ℕ) (cs ds : List Cell)
+    → calls_on mul (pairs_with x (cs ++ ds)) ≡ calls_on mul (pairs_with x cs) ++ calls_on mul (pairs_with x ds)
+calls_by_parts mul x [] ds = refl
+calls_by_parts mul x (c ∷ cs) ds = ap (λ us. call_of mul (Binary x c.1) ∷ us) (calls_by_parts mul x cs ds)
 
 behind_cell : (n : ℕ) (os : List Cell) (c : Cell) (v : ℕ) (cs : List Cell) → IsBehind n os (c ∷ cs)
     → IsBehind n (os ++ (c.0, v) ∷ []) cs
@@ -38,7 +41,8 @@ behind_cell n os c v cs m =
     let l = m.ascends.0 in
     record {
       low = suc c.0;
-      below = cells_joined (suc c.0) os ((c.0, v) ∷ []) (cells_below m.low (suc c.0) os (omega (arith, l)) m.below) (omega arith, tt);
+      below = cells_joined (suc c.0) os ((c.0, v) ∷ []) (cells_below m.low (suc c.0) os (omega (arith, l)) m.below)
+          (omega arith, tt);
       ascends = m.ascends.2;
     }
 
@@ -65,10 +69,12 @@ pub record Pushing (from : Run) (whole : List Cell) (now : Run) (rest left : Lis
   pub listed : now.opened ++ left ≡ from.opened ++ whole
   pub behind : IsBehind from.columns now.opened rest
 
-pub pushing_start : (from : Run) (whole rest : List Cell) → IsBehind from.columns from.opened rest → Pushing from whole from rest whole
+pub pushing_start : (from : Run) (whole rest : List Cell) → IsBehind from.columns from.opened rest
+    → Pushing from whole from rest whole
 pushing_start from whole rest b = record { run = refl; listed = refl; behind = b }
 
-listed_more : (os cs left whole : List Cell) (next : List Cell) → next ≡ os ++ cs → os ++ (cs ++ left) ≡ whole → next ++ left ≡ whole
+listed_more : (os cs left whole : List Cell) (next : List Cell) → next ≡ os ++ cs → os ++ (cs ++ left) ≡ whole
+    → next ++ left ≡ whole
 listed_more os cs left whole next e m = ap (λ us. us ++ left) e ∙ (append_assoc os cs left ∙ m)
 
 pub pushing_step : (from : Run) (whole : List Cell) (now : Run) (rest left : List Cell) (c : Cell) (v : ℕ) (more later : List Cell)
@@ -97,7 +103,8 @@ pushing_part mul x from whole now rest cs ds next m e r =
           (behind_cells from.columns now.opened x mul cs ds (subst (IsBehind from.columns now.opened) e m.behind));
     }
 
-pub pushing_end : (from : Run) (whole : List Cell) (now : Run) (rest left : List Cell) → Pushing from whole now rest left → left ≡ []
+pub pushing_end : (from : Run) (whole : List Cell) (now : Run) (rest left : List Cell) → Pushing from whole now rest left
+    → left ≡ []
     → now ≡ record from { opened = from.opened ++ whole }
 pushing_end from whole now rest left m e =
     m.run ∙ ap (λ os. record from { opened = os })
@@ -120,28 +127,57 @@ with_words_more cs ws k l e =
 
 -- ---- what that is
 
-module _ (add mul : Accepted) (x : ℕ) where
-  values_each : (cs : List Cell) → each (λ j o. cell_at j (fold add (term mul x o ++ []))) cs ≡ multiplied mul x cs
+module _ (add mul : Accepted) (x : ℕ) (t : ℕ → Bool) where
+  no_value : (k : ℕ) → cell_at k (if t k then fold add (term mul x None ++ []) else None) ≡ []
+  no_value k = by_test (t k)
+    where
+      by_test : (b : Bool) → cell_at k (if b then None else None) ≡ []
+      by_test true = refl
+      by_test false = refl
+
+  no_call : (k : ℕ) → (if t k then (term_calls mul x None ++ []) ++ fold_calls add (term mul x None ++ []) else []) ≡ []
+  no_call k = by_test (t k)
+    where
+      by_test : (b : Bool) → (let none : List Call = [] in if b then none else none) ≡ []
+      by_test true = refl
+      by_test false = refl
+
+  values_each : (cs : List Cell)
+      → each (λ j o. cell_at j (if t j then fold add (term mul x o ++ []) else None)) cs ≡ multiplied mul x (taking t cs)
   values_each [] = refl
-  values_each (c ∷ cs) = ap (λ us. (c.0, value_of mul (Binary x c.1)) ∷ us) (values_each cs)
+  values_each (c ∷ cs) = ap (λ us. cell_at c.0 (if t c.0 then Some (value_of mul (Binary x c.1)) else None) ++ us) (values_each cs)
+      ∙ by_test (t c.0)
+    where
+      by_test : (b : Bool) → cell_at c.0 (if b then Some (value_of mul (Binary x c.1)) else None) ++ multiplied mul x (taking t cs)
+          ≡ multiplied mul x (if b then c ∷ taking t cs else taking t cs)
+      by_test true = refl
+      by_test false = refl
 
   calls_each : (cs : List Cell)
-      → each (λ j o. (term_calls mul x o ++ []) ++ fold_calls add (term mul x o ++ [])) cs ≡ calls_on mul (pairs_with x cs)
+      → each (λ j o. if t j then (term_calls mul x o ++ []) ++ fold_calls add (term mul x o ++ []) else []) cs
+      ≡ calls_on mul (pairs_with x (taking t cs))
   calls_each [] = refl
-  calls_each (c ∷ cs) = ap (λ us. call_of mul (Binary x c.1) ∷ us) (calls_each cs)
+  calls_each (c ∷ cs) = ap (λ us. (if t c.0 then call_of mul (Binary x c.1) ∷ [] else []) ++ us) (calls_each cs) ∙ by_test (t c.0)
+    where
+      by_test : (b : Bool) → (if b then call_of mul (Binary x c.1) ∷ [] else []) ++ calls_on mul (pairs_with x (taking t cs))
+          ≡ calls_on mul (pairs_with x (if b then c ∷ taking t cs else taking t cs))
+      by_test true = refl
+      by_test false = refl
 
-pub row_of_one : (add mul : Accepted) (a b : Grid) (mask : Option Grid) (i : ℕ) (c : Cell) → IsGrid b → mask ≡ None
-    → row_of a i ≡ c ∷ [] → multiplied mul c.1 (row_of b c.0) ≡ row_under mask b.columns (product_at add mul a b) i
-row_of_one add mul a b mask i c g n e =
-    sym (ap (λ m. row_under m b.columns (product_at add mul a b) i) n
-    ∙ (ap (λ us. row_by b.columns (λ j. fold add (terms mul b us j))) e
-    ∙ (along-row_of (λ j o. cell_at j (fold add (term mul c.1 o ++ []))) (λ k. refl) b c.0 g ∙ values_each add mul c.1 (row_of b c.0))))
+pub row_of_one : (add mul : Accepted) (a b : Grid) (mask : Option Grid) (i : ℕ) (c : Cell) → IsGrid b → row_of a i ≡ c ∷ []
+    → multiplied mul c.1 (taking (λ j. passes mask (i, j)) (row_of b c.0)) ≡ row_under mask b.columns (product_at add mul a b) i
+row_of_one add mul a b mask i c g e =
+    let t : ℕ → Bool = λ j. passes mask (i, j) in
+    sym (ap (λ us. row_by b.columns (λ j. if t j then fold add (terms mul b us j) else None)) e
+    ∙ (along-row_of (λ j o. cell_at j (if t j then fold add (term mul c.1 o ++ []) else None)) (no_value add mul c.1 t) b c.0 g
+    ∙ values_each add mul c.1 t (row_of b c.0)))
 
-pub calls_of_one : (add mul : Accepted) (a b : Grid) (mask : Option Grid) (i : ℕ) (c : Cell) → IsGrid b → mask ≡ None
-    → row_of a i ≡ c ∷ []
-    → calls_on mul (pairs_with c.1 (row_of b c.0)) ≡ listed_under mask b.columns (product_calls_at add mul a b) i
-calls_of_one add mul a b mask i c g n e =
-    sym (ap (λ m. listed_under m b.columns (product_calls_at add mul a b) i) n
-    ∙ (ap (λ us. along (λ j. mul_calls mul b us j ++ fold_calls add (terms mul b us j)) 0 b.columns) e
-    ∙ (along-row_of (λ j o. (term_calls mul c.1 o ++ []) ++ fold_calls add (term mul c.1 o ++ [])) (λ k. refl) b c.0 g
-    ∙ calls_each add mul c.1 (row_of b c.0))))
+pub calls_of_one : (add mul : Accepted) (a b : Grid) (mask : Option Grid) (i : ℕ) (c : Cell) → IsGrid b → row_of a i ≡ c ∷ []
+    → calls_on mul (pairs_with c.1 (taking (λ j. passes mask (i, j)) (row_of b c.0)))
+    ≡ listed_under mask b.columns (product_calls_at add mul a b) i
+calls_of_one add mul a b mask i c g e =
+    let t : ℕ → Bool = λ j. passes mask (i, j) in
+    sym (ap (λ us. along (λ j. if t j then mul_calls mul b us j ++ fold_calls add (terms mul b us j) else []) 0 b.columns) e
+    ∙ (along-row_of (λ j o. if t j then (term_calls mul c.1 o ++ []) ++ fold_calls add (term mul c.1 o ++ []) else [])
+    (no_call add mul c.1 t) b c.0 g
+    ∙ calls_each add mul c.1 t (row_of b c.0)))

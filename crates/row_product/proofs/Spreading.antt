@@ -43,9 +43,6 @@ apart_at low n (k ∷ ks) (suc p) d a l =
     let m = r.0 in
     (omega (arith, b, m), r.1)
 
-pub apart_below : (low n : ℕ) (ks : List ℕ) (p d : ℕ) → IsApart low n ks → p < length ks → get_or ks p d < n
-apart_below low n ks p d a l = (apart_at low n ks p d a l).1
-
 -- columns below the first that is listed have nothing
 spread_before : (low n : ℕ) (ks : List ℕ) (sums : List (Option ℕ)) (j : ℕ) → IsApart low n ks → j < low
     → slot (spread n ks sums) j ≡ None
@@ -86,9 +83,6 @@ spread_set low n (k ∷ ks) (s ∷ sums) (suc p) d v a e l =
 pub record Rising (n least : ℕ) (ks : List ℕ) : Type 0 where
   pub apart : IsApart 0 n ks
   pub below : AllByRecursion (λ k. k < least) ks
-
-pub rising_start : (n : ℕ) (ks : List ℕ) → ks ≡ [] → Rising n 0 ks
-rising_start n ks e = subst (Rising n 0) (sym e) (record { apart = tt; below = tt })
 
 apart_push : (low n : ℕ) (ks : List ℕ) (x : ℕ) → IsApart low n ks → AllByRecursion (λ k. k < x) ks → low ≤ x → x < n
     → IsApart low n (ks ++ x ∷ [])

@@ -1,17 +1,16 @@
 //! A row of sums, to which the cells of rows of B are added, each times a word.
-ghost use Rattle.std.specs.Prelude.{◌≡◌, ◌≤◌, ◌<◌, ◌*◌, ◌^◌, ◌++◌, ℕ, None, [], length, IfOk, OnOk};
-ghost use Rattle.bpf_insn.specs.declared.operands.Kind.TheVariants as kinds;
+ghost use Rattle.std.specs.Prelude.{◌≡◌, ◌≤◌, ℕ, None, [], length, IfOk, OnOk};
 ghost use Rattle.bpf_verify.specs.Accepted.{Accepted};
-ghost use Rattle.bpf_run.specs.Calls.{steps_of, calls_on, pairs_with};
 ghost use Rattle.csr_store.specs.Along.{row_by};
-ghost use Rattle.csr_store.specs.Ascending.{Ascends};
-ghost use Rattle.row_product.specs.inner.Adding.{sums_after, calls_after, put_terms, put_calls, none_gathered, AreBelow, IsMet};
-ghost use Rattle.row_product.specs.inner.Factors.{AreFactors};
-ghost use Rattle.row_product.specs.inner.Single.{multiplied, IsBehind};
+ghost use Rattle.row_product.specs.inner.Adding.{none_gathered, AreBelow, AreTerms, ArePut, MayPut, IsMet};
+ghost use Rattle.row_product.specs.inner.Emitting.{MayEmit};
+ghost use Rattle.row_product.specs.inner.Masked.{AreMasked};
+ghost use Rattle.row_product.specs.inner.Rows.{IsPart, AddsCells};
+ghost use Rattle.row_product.specs.inner.Single.{IsBehind, Pushes};
 ghost use Rattle.row_product.specs.inner.Sums.{slot};
 
 use crate::additions::Additions;
-use crate::factors::Factors;
+use crate::factors::MaskedFactors;
 use crate::single::push_words;
 use crate::sums::Sums;
 use crate::terms::Terms;
@@ -74,13 +73,9 @@ impl Accumulator {
     }
 
     /// Adds a word times each of up to 64 cells of a row of B to the sums of their columns. Answers the steps.
-    pub(crate) fn add_cells(&mut self, factors: &Factors, x: u64, cells: &[(u64, u64)]) -> u64
-        requires factors { AreFactors factors.now }
-        requires few { length cells.now ≤ 64 }
-        requires apart { Ascends 0 (length self.old) cells.now }
-        ensures sums { self.new ≡ sums_after factors.now.add.now factors.now.mul.now x self.old cells.now }
-        ensures steps { result ≡ steps_of (calls_after factors.now.add.now factors.now.mul.now x self.old cells.now) }
-        ensures little { result ≤ 8192 * length cells.now }
+    pub(crate) fn add_cells(&mut self, factors: &MaskedFactors, x: u64, cells: &[(u64, u64)]) -> u64
+        requires { IsPart factors.now (length self.old) cells.now }
+        ensures { AddsCells factors.now x cells.now self.old self.new result }
     {
         let _add = factors.add.operator().program();
         let _mul = factors.mul.operator().program();
@@ -99,17 +94,15 @@ impl Accumulator {
     /// Puts a word times each of up to 64 cells into the open row, without a sum. Answers the steps.
     pub(crate) fn push_products(
         &mut self,
-        factors: &Factors,
+        factors: &MaskedFactors,
         x: u64,
         cells: &[(u64, u64)],
         rows: &mut Rows,
     ) -> Result<u64, AllocError>
-        requires factors { AreFactors factors.now }
+        requires factors { AreMasked factors.now }
         requires few { length cells.now ≤ 64 }
         requires behind { IsBehind rows.old.columns rows.old.opened cells.now }
-        ensures rows { OnOk result (rows.new ≡ record rows.old { opened = rows.old.opened ++ multiplied factors.now.mul.now x cells.now }) }
-        ensures steps { IfOk result (λ s. s ≡ steps_of (calls_on factors.now.mul.now (pairs_with x cells.now))) }
-        ensures little { IfOk result (λ s. s ≤ 8192 * length cells.now) }
+        ensures pushed { IfOk result (λ s. Pushes factors.now x cells.now rows.old rows.new s) }
         ensures sums { self.new ≡ self.old }
     {
         let _mul = factors.mul.operator().program();
@@ -120,9 +113,7 @@ impl Accumulator {
 
     /// Puts the sums into the open row, by ascending column.
     pub(crate) fn emit(&mut self, columns: u64, rows: &mut Rows) -> Result<(), AllocError>
-        requires columns { rows.old.columns ≡ columns }
-        requires wide { rows.old.columns ≤ length self.old }
-        requires none_open { rows.old.opened ≡ [] }
+        requires { MayEmit columns self.old rows.old }
         ensures rows { OnOk result (rows.new ≡ record rows.old { opened = row_by rows.old.columns (slot self.old) }) }
         ensures sums { self.new ≡ self.old }
     {
@@ -138,14 +129,10 @@ fn add_terms(
     additions: &mut Additions,
     sums: &mut Sums,
 ) -> u64
-    requires add { add.now.kind ≡ kinds.Binary }
-    requires few { length cells.now ≤ 64 }
-    requires terms { length terms.now ≡ length cells.now }
-    requires apart { Ascends 0 (length sums.old) cells.now }
+    requires add { MayPut add.now sums.old cells.now terms.now }
+    requires terms { AreTerms (length sums.old) cells.now terms.now }
     requires none { additions.old ≡ none_gathered }
-    requires room { steps_of (put_calls add.now sums.old cells.now terms.now) < 2 ^ 64 }
-    ensures sums { sums.new ≡ put_terms add.now sums.old cells.now terms.now }
-    ensures steps { result ≡ steps_of (put_calls add.now sums.old cells.now terms.now) }
+    ensures put { ArePut add.now cells.now terms.now sums.old sums.new result }
     ensures none { additions.new ≡ none_gathered }
 {
     if let Some(steps) = run_known(&Terms { cells, terms }, add, sums) {
@@ -157,9 +144,7 @@ fn add_terms(
 
 /// Puts terms at the columns of cells: the first of a column is its sum, and the addition of any other is gathered.
 fn meet(cells: &[(u64, u64)], terms: &[u64], additions: &mut Additions, sums: &mut Sums)
-    requires few { length cells.now ≤ 64 }
-    requires terms { length terms.now ≡ length cells.now }
-    requires apart { Ascends 0 (length sums.old) cells.now }
+    requires terms { AreTerms (length sums.old) cells.now terms.now }
     requires none { additions.old ≡ none_gathered }
     ensures met { (add : Accepted) → IsMet add sums.old cells.now terms.now sums.new additions.new }
     ensures below { AreBelow (length sums.new) additions.new.columns }

@@ -1,9 +1,9 @@
 //! The sums of a row, put into the open row of the result.
-ghost use Rattle.std.specs.Prelude.{◌≡◌, ◌≤◌, ◌<◌, ◌*◌, ◌++◌, ℕ, true, false, Some, [], length, OnOk};
-ghost use Rattle.std.specs.List.{AllByRecursion, Contains};
-ghost use Rattle.std.specs.List.Sorted.{IsNonDecreasing};
+ghost use Rattle.std.specs.Prelude.{◌≡◌, ◌≤◌, ◌<◌, ◌*◌, ◌++◌, true, false, length, OnOk};
+ghost use Rattle.std.specs.List.{AllByRecursion};
 ghost use Rattle.csr_store.specs.Along.{cell_at, row_by};
 ghost use Rattle.csr_store.specs.Grid.{Cell};
+ghost use Rattle.row_product.specs.inner.Emitting.{MayEmit, AreInOrder};
 ghost use Rattle.row_product.specs.inner.Held.{AreMarked};
 ghost use Rattle.row_product.specs.inner.Sums.{slot};
 
@@ -41,11 +41,8 @@ pub(crate) fn emit_listed(
     held: &Held,
     rows: &mut Rows,
 ) -> Result<(), AllocError>
-    requires columns { rows.old.columns ≡ columns }
-    requires wide { rows.old.columns ≤ length held.now }
-    requires order { IsNonDecreasing listed.now }
-    requires covers { (j v : ℕ) → slot held.now j ≡ Some v → Contains listed.now j }
-    requires none_open { rows.old.opened ≡ [] }
+    requires room { MayEmit columns held.now rows.old }
+    requires listed { AreInOrder listed.now held.now }
     ensures { OnOk result (rows.new ≡ record rows.old { opened = row_by rows.old.columns (slot held.now) }) }
 {
     let mut next = 0;
@@ -65,11 +62,9 @@ pub(crate) fn emit_marked(
     held: &Held,
     rows: &mut Rows,
 ) -> Result<(), AllocError>
-    requires columns { rows.old.columns ≡ columns }
-    requires wide { rows.old.columns ≤ length held.now }
+    requires room { MayEmit columns held.now rows.old }
     requires long { columns ≤ 64 * length bits.now }
     requires covers { AreMarked bits.now held.now }
-    requires none_open { rows.old.opened ≡ [] }
     ensures { OnOk result (rows.new ≡ record rows.old { opened = row_by rows.old.columns (slot held.now) }) }
 {
     let mut next = 0;

@@ -2,9 +2,18 @@
 use bpf_run::Prepared;
 use csr_store::Matrix;
 
-/// What a product is made of: the operators, the matrices, and the mask if there is one.
+/// The operators and the matrices of a product.
 #[derive(Clone, Copy)]
-pub(crate) struct Factors<'m> {
+pub struct Factors<'m> {
+    pub add: &'m Prepared,
+    pub mul: &'m Prepared,
+    pub a: &'m Matrix,
+    pub b: &'m Matrix,
+}
+
+/// The factors of a product, with its mask if there is one.
+#[derive(Clone, Copy)]
+pub(crate) struct MaskedFactors<'m> {
     pub(crate) add: &'m Prepared,
     pub(crate) mul: &'m Prepared,
     pub(crate) a: &'m Matrix,

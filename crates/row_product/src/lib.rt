@@ -1,30 +1,34 @@
 //! Products of matrices by rows, whole or under a structural mask.
 //!
-//! The one contract is over `Product` of job_forms: at each position that passes the mask, `add` folded over `mul` of the words
-//! of A's row and B's column, ascending, starting with the first. [`product_rows`] gives a range of rows with the exact steps
-//! of its calls, and on want of memory the steps of the calls that were made.
+//! The one contract is over `Product` and `Region` of job_forms: at each position that passes the mask, `add` folded over `mul` of
+//! the words of A's row and B's column, ascending, starting with the first. [`product_rows`] makes a region of a product of
+//! [`Factors`], with the exact steps of its calls, and on want of memory the steps of calls that were made.
 //!
 //! A row of the result is summed in a [`Scratch`], which a caller keeps from call to call: a word for each column, with a mark that
-//! tells whether the word is of this row, so that none is ever emptied (`held`). The rows of B that A's row names are added one after
-//! another, up to 64 cells at a time: their products are made together, and then the terms are added. An operator that is known by its
-//! program adds each term to its sum, or begins it, in a loop that was compiled for it (`terms`). By any other the terms whose column has a
-//! sum already are added together, since no two cells of one row of B have one column, and the others begin a sum (`accumulator`). Nothing
-//! waits from row to row of B. The columns that have a sum are listed as long as they are fewer than one in 16, and the list is put in
-//! order; else a bit a column is read off. Where there is no mask, a row of A with one entry is not summed at all: it makes the row of B
-//! that it names, each word multiplied.
+//! tells whether the word is of this row, so that none is ever emptied (`held`). The rows of B that A's row names are added one
+//! after another, up to 64 cells at a time: their products are made together, and then the terms are added. An operator that is
+//! known by its program adds each term to its sum, or begins it, in a loop that was compiled for it (`terms`). By any other the
+//! terms whose column has a sum already are added together, since no two cells of one row of B have one column, and the others
+//! begin a sum (`accumulator`). Nothing waits from row to row of B. The columns that have a sum are listed as long as they are
+//! fewer than one in 16, and the list is put in order; else a bit a column is read off. A row of A with one entry is not summed at
+//! all: it makes the row of B that it names, each word multiplied, and where there is a mask it is read beside the mask's row, for
+//! the cells that pass.
 //!
-//! The sums have their room when a range has a term, never before, and not while the terms so far are few beside many columns: each row is
-//! then summed in lists that are as long as it has terms. So the work is linear in the multiplications, the rows and the entries, but for
-//! the order of a row's columns; and the room of the result is taken row by row.
+//! The sums have their room when a range has a term, never before, and not while the terms so far are few beside many columns: each
+//! row is then summed in lists that are as long as it has terms. So the work is linear in the multiplications, the rows and the
+//! entries, but for the order of a row's columns; and the room of the result is taken row by row.
 //!
-//! Read `factors` and `product`, `row` (one row), `single` (a row of A with one entry, over `specs/inner/Single.antt`), `progress` (rows
-//! of B, under the mask), `accumulator` (cells of one row of B) with `terms`, `additions`, `sums`, `held` and `marked` (what is kept of
-//! columns), `emit` (sums into the result) and `marks` (the mask's row), over `specs/inner/Sums.antt`, `specs/inner/Adding.antt` and
+//! Read `factors` and `product`, `room` (row after row, over `specs/inner/Masked.antt`), `row` (one row), `single` (a row of A with
+//! one entry, over `specs/inner/Single.antt`) with `beside` (a row of B beside the mask's, over `specs/inner/Beside.antt`),
+//! `progress` (rows of B, under the mask, over `specs/inner/Rows.antt`), `accumulator` (cells of one row of B) with `terms`,
+//! `additions`, `sums`, `held` and `marked` (what is kept of columns), `emit` (sums into the result, over
+//! `specs/inner/Emitting.antt`) and `marks` (the mask's row), over `specs/inner/Sums.antt`, `specs/inner/Adding.antt` and
 //! `specs/inner/Held.antt`; and `few` (rows of few terms) with `columns` (the columns of these terms), over `specs/inner/Few.antt`.
 #![tactic(auto)]
 
 mod accumulator;
 mod additions;
+mod beside;
 mod columns;
 mod emit;
 mod factors;
@@ -34,9 +38,11 @@ mod marked;
 mod marks;
 mod product;
 mod progress;
+mod room;
 mod row;
 mod single;
 mod sums;
 mod terms;
 
+pub use factors::Factors;
 pub use product::{Scratch, product_rows};

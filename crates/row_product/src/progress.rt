@@ -1,17 +1,13 @@
 //! A row of the product in progress: rows of B, each times a word, added to its sums.
-ghost use Rattle.std.specs.Prelude.{◌≡◌, ◌≤◌, ◌<◌, ◌+◌, ◌*◌, ◌^◌, ℕ, None, [], length, vec_capacity, IfOk, OnOk};
-ghost use Rattle.std.specs.FinMap as fin;
-ghost use Rattle.bpf_run.specs.Calls.{steps_of};
-ghost use Rattle.csr_store.specs.Along.{along};
+ghost use Rattle.std.specs.Prelude.{◌≡◌, ◌≤◌, [], length, vec_capacity, IfOk, OnOk};
 ghost use Rattle.csr_store.specs.Ascending.{Ascends};
-ghost use Rattle.csr_store.specs.Grid.{limit, row_of};
-ghost use Rattle.row_product.specs.inner.Adding.{taking, sums_after, calls_after};
-ghost use Rattle.row_product.specs.inner.Factors.{AreFactors};
+ghost use Rattle.row_product.specs.inner.Adding.{taking};
 ghost use Rattle.row_product.specs.inner.Progress.{IsReady, stands, AllForbidden};
-ghost use Rattle.row_product.specs.inner.Sums.{slot, flag, takes, seen, after, extra, value_of_rest, calls_of_rest};
+ghost use Rattle.row_product.specs.inner.Rows.{IsRowOfA, IsRowOfB, IsPart, AddsCells, AddsRowOfB, AddsTerms};
+ghost use Rattle.row_product.specs.inner.Sums.{flag, takes};
 
 use crate::accumulator::Accumulator;
-use crate::factors::Factors;
+use crate::factors::MaskedFactors;
 use bpf_run::MOST_CALLS;
 use std::alloc::{AllocError, Global};
 
@@ -21,7 +17,7 @@ pub(crate) struct Progress {
     pub(crate) sums: Accumulator,
     pub(crate) allowed: Vec<bool>,
     /// Cells of a part of a row of B whose columns are allowed.
-    passing: Vec<(u64, u64)>,
+    pub(crate) passing: Vec<(u64, u64)>,
 }
 
 impl Progress {
@@ -38,11 +34,9 @@ impl Progress {
 
     /// Room for so many columns, at least.
     pub(crate) fn widen(&mut self, columns: u64) -> Result<(), AllocError>
-        requires ready { IsReady 0 self.old }
-        requires none { AllForbidden self.old }
+        requires { IsReady 0 self.old × AllForbidden self.old }
         ensures wide { OnOk result (IsReady columns self.new) }
-        ensures ready { IsReady 0 self.new }
-        ensures none { AllForbidden self.new }
+        ensures ready { IsReady 0 self.new × AllForbidden self.new }
     {
         if columns as usize > self.allowed.len() {
             self.allowed.resize(columns as usize, false)?;
@@ -54,16 +48,17 @@ impl Progress {
     }
 
     /// Adds a word times each of up to 64 cells of a row of B to the sums: where it is masked, of those whose columns are allowed.
-    fn add_part(&mut self, factors: &Factors, x: u64, cells: &[(u64, u64)], masked: bool) -> u64
-        requires factors { AreFactors factors.now }
+    fn add_part(
+        &mut self,
+        factors: &MaskedFactors,
+        x: u64,
+        cells: &[(u64, u64)],
+        masked: bool,
+    ) -> u64
+        requires part { IsPart factors.now factors.now.b.now.columns cells.now }
         requires ready { IsReady factors.now.b.now.columns self.old }
-        requires few { length cells.now ≤ 64 }
-        requires apart { Ascends 0 factors.now.b.now.columns cells.now }
-        ensures sums { stands self.new ≡ sums_after factors.now.add.now factors.now.mul.now x (stands self.old)
-            (taking (takes masked self.old.allowed.items) cells.now) }
-        ensures steps { result ≡ steps_of (calls_after factors.now.add.now factors.now.mul.now x (stands self.old)
-            (taking (takes masked self.old.allowed.items) cells.now)) }
-        ensures little { result ≤ 8192 * length cells.now }
+        ensures added { AddsCells factors.now x (taking (takes masked self.old.allowed.items) cells.now) (stands self.old)
+            (stands self.new) result }
         ensures ready { IsReady factors.now.b.now.columns self.new × (self.new.allowed ≡ self.old.allowed) }
     {
         if !masked {
@@ -74,16 +69,11 @@ impl Progress {
     }
 
     /// Adds a word times row `k` of B to the sums: where it is masked, at the allowed columns. Answers the steps.
-    fn add_row(&mut self, factors: &Factors, x: u64, k: u64, masked: bool) -> u64
-        requires factors { AreFactors factors.now }
+    fn add_row(&mut self, factors: &MaskedFactors, x: u64, k: u64, masked: bool) -> u64
+        requires row { IsRowOfB factors.now k }
         requires ready { IsReady factors.now.b.now.columns self.old }
-        requires row { k < factors.now.b.now.rows }
-        ensures sums { (j : ℕ) → slot (stands self.new) j
-            ≡ after factors.now.add.now factors.now.mul.now x (slot (stands self.old) j)
-            (seen (takes masked self.old.allowed.items j) (fin.get factors.now.b.now.cells (k, j))) }
-        ensures steps { result ≡ steps_of (along (λ j. extra factors.now.add.now factors.now.mul.now x (slot (stands self.old) j)
-            (seen (takes masked self.old.allowed.items j) (fin.get factors.now.b.now.cells (k, j)))) 0 factors.now.b.now.columns) }
-        ensures little { result ≤ 8192 * limit }
+        ensures added { AddsRowOfB factors.now x k (takes masked self.old.allowed.items) (stands self.old)
+            (stands self.new) result }
         ensures ready { IsReady factors.now.b.now.columns self.new × (self.new.allowed ≡ self.old.allowed)
             × (length (stands self.new) ≡ length (stands self.old)) }
     {
@@ -99,16 +89,10 @@ impl Progress {
     }
 
     /// Adds the rows of B that row `i` of A names, each times the word that names it. Answers the steps.
-    pub(crate) fn add_rows(&mut self, factors: &Factors, i: u64, masked: bool) -> u64
-        requires factors { AreFactors factors.now }
+    pub(crate) fn add_rows(&mut self, factors: &MaskedFactors, i: u64, masked: bool) -> u64
+        requires row { IsRowOfA factors.now i }
         requires ready { IsReady factors.now.b.now.columns self.old }
-        requires row { i < factors.now.a.now.rows }
-        ensures sums { (j : ℕ) → slot (stands self.new) j ≡ value_of_rest factors.now.add.now factors.now.mul.now
-            factors.now.b.now (takes masked self.old.allowed.items j) (slot (stands self.old) j) (row_of factors.now.a.now i) j }
-        ensures steps { result ≡ steps_of (along (λ j. calls_of_rest factors.now.add.now factors.now.mul.now factors.now.b.now
-            (takes masked self.old.allowed.items j) (slot (stands self.old) j) (row_of factors.now.a.now i) j) 0
-            factors.now.b.now.columns) }
-        ensures little { result ≤ 8192 * limit * length (row_of factors.now.a.now i) }
+        ensures added { AddsTerms factors.now i (takes masked self.old.allowed.items) (stands self.old) (stands self.new) result }
         ensures ready { IsReady factors.now.b.now.columns self.new × (self.new.allowed ≡ self.old.allowed) }
     {
         let _columns = factors.a.columns();

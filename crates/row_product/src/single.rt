@@ -1,29 +1,33 @@
-//! Rows of A with one entry, where there is no mask: a row of B, each word multiplied. There is nothing to sum, nor to put in order.
-ghost use Rattle.std.specs.Prelude.{◌≡◌, ◌≤◌, ◌<◌, ◌*◌, ◌++◌, [], length, IfOk, IfSome, OnOk};
-ghost use Rattle.bpf_run.specs.Calls.{steps_of, calls_on, pairs_with};
+//! Rows of A with one entry: a row of B, as far as it passes, each word multiplied. There is nothing to sum, nor to put in order.
+ghost use Rattle.std.specs.Prelude.{◌≡◌, ◌≤◌, ◌<◌, ◌+◌, ◌*◌, ◌++◌, ◌∷◌, [], length, vec_capacity, IfSome, OnOk};
+ghost use Rattle.bpf_run.specs.Calls.{calls_on, pairs_with};
+ghost use Rattle.csr_store.specs.Ascending.{Ascends};
 ghost use Rattle.csr_store.specs.Grid.{limit, row_of};
-ghost use Rattle.row_product.specs.inner.Factors.{AreFactors};
-ghost use Rattle.row_product.specs.inner.Single.{multiplied, with_words, IsBehind, IsSole};
+ghost use Rattle.job_forms.specs.Region.{Adds};
+ghost use Rattle.row_product.specs.inner.Adding.{taking};
+ghost use Rattle.row_product.specs.inner.Beside.{stores};
+ghost use Rattle.row_product.specs.inner.Masked.{IsNext, AddsRow};
+ghost use Rattle.row_product.specs.inner.Progress.{IsReady, AllForbidden};
+ghost use Rattle.row_product.specs.inner.Rows.{IsRowOfA};
+ghost use Rattle.row_product.specs.inner.Single.{multiplied, with_words, IsBehind, IsSole, MayPush};
 
 use crate::accumulator::Accumulator;
-use crate::factors::Factors;
+use crate::beside::{Beside, list_passing};
+use crate::factors::MaskedFactors;
+use crate::progress::Progress;
 use bpf_run::MOST_CALLS;
 use csr_store::Rows;
+use job_forms::Making;
 use std::alloc::AllocError;
 
-/// The one entry of row `i` of A, where it has no other and there is no mask.
-pub(crate) fn sole_entry(factors: &Factors, i: u64) -> Option<(u64, u64)>
-    requires factors { AreFactors factors.now }
-    requires row { i < factors.now.a.now.rows }
+/// The one entry of row `i` of A, where it has no other.
+pub(crate) fn sole_entry(factors: &MaskedFactors, i: u64) -> Option<(u64, u64)>
+    requires { IsRowOfA factors.now i }
     ensures { IfSome result (IsSole factors.now i) }
 {
     let _columns = factors.a.columns();
     let row = factors.a.row(i);
-    if factors.mask.is_none() && row.len() == 1 {
-        Some(row[0])
-    } else {
-        None
-    }
+    if row.len() == 1 { Some(row[0]) } else { None }
 }
 
 /// Puts cells with other words into the open row.
@@ -42,32 +46,90 @@ pub(crate) fn push_words(
     Ok(())
 }
 
-/// Puts a word times each of row `k` of B into the open row. Answers the steps.
-pub(crate) fn push_row(
-    factors: &Factors,
+/// Adds a row: a word times each of row `k` of B.
+fn push_row(
+    factors: &MaskedFactors,
     x: u64,
     k: u64,
     sums: &mut Accumulator,
-    rows: &mut Rows,
-) -> Result<u64, AllocError>
-    requires factors { AreFactors factors.now }
-    requires row { k < factors.now.b.now.rows }
-    requires columns { rows.old.columns ≡ factors.now.b.now.columns }
-    requires none_open { rows.old.opened ≡ [] }
-    ensures rows { OnOk result (rows.new ≡ record rows.old { opened = multiplied factors.now.mul.now x (row_of factors.now.b.now k) }) }
-    ensures steps { IfOk result (λ s. s ≡ steps_of (calls_on factors.now.mul.now (pairs_with x (row_of factors.now.b.now k)))) }
-    ensures little { IfOk result (λ s. s ≤ 8192 * limit) }
+    making: &mut Making,
+) -> Result<(), AllocError>
+    requires { MayPush factors.now k making.old }
+    ensures row { Adds (multiplied factors.now.mul.now x (row_of factors.now.b.now k) ∷ [])
+        (calls_on factors.now.mul.now (pairs_with x (row_of factors.now.b.now k))) making.old making.new result }
+    ensures little { making.new.steps ≤ making.old.steps + 8192 * limit }
     ensures sums { sums.new ≡ sums.old }
 {
     let _columns = factors.b.columns();
     let mut cells = factors.b.row(k);
     // no want of memory once calls are made
-    rows.reserve(cells.len())?;
-    let mut steps = 0;
+    making.rows.reserve(cells.len())?;
     while !cells.is_empty() {
         let (now, rest) = cells.split_at(cells.len().min(MOST_CALLS));
-        steps += sums.push_products(factors, x, now, rows)?;
+        let steps = sums.push_products(factors, x, now, &mut making.rows)?;
+        making.steps += steps;
         cells = rest;
     }
-    Ok(steps)
+    making.rows.end_row()
+}
+
+/// Adds a row: a word times each of those of a row of B whose columns a mask's row stores.
+fn push_row_under(
+    factors: &MaskedFactors,
+    cell: (u64, u64),
+    stored: &[(u64, u64)],
+    progress: &mut Progress,
+    making: &mut Making,
+) -> Result<(), AllocError>
+    requires push { MayPush factors.now cell.0 making.old }
+    requires order { Ascends 0 factors.now.b.now.columns stored.now }
+    requires room { 64 ≤ vec_capacity progress.old.passing }
+    ensures row { Adds (multiplied factors.now.mul.now cell.1 (taking (stores stored.now) (row_of factors.now.b.now cell.0)) ∷ [])
+        (calls_on factors.now.mul.now (pairs_with cell.1 (taking (stores stored.now) (row_of factors.now.b.now cell.0))))
+        making.old making.new result }
+    ensures little { making.new.steps ≤ making.old.steps + 8192 * limit }
+    ensures kept { (progress.new.sums ≡ progress.old.sums) × (progress.new.allowed ≡ progress.old.allowed)
+        × (64 ≤ vec_capacity progress.new.passing) }
+{
+    let (k, x) = cell;
+    let _columns = factors.b.columns();
+    let cells = factors.b.row(k);
+    // no want of memory once calls are made
+    making.rows.reserve(cells.len().min(stored.len()))?;
+    let mut row = Beside {
+        cells,
+        mask: stored,
+    };
+    while !row.cells.is_empty() {
+        row = list_passing(row, &mut progress.passing);
+        let steps = progress
+            .sums
+            .push_products(factors, x, &progress.passing, &mut making.rows)?;
+        making.steps += steps;
+    }
+    making.rows.end_row()
+}
+
+/// Adds row `i` of the product, where row `i` of A has one entry.
+pub(crate) fn fill_sole(
+    factors: &MaskedFactors,
+    i: u64,
+    cell: (u64, u64),
+    progress: &mut Progress,
+    making: &mut Making,
+) -> Result<(), AllocError>
+    requires next { IsNext factors.now i making.old }
+    requires sole { IsSole factors.now i cell }
+    requires ready { IsReady factors.now.b.now.columns progress.old × AllForbidden progress.old }
+    ensures row { AddsRow factors.now i making.old making.new result }
+    ensures ready { IsReady factors.now.b.now.columns progress.new × AllForbidden progress.new }
+{
+    let _columns = factors.b.columns();
+    match factors.mask {
+        None => push_row(factors, cell.1, cell.0, &mut progress.sums, making),
+        Some(mask) => {
+            let _width = mask.columns();
+            push_row_under(factors, cell, mask.row(i), progress, making)
+        }
+    }
 }

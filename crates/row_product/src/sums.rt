@@ -3,6 +3,7 @@ ghost use Rattle.std.specs.Prelude.{◌≡◌, ◌≤◌, ◌<◌, ℕ, List, Op
 ghost use Rattle.csr_store.specs.Along.{row_by};
 ghost use Rattle.bpf_run.specs.Calls.{steps_of};
 ghost use Rattle.bpf_run.specs.Known.{Computes};
+ghost use Rattle.row_product.specs.inner.Emitting.{MayEmit};
 ghost use Rattle.row_product.specs.inner.Sums.{slot, added, added_calls};
 
 use crate::emit::{emit_listed, emit_marked};
@@ -148,9 +149,7 @@ impl Sums {
 
     /// Puts the sums into the open row, by ascending column.
     pub(crate) fn emit(&mut self, columns: u64, rows: &mut Rows) -> Result<(), AllocError>
-        requires columns { rows.old.columns ≡ columns }
-        requires wide { rows.old.columns ≤ length self.old }
-        requires none_open { rows.old.opened ≡ [] }
+        requires { MayEmit columns self.old rows.old }
         ensures rows { OnOk result (rows.new ≡ record rows.old { opened = row_by rows.old.columns (slot self.old) }) }
         ensures sums { self.new ≡ self.old }
     {

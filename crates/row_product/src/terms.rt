@@ -1,10 +1,9 @@
-//! Terms added to the sums of their columns, by operators that are known by their program: one after another, since nothing is gathered
-//! for a call that is compiled in place.
-ghost use Rattle.std.specs.Prelude.{◌≡◌, ◌<◌, ◌^◌, length};
+//! Terms added to the sums of their columns, by operators that are known by their program: one after another, since nothing is
+//! gathered for a call that is compiled in place.
+ghost use Rattle.std.specs.Prelude.{◌<◌, ◌^◌, length};
 ghost use Rattle.bpf_run.specs.Calls.{steps_of};
 ghost use Rattle.bpf_run.specs.Known.{Computes};
-ghost use Rattle.csr_store.specs.Ascending.{Ascends};
-ghost use Rattle.row_product.specs.inner.Adding.{put_terms as sums_with, put_calls};
+ghost use Rattle.row_product.specs.inner.Adding.{put_calls, AreTerms, ArePut};
 
 use crate::sums::Sums;
 use bpf_run::{Function, Loop, Prepared};
@@ -25,11 +24,9 @@ fn add_terms<F: Function>(
     sums: &mut Sums,
 ) -> u64
     requires computes { Computes add.now F.meaning F.price }
-    requires terms { length terms.now ≡ length cells.now }
-    requires apart { Ascends 0 (length sums.old) cells.now }
+    requires terms { AreTerms (length sums.old) cells.now terms.now }
     requires room { steps_of (put_calls add.now sums.old cells.now terms.now) < 2 ^ 64 }
-    ensures sums { sums.new ≡ sums_with add.now sums.old cells.now terms.now }
-    ensures steps { result ≡ steps_of (put_calls add.now sums.old cells.now terms.now) }
+    ensures { ArePut add.now cells.now terms.now sums.old sums.new result }
 {
     let mut steps = 0;
     for k in 0..cells.len() {
@@ -41,11 +38,10 @@ fn add_terms<F: Function>(
 impl<'c> Loop for Terms<'c> {
     type State = Sums;
 
-    ghost may_run = { λ t add sums. (length t.terms.now ≡ length t.cells.now) × Ascends 0 (length sums) t.cells.now
+    ghost may_run = { λ t add sums. AreTerms (length sums) t.cells.now t.terms.now
         × (steps_of (put_calls add sums t.cells.now t.terms.now) < 2 ^ 64) };
 
-    ghost gives = { λ t add old sums steps. (sums ≡ sums_with add old t.cells.now t.terms.now)
-        × (steps ≡ steps_of (put_calls add old t.cells.now t.terms.now)) };
+    ghost gives = { λ t add old sums steps. ArePut add t.cells.now t.terms.now old sums steps };
 
     #[inline(never)]
     fn run<F: Function>(&self, add: &Prepared, sums: &mut Sums) -> u64 {

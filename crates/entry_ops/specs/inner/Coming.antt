@@ -1,10 +1,16 @@
 -- The entries of rows that are called one after another, whichever rows they stand in. This project's own.
-use Rattle.std.specs.Prelude.{ℕ, ◌+◌, ◌-◌, List, ◌++◌}
+use Rattle.std.specs.Prelude.{◌≡◌, ℕ, ◌+◌, ◌-◌, List, [], ◌++◌, Bool, false}
+use Rattle.bpf_insn.specs.declared.operands.Kind.{Kind}
 use Rattle.bpf_insn.specs.declared.operands.Operands.{Operands}
 use Rattle.csr_store.specs.Grid.{Grid, row_of}
 use Rattle.csr_store.specs.Along.{along}
 use Rattle.csr_store.specs.Run.{Row}
-use Rattle.bpf_run.specs.Calls.{entries_of}
+use Rattle.bpf_run.specs.Calls.{Gathered, entries_of}
+
+-- calls of a kind may be gathered, and none waits
+pub record NoneWaits (kind : Kind) (g : Gathered) : Type 0 where
+  pub begun : g.kind ≡ kind
+  pub none : g.operands ≡ []
 
 -- what is called for the cells of row i and those behind it, n rows
 abbrev pub entries_along : Grid → ℕ → ℕ → ℕ → List Operands
@@ -13,3 +19,9 @@ entries_along a thunk i n = along (λ k. entries_of k thunk (row_of a k)) i n
 -- and for those that are left of a row, and the rows behind it up to an end
 abbrev pub coming : Grid → ℕ → ℕ → ℕ → Row → List Operands
 coming a thunk row end left = entries_of row thunk left ++ entries_along a thunk (row + 1) (end - (row + 1))
+
+-- the first of those that came are gathered; where there were none, none is left
+pub record Gathers (old : List Operands) (was : Gathered) (new : List Operands) (is : Gathered) (some : Bool) : Type 0 where
+  pub kind : is.kind ≡ was.kind
+  pub parts : old ≡ is.operands ++ new
+  pub over : some ≡ false → new ≡ []

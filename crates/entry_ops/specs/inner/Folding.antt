@@ -1,12 +1,19 @@
 -- Rows that are folded many at once: those that are open, each with a lane, and what the others come to. This project's own.
-use Rattle.std.specs.Prelude.{◌≡◌, ◌⊎◌, ◌<◌, ◌+◌, ◌-◌, ℕ, List, [], ◌∷◌, length, map, slice_index_or, Option, None, Some}
+use Rattle.std.specs.Prelude.{◌≡◌, ◌⊎◌, ◌<◌, ◌≤◌, ◌+◌, ◌-◌, ◌^◌, ℕ, List, [], ◌∷◌, length, map, slice_index_or}
+use Rattle.std.specs.Prelude.{Option, None, Some, Result}
 use Rattle.std.specs.List.{AllByRecursion}
-use Rattle.bpf_verify.specs.Accepted.{Accepted}
+use Rattle.std.specs.declared.alloc.AllocError.{AllocError}
+use Rattle.bpf_insn.specs.declared.operands.Kind.TheVariants as kinds
+use Rattle.bpf_verify.specs.Accepted.{Accepted, IsAccepted}
 use Rattle.csr_store.specs.Grid.{Grid, Cell}
-use Rattle.csr_store.specs.Mask.{cut, all_listed_under}
+use Rattle.csr_store.specs.Mask.{cut, rows_under, all_listed_under, mask_of}
 use Rattle.bpf_run.specs.Calls.{Call, steps_of}
 use Rattle.bpf_run.specs.Fold.{fold, fold_from, fold_calls, fold_calls_from}
 use Rattle.job_forms.specs.Forms.{reduce_at, reduce_calls_at}
+use Rattle.job_forms.specs.Region.{IsRegion, Adds, nothing_made}
+use Rattle.job_forms.specs.declared.region.Region.{Region}
+use Rattle.job_forms.specs.declared.region.Making.{Making}
+use Rattle.entry_ops.specs.declared.folds.Block.{Block}
 use Rattle.entry_ops.specs.declared.lanes.Lane.{Lane}
 use Rattle.entry_ops.specs.declared.lanes.OpenRow.{OpenRow}
 
@@ -82,6 +89,28 @@ pub record Goes (f : Accepted) (old new : Folding) : Type 0 where
   pub leads : (target : ℕ → Option ℕ) → LeadsTo f target old.lanes old.results → LeadsTo f target new.lanes new.results
   pub costs : new.steps + due f new.lanes ≡ old.steps + due f old.lanes
 
+-- where a row is open, such calls take steps
+abbrev pub TakesSteps : Folding → Folding → Type 0
+TakesSteps old new = 0 < length old.lanes → old.steps < new.steps
+
+-- a binary operator folds, and the steps of all calls to come in lanes fit in
+pub record CanGo (f : Accepted) (e : Folding) : Type 0 where
+  pub kind : f.kind ≡ kinds.Binary
+  pub accepted : IsAccepted f
+  pub room : e.steps + due f e.lanes < 2 ^ 64
+
+-- a block is of at most 256 rows, and the matrix has them
+pub record IsBlock (a : Grid) (block : Block) : Type 0 where
+  pub fits : block.first + block.many < 2 ^ 64
+  pub within : block.first + block.many ≤ a.rows
+  pub few : block.many ≤ 256
+
+-- rows of a block were begun: all of them, or as many as there are lanes for
+pub record AreBegun (many : ℕ) (old new : Folding) : Type 0 where
+  pub few : length new.results ≤ many
+  pub all : length new.lanes < 64 → length new.results ≡ many
+  pub steps : new.steps ≡ old.steps
+
 -- one more row was begun, of these cells
 pub record Begins (f : Accepted) (cells : List Cell) (old new : Folding) : Type 0 where
   pub rows : length new.results ≡ length old.results + 1
@@ -105,3 +134,33 @@ pub record IsFolding (f : Accepted) (a : Grid) (mask : Option Grid) (first many 
 pub record AreResults (f : Accepted) (a : Grid) (mask : Option Grid) (first many : ℕ) (results : List (Option ℕ)) : Type 0 where
   pub count : length results ≡ many
   pub each : (k : ℕ) → k < many → slice_index_or results k None ≡ target_of f a mask first k
+
+-- the calls of the reduction of a region
+abbrev pub region_calls : Accepted → Grid → Region → List Call
+region_calls f a region =
+    all_listed_under (mask_of region.mask) 1 (reduce_calls_at f a) region.range.start (region.range.end - region.range.start)
+
+-- the rows of a region may be reduced, of which nothing is made yet: the operator is binary, and the steps of the calls fit a word
+pub record CanReduce (f : Accepted) (a : Grid) (region : Region) (making : Making) : Type 0 where
+  pub kind : f.kind ≡ kinds.Binary
+  pub region_is : IsRegion a.rows 1 region
+  pub begun : making ≡ nothing_made region.range.start 1
+  pub room : steps_of (region_calls f a region) < 2 ^ 64
+
+-- the reductions of the rows of a region are added
+abbrev pub AddsReduced : Accepted → Grid → Region → Making → Making → Result (Unit {0}) AllocError → Type 0
+AddsReduced f a region old new filled =
+    Adds (rows_under (mask_of region.mask) 1 (reduce_at f a) region.range.start (region.range.end - region.range.start))
+    (region_calls f a region) old new filled
+
+-- a block of rows may be folded: the operator is binary, the matrix has the rows, and the steps of the calls fit in
+pub record CanFold (f : Accepted) (a : Grid) (mask : Option Grid) (block : Block) (e : Folding) : Type 0 where
+  pub kind : f.kind ≡ kinds.Binary
+  pub accepted : IsAccepted f
+  pub block_is : IsBlock a block
+  pub room : e.steps + steps_of (all_listed_under mask 1 (reduce_calls_at f a) block.first block.many) < 2 ^ 64
+
+-- the results of a block are known, and the steps of its calls are counted
+pub record IsFolded (f : Accepted) (a : Grid) (mask : Option Grid) (block : Block) (old new : Folding) : Type 0 where
+  pub results : AreResults f a mask block.first block.many new.results
+  pub steps : new.steps ≡ old.steps + steps_of (all_listed_under mask 1 (reduce_calls_at f a) block.first block.many)

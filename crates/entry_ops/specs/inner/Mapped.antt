@@ -1,10 +1,10 @@
 -- Copied rows that get the values of calls, in the order of their entries. This project's own.
-use Rattle.std.specs.Prelude.{◌≡◌, ℕ, ◌+◌, ◌≤◌, List, Option, None, Some, length}
+use Rattle.std.specs.Prelude.{◌≡◌, ℕ, ◌+◌, ◌^◌, ◌<◌, ◌≤◌, List, Option, None, Some, length}
 use Rattle.bpf_insn.specs.declared.operands.Operands.{Operands}
 use Rattle.bpf_verify.specs.Accepted.{Accepted}
 use Rattle.csr_store.specs.Grid.{Grid, Cell, row_of}
 use Rattle.csr_store.specs.Along.{along}
-use Rattle.csr_store.specs.Valued.{entries_of as entries_in_run, all_cells, valued_from, AreAlike}
+use Rattle.csr_store.specs.Valued.{entries_of as entries_in_run, rows_of, all_cells, valued_from, AreAlike}
 use Rattle.bpf_run.specs.Calls.{calls_on, values_on, steps_of, words_of, entries_of}
 use Rattle.entry_ops.specs.declared.mapping.Mapping.{Mapping}
 
@@ -20,6 +20,17 @@ range_operands thunk a first n = along (λ i. row_operands thunk i (row_of a i))
 -- there are so many entries more
 abbrev pub HasEntries : Mapping → ℕ → Type 0
 HasEntries m more = m.rows.written + more ≤ entries_in_run m.rows.run
+
+-- there is an entry for each of some calls, and their steps fit in
+pub record HasRoom (f : Accepted) (operands : List Operands) (m : Mapping) : Type 0 where
+  pub entries : HasEntries m (length operands)
+  pub steps : m.steps + steps_of (calls_on f operands) < 2 ^ 64
+
+-- rows are copied, none of whose entries has got its value, and the steps of the calls on them fit in
+pub record IsCopied (f : Accepted) (thunk : Option ℕ) (a : Grid) (first n : ℕ) (m : Mapping) : Type 0 where
+  pub copied : m.rows.run ≡ rows_of a first n
+  pub none : m.rows.written ≡ 0
+  pub room : m.steps + steps_of (calls_on f (range_operands thunk a first n)) < 2 ^ 64
 
 -- calls were made, whose values the next entries have
 pub record IsFurther (f : Accepted) (operands : List Operands) (old new : Mapping) : Type 0 where

@@ -1,11 +1,12 @@
 -- Rows whose cells are added at once, each called one with a word for the time being, and whose values are put in place when the
 -- gathered calls are made. This project's own.
-use Rattle.std.specs.Prelude.{◌≡◌, ◌<◌, ◌≤◌, ℕ, suc, List, [], ◌∷◌}
+use Rattle.std.specs.Prelude.{◌≡◌, ◌<◌, ◌≤◌, ◌+◌, ◌^◌, ℕ, suc, List, [], ◌∷◌, ◌++◌, Result, OnOk, OnErr}
+use Rattle.std.specs.declared.alloc.AllocError.{AllocError}
 use Rattle.bpf_verify.specs.Accepted.{Accepted}
 use Rattle.csr_store.specs.Run.{Run}
 use Rattle.csr_store.specs.Valued.{entries_of, with_value}
-use Rattle.bpf_run.specs.Calls.{Call, Gathered, calls_on, values_on}
-use Rattle.entry_ops.specs.inner.Standing.{Standing, Adds}
+use Rattle.bpf_run.specs.Calls.{Call, Gathered, calls_on, values_on, steps_of, Charges}
+use Rattle.entry_ops.specs.inner.Standing.{Standing, Adds, CanPush, IsOpen}
 
 -- the rows so far, the entry of each call that waits, by its number, and the steps of the calls that were made
 pub record Emission : Type 0 where
@@ -49,3 +50,34 @@ pub record Does (f : Accepted) (calls : List Call) (change : Run → Run) (old :
     (is : Gathered) : Type 0 where
   pub holds : Holds f new is
   pub adds : Adds calls change (standing f old was) (standing f new is)
+
+-- a cell may be added at a column, and the steps of the calls that wait fit in
+pub record CanAdd (f : Accepted) (column : ℕ) (e : Emission) (g : Gathered) : Type 0 where
+  pub holds : Holds f e g
+  pub fits : CanPush column (final f e g)
+  pub room : e.steps + steps_of (calls_on f g.operands) < 2 ^ 64
+
+-- a row of so many columns is begun, and the steps of these calls fit in behind those of the calls that wait
+pub record IsReady (f : Accepted) (columns : ℕ) (calls : List Call) (e : Emission) (g : Gathered) : Type 0 where
+  pub holds : Holds f e g
+  pub open_row : IsOpen columns (final f e g)
+  pub room : e.steps + (steps_of (calls_on f g.operands) + steps_of calls) < 2 ^ 64
+
+-- one thing was done; or, for want of memory, some of the calls that waited were made
+pub record Puts (f : Accepted) (calls : List Call) (change : Run → Run) (old : Emission) (was : Gathered) (new : Emission)
+    (is : Gathered) (put : Result (Unit {0}) AllocError) : Type 0 where
+  pub does : OnOk put (Does f calls change old was new is)
+  pub spent : OnErr put (Charges (calls_on f was.operands) old.steps new.steps)
+
+-- much was done; or, for want of memory, some of the calls that waited and of those that were to come were made
+pub record Fills (f : Accepted) (calls : List Call) (change : Run → Run) (old : Emission) (was : Gathered) (new : Emission)
+    (is : Gathered) (filled : Result (Unit {0}) AllocError) : Type 0 where
+  pub does : OnOk filled (Does f calls change old was new is)
+  pub spent : OnErr filled ((rest : List Call) → Charges (calls_on f was.operands ++ (calls ++ rest)) old.steps new.steps)
+
+-- all calls that waited were made
+pub record IsFlushed (f : Accepted) (old : Emission) (was : Gathered) (new : Emission) (is : Gathered) : Type 0 where
+  pub rows : new.rows ≡ final f old was
+  pub steps : new.steps ≡ old.steps + steps_of (calls_on f was.operands)
+  pub none : is.operands ≡ []
+  pub kind : is.kind ≡ f.kind

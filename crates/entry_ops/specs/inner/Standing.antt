@@ -19,6 +19,11 @@ with_cells cells run = record run { opened = run.opened ++ cells }
 abbrev pub with_end : Run → Run
 with_end run = record run { ended = run.ended ++ run.opened ∷ []; opened = [] }
 
+-- a run of so many columns whose open row has no cell
+pub record IsOpen (columns : ℕ) (run : Run) : Type 0 where
+  pub columns_are : run.columns ≡ columns
+  pub none : run.opened ≡ []
+
 -- a cell may be added at a column
 abbrev pub CanPush : ℕ → Run → Type 0
 CanPush column run = (column < run.columns) × AllByRecursion (λ (c : Cell). c.0 < column) run.opened

@@ -1,5 +1,5 @@
 -- Two rows read side by side, and what each form makes of their positions. This project's own.
-use Rattle.std.specs.Prelude.{◌≡◌, ℕ, ◌+◌, ◌<◌, ◌≤◌, List, [], ◌∷◌, ◌++◌, Option, None, Some}
+use Rattle.std.specs.Prelude.{◌≡◌, ℕ, ◌+◌, ◌-◌, ◌<◌, ◌≤◌, List, [], ◌∷◌, ◌++◌, Option, None, Some}
 use Rattle.std.specs.Prelude.{Bool, true, false, if◌then◌else◌, length}
 use Rattle.bpf_insn.specs.declared.operands.Kind.{Kind}
 use Rattle.bpf_insn.specs.declared.operands.Kind.TheVariants as kinds
@@ -9,11 +9,15 @@ use Rattle.std.specs.Option.{option_map}
 use Rattle.csr_store.specs.Grid.{Grid, Cell, Position, row_of}
 use Rattle.csr_store.specs.Run.{Row, Run}
 use Rattle.csr_store.specs.Along.{along, cell_at}
+use Rattle.csr_store.specs.Mask.{HasShape, mask_of}
 use Rattle.csr_store.specs.Ascending.{Ascends, AscendsIn, at, shows}
 use Rattle.bpf_run.specs.Calls.{Call}
 use Rattle.job_forms.specs.Forms.{applied, apply_calls, selected, united, joint, joint_calls}
+use Rattle.job_forms.specs.Region.{IsMade}
+use Rattle.job_forms.specs.declared.region.Made.{Made}
 use Rattle.entry_ops.specs.declared.form.Form.{Form}
 use Rattle.entry_ops.specs.declared.line.Line.{Line}
+use Rattle.entry_ops.specs.declared.line.Sources.{Sources}
 use Rattle.entry_ops.specs.declared.form.Form.TheVariants.{Apply, Select, Union, Both}
 
 -- how the operator of a form is called
@@ -63,11 +67,6 @@ cells_along form f line = row_cells form f line.row line.columns line.left.now l
 abbrev pub calls_along : Form → Accepted → Line → List Call
 calls_along form f line = row_calls form f line.row line.columns line.left.now line.right.now (cells_of line.mask)
 
--- a run of so many columns whose open row has no cell
-pub record IsOpen (columns : ℕ) (run : Run) : Type 0 where
-  pub columns_are : run.columns ≡ columns
-  pub none : run.opened ≡ []
-
 -- row i of a second operand, if there is one, and of a mask
 abbrev pub row_or_none : Option Grid → ℕ → List Cell
 row_or_none None i = []
@@ -89,6 +88,12 @@ form_rows form f a b mask first n = along (λ i. form_row form f a b mask i ∷ 
 abbrev pub form_all_calls : Form → Accepted → Grid → Option Grid → Option Grid → ℕ → ℕ → List Call
 form_all_calls form f a b mask first n = along (λ i. form_row_calls form f a b mask i) first n
 
+-- these rows of a form were made, with the steps of its calls; or, for want of memory, the steps of some of them
+abbrev pub IsFormMade : Form → Accepted → Grid → Option Grid → Option Grid → ℕ → ℕ → Made → Type 0
+IsFormMade form f a b mask first n made =
+    IsMade (record { first = first; columns = a.columns; ended = form_rows form f a b mask first n; opened = [] })
+    (form_all_calls form f a b mask first n) made
+
 -- a run with these rows more
 abbrev pub with_rows : List Row → Run → Run
 with_rows rows run = record run { ended = run.ended ++ rows }
@@ -99,6 +104,62 @@ of_values (Apply thunk) = true
 of_values (Select thunk) = false
 of_values Union = true
 of_values Both = true
+
+-- so is each of this one, and it calls the operator as that is called
+pub record Suits (form : Form) (f : Accepted) : Type 0 where
+  pub kind : f.kind ≡ kind_for form
+  pub values : of_values form ≡ true
+
+-- the form is one of two operands
+abbrev pub is_joint : Form → Bool
+is_joint (Apply thunk) = false
+is_joint (Select thunk) = false
+is_joint Union = true
+is_joint Both = true
+
+-- so is this one
+pub record Joins (form : Form) (f : Accepted) : Type 0 where
+  pub suits : Suits form f
+  pub joint_is : is_joint form ≡ true
+
+-- what such a form makes of the cells that are left of one row where the other has none
+abbrev pub left_over : Form → Row → Row
+left_over (Apply thunk) cells = []
+left_over (Select thunk) cells = []
+left_over Union cells = cells
+left_over Both cells = []
+
+-- the rows that are read ascend, and all positions pass
+pub record IsWhole (line : Line) : Type 0 where
+  pub ascends : IsLine line
+  pub whole : cells_of line.mask ≡ None
+
+-- a second operand and a mask have the shape of the first operand
+pub record AreAlike (sources : Sources) : Type 0 where
+  pub right : HasShape sources.left.now.rows sources.left.now.columns (mask_of sources.right)
+  pub mask : HasShape sources.left.now.rows sources.left.now.columns (mask_of sources.mask)
+
+-- so they have, and the rows from one up to another are there
+pub record HaveRows (sources : Sources) (start to : ℕ) : Type 0 where
+  pub alike : AreAlike sources
+  pub range : start ≤ to
+  pub within : to ≤ sources.left.now.rows
+
+-- what is read for row i
+pub record IsLineOf (sources : Sources) (i : ℕ) (line : Line) : Type 0 where
+  pub columns : line.columns ≡ sources.left.now.columns
+  pub ascends : IsLine line
+  pub cells : (form : Form) (f : Accepted)
+      → cells_along form f line ≡ form_row form f sources.left.now (mask_of sources.right) (mask_of sources.mask) i
+  pub calls : (form : Form) (f : Accepted)
+      → calls_along form f line ≡ form_row_calls form f sources.left.now (mask_of sources.right) (mask_of sources.mask) i
+
+-- the rows of a form from one up to another, and their calls
+abbrev pub rows_from : Form → Accepted → Sources → ℕ → ℕ → List Row
+rows_from form f s start to = form_rows form f s.left.now (mask_of s.right) (mask_of s.mask) start (to - start)
+
+abbrev pub calls_from : Form → Accepted → Sources → ℕ → ℕ → List Call
+calls_from form f s start to = form_all_calls form f s.left.now (mask_of s.right) (mask_of s.mask) start (to - start)
 
 -- c is the first column at which either row has an entry; p and q stand there, and xs and ys are what is left
 pub record IsNext (n low : ℕ) (left right : List Cell) (c : ℕ) (p q : Option ℕ) (xs ys : List Cell) : Type 0 where

@@ -1,8 +1,8 @@
 //! Products of many rows, and of a long one.
 use super::{assert_count, assert_rows, chunk_of, finished, operator, scattered};
 use crate::operators::{EXIT, FIRST, MUL};
-use csr_store::{Builder, Chunk, Matrix};
-use job_forms::mult_count_in;
+use csr_store::{Builder, Matrix};
+use job_forms::{Made, mult_count_in};
 use row_product::Scratch;
 use std::alloc::Global;
 use std::ops::Range;
@@ -20,7 +20,7 @@ fn product_by(
     a: &Matrix,
     b: &Matrix,
     range: Range<u64>,
-) -> Result<Chunk, Fail> {
+) -> Result<Made, Fail> {
     let add = operator(alloc, &[FIRST, ADD, EXIT])?;
     let mul = operator(alloc, &[FIRST, slot, EXIT])?;
     let mut scratch = Scratch::new(alloc);
@@ -30,7 +30,7 @@ fn product_by(
 /// A chunk has so many rows from one on, and took so many steps.
 fn assert_chunk(
     rt: &impl Abort,
-    chunk: Chunk,
+    chunk: Made,
     first: u64,
     count: u64,
     steps: u64,

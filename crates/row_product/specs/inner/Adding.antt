@@ -1,10 +1,12 @@
 -- Terms of one row of B added to the sums of a row: the cells that take part, what they make of the sums, and additions that are
 -- made together. This project's own.
-use Rattle.std.specs.Prelude.{◌≡◌, ◌<◌, ℕ, Bool, if◌then◌else◌, List, [], ◌∷◌, ◌++◌, Option, Some, set}
+use Rattle.std.specs.Prelude.{◌≡◌, ◌≤◌, ◌<◌, ◌^◌, ℕ, Bool, if◌then◌else◌, List, [], ◌∷◌, ◌++◌, Option, Some, length, set}
 use Rattle.std.specs.List.{AllByRecursion}
 use Rattle.bpf_insn.specs.declared.operands.Operands.{Operands}
 use Rattle.bpf_insn.specs.declared.operands.Operands.TheVariants.{Binary}
+use Rattle.bpf_insn.specs.declared.operands.Kind.TheVariants as kinds
 use Rattle.bpf_verify.specs.Accepted.{Accepted}
+use Rattle.csr_store.specs.Ascending.{Ascends}
 use Rattle.csr_store.specs.Grid.{Cell}
 use Rattle.bpf_run.specs.Calls.{Call, steps_of, calls_on, values_on}
 use Rattle.row_product.specs.inner.Sums.{slot, after, extra, added, added_calls}
@@ -36,6 +38,22 @@ put_calls add sums [] ts = []
 put_calls add sums (c ∷ cs) [] = []
 put_calls add sums (c ∷ cs) (t ∷ ts) =
     added_calls add (slot sums c.0) t ++ put_calls add (set sums c.0 (Some (added add (slot sums c.0) t))) cs ts
+
+-- terms of up to 64 cells of one row, where there are sums of n columns
+pub record AreTerms (n : ℕ) (cs : List Cell) (ts : List ℕ) : Type 0 where
+  pub few : length cs ≤ 64
+  pub paired : length ts ≡ length cs
+  pub apart : Ascends 0 n cs
+
+-- the terms are put at the columns of the cells, and the steps are those of the calls
+pub record ArePut (add : Accepted) (cs : List Cell) (ts : List ℕ) (old new : List (Option ℕ)) (s : ℕ) : Type 0 where
+  pub sums : new ≡ put_terms add old cs ts
+  pub steps : s ≡ steps_of (put_calls add old cs ts)
+
+-- add takes two words, and the steps of putting the terms can be counted
+pub record MayPut (add : Accepted) (sums : List (Option ℕ)) (cs : List Cell) (ts : List ℕ) : Type 0 where
+  pub kind : add.kind ≡ kinds.Binary
+  pub room : steps_of (put_calls add sums cs ts) < 2 ^ 64
 
 -- additions that are made together, and the column of each
 pub record Gathered : Type 0 where

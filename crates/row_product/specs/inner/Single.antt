@@ -1,13 +1,16 @@
--- A row of A with one entry: the row of B that it names, each word multiplied. This project's own.
-use Rattle.std.specs.Prelude.{◌≡◌, ◌<◌, ℕ, List, [], ◌∷◌, None}
+-- A row of A with one entry: the row of B that it names, as far as it passes, each word multiplied. This project's own.
+use Rattle.std.specs.Prelude.{◌≡◌, ◌≤◌, ◌<◌, ◌+◌, ◌*◌, ◌^◌, ℕ, List, [], ◌∷◌, ◌++◌, length}
 use Rattle.std.specs.List.{AllByRecursion}
 use Rattle.bpf_insn.specs.declared.operands.Operands.TheVariants.{Binary}
 use Rattle.bpf_verify.specs.Accepted.{Accepted}
+use Rattle.bpf_run.specs.Calls.{steps_of, calls_on, pairs_with}
 use Rattle.bpf_run.specs.Meaning.{value_of}
 use Rattle.csr_store.specs.Ascending.{Ascends}
-use Rattle.csr_store.specs.Grid.{Cell, row_of}
-use Rattle.csr_store.specs.Mask.{mask_of}
-use Rattle.row_product.specs.declared.factors.Factors.{Factors}
+use Rattle.csr_store.specs.Grid.{Cell, limit, row_of}
+use Rattle.csr_store.specs.Run.{Run}
+use Rattle.job_forms.specs.declared.region.Making.{Making}
+use Rattle.row_product.specs.declared.factors.MaskedFactors.{MaskedFactors}
+use Rattle.row_product.specs.inner.Masked.{AreMasked}
 
 -- x times the word of each cell
 abbrev pub multiplied : Accepted → ℕ → List Cell → List Cell
@@ -26,8 +29,21 @@ pub record IsBehind (n : ℕ) (row cells : List Cell) : Type 0 where
   pub below : AllByRecursion (λ (c : Cell). c.0 < low) row
   pub ascends : Ascends low n cells
 
--- row i of A is one entry, and there is no mask
-pub record IsSole (f : Factors) (i : ℕ) (c : Cell) : Type 0 where
-  pub mask : mask_of f.mask ≡ None
+-- x times each of these cells is put behind those of the open row, and the steps are those of the calls
+pub record Pushes (f : MaskedFactors) (x : ℕ) (cells : List Cell) (old new : Run) (s : ℕ) : Type 0 where
+  pub rows : new ≡ record old { opened = old.opened ++ multiplied f.mul.now x cells }
+  pub steps : s ≡ steps_of (calls_on f.mul.now (pairs_with x cells))
+  pub little : s ≤ 8192 * length cells
+
+-- row i of A is one entry
+pub record IsSole (f : MaskedFactors) (i : ℕ) (c : Cell) : Type 0 where
   pub row : row_of f.a.now i ≡ c ∷ []
   pub named : c.0 < f.b.now.rows
+
+-- row k of B may be put, each word multiplied, and the steps can be counted
+pub record MayPush (f : MaskedFactors) (k : ℕ) (making : Making) : Type 0 where
+  pub factors : AreMasked f
+  pub row : k < f.b.now.rows
+  pub columns : making.rows.columns ≡ f.b.now.columns
+  pub none_open : making.rows.opened ≡ []
+  pub room : making.steps + 8192 * limit < 2 ^ 64

@@ -10,20 +10,23 @@ returns-in_err-answers-clause-spent c = on_err c.from_residual.result (charges-n
 
 pub overflow_add-steps : goal.overflow_add-steps
 overflow_add-steps c =
-    let r = answers-room c.args.operator.now _ _ c.gather.new.calls.operands _ _ _ _ c.loop-coming.invariant.answers c.gather.ensures.parts in
+    let r = answers-room c.args.operator.now _ _ c.gather.new.calls.operands _ _ _ _ c.loop-coming.invariant.answers
+    c.gather.ensures.gathers.parts in
     let s = c.make.ensures.steps in let f = c.requires.few in
     omega (arith, r, s, f)
 
 pub returns-in_err-extend_from_slice-clause-spent : goal.returns-in_err-extend_from_slice-clause-spent
 returns-in_err-extend_from_slice-clause-spent c = on_err c.from_residual-in_err-extend_from_slice.result
-    (answers-stop c.args.operator.now _ _ c.gather.new.calls.operands _ _ _ _ c.loop-coming.invariant.answers c.gather.ensures.parts _
+    (answers-stop c.args.operator.now _ _ c.gather.new.calls.operands _ _ _ _ c.loop-coming.invariant.answers
+    c.gather.ensures.gathers.parts _
     (ap (λ n. c.loop-coming.steps + n) c.make.ensures.steps))
 
 pub loop-coming-preserved : goal.loop-coming-preserved
 loop-coming-preserved c = record {
-  kind = ap (λ (g : Gathered). g.kind) c.make.ensures.values ∙ (c.gather.ensures.kind ∙ c.loop-coming.invariant.kind);
+  kind = ap (λ (g : Gathered). g.kind) c.make.ensures.values ∙ (c.gather.ensures.gathers.kind ∙ c.loop-coming.invariant.kind);
   none = ap (λ (g : Gathered). g.operands) c.make.ensures.values;
-  answers = answers-step c.args.operator.now _ _ c.gather.new.calls.operands _ _ c.values.result.now _ _ _ _ c.loop-coming.invariant.answers c.gather.ensures.parts
+  answers = answers-step c.args.operator.now _ _ c.gather.new.calls.operands _ _ c.values.result.now _ _ _ _
+      c.loop-coming.invariant.answers c.gather.ensures.gathers.parts
       (c.values.ensures ∙ ap (λ (g : Gathered). g.values) c.make.ensures.values) c.in_ok-extend_from_slice.ensures.items
       (ap (λ n. c.loop-coming.steps + n) c.make.ensures.steps);
 }

@@ -1,4 +1,4 @@
-use Rattle.std.proofs.Common.{arith}
+use Rattle.std.proofs.Common.{arith, rules}
 use Rattle.csr_store.proofs.Along.{ascends-weaken}
 use Rattle.entry_ops.proofs.Nexts.{none_left}
 use Rattle.entry_ops.proofs.Masks.{masking-start, masking-fits, masking-step, masking-end}
@@ -7,21 +7,28 @@ use Rattle.entry_ops.proofs.masked.fill_masked.Goals as goal
 
 pub loop-shown-init : goal.loop-shown-init
 loop-shown-init c = rw (c.begin_walk-lefts.ensures.cells, c.begin_walk-rights.ensures.cells) (
-  c.requires.holds,
-  masking-start _ _ _ _ _ _ _ _ _ _ c.requires.line.left (c.second_for.ensures.ascends c.args.line.columns c.requires.line.right) c.requires.mask
+  c.requires.ready.holds,
+  masking-start _ _ _ _ _ _ _ _ _ _ c.requires.line.left (c.second_for.ensures.ascends c.args.line.columns c.requires.line.right)
+      c.requires.line.mask
       (c.second_for.ensures.cells c.args.operator.now c.args.line.row c.args.line.columns c.args.line.left.now c.args.mask.now)
-      (c.second_for.ensures.calls c.args.operator.now c.args.line.row c.args.line.columns c.args.line.left.now c.args.mask.now) c.requires.open,
+      (c.second_for.ensures.calls c.args.operator.now c.args.line.row c.args.line.columns c.args.line.left.now c.args.mask.now)
+      c.requires.ready.open_row,
   (c.begin_walk-lefts.ensures.next, c.begin_walk-rights.ensures.next),
 )
 
-pub emit-requires-clause-fits : goal.emit-requires-clause-fits
-emit-requires-clause-fits c = masking-fits _ _ _ _ _ _ _ _ _ _ _ c.loop-shown.invariant.1 _ _ c.in-Some.ensures.cases.0
+pub emit-requires-clause-can : goal.emit-requires-clause-can
+emit-requires-clause-can c = record {
+  holds = c.loop-shown.invariant.0;
+  fits = masking-fits _ _ _ _ _ _ _ _ _ _ _ c.loop-shown.invariant.1 _ _ c.in-Some.ensures.cases.0;
+  room = completes-room _ _ _ _ _ _ c.loop-shown.invariant.1.completes c.requires.ready.room;
+}
 
-pub emit-requires-clause-room : goal.emit-requires-clause-room
-emit-requires-clause-room c = completes-room _ _ _ _ _ _ c.loop-shown.invariant.1.completes c.requires.room
-
-pub returns-in_err-emit-clause-spent : goal.returns-in_err-emit-clause-spent
-returns-in_err-emit-clause-spent c = on_err c.from_residual.result (completes-stop _ _ _ _ _ _ c.loop-shown.invariant.1.completes _ c.in_err-emit.ensures.spent)
+pub returns-in_err-emit : goal.returns-in_err-emit
+returns-in_err-emit c = record {
+  does = search rules;
+  spent = on_err c.from_residual.result (completes-stop _ _ _ _ _ _ c.loop-shown.invariant.1.completes _
+      c.in_err-emit.ensures.spent);
+}
 
 pub loop-shown-preserved : goal.loop-shown-preserved
 loop-shown-preserved c =
@@ -35,8 +42,11 @@ loop-shown-preserved c =
       (c.walk_to-lefts.ensures.next, c.walk_to-rights.ensures.next),
     )
 
-pub returns-clause-does : goal.returns-clause-does
-returns-clause-does c = record {
-  holds = c.loop-shown.invariant.0;
-  adds = masking-end _ _ _ _ _ _ _ _ _ _ _ c.loop-shown.invariant.1 (none_left _ c.in_default.ensures.cases);
+pub returns : goal.returns
+returns c = record {
+  does = record {
+    holds = c.loop-shown.invariant.0;
+    adds = masking-end _ _ _ _ _ _ _ _ _ _ _ c.loop-shown.invariant.1 (none_left _ c.in_default.ensures.cases);
+  };
+  spent = tt;
 }

@@ -1,21 +1,40 @@
 use Rattle.std.proofs.Common.{◌-◌, arith, subst}
 use Rattle.bpf_verify.specs.Accepted.{IsAccepted}
-use Rattle.bpf_run.proofs.Charging.{charges-none}
 use Rattle.csr_store.specs.Mask.{mask_of}
-use Rattle.entry_ops.proofs.Reducing.{few_reduced}
+use Rattle.entry_ops.proofs.Reducing.{few_reduced, reduced}
 use Rattle.entry_ops.proofs.reduce.reduce_rows.Goals as goal
 
-pub returns-in-Err-clause-spent : goal.returns-in-Err-clause-spent
-returns-in-Err-clause-spent c = charges-none _ 0
+pub fill_in_order-filled-requires : goal.fill_in_order-filled-requires
+fill_in_order-filled-requires c =
+    let w = c.requires.region.within in
+    record {
+      kind = c.requires.kind;
+      region_is = c.requires.region;
+      begun = c.begin-making.ensures;
+      room = few_reduced c.args.operator.now c.args.a.now (mask_of c.args.region.mask) c.args.region.range.start
+          (c.args.region.range.end - c.args.region.range.start)
+          (subst IsAccepted c.operator.ensures c.program.ensures.accepted) c.requires.kind c.columns.ensures.is_grid
+          (omega (arith, w));
+    }
 
-pub fill_reduced-filled-requires-clause-room : goal.fill_reduced-filled-requires-clause-room
-fill_reduced-filled-requires-clause-room c =
-    let w = c.requires.within in
-    few_reduced c.args.operator.now c.args.a.now (mask_of c.args.mask) c.args.range.start (c.args.range.end - c.args.range.start)
-    (subst IsAccepted c.operator.ensures c.program.ensures.accepted) c.requires.kind c.columns.ensures.is_grid (omega (arith, w))
+pub fill_in_blocks-filled-requires-clause-can : goal.fill_in_blocks-filled-requires-clause-can
+fill_in_blocks-filled-requires-clause-can c =
+    let w = c.requires.region.within in
+    record {
+      kind = c.requires.kind;
+      region_is = c.requires.region;
+      begun = c.begin-making.ensures;
+      room = few_reduced c.args.operator.now c.args.a.now (mask_of c.args.region.mask) c.args.region.range.start
+          (c.args.region.range.end - c.args.region.range.start)
+          (subst IsAccepted c.operator.ensures c.program.ensures.accepted) c.requires.kind c.columns.ensures.is_grid
+          (omega (arith, w));
+    }
 
-pub fill_in_order-filled-requires-clause-room : goal.fill_in_order-filled-requires-clause-room
-fill_in_order-filled-requires-clause-room c =
-    let w = c.requires.within in
-    few_reduced c.args.operator.now c.args.a.now (mask_of c.args.mask) c.args.range.start (c.args.range.end - c.args.range.start)
-    (subst IsAccepted c.operator.ensures c.program.ensures.accepted) c.requires.kind c.columns.ensures.is_grid (omega (arith, w))
+pub returns-then-len-le-MOST_IN_ORDER : goal.returns-then-len-le-MOST_IN_ORDER
+returns-then-len-le-MOST_IN_ORDER c = reduced c.args.operator.now c.args.a.now c.args.region c.begin-making.result
+    c.fill_in_order-filled.new.making c.fill_in_order-filled.result _ c.begin-making.ensures c.fill_in_order-filled.ensures
+    c.finish.ensures
+
+pub returns : goal.returns
+returns c = reduced c.args.operator.now c.args.a.now c.args.region c.begin-making.result c.fill_in_blocks-filled.new.making
+    c.fill_in_blocks-filled.result _ c.begin-making.ensures c.fill_in_blocks-filled.ensures c.finish-2.ensures

@@ -1,4 +1,4 @@
-use Rattle.std.proofs.Common.{◌∷◌, [], None, Some, refl, sym, ap, subst}
+use Rattle.std.proofs.Common.{◌∷◌, [], None, Some, refl, sym, ap, subst, rules}
 use Rattle.bpf_insn.specs.declared.operands.Operands.{Operands}
 use Rattle.bpf_run.specs.Meaning.{value_of}
 use Rattle.bpf_run.specs.Calls.{call_of}
@@ -15,51 +15,68 @@ use Rattle.entry_ops.proofs.select.keep_row.Goals as goal
 
 pub loop-shown-init : goal.loop-shown-init
 loop-shown-init c =
-    let a = c.args.a.now in
-    let mask = c.args.mask.now in
-    let left = c.row-cells.result.now in
-    let masks = c.row-masks.result.now in (
-      c.requires.holds,
-      masking-start _ _ _ _ _ _ _ left [] masks (row_ascends a c.args.row a.columns left c.columns.ensures.is_grid refl c.row-cells.ensures) tt
-          (row_ascends mask c.args.row a.columns masks c.columns-2.ensures.is_grid c.requires.shape.1 c.row-masks.ensures)
-          (sym (same_cells (Select c.args.thunk) c.args.operator.now a None (Some mask) c.args.row _ _ left [] (Some masks) refl refl c.row-cells.ensures refl (ap Some c.row-masks.ensures)))
-          (sym (same_calls (Select c.args.thunk) c.args.operator.now a None (Some mask) c.args.row _ _ left [] (Some masks) refl refl c.row-cells.ensures refl (ap Some c.row-masks.ensures)))
-          c.requires.open,
+    let a = c.args.masked.a.now in
+    let mask = c.args.masked.mask.now in
+    let left = c.row.result.now in
+    let masks = c.row-masks.result.now in rw c.begin_walk-cells.ensures.cells (
+      c.requires.ready.holds,
+      masking-start _ _ _ _ _ _ _ left [] masks
+          (row_ascends a c.args.row a.columns left c.columns.ensures.is_grid refl c.row.ensures) tt
+          (row_ascends mask c.args.row a.columns masks c.columns-2.ensures.is_grid c.requires.row.0.1 c.row-masks.ensures)
+          (sym (same_cells (Select c.args.thunk) c.args.operator.now a None (Some mask) c.args.row _ _ left [] (Some masks) refl
+          refl c.row.ensures refl (ap Some c.row-masks.ensures)))
+          (sym (same_calls (Select c.args.thunk) c.args.operator.now a None (Some mask) c.args.row _ _ left [] (Some masks) refl
+          refl c.row.ensures refl (ap Some c.row-masks.ensures)))
+          c.requires.ready.open_row,
+      c.begin_walk-cells.ensures.next,
     )
 
-pub keep-requires-clause-fits : goal.keep-requires-clause-fits
-keep-requires-clause-fits c = masking-fits _ _ _ _ _ _ _ _ _ _ _ c.loop-shown.invariant.1 _ _ c.in-Some.ensures.cases.0
+pub keep-requires-clause-can : goal.keep-requires-clause-can
+keep-requires-clause-can c = record {
+  holds = c.loop-shown.invariant.0;
+  fits = masking-fits _ _ _ _ _ _ _ _ _ _ _ c.loop-shown.invariant.1 _ _ c.in-Some.ensures.cases.0;
+  room = completes-room _ _ _ _ _ _ c.loop-shown.invariant.1.completes c.requires.ready.room;
+}
 
-pub keep-requires-clause-room : goal.keep-requires-clause-room
-keep-requires-clause-room c = completes-room _ _ _ _ _ _ c.loop-shown.invariant.1.completes c.requires.room
-
-pub returns-in_err-keep-clause-spent : goal.returns-in_err-keep-clause-spent
-returns-in_err-keep-clause-spent c = on_err c.from_residual.result (completes-stop _ _ _ _ _ _ c.loop-shown.invariant.1.completes _ c.in_err-keep.ensures.spent)
+pub returns-in_err-keep : goal.returns-in_err-keep
+returns-in_err-keep c = record {
+  does = search rules;
+  spent = on_err c.from_residual.result (completes-stop _ _ _ _ _ _ c.loop-shown.invariant.1.completes _
+      c.in_err-keep.ensures.spent);
+}
 
 pub loop-shown-preserved-in_ok-keep : goal.loop-shown-preserved-in_ok-keep
 loop-shown-preserved-in_ok-keep c =
     let f = c.args.operator.now in
     let column = c.in-Some.shown.now.0 in
-    let word = c.in-Some-first_at.word in
+    let word = c.in-Some-value_here.word in
     let d = c.in_ok-keep.ensures.does in
-    let l = c.from_column-cells.ensures c.args.a.now.columns c.loop-shown.invariant.1.left_row in
-    let added = subst (λ (o : Operands). Adds (call_of f o ∷ []) (with_kept column word (value_of f o)) (standing f c.loop-shown.sieve c.loop-shown.calls)
+    let l = c.walk_to-cells.ensures.left c.args.masked.a.now.columns c.loop-shown.invariant.1.left_row in
+    let added = subst (λ (o : Operands). Adds (call_of f o ∷ []) (with_kept column word (value_of f o))
+    (standing f c.loop-shown.sieve c.loop-shown.calls)
     (standing f c.keep.new.self c.keep.new.calls)) c.operands_of-operands.ensures d.adds in (
       d.holds,
-      masking-step _ _ _ _ _ _ _ _ _ _ _ c.loop-shown.invariant.1 _ _ c.in-Some.ensures.cases.0 _ _ l (c.loop-shown.invariant.1.right_row, λ j b. refl) _ _
-          (c.in-Some-first_at.ensures c.args.a.now.columns l.0) refl _ (adds-kept _ column word _ _ _ added),
+      masking-step _ _ _ _ _ _ _ _ _ _ _ c.loop-shown.invariant.1 _ _ c.in-Some.ensures.cases.0 _ _ l
+          (c.loop-shown.invariant.1.right_row, λ j b. refl) _ _
+          (c.in-Some-value_here.ensures c.args.masked.a.now.columns l.0) refl _ (adds-kept _ column word _ _ _ added),
+      c.walk_to-cells.ensures.next,
     )
 
 pub loop-shown-preserved : goal.loop-shown-preserved
 loop-shown-preserved c =
-    let l = c.from_column-cells.ensures c.args.a.now.columns c.loop-shown.invariant.1.left_row in (
+    let l = c.walk_to-cells.ensures.left c.args.masked.a.now.columns c.loop-shown.invariant.1.left_row in (
       c.loop-shown.invariant.0,
-      masking-step _ _ _ _ _ _ _ _ _ _ _ c.loop-shown.invariant.1 _ _ c.in-Some.ensures.cases.0 _ _ l (c.loop-shown.invariant.1.right_row, λ j b. refl) _
-          None (c.in_default-first_at.ensures c.args.a.now.columns l.0) refl _ (adds-none _),
+      masking-step _ _ _ _ _ _ _ _ _ _ _ c.loop-shown.invariant.1 _ _ c.in-Some.ensures.cases.0 _ _ l
+          (c.loop-shown.invariant.1.right_row, λ j b. refl) _
+          None (c.in_default-value_here.ensures c.args.masked.a.now.columns l.0) refl _ (adds-none _),
+      c.walk_to-cells.ensures.next,
     )
 
-pub returns-clause-does : goal.returns-clause-does
-returns-clause-does c = record {
-  holds = c.loop-shown.invariant.0;
-  adds = masking-end _ _ _ _ _ _ _ _ _ _ _ c.loop-shown.invariant.1 (none_left _ c.in_default.ensures.cases);
+pub returns : goal.returns
+returns c = record {
+  does = record {
+    holds = c.loop-shown.invariant.0;
+    adds = masking-end _ _ _ _ _ _ _ _ _ _ _ c.loop-shown.invariant.1 (none_left _ c.in_default.ensures.cases);
+  };
+  spent = tt;
 }

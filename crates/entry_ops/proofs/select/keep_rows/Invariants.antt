@@ -6,5 +6,5 @@ use Rattle.entry_ops.specs.declared.form.Form.TheVariants.{Select}
 
 abbrev pub invariant-loop-row : goal.invariant-loop-row
 invariant-loop-row l = Holds l.operator l.sieve l.calls
-    × IsFilling (Select l.thunk) l.operator l.a None (Some l.mask) l.fn.range.start l.fn.range.end
+    × IsFilling (Select l.thunk) l.operator l.masked.a.now None (Some l.masked.mask.now) l.fn.range.start l.fn.range.end
     (standing l.operator l.fn.sieve l.fn.calls) l.row (standing l.operator l.sieve l.calls)

@@ -1,32 +1,5 @@
-use Rattle.std.proofs.Common.{◌≡◌, ◌-◌, [], List, IfOk, OnOk, OnErr, subst}
-use Rattle.csr_store.specs.Mask.{mask_of}
-use Rattle.csr_store.specs.Run.{Row, Run}
-use Rattle.bpf_run.specs.Calls.{Call, steps_of, Charges}
-use Rattle.entry_ops.proofs.Positions.{both_rows_are, both_calls_are}
+use Rattle.entry_ops.proofs.Positions.{both_is}
 use Rattle.entry_ops.proofs.union.both_rows.Goals as goal
 
-pub returns-clause-rows : goal.returns-clause-rows
-returns-clause-rows c =
-    subst (λ (rows : List Row). IfOk c.fill_chunk.result.result (λ (r : Run). r ≡ record {
-      first = c.args.range.start;
-      columns = c.args.a.now.columns;
-      ended = rows;
-      opened = [];
-    }))
-    (both_rows_are c.args.operator.now c.args.a.now (mask_of c.args.mask) c.args.range.start (c.args.range.end -
-    c.args.range.start) c.args.b.now)
-    c.fill_chunk.ensures.rows
-
-pub returns-clause-steps : goal.returns-clause-steps
-returns-clause-steps c =
-    subst (λ (cs : List Call). OnOk c.fill_chunk.result.result (c.fill_chunk.result.steps ≡ steps_of cs))
-    (both_calls_are c.args.operator.now c.args.a.now (mask_of c.args.mask) c.args.range.start (c.args.range.end -
-    c.args.range.start) c.args.b.now)
-    c.fill_chunk.ensures.steps
-
-pub returns-clause-spent : goal.returns-clause-spent
-returns-clause-spent c =
-    subst (λ (cs : List Call). OnErr c.fill_chunk.result.result (Charges cs 0 c.fill_chunk.result.steps))
-    (both_calls_are c.args.operator.now c.args.a.now (mask_of c.args.mask) c.args.range.start (c.args.range.end -
-    c.args.range.start) c.args.b.now)
-    c.fill_chunk.ensures.spent
+pub returns : goal.returns
+returns c = both_is c.args.operator.now c.args.a.now c.args.region _ c.args.b.now c.fill_region.ensures

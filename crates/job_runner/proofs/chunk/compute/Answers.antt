@@ -1,9 +1,12 @@
-use Rattle.std.proofs.Common.{◌≡◌, ℕ, List, length, get_or, ap, ◌∙◌, subst, arith, IfOk, OnOk, OnErr}
+use Rattle.std.proofs.Common.{◌≡◌, ◌-◌, ℕ, List, [], length, get_or, ap, ◌∙◌, subst, arith}
 use Rattle.std.proofs.lemmas.Option.{slice_get_within, get_or_from_slice_get}
-use Rattle.bpf_run.specs.Calls.{Call, steps_of, Charges}
+use Rattle.bpf_run.specs.Calls.{Call}
 use Rattle.csr_store.specs.Run.{Run}
 use Rattle.job_plan.specs.declared.plan.Chunk.{Chunk}
 use Rattle.job_plan.specs.Job.{Job}
+use Rattle.job_plan.specs.Meaning.{column_count, rows_in}
+use Rattle.job_forms.specs.Region.{IsMade}
+use Rattle.job_runner.specs.Chunk.{calls_of}
 use Rattle.job_runner.proofs.Located.{Place, located, place_within, place_ordered, place_rows, place_run, place_calls}
 use Rattle.job_runner.proofs.chunk.compute.Goals as goal
 
@@ -39,30 +42,20 @@ compute_rows-requires-clause-within c =
     c.jobs-jobs.ensures.jobs
     c.index-jobs-job.is c.job.ensures.job)
 
-pub returns-clause-rows : goal.returns-clause-rows
-returns-clause-rows c =
-    let p = located 0 c.args.plan.now c.args.chunk _ c.chunk-job.ensures.chunk in
-    let e = same_job c.args.plan.now c.jobs-jobs.result.now c.args.chunk _ p c.index-jobs-job.result c.job.result.now
-    c.jobs-jobs.ensures.jobs
+pub returns : goal.returns
+returns c =
+    let jobs = c.args.plan.now in
+    let job = c.job.result.now in
+    let range = c.chunk-job.result.1 in
+    let p = located 0 jobs c.args.chunk _ c.chunk-job.ensures.chunk in
+    let e = same_job jobs c.jobs-jobs.result.now c.args.chunk _ p c.index-jobs-job.result job c.jobs-jobs.ensures.jobs
     c.index-jobs-job.is c.job.ensures.job in
-    subst (λ (run : Run). IfOk c.compute_rows.result.result (λ r. r ≡ run))
-    (place_run c.args.plan.now c.args.chunk _ c.job.result.now p e)
-    c.compute_rows.ensures.rows
-
-pub returns-clause-steps : goal.returns-clause-steps
-returns-clause-steps c =
-    let p = located 0 c.args.plan.now c.args.chunk _ c.chunk-job.ensures.chunk in
-    let e = same_job c.args.plan.now c.jobs-jobs.result.now c.args.chunk _ p c.index-jobs-job.result c.job.result.now
-    c.jobs-jobs.ensures.jobs
-    c.index-jobs-job.is c.job.ensures.job in
-    subst (λ (calls : List Call). OnOk c.compute_rows.result.result (c.compute_rows.result.steps ≡ steps_of calls))
-    (place_calls c.args.plan.now c.args.chunk _ c.job.result.now p e) c.compute_rows.ensures.steps
-
-pub returns-clause-spent : goal.returns-clause-spent
-returns-clause-spent c =
-    let p = located 0 c.args.plan.now c.args.chunk _ c.chunk-job.ensures.chunk in
-    let e = same_job c.args.plan.now c.jobs-jobs.result.now c.args.chunk _ p c.index-jobs-job.result c.job.result.now
-    c.jobs-jobs.ensures.jobs
-    c.index-jobs-job.is c.job.ensures.job in
-    subst (λ (calls : List Call). OnErr c.compute_rows.result.result (Charges calls 0 c.compute_rows.result.steps))
-    (place_calls c.args.plan.now c.args.chunk _ c.job.result.now p e) c.compute_rows.ensures.spent
+    let run : Run = record {
+      first = range.start;
+      columns = column_count job;
+      ended = rows_in job range.start (range.end - range.start);
+      opened = [];
+    } in
+    subst (λ (r : Run). IsMade r (calls_of jobs c.args.chunk) c.compute_rows.result) (place_run jobs c.args.chunk _ job p e)
+    (subst (λ (calls : List Call). IsMade run calls c.compute_rows.result) (place_calls jobs c.args.chunk _ job p e)
+    c.compute_rows.ensures)

@@ -5,7 +5,8 @@ use Rattle.row_product.proofs.accumulator.meet.Goals as goal
 use Rattle.row_product.proofs.accumulator.meet.Goals.{in-Some, in-None}
 
 pub loop-k-init : goal.loop-k-init
-loop-k-init c = meets_start c.args.sums.now c.args.cells.now c.args.terms.now c.args.additions.now c.requires.none c.requires.apart
+loop-k-init c = meets_start c.args.sums.now c.args.cells.now c.args.terms.now c.args.additions.now c.requires.none
+    c.requires.terms.apart
 
 pub get-requires : goal.get-requires
 get-requires c = meets_column _ _ _ _ _ _ c.loop-k.invariant c.loop-k-test.true
@@ -16,11 +17,12 @@ loop-k-preserved c =
     elim c.match-get.branch [
       | in-Some w ↦
           meets_further c.args.sums.now c.args.cells.now c.args.terms.now l.k l.sums l.additions c.match-get.sums
-          c.match-get.additions w.in-Some.so_far l.invariant c.loop-k-test.true c.requires.terms (sym w.in-Some.ensures) w.sums-is
+          c.match-get.additions w.in-Some.so_far l.invariant c.loop-k-test.true c.requires.terms.paired
+          (sym w.in-Some.ensures) w.sums-is
           (w.additions-is ∙ w.gather.ensures)
       | in-None w ↦
           meets_first c.args.sums.now c.args.cells.now c.args.terms.now l.k l.sums l.additions c.match-get.sums
-          c.match-get.additions l.invariant c.loop-k-test.true c.requires.terms (sym w.in-None.ensures)
+          c.match-get.additions l.invariant c.loop-k-test.true c.requires.terms.paired (sym w.in-None.ensures)
           (w.sums-is ∙ w.begin_sum.ensures) w.additions-is
     ]
 

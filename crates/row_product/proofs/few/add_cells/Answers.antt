@@ -14,9 +14,11 @@ pub loop-cell-init : goal.loop-cell-init
 loop-cell-init c =
     let n = c.args.factors.now.b.now.columns in
     record {
-      adding = adding_start c.args.factors.now.add.now c.args.factors.now.mul.now c.args.x n (λ j. passes (mask_of c.args.factors.now.mask) (c.args.i, j))
+      adding = adding_start c.args.factors.now.add.now c.args.factors.now.mul.now c.args.x n (λ j. passes
+          (mask_of c.args.factors.now.mask) (c.args.i, j))
           (spread n c.args.listed.now c.args.sums.now) c.row-row.result.now
-          (subst (Ascends 0 n) (sym c.row-row.ensures) (row_of-ascends c.args.factors.now.b.now c.args.k c.columns-columns.ensures.is_grid));
+          (subst (Ascends 0 n) (sym c.row-row.ensures) (row_of-ascends c.args.factors.now.b.now c.args.k
+          c.columns-columns.ensures.is_grid));
       few = omega arith;
     }
 
@@ -39,15 +41,15 @@ loop-cell-preserved c =
     let wide : n ≤ length was = let l = length_spread n listed c.loop-cell.sums in omega (arith, l) in
     elim c.if-lets_pass.branch [
       | then-lets_pass+in_ok-steps v ↦
-          let e = v.in_ok-steps.ensures in
-          let g = e.few in
+          let added = v.in_ok-steps.ensures.added n c.requires.apart in
+          let g = v.in_ok-steps.ensures.few in
           let s = v.steps-is in
           record {
             adding = subst (Adding add mul c.args.x n t first row (spread n listed c.if-lets_pass.sums) more) (sym v.steps-is)
                 (adding_step add mul c.args.x n t first row was (drop k row) c.loop-cell.steps cell more
                 (after add mul c.args.x (slot was cell.0) (Some cell.1)) (spread n listed c.if-lets_pass.sums) _ m d wide
-                (sym c.lets_pass.ensures ∙ v.if-lets_pass.true) refl (e.steps n c.requires.apart)
-                (ap (spread n listed) v.sums-is ∙ e.sums n c.requires.apart));
+                (sym c.lets_pass.ensures ∙ v.if-lets_pass.true) refl added.steps
+                (ap (spread n listed) v.sums-is ∙ added.sums));
             few = omega (arith, f, g, s);
           }
       | else-lets_pass v ↦
@@ -61,29 +63,20 @@ loop-cell-preserved c =
           }
     ]
 
-pub returns-clause-sums : goal.returns-clause-sums
-returns-clause-sums c =
-    let n = c.args.factors.now.b.now.columns in
-    (adding_end c.args.factors.now.add.now c.args.factors.now.mul.now c.args.x n (λ j. passes (mask_of c.args.factors.now.mask) (c.args.i, j))
-    (spread n c.args.listed.now c.args.sums.now) c.args.factors.now.b.now c.args.k c.row-row.result.now
-    (spread n c.args.listed.now c.loop-cell.sums) (drop c.loop-cell.cell-index c.row-row.result.now) c.loop-cell.steps
-    c.loop-cell.invariant.adding (drop_all c.loop-cell.cell-index c.row-row.result.now c.loop-cell-test.false) c.row-row.ensures).0
-
-pub returns-clause-steps : goal.returns-clause-steps
-returns-clause-steps c =
-    let n = c.args.factors.now.b.now.columns in
-    (adding_end c.args.factors.now.add.now c.args.factors.now.mul.now c.args.x n (λ j. passes (mask_of c.args.factors.now.mask) (c.args.i, j))
-    (spread n c.args.listed.now c.args.sums.now) c.args.factors.now.b.now c.args.k c.row-row.result.now
-    (spread n c.args.listed.now c.loop-cell.sums) (drop c.loop-cell.cell-index c.row-row.result.now) c.loop-cell.steps
-    c.loop-cell.invariant.adding (drop_all c.loop-cell.cell-index c.row-row.result.now c.loop-cell-test.false) c.row-row.ensures).1
-
-pub returns-clause-few : goal.returns-clause-few
-returns-clause-few c =
-    let f = c.loop-cell.invariant.few in
-    let n = c.loop-cell.auto.cell-index-end in
+pub returns : goal.returns
+returns c =
+    let f = c.args.factors.now in
+    let n = f.b.now.columns in
+    let row = c.row-row.result.now in
+    let few = c.loop-cell.invariant.few in
+    let m = c.loop-cell.auto.cell-index-end in
     let e = ap length c.row-row.ensures in
-    let r = row_few c.args.factors.now.b.now c.args.k c.columns-columns.ensures.is_grid in
-    omega (arith, f, n, e, r)
+    let r = row_few f.b.now c.args.k c.columns-columns.ensures.is_grid in
+    let all = adding_end f.add.now f.mul.now c.args.x n (λ j. passes (mask_of f.mask) (c.args.i, j))
+    (spread n c.args.listed.now c.args.sums.now) f.b.now c.args.k row (spread n c.args.listed.now c.loop-cell.sums)
+    (drop c.loop-cell.cell-index row) c.loop-cell.steps c.loop-cell.invariant.adding
+    (drop_all c.loop-cell.cell-index row c.loop-cell-test.false) c.row-row.ensures in
+    record { sums = all.0; steps = all.1; little = omega (arith, few, m, e, r) }
 
 pub overflow_add-steps : goal.overflow_add-steps
 overflow_add-steps c =

@@ -13,7 +13,8 @@ pub loop-k-init : goal.loop-k-init
 loop-k-init c =
     let n = c.args.factors.now.b.now.columns in
     record {
-      gathering = gathering_start c.args.factors.now.add.now c.args.factors.now.mul.now c.args.factors.now.b.now n (λ j. passes (mask_of c.args.factors.now.mask) (c.args.i, j))
+      gathering = gathering_start c.args.factors.now.add.now c.args.factors.now.mul.now c.args.factors.now.b.now n (λ j. passes
+          (mask_of c.args.factors.now.mask) (c.args.i, j))
           (spread n c.args.listed.now c.args.sums.now) c.row-row.result.now;
       few = omega arith;
     }
@@ -23,16 +24,17 @@ add_cells-requires-clause-row c =
     let row = c.row-row.result.now in
     let k = c.loop-k.k in
     let e = c.row-row.ensures in
-    let l : k < length (row_of c.args.factors.now.a.now c.args.i) = let t = c.loop-k-test.true in let n = ap length e in omega (arith, t, n) in
+    let l : k < length (row_of c.args.factors.now.a.now c.args.i) = let t = c.loop-k-test.true in let n = ap length e in omega
+    (arith, t, n) in
     let h = (cell_inside c.args.factors.now.a.now c.args.i k (0, 0) c.columns-columns.ensures.is_grid l).1 in
     let s = ap (λ (r : List Cell). (get_or r k (0, 0)).0) e in
-    let w = c.requires.factors.shapes in
-    omega (arith, h, s, w)
+    let w = c.requires.row.factors.shapes in
+    record { factors = c.requires.row.factors; row = omega (arith, h, s, w) }
 
 pub overflow_add-steps : goal.overflow_add-steps
 overflow_add-steps c =
     let i = c.loop-k.invariant.few in
-    let f = c.in_ok-steps.ensures.few in
+    let f = c.in_ok-steps.ensures.little in
     let e = ap length c.row-row.ensures in
     let r = row_few c.args.factors.now.a.now c.args.i c.columns-columns.ensures.is_grid in
     let t = c.loop-k-test.true in
@@ -46,35 +48,27 @@ loop-k-preserved c =
     let listed = c.args.listed.now in
     let e = c.in_ok-steps.ensures in
     let f = c.loop-k.invariant.few in
-    let g = e.few in
+    let g = e.little in
     let then = spread n listed c.add_cells.new.sums in
     record {
-      gathering = gathering_step c.args.factors.now.add.now c.args.factors.now.mul.now c.args.factors.now.b.now n (λ j. passes (mask_of c.args.factors.now.mask) (c.args.i, j))
+      gathering = gathering_step c.args.factors.now.add.now c.args.factors.now.mul.now c.args.factors.now.b.now n (λ j. passes
+          (mask_of c.args.factors.now.mask) (c.args.i, j))
           (spread n listed c.args.sums.now) row (spread n listed c.loop-k.sums) (drop k row) c.loop-k.steps (get_or row k (0, 0))
           (drop (k + 1) row) then _ c.loop-k.invariant.gathering (drop_more row k (0, 0) c.loop-k-test.true)
           (length_spread n listed c.add_cells.new.sums ∙ sym (length_spread n listed c.loop-k.sums)) e.sums e.steps;
       few = omega (arith, f, g);
     }
 
-pub returns-clause-sums : goal.returns-clause-sums
-returns-clause-sums c =
-    let n = c.args.factors.now.b.now.columns in
-    (gathering_end c.args.factors.now.add.now c.args.factors.now.mul.now c.args.factors.now.b.now n (λ j. passes (mask_of c.args.factors.now.mask) (c.args.i, j))
-    (spread n c.args.listed.now c.args.sums.now) c.row-row.result.now (row_of c.args.factors.now.a.now c.args.i)
-    (spread n c.args.listed.now c.loop-k.sums) (drop c.loop-k.k c.row-row.result.now) c.loop-k.steps
-    c.loop-k.invariant.gathering (drop_all c.loop-k.k c.row-row.result.now c.loop-k-test.false) c.row-row.ensures).0
-
-pub returns-clause-steps : goal.returns-clause-steps
-returns-clause-steps c =
-    let n = c.args.factors.now.b.now.columns in
-    (gathering_end c.args.factors.now.add.now c.args.factors.now.mul.now c.args.factors.now.b.now n (λ j. passes (mask_of c.args.factors.now.mask) (c.args.i, j))
-    (spread n c.args.listed.now c.args.sums.now) c.row-row.result.now (row_of c.args.factors.now.a.now c.args.i)
-    (spread n c.args.listed.now c.loop-k.sums) (drop c.loop-k.k c.row-row.result.now) c.loop-k.steps
-    c.loop-k.invariant.gathering (drop_all c.loop-k.k c.row-row.result.now c.loop-k-test.false) c.row-row.ensures).1
-
-pub returns-clause-few : goal.returns-clause-few
-returns-clause-few c =
-    let i = c.loop-k.invariant.few in
-    let n = c.loop-k.auto.k-end in
+pub returns : goal.returns
+returns c =
+    let f = c.args.factors.now in
+    let n = f.b.now.columns in
+    let row = c.row-row.result.now in
+    let few = c.loop-k.invariant.few in
+    let m = c.loop-k.auto.k-end in
     let e = ap length c.row-row.ensures in
-    omega (arith, i, n, e)
+    let all = gathering_end f.add.now f.mul.now f.b.now n (λ j. passes (mask_of f.mask) (c.args.i, j))
+    (spread n c.args.listed.now c.args.sums.now) row (row_of f.a.now c.args.i) (spread n c.args.listed.now c.loop-k.sums)
+    (drop c.loop-k.k row) c.loop-k.steps c.loop-k.invariant.gathering (drop_all c.loop-k.k row c.loop-k-test.false)
+    c.row-row.ensures in
+    record { sums = all.0; steps = all.1; little = omega (arith, few, m, e) }

@@ -1,22 +1,33 @@
-use Rattle.std.proofs.Common.{◌≡◌, ◌<◌, ◌++◌, length, not, take, subst, sym, ap, ◌∙◌, refl, arith}
+use Rattle.std.proofs.Common.{◌≡◌, ◌<◌, ◌+◌, ◌++◌, List, length, not, take, subst, sym, ap, ◌∙◌, refl, arith, rules}
 use Rattle.std.proofs.lemmas.List.{take-append-drop, length-append}
 use Rattle.std.specs.List.{AllByRecursion}
-use Rattle.bpf_run.specs.Calls.{steps_of, calls_on, pairs_with}
+use Rattle.bpf_run.specs.Calls.{calls_on, pairs_with}
+use Rattle.bpf_run.proofs.Charging.{Spends, charges-none, spends-start, spends-step, spends-none, spends-end}
 use Rattle.csr_store.specs.Grid.{Cell, row_of}
 use Rattle.csr_store.specs.Run.{Run}
 use Rattle.csr_store.proofs.Along.{Ascends, row_of-ascends}
+use Rattle.csr_store.proofs.Filling.{on_err}
 use Rattle.job_forms.proofs.Counting.{row_few}
 use Rattle.row_product.specs.inner.Single.{multiplied, IsBehind}
+use Rattle.row_product.proofs.Ending.{adds_ended}
 use Rattle.row_product.proofs.Filling.{no_length}
-use Rattle.row_product.proofs.Multiplying.{Pushing, pushing_start, pushing_part, pushing_end, behind_first, steps_by_parts}
+use Rattle.row_product.proofs.Multiplying.{Pushing, pushing_start, pushing_part, pushing_end, behind_first, calls_by_parts}
 use Rattle.row_product.proofs.single.push_row.Goals as goal
+
+pub returns-in_err-reserve-clause-row : goal.returns-in_err-reserve-clause-row
+returns-in_err-reserve-clause-row c = record {
+  rows = search rules;
+  steps = search rules;
+  spent = on_err c.from_residual.result (charges-none _ c.args.making.now.steps);
+}
 
 pub loop-cells-init : goal.loop-cells-init
 loop-cells-init c =
     let mul = c.args.factors.now.mul.now in
+    let x = c.args.x in
     let b = c.args.factors.now.b.now in
     let row = row_of b c.args.k in
-    let from = c.args.rows.now in
+    let from = c.args.making.now.rows in
     let e = c.row-cells.ensures in
     let l = ap length e in
     let n : b.columns ≡ from.columns = sym c.requires.columns in
@@ -26,10 +37,11 @@ loop-cells-init c =
       ascends = subst (λ w. Ascends 0 w row) n (row_of-ascends b c.args.k c.columns-columns.ensures.is_grid);
     } in
     record {
-      pushing = subst (λ us. Pushing from (multiplied mul c.args.x row) c.reserve.new.self us (multiplied mul c.args.x us)) (sym e)
-          (subst (λ r. Pushing from (multiplied mul c.args.x row) r row (multiplied mul c.args.x row)) (sym c.reserve.ensures)
-          (pushing_start from (multiplied mul c.args.x row) row behind));
-      counted = let k = ap (λ us. steps_of (calls_on mul (pairs_with c.args.x us))) e in omega (arith, k);
+      pushing = subst (λ us. Pushing from (multiplied mul x row) c.reserve.new.self us (multiplied mul x us)) (sym e)
+          (subst (λ r. Pushing from (multiplied mul x row) r row (multiplied mul x row)) (sym c.reserve.ensures)
+          (pushing_start from (multiplied mul x row) row behind));
+      spends = subst (λ us. Spends (calls_on mul (pairs_with x row)) c.args.making.now.steps (calls_on mul (pairs_with x us))
+          c.args.making.now.steps) (sym e) (spends-start (calls_on mul (pairs_with x row)) c.args.making.now.steps);
       few = omega (arith, l);
       sums = refl;
     }
@@ -42,13 +54,28 @@ push_products-requires-clause-behind c =
     sym (ap (λ us. us ++ ds) c.split_at.ensures.front
     ∙ (ap (λ us. take c.min.result c.loop-cells.cells.now ++ us) c.split_at.ensures.back
     ∙ take-append-drop c.min.result c.loop-cells.cells.now)) in
-    let now = c.loop-cells.rows in
+    let now = c.loop-cells.making.rows in
     let m = c.loop-cells.invariant.pushing in
-    subst (λ n. IsBehind n now.opened cs) (sym (ap (λ (u : Run). u.columns) m.run))
-    (behind_first c.args.rows.now.columns now.opened cs ds (subst (IsBehind c.args.rows.now.columns now.opened) parts m.behind))
+    let n = c.args.making.now.rows.columns in
+    subst (λ w. IsBehind w now.opened cs) (sym (ap (λ (u : Run). u.columns) m.run))
+    (behind_first n now.opened cs ds (subst (IsBehind n now.opened) parts m.behind))
 
-pub overflow_add-steps : goal.overflow_add-steps
-overflow_add-steps c =
+pub returns-in_err-steps-clause-row : goal.returns-in_err-steps-clause-row
+returns-in_err-steps-clause-row c = record {
+  rows = search rules;
+  steps = search rules;
+  spent = on_err c.from_residual-in_err-steps.result (spends-none _ c.args.making.now.steps _ c.loop-cells.making.steps
+      c.loop-cells.invariant.spends);
+}
+
+pub returns-in_err-steps-clause-little : goal.returns-in_err-steps-clause-little
+returns-in_err-steps-clause-little c =
+    let f = c.loop-cells.invariant.few in
+    let r = row_few c.args.factors.now.b.now c.args.k c.columns-columns.ensures.is_grid in
+    omega (arith, f, r)
+
+pub overflow_add-making : goal.overflow_add-making
+overflow_add-making c =
     let cs = c.split_at.result.0.now in
     let ds = c.split_at.result.1.now in
     let parts : c.loop-cells.cells.now ≡ cs ++ ds =
@@ -58,9 +85,10 @@ overflow_add-steps c =
     let p = ap length parts in
     let a = length-append cs ds in
     let f = c.loop-cells.invariant.few in
-    let l = c.in_ok-steps.ensures.little in
+    let l = c.in_ok-steps.ensures.pushed.little in
     let r = row_few c.args.factors.now.b.now c.args.k c.columns-columns.ensures.is_grid in
-    omega (arith, p, a, f, l, r)
+    let m = c.requires.room in
+    omega (arith, p, a, f, l, r, m)
 
 pub loop-cells-preserved : goal.loop-cells-preserved
 loop-cells-preserved c =
@@ -76,37 +104,32 @@ loop-cells-preserved c =
     let a = length-append cs ds in
     let i = c.loop-cells.invariant in
     let f = i.few in
-    let k = i.counted in
-    let q = ap (λ us. steps_of (calls_on mul (pairs_with x us))) parts in
-    let s = steps_by_parts mul x cs ds in
-    let e = c.in_ok-steps.ensures in
+    let e = c.in_ok-steps.ensures.pushed in
     let l = e.little in
-    let t = e.steps in
     record {
-      pushing = pushing_part mul x c.args.rows.now (multiplied mul x (row_of c.args.factors.now.b.now c.args.k)) c.loop-cells.rows
-          c.loop-cells.cells.now cs ds c.push_products.new.rows i.pushing parts e.rows;
-      counted = omega (arith, k, q, s, t);
+      pushing = pushing_part mul x c.args.making.now.rows (multiplied mul x (row_of c.args.factors.now.b.now c.args.k))
+          c.loop-cells.making.rows c.loop-cells.cells.now cs ds c.push_products.new.rows i.pushing parts e.rows;
+      spends = spends-step _ c.args.making.now.steps _ c.loop-cells.making.steps (calls_on mul (pairs_with x cs))
+          (calls_on mul (pairs_with x ds)) _ i.spends (ap (λ us. calls_on mul (pairs_with x us)) parts ∙ calls_by_parts mul x cs ds)
+          (ap (λ k. c.loop-cells.making.steps + k) e.steps);
       few = omega (arith, p, a, f, l);
       sums = c.push_products.ensures.sums ∙ i.sums;
     }
 
-pub returns-clause-rows : goal.returns-clause-rows
-returns-clause-rows c =
+pub returns-clause-row : goal.returns-clause-row
+returns-clause-row c =
     let mul = c.args.factors.now.mul.now in
-    let from = c.args.rows.now in
-    let whole = multiplied mul c.args.x (row_of c.args.factors.now.b.now c.args.k) in
+    let x = c.args.x in
+    let from = c.args.making.now in
+    let row = row_of c.args.factors.now.b.now c.args.k in
+    let whole = multiplied mul x row in
+    let i = c.loop-cells.invariant in
     let none = no_length c.loop-cells.cells.now (sym (ap not c.is_empty.ensures) ∙ ap not c.loop-cells-test.false) in
-    pushing_end from whole c.loop-cells.rows c.loop-cells.cells.now (multiplied mul c.args.x c.loop-cells.cells.now)
-    c.loop-cells.invariant.pushing (ap (multiplied mul c.args.x) none)
-    ∙ ap (λ os. record from { opened = os ++ whole }) c.requires.none_open
-
-pub returns-clause-steps : goal.returns-clause-steps
-returns-clause-steps c =
-    let mul = c.args.factors.now.mul.now in
-    let none = no_length c.loop-cells.cells.now (sym (ap not c.is_empty.ensures) ∙ ap not c.loop-cells-test.false) in
-    let k = c.loop-cells.invariant.counted in
-    let z = ap (λ us. steps_of (calls_on mul (pairs_with c.args.x us))) none in
-    omega (arith, k, z)
+    adds_ended whole (calls_on mul (pairs_with x row)) from c.loop-cells.making.rows _ c.end_row.result c.requires.none_open
+    (pushing_end from.rows whole c.loop-cells.making.rows c.loop-cells.cells.now (multiplied mul x c.loop-cells.cells.now) i.pushing
+    (ap (multiplied mul x) none) ∙ ap (λ (os : List Cell). record from.rows { opened = os ++ whole }) c.requires.none_open)
+    (spends-end _ from.steps _ c.loop-cells.making.steps i.spends (ap (λ us. calls_on mul (pairs_with x us)) none))
+    c.end_row.ensures.ended
 
 pub returns-clause-little : goal.returns-clause-little
 returns-clause-little c =

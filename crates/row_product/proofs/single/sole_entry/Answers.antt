@@ -1,7 +1,5 @@
-use Rattle.std.proofs.Common.{◌≡◌, false, List, [], ◌∷◌, Option, None, Some, is_some, not, length, get_or, refl, sym, ap, ◌∙◌, subst, arith}
-use denote.Ref.{Bor}
-use Rattle.csr_store.specs.Grid.{Grid, Cell, row_of}
-use Rattle.csr_store.specs.Mask.{mask_of}
+use Rattle.std.proofs.Common.{◌≡◌, List, [], ◌∷◌, length, get_or, refl, sym, ◌∙◌, subst, arith}
+use Rattle.csr_store.specs.Grid.{Cell, row_of}
 use Rattle.csr_store.proofs.Along.{Ascends, row_of-ascends}
 use Rattle.row_product.proofs.single.sole_entry.Goals as goal
 
@@ -9,10 +7,6 @@ one_cell : (row : List Cell) → length row ≡ 1 → row ≡ get_or row 0 (0, 0
 one_cell [] h = absurd (omega (arith, h))
 one_cell (c ∷ []) h = refl
 one_cell (c ∷ d ∷ row) h = absurd (omega (arith, h))
-
-no_mask : (m : Option (Bor Grid)) → is_some m ≡ false → mask_of m ≡ None
-no_mask None h = refl
-no_mask (Some b) h = absurd (cc)
 
 pub returns-then-row-eq1 : goal.returns-then-row-eq1
 returns-then-row-eq1 c =
@@ -25,7 +19,6 @@ returns-then-row-eq1 c =
     let w = c.requires.factors.shapes in
     let u = (subst (Ascends 0 a.columns) row (row_of-ascends a c.args.i c.columns-columns.ensures.is_grid)).1 in
     record {
-      mask = no_mask f.mask (c.is_none.ensures ∙ ap not c.if-is_none.true);
       row = row;
       named = omega (arith, u, w);
     }

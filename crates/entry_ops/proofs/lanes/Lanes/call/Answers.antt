@@ -12,13 +12,14 @@ copy_from_slice-requires c =
     let ws = c.self.inside.next.items in
     let i = c.self.invariant in
     let operands : c.gather_pairs.new.self.operands ≡ pairs_of vs ws = ap (λ (g : Gathered). g.operands) c.gather_pairs.ensures
-    ∙ ap (λ os. os ++ pairs_of c.deref.result.now c.deref-2.result.now) c.requires.none
+    ∙ ap (λ os. os ++ pairs_of c.deref.result.now c.deref-2.result.now) c.requires.waits.none
     ∙ ap (λ xs. pairs_of xs c.deref-2.result.now) c.deref.ensures.value
     ∙ ap (λ ys. pairs_of vs ys) c.deref-2.ensures.value in
     let values : c.values.result.now ≡ values_on c.args.operator.now (pairs_of vs ws) =
     c.values.ensures ∙ ap (λ (g : Gathered). g.values) c.make-steps.ensures.values
     ∙ ap (λ os. values_on c.args.operator.now os) operands in
-    c.self.inside.so_far.ok.0 ∙ sym (length_called c.args.operator.now vs ws (i.5 ∙ sym i.4)) ∙ ap (λ (xs : List ℕ). length xs) (sym values)
+    c.self.inside.so_far.ok.0 ∙ sym (length_called c.args.operator.now vs ws (i.5 ∙ sym i.4)) ∙ ap (λ (xs : List ℕ). length xs)
+    (sym values)
 
 pub take_next-left-requires-clause-lanes : goal.take_next-left-requires-clause-lanes
 take_next-left-requires-clause-lanes c =
@@ -27,7 +28,7 @@ take_next-left-requires-clause-lanes c =
     let ws = c.self.inside.next.items in
     let i = c.self.invariant in
     let operands : c.gather_pairs.new.self.operands ≡ pairs_of vs ws = ap (λ (g : Gathered). g.operands) c.gather_pairs.ensures
-    ∙ ap (λ os. os ++ pairs_of c.deref.result.now c.deref-2.result.now) c.requires.none
+    ∙ ap (λ os. os ++ pairs_of c.deref.result.now c.deref-2.result.now) c.requires.waits.none
     ∙ ap (λ xs. pairs_of xs c.deref-2.result.now) c.deref.ensures.value
     ∙ ap (λ ys. pairs_of vs ys) c.deref-2.ensures.value in
     let values : c.values.result.now ≡ values_on c.args.operator.now (pairs_of vs ws) =
@@ -43,7 +44,7 @@ returns-clause-gives c =
     let ws = c.self.inside.next.items in
     let i = c.self.invariant in
     let operands : c.gather_pairs.new.self.operands ≡ pairs_of vs ws = ap (λ (g : Gathered). g.operands) c.gather_pairs.ensures
-    ∙ ap (λ os. os ++ pairs_of c.deref.result.now c.deref-2.result.now) c.requires.none
+    ∙ ap (λ os. os ++ pairs_of c.deref.result.now c.deref-2.result.now) c.requires.waits.none
     ∙ ap (λ xs. pairs_of xs c.deref-2.result.now) c.deref.ensures.value
     ∙ ap (λ ys. pairs_of vs ys) c.deref-2.ensures.value in
     let values : c.values.result.now ≡ values_on c.args.operator.now (pairs_of vs ws) =
@@ -55,7 +56,8 @@ returns-clause-gives c =
     c.take_next-left.auto.so_far ∙ ap (λ (xs : List ℕ). length xs) c.deref_mut-2.ensures.value in
     let n : length c.take_next-left.new.next ≡ length ws =
     c.take_next-left.auto.next ∙ ap (λ (xs : List ℕ). length xs) c.deref_mut-3.ensures.value in
-    gives_called c.args.operator.now ls vs ws i.4 i.5 c.args.results.now c.args.self.now c.self.view_is _ _ c.deref_mut.ensures.value
+    gives_called c.args.operator.now ls vs ws i.4 i.5 c.args.results.now c.args.self.now c.self.view_is _ _
+    c.deref_mut.ensures.value
     (c.deref_mut-2.ensures.value ∙ c.copy_from_slice.ensures.items ∙ values) _ _ _ _
     (c.take_next-left.ensures.gives c.args.operator.now)
     (c.make-steps.ensures.steps ∙ ap (λ os. steps_of (calls_on c.args.operator.now os)) operands)
@@ -74,12 +76,13 @@ returns-clause-more c some =
     let ws = c.self.inside.next.items in
     let i = c.self.invariant in
     let operands : c.gather_pairs.new.self.operands ≡ pairs_of vs ws = ap (λ (g : Gathered). g.operands) c.gather_pairs.ensures
-    ∙ ap (λ os. os ++ pairs_of c.deref.result.now c.deref-2.result.now) c.requires.none
+    ∙ ap (λ os. os ++ pairs_of c.deref.result.now c.deref-2.result.now) c.requires.waits.none
     ∙ ap (λ xs. pairs_of xs c.deref-2.result.now) c.deref.ensures.value
     ∙ ap (λ ys. pairs_of vs ys) c.deref-2.ensures.value in
     let n = length_columns ls vs ws i.4 i.5 in
     let v = ap (λ (os : List Open). length os) c.self.view_is in
     let p = i.4 in
     let made = c.make-steps.ensures.steps ∙ ap (λ os. steps_of (calls_on c.args.operator.now os)) operands in
-    let m = next_more c.args.operator.now vs ws c.requires.accepted c.requires.kind (i.5 ∙ sym i.4) (omega (arith, n, v, p, some)) in
+    let m = next_more c.args.operator.now vs ws c.requires.accepted c.requires.kind (i.5 ∙ sym i.4) (omega (arith, n, v, p, some))
+    in
     omega (arith, made, m)

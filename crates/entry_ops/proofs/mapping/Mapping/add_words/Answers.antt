@@ -3,49 +3,65 @@ use Rattle.std.proofs.lemmas.List.{drop_all}
 use Rattle.csr_store.specs.Valued.{all_cells}
 use Rattle.csr_store.proofs.Valuing.{entries_are, alike_entries}
 use Rattle.bpf_run.specs.Calls.{Gathered, words_of}
-use Rattle.entry_ops.proofs.Mapped.{mapping-start, mapping-end, IsMapping, words-entries, words-room, words-made, words-count, length_words}
+use Rattle.entry_ops.proofs.Mapped.{
+  mapping-start,
+  mapping-end,
+  IsMapping,
+  words-entries,
+  words-room,
+  words-made,
+  words-count,
+  length_words,
+}
 use Rattle.entry_ops.proofs.mapping.Mapping.add_words.Goals as goal
 
 pub loop-self-init : goal.loop-self-init
 loop-self-init c =
-    let z = c.requires.first in
+    let z = c.requires.room.0 in
     let w = length_words (all_cells c.args.self.now.rows.run) in
     let e = entries_are c.args.self.now.rows.run in
     record {
-      kind = c.requires.begun;
-      none = c.requires.none;
-      mapping = subst (λ os. IsMapping c.args.operator.now (words_of (all_cells c.args.self.now.rows.run)) c.args.self.now os c.args.self.now)
+      kind = c.requires.waits.begun;
+      none = c.requires.waits.none;
+      mapping = subst (λ os. IsMapping c.args.operator.now (words_of (all_cells c.args.self.now.rows.run)) c.args.self.now os
+          c.args.self.now)
           (sym (ap (λ k. words_of (drop k (all_cells c.args.self.now.rows.run))) z))
-          (mapping-start c.args.operator.now (words_of (all_cells c.args.self.now.rows.run)) c.args.self.now (omega (arith, z, w, e)) c.requires.room);
+          (mapping-start c.args.operator.now (words_of (all_cells c.args.self.now.rows.run)) c.args.self.now
+          (omega (arith, z, w, e)) c.requires.room.1);
       many = refl;
     }
-
-pub make-requires-clause-entries : goal.make-requires-clause-entries
-make-requires-clause-entries c =
-    let s = c.loop-self.invariant.many in
-    let m = c.min-many.ensures in let a = c.entries-entries.ensures in let w = c.written-in-loop-self.ensures in let u = c.written.ensures in let t = c.loop-self-test.true in
-    words-entries c.args.operator.now _ _ c.loop-self.self (c.loop-self.self.rows.written + c.min-many.result) c.next_cells.result.now c.gather_words.new.self.operands
-    c.loop-self.invariant.mapping (omega arith) (omega (arith, s, m, a, w, u, t)) c.next_cells.ensures
-    (ap (λ (g : Gathered). g.operands) c.gather_words.ensures ∙ ap (λ os. os ++ words_of c.next_cells.result.now) c.loop-self.invariant.none)
 
 pub make-requires-clause-room : goal.make-requires-clause-room
 make-requires-clause-room c =
     let s = c.loop-self.invariant.many in
-    let m = c.min-many.ensures in let a = c.entries-entries.ensures in let w = c.written-in-loop-self.ensures in let u = c.written.ensures in let t = c.loop-self-test.true in
-    words-room c.args.operator.now _ _ c.loop-self.self (c.loop-self.self.rows.written + c.min-many.result) c.next_cells.result.now c.gather_words.new.self.operands
-    c.loop-self.invariant.mapping (omega arith) (omega (arith, s, m, a, w, u, t)) c.next_cells.ensures
-    (ap (λ (g : Gathered). g.operands) c.gather_words.ensures ∙ ap (λ os. os ++ words_of c.next_cells.result.now) c.loop-self.invariant.none)
+    let m = c.min-many.ensures in let a = c.entries-entries.ensures in let w = c.written-in-loop-self.ensures in let u =
+    c.written.ensures in let t = c.loop-self-test.true in
+    let gathered = ap (λ (g : Gathered). g.operands) c.gather_words.ensures ∙ ap (λ os. os ++ words_of c.next_cells.result.now)
+    c.loop-self.invariant.none in
+    record {
+      entries = words-entries c.args.operator.now _ _ c.loop-self.self (c.loop-self.self.rows.written + c.min-many.result)
+          c.next_cells.result.now
+          c.gather_words.new.self.operands c.loop-self.invariant.mapping (omega arith) (omega (arith, s, m, a, w, u, t))
+          c.next_cells.ensures gathered;
+      steps = words-room c.args.operator.now _ _ c.loop-self.self (c.loop-self.self.rows.written + c.min-many.result)
+          c.next_cells.result.now
+          c.gather_words.new.self.operands c.loop-self.invariant.mapping (omega arith) (omega (arith, s, m, a, w, u, t))
+          c.next_cells.ensures gathered;
+    }
 
 pub loop-self-preserved : goal.loop-self-preserved
 loop-self-preserved c =
     let s = c.loop-self.invariant.many in
-    let m = c.min-many.ensures in let a = c.entries-entries.ensures in let w = c.written-in-loop-self.ensures in let u = c.written.ensures in let t = c.loop-self-test.true in
+    let m = c.min-many.ensures in let a = c.entries-entries.ensures in let w = c.written-in-loop-self.ensures in let u =
+    c.written.ensures in let t = c.loop-self-test.true in
     record {
-      kind = c.make.ensures.kind ∙ (ap (λ (g : Gathered). g.kind) c.gather_words.ensures ∙ c.loop-self.invariant.kind);
-      none = c.make.ensures.none;
-      mapping = words-made c.args.operator.now _ _ c.loop-self.self (c.loop-self.self.rows.written + c.min-many.result) c.next_cells.result.now c.gather_words.new.self.operands
+      kind = c.make.ensures.waits.begun ∙ (ap (λ (g : Gathered). g.kind) c.gather_words.ensures ∙ c.loop-self.invariant.kind);
+      none = c.make.ensures.waits.none;
+      mapping = words-made c.args.operator.now _ _ c.loop-self.self (c.loop-self.self.rows.written + c.min-many.result)
+          c.next_cells.result.now c.gather_words.new.self.operands
           c.loop-self.invariant.mapping (omega arith) (omega (arith, s, m, a, w, u, t)) c.next_cells.ensures
-          (ap (λ (g : Gathered). g.operands) c.gather_words.ensures ∙ ap (λ os. os ++ words_of c.next_cells.result.now) c.loop-self.invariant.none)
+          (ap (λ (g : Gathered). g.operands) c.gather_words.ensures ∙ ap (λ os. os ++ words_of c.next_cells.result.now)
+          c.loop-self.invariant.none)
           c.make.new.self c.make.ensures.further;
       many = sym (alike_entries c.loop-self.self.rows.run c.make.new.self.rows.run c.make.ensures.further.alike) ∙ s;
     }
@@ -53,15 +69,20 @@ loop-self-preserved c =
 pub loop-self-smaller : goal.loop-self-smaller
 loop-self-smaller c =
     let s = c.loop-self.invariant.many in
-    let m = c.min-many.ensures in let a = c.entries-entries.ensures in let w = c.written-in-loop-self.ensures in let u = c.written.ensures in let t = c.loop-self-test.true in
-    let n = words-count c.args.operator.now _ _ c.loop-self.self (c.loop-self.self.rows.written + c.min-many.result) c.next_cells.result.now c.gather_words.new.self.operands
+    let m = c.min-many.ensures in let a = c.entries-entries.ensures in let w = c.written-in-loop-self.ensures in let u =
+    c.written.ensures in let t = c.loop-self-test.true in
+    let n = words-count c.args.operator.now _ _ c.loop-self.self (c.loop-self.self.rows.written + c.min-many.result)
+    c.next_cells.result.now c.gather_words.new.self.operands
     c.loop-self.invariant.mapping (omega arith) (omega (arith, s, m, a, w, u, t)) c.next_cells.ensures
-    (ap (λ (g : Gathered). g.operands) c.gather_words.ensures ∙ ap (λ os. os ++ words_of c.next_cells.result.now) c.loop-self.invariant.none) in
+    (ap (λ (g : Gathered). g.operands) c.gather_words.ensures ∙ ap (λ os. os ++ words_of c.next_cells.result.now)
+    c.loop-self.invariant.none) in
     let d = c.make.ensures.further.place in
     omega (arith, n, d, m, w, u, t, a, s)
 
 pub returns : goal.returns
 returns c =
-    let s = c.loop-self.invariant.many in let t = c.loop-self-test.false in let a = c.entries-entries.ensures in let u = c.written.ensures in
+    let s = c.loop-self.invariant.many in let t = c.loop-self-test.false in let a = c.entries-entries.ensures in let u =
+    c.written.ensures in
     let e = entries_are c.loop-self.self.rows.run in
-    mapping-end c.args.operator.now _ _ _ _ c.loop-self.invariant.mapping (ap words_of (drop_all c.loop-self.self.rows.written (all_cells c.loop-self.self.rows.run) (omega (arith, s, t, a, e, u))))
+    mapping-end c.args.operator.now _ _ _ _ c.loop-self.invariant.mapping
+    (ap words_of (drop_all c.loop-self.self.rows.written (all_cells c.loop-self.self.rows.run) (omega (arith, s, t, a, e, u))))

@@ -8,7 +8,7 @@ pub write_values-requires : goal.write_values-requires
 write_values-requires c =
     let v = ap (λ (vs : List ℕ). length vs) (c.values.ensures ∙ (ap (λ (g : Gathered). g.values) c.make.ensures.values)) in
     let n = length_values c.args.operator.now c.args.calls.now.operands in
-    let e = c.requires.entries in
+    let e = c.requires.room.entries in
     omega (arith, v, n, e)
 
 pub returns-clause-further : goal.returns-clause-further
@@ -18,6 +18,7 @@ returns-clause-further c =
       alike = c.write_values.ensures.alike;
       place = let k = ap (λ (vs : List ℕ). length vs) v in let n = length_values c.args.operator.now c.args.calls.now.operands in
           let w = c.write_values.ensures.written in omega (arith, k, n, w);
-      cells = c.write_values.ensures.values ∙ ap (λ vs. valued_from c.args.self.now.rows.written vs (all_cells c.args.self.now.rows.run)) v;
+      cells = c.write_values.ensures.values ∙ ap
+          (λ vs. valued_from c.args.self.now.rows.written vs (all_cells c.args.self.now.rows.run)) v;
       steps = ap (λ n. c.args.self.now.steps + n) c.make.ensures.steps;
     }

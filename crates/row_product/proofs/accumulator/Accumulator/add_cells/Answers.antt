@@ -1,4 +1,4 @@
-use Rattle.std.proofs.Common.{length, subst, ap, ◌∙◌, arith}
+use Rattle.std.proofs.Common.{length, subst, ap, ◌∙◌, arith, rules}
 use Rattle.bpf_verify.specs.Accepted.{IsAccepted}
 use Rattle.bpf_run.specs.Calls.{Gathered, steps_of, pairs_with}
 use Rattle.row_product.specs.inner.Adding.{sums_after, calls_after}
@@ -15,10 +15,10 @@ add_terms-requires-clause-terms c =
     let v = ap length vs in
     let l = length_values mul (pairs_with c.args.x cells) in
     let p = length_pairs c.args.x cells in
-    omega (arith, v, l, p)
+    record { few = c.requires.few; paired = omega (arith, v, l, p); apart = search rules }
 
-pub add_terms-requires-clause-room : goal.add_terms-requires-clause-room
-add_terms-requires-clause-room c =
+pub add_terms-requires-clause-add : goal.add_terms-requires-clause-add
+add_terms-requires-clause-add c =
     let add = c.args.factors.now.add.now in
     let mul = c.args.factors.now.mul.now in
     let cells = c.args.cells.now in
@@ -27,7 +27,7 @@ add_terms-requires-clause-room c =
     let f = after_few add mul c.args.x c.self.inside.sums cells (subst IsAccepted c.operator.ensures c.program-add.ensures.accepted)
     (subst IsAccepted c.operator-2.ensures c.program-mul.ensures.accepted) c.requires.factors.add c.requires.factors.mul in
     let w = c.requires.few in
-    omega (arith, t, f, w)
+    record { kind = c.requires.factors.add; room = omega (arith, t, f, w) }
 
 pub overflow_add-result : goal.overflow_add-result
 overflow_add-result c =
@@ -40,39 +40,24 @@ overflow_add-result c =
     (subst IsAccepted c.operator-2.ensures c.program-mul.ensures.accepted) c.requires.factors.add c.requires.factors.mul in
     let w = c.requires.few in
     let m = c.make_with-multiplied.ensures.steps in
-    let a = c.add_terms.ensures.steps in
+    let a = c.add_terms.ensures.put.steps in
     omega (arith, t, m, a, f, w)
 
-pub returns-clause-sums : goal.returns-clause-sums
-returns-clause-sums c =
+pub returns : goal.returns
+returns c =
     let add = c.args.factors.now.add.now in
     let mul = c.args.factors.now.mul.now in
     let cells = c.args.cells.now in
     let vs = c.values-terms.ensures ∙ ap (λ (g : Gathered). g.values) c.make_with-multiplied.ensures.values in
-    c.add_terms.ensures.sums ∙ ((added_by_terms add mul c.args.x c.self.inside.sums cells c.values-terms.result.now vs).0
-    ∙ ap (λ us. sums_after add mul c.args.x us cells) c.self.view_is)
-
-pub returns-clause-steps : goal.returns-clause-steps
-returns-clause-steps c =
-    let add = c.args.factors.now.add.now in
-    let mul = c.args.factors.now.mul.now in
-    let cells = c.args.cells.now in
-    let vs = c.values-terms.ensures ∙ ap (λ (g : Gathered). g.values) c.make_with-multiplied.ensures.values in
-    let t = (added_by_terms add mul c.args.x c.self.inside.sums cells c.values-terms.result.now vs).1 in
-    let m = c.make_with-multiplied.ensures.steps in
-    let a = c.add_terms.ensures.steps in
-    let s = ap (λ us. steps_of (calls_after add mul c.args.x us cells)) c.self.view_is in
-    omega (arith, t, m, a, s)
-
-pub returns-clause-little : goal.returns-clause-little
-returns-clause-little c =
-    let add = c.args.factors.now.add.now in
-    let mul = c.args.factors.now.mul.now in
-    let cells = c.args.cells.now in
-    let vs = c.values-terms.ensures ∙ ap (λ (g : Gathered). g.values) c.make_with-multiplied.ensures.values in
-    let t = (added_by_terms add mul c.args.x c.self.inside.sums cells c.values-terms.result.now vs).1 in
+    let made = added_by_terms add mul c.args.x c.self.inside.sums cells c.values-terms.result.now vs in
+    let t = made.1 in
     let f = after_few add mul c.args.x c.self.inside.sums cells (subst IsAccepted c.operator.ensures c.program-add.ensures.accepted)
     (subst IsAccepted c.operator-2.ensures c.program-mul.ensures.accepted) c.requires.factors.add c.requires.factors.mul in
     let m = c.make_with-multiplied.ensures.steps in
-    let a = c.add_terms.ensures.steps in
-    omega (arith, t, m, a, f)
+    let a = c.add_terms.ensures.put.steps in
+    let s = ap (λ us. steps_of (calls_after add mul c.args.x us cells)) c.self.view_is in
+    record {
+      sums = c.add_terms.ensures.put.sums ∙ (made.0 ∙ ap (λ us. sums_after add mul c.args.x us cells) c.self.view_is);
+      steps = omega (arith, t, m, a, s);
+      little = omega (arith, t, m, a, f);
+    }

@@ -17,18 +17,17 @@ push_words-requires-clause-words c =
     let p = length_pairs c.args.x cells in
     omega (arith, v, l, p)
 
-pub returns-clause-rows : goal.returns-clause-rows
-returns-clause-rows c =
+pub returns-clause-pushed : goal.returns-clause-pushed
+returns-clause-pushed c =
     let cells = c.args.cells.now in
     let mul = c.args.factors.now.mul.now in
     let vs = c.values.ensures ∙ ap (λ (g : Gathered). g.values) c.make_with-multiplied.ensures.values in
-    c.in_ok-push_words.ensures
-    ∙ ap (λ us. record c.args.rows.now { opened = c.args.rows.now.opened ++ us })
-    (ap (with_words cells) vs ∙ words_by_terms mul c.args.x cells)
-
-pub returns-clause-little : goal.returns-clause-little
-returns-clause-little c =
     let s = c.make_with-multiplied.ensures.steps in
-    let f = with_few c.args.factors.now.mul.now c.args.x c.args.cells.now
-    (subst IsAccepted c.operator.ensures c.program-mul.ensures.accepted) c.requires.factors.mul in
-    omega (arith, s, f)
+    let f = with_few mul c.args.x cells (subst IsAccepted c.operator.ensures c.program-mul.ensures.accepted) c.requires.factors.mul
+    in
+    record {
+      rows = c.in_ok-push_words.ensures ∙ ap (λ us. record c.args.rows.now { opened = c.args.rows.now.opened ++ us })
+          (ap (with_words cells) vs ∙ words_by_terms mul c.args.x cells);
+      steps = s;
+      little = omega (arith, s, f);
+    }

@@ -1,29 +1,26 @@
-use Rattle.std.proofs.Common.{length, subst, sym, ap, ◌∙◌, refl, arith}
-use Rattle.bpf_run.specs.Calls.{steps_of}
+use Rattle.std.proofs.Common.{List, length, subst, sym, ap, ◌∙◌, refl, arith}
 use Rattle.csr_store.specs.Ascending.{Ascends}
-use Rattle.row_product.specs.inner.Adding.{taking, sums_after, calls_after}
-use Rattle.row_product.specs.inner.Progress.{stands}
+use Rattle.csr_store.specs.Grid.{Cell}
+use Rattle.row_product.specs.inner.Adding.{taking}
+use Rattle.row_product.specs.inner.Rows.{AddsCells}
 use Rattle.row_product.specs.inner.Sums.{takes, flag}
 use Rattle.row_product.proofs.Parts.{ascends_wider, taking_all, taking_few, taking_ascends, length_after}
 use Rattle.row_product.proofs.progress.Progress.add_part.Goals as goal
 
-pub add_cells-requires-clause-apart : goal.add_cells-requires-clause-apart
-add_cells-requires-clause-apart c = ascends_wider 0 _ _ c.args.cells.now c.requires.ready.sums c.requires.apart
+pub add_cells-requires : goal.add_cells-requires
+add_cells-requires c = record {
+  factors = c.requires.part.factors;
+  few = c.requires.part.few;
+  apart = ascends_wider 0 _ _ c.args.cells.now c.requires.ready.sums c.requires.part.apart;
+}
 
-pub returns-then-not-masked-clause-sums : goal.returns-then-not-masked-clause-sums
-returns-then-not-masked-clause-sums c =
+pub returns-then-not-masked-clause-added : goal.returns-then-not-masked-clause-added
+returns-then-not-masked-clause-added c =
     let items = c.args.self.now.allowed.items in
     let all = taking_all (takes c.args.masked items) c.args.cells.now (λ j. ap (λ m. takes m items j) c.if-not-masked.true) in
-    c.add_cells.ensures.sums
-    ∙ ap (sums_after c.args.factors.now.add.now c.args.factors.now.mul.now c.args.x (stands c.args.self.now)) (sym all)
-
-pub returns-then-not-masked-clause-steps : goal.returns-then-not-masked-clause-steps
-returns-then-not-masked-clause-steps c =
-    let items = c.args.self.now.allowed.items in
-    let all = taking_all (takes c.args.masked items) c.args.cells.now (λ j. ap (λ m. takes m items j) c.if-not-masked.true) in
-    c.add_cells.ensures.steps
-    ∙ ap (λ us. steps_of (calls_after c.args.factors.now.add.now c.args.factors.now.mul.now c.args.x (stands c.args.self.now) us))
-    (sym all)
+    subst (λ (us : List Cell). AddsCells c.args.factors.now c.args.x us c.args.self.now.sums c.add_cells.new.self
+    c.add_cells.result)
+    (sym all) c.add_cells.ensures
 
 pub returns-then-not-masked-clause-ready : goal.returns-then-not-masked-clause-ready
 returns-then-not-masked-clause-ready c =
@@ -37,43 +34,27 @@ pub choose-requires-clause-within : goal.choose-requires-clause-within
 choose-requires-clause-within c =
     let a = c.requires.ready.allowed in
     let d = ap length c.deref.ensures.value in
-    ascends_wider 0 _ _ c.args.cells.now (omega (arith, a, d)) c.requires.apart
+    ascends_wider 0 _ _ c.args.cells.now (omega (arith, a, d)) c.requires.part.apart
 
-pub add_cells-requires-2-clause-few : goal.add_cells-requires-2-clause-few
-add_cells-requires-2-clause-few c =
-    let f = c.requires.few in
+pub add_cells-requires-2 : goal.add_cells-requires-2
+add_cells-requires-2 c =
+    let f = c.requires.part.few in
     let t = taking_few (flag c.deref.result.now) c.args.cells.now in
     let e = ap length (c.deref-2.ensures.value ∙ c.choose.ensures.taking) in
-    omega (arith, f, t, e)
+    record {
+      factors = c.requires.part.factors;
+      few = omega (arith, f, t, e);
+      apart = subst (Ascends 0 (length c.args.self.now.sums)) (sym (c.deref-2.ensures.value ∙ c.choose.ensures.taking))
+          (taking_ascends (flag c.deref.result.now) 0 _ _ c.args.cells.now c.requires.ready.sums c.requires.part.apart);
+    }
 
-pub add_cells-requires-2-clause-apart : goal.add_cells-requires-2-clause-apart
-add_cells-requires-2-clause-apart c =
-    subst (Ascends 0 (length c.args.self.now.sums)) (sym (c.deref-2.ensures.value ∙ c.choose.ensures.taking))
-    (taking_ascends (flag c.deref.result.now) 0 _ _ c.args.cells.now c.requires.ready.sums c.requires.apart)
-
-pub returns-clause-sums : goal.returns-clause-sums
-returns-clause-sums c =
+pub returns-clause-added : goal.returns-clause-added
+returns-clause-added c =
     let cells = c.args.cells.now in
     let chosen = c.deref-2.ensures.value ∙ (c.choose.ensures.taking ∙ (ap (λ fs. taking (flag fs) cells) c.deref.ensures.value
     ∙ ap (λ m. taking (takes m c.args.self.now.allowed.items) cells) (sym c.if-not-masked.false))) in
-    c.add_cells-2.ensures.sums
-    ∙ ap (sums_after c.args.factors.now.add.now c.args.factors.now.mul.now c.args.x (stands c.args.self.now)) chosen
-
-pub returns-clause-steps : goal.returns-clause-steps
-returns-clause-steps c =
-    let cells = c.args.cells.now in
-    let chosen = c.deref-2.ensures.value ∙ (c.choose.ensures.taking ∙ (ap (λ fs. taking (flag fs) cells) c.deref.ensures.value
-    ∙ ap (λ m. taking (takes m c.args.self.now.allowed.items) cells) (sym c.if-not-masked.false))) in
-    c.add_cells-2.ensures.steps
-    ∙ ap (λ us. steps_of (calls_after c.args.factors.now.add.now c.args.factors.now.mul.now c.args.x (stands c.args.self.now) us))
-    chosen
-
-pub returns-clause-little : goal.returns-clause-little
-returns-clause-little c =
-    let l = c.add_cells-2.ensures.little in
-    let t = taking_few (flag c.deref.result.now) c.args.cells.now in
-    let e = ap length (c.deref-2.ensures.value ∙ c.choose.ensures.taking) in
-    omega (arith, l, t, e)
+    subst (λ (us : List Cell). AddsCells c.args.factors.now c.args.x us c.args.self.now.sums c.add_cells-2.new.self
+    c.add_cells-2.result) chosen c.add_cells-2.ensures
 
 pub returns-clause-ready : goal.returns-clause-ready
 returns-clause-ready c =

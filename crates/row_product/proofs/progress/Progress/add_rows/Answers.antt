@@ -33,13 +33,13 @@ add_row-steps-requires-clause-row c =
     ) in
     let h = (cell_inside c.args.factors.now.a.now c.args.i k (0, 0) c.columns-columns.ensures.is_grid l).1 in
     let s = ap (λ (r : List Cell). (get_or r k (0, 0)).0) e in
-    let w = c.requires.factors.shapes in
-    omega (arith, h, s, w)
+    let w = c.requires.row.factors.shapes in
+    record { factors = c.requires.row.factors; row = omega (arith, h, s, w) }
 
 pub overflow_add-steps : goal.overflow_add-steps
 overflow_add-steps c =
     let i = c.loop-k.invariant.few in
-    let f = c.add_row-steps.ensures.little in
+    let f = c.add_row-steps.ensures.added.little in
     let e = ap length c.row-row.ensures in
     let r = row_few c.args.factors.now.a.now c.args.i c.columns-columns.ensures.is_grid in
     let t = c.loop-k-test.true in
@@ -60,37 +60,29 @@ loop-k-preserved c =
     let i = c.loop-k.invariant in
     let f = i.few in
     let e = c.add_row-steps.ensures in
-    let g = e.little in
+    let g = e.added.little in
     let same = ap (λ v. v.items) i.allowed in
     record {
       gathering = gathering_step add mul b n t (stands c.args.self.now) row was (drop k row) c.loop-k.steps cell (drop (k + 1) row)
           then_ _ i.gathering (drop_more row k (0, 0) c.loop-k-test.true) e.ready.2
-          (λ j. e.sums j ∙ ap (λ fs. after add mul cell.1 (slot was j) (seen (takes c.args.masked fs j) (fin.get b.cells (cell.0, j))))
+          (λ j. e.added.sums j ∙ ap (λ fs. after add mul cell.1 (slot was j) (seen (takes c.args.masked fs j) (fin.get b.cells
+          (cell.0, j))))
           same)
-          (e.steps ∙ ap (λ fs. steps_of (along (λ j. extra add mul cell.1 (slot was j) (seen (takes c.args.masked fs j)
+          (e.added.steps ∙ ap (λ fs. steps_of (along (λ j. extra add mul cell.1 (slot was j) (seen (takes c.args.masked fs j)
           (fin.get b.cells (cell.0, j)))) 0 n)) same);
       few = omega (arith, f, g);
       ready = e.ready.0;
       allowed = e.ready.1 ∙ i.allowed;
     }
 
-pub returns-clause-sums : goal.returns-clause-sums
-returns-clause-sums c =
-    (gathering_end c.args.factors.now.add.now c.args.factors.now.mul.now c.args.factors.now.b.now c.args.factors.now.b.now.columns
-    (takes c.args.masked c.args.self.now.allowed.items) (stands c.args.self.now) c.row-row.result.now
-    (row_of c.args.factors.now.a.now c.args.i) (stands c.loop-k.self) (drop c.loop-k.k c.row-row.result.now) c.loop-k.steps
-    c.loop-k.invariant.gathering (drop_all c.loop-k.k c.row-row.result.now c.loop-k-test.false) c.row-row.ensures).0
-
-pub returns-clause-steps : goal.returns-clause-steps
-returns-clause-steps c =
-    (gathering_end c.args.factors.now.add.now c.args.factors.now.mul.now c.args.factors.now.b.now c.args.factors.now.b.now.columns
-    (takes c.args.masked c.args.self.now.allowed.items) (stands c.args.self.now) c.row-row.result.now
-    (row_of c.args.factors.now.a.now c.args.i) (stands c.loop-k.self) (drop c.loop-k.k c.row-row.result.now) c.loop-k.steps
-    c.loop-k.invariant.gathering (drop_all c.loop-k.k c.row-row.result.now c.loop-k-test.false) c.row-row.ensures).1
-
-pub returns-clause-little : goal.returns-clause-little
-returns-clause-little c =
-    let i = c.loop-k.invariant.few in
+pub returns-clause-added : goal.returns-clause-added
+returns-clause-added c =
+    let f = c.args.factors.now in
+    let row = c.row-row.result.now in
+    let few = c.loop-k.invariant.few in
     let n = c.loop-k.auto.k-end in
     let e = ap length c.row-row.ensures in
-    omega (arith, i, n, e)
+    let all = gathering_end f.add.now f.mul.now f.b.now f.b.now.columns (takes c.args.masked c.args.self.now.allowed.items)
+    (stands c.args.self.now) row (row_of f.a.now c.args.i) (stands c.loop-k.self) (drop c.loop-k.k row) c.loop-k.steps
+    c.loop-k.invariant.gathering (drop_all c.loop-k.k row c.loop-k-test.false) c.row-row.ensures in
+    record { sums = all.0; steps = all.1; little = omega (arith, few, n, e) }

@@ -4,18 +4,17 @@ use Rattle.std.specs.List.{Contains}
 use Rattle.std.specs.List.Sorted.{IsNonDecreasing}
 use Rattle.row_product.proofs.sums.Sums.emit.Goals as goal
 
-pub emit_listed-requires-clause-order : goal.emit_listed-requires-clause-order
-emit_listed-requires-clause-order c =
-    subst IsNonDecreasing (sym c.deref.ensures.value)
-    (IsNonDecreasingBy-from_sort (λ (x : ℕ). x) c.sort_unstable.new.self.items c.sort_unstable.ensures.sorted)
-
-pub emit_listed-requires-clause-covers : goal.emit_listed-requires-clause-covers
-emit_listed-requires-clause-covers c = λ j v e.
+pub emit_listed-requires-clause-listed : goal.emit_listed-requires-clause-listed
+emit_listed-requires-clause-listed c =
     let t = c.if-len-self.true in
     let n = c.len.ensures in
-    subst (λ us. Contains us j) (sym c.deref.ensures.value)
-    (Contains-permutation c.self.inside.touched.items c.sort_unstable.new.self.items j c.sort_unstable.ensures.permutation
-    (c.self.invariant.1 (omega (arith, t, n)) j v e))
+    record {
+      order = subst IsNonDecreasing (sym c.deref.ensures.value)
+          (IsNonDecreasingBy-from_sort (λ (x : ℕ). x) c.sort_unstable.new.self.items c.sort_unstable.ensures.sorted);
+      covers = λ j v e. subst (λ us. Contains us j) (sym c.deref.ensures.value)
+          (Contains-permutation c.self.inside.touched.items c.sort_unstable.new.self.items j c.sort_unstable.ensures.permutation
+          (c.self.invariant.1 (omega (arith, t, n)) j v e));
+    }
 
 pub invariant_of-self : goal.invariant_of-self
 invariant_of-self c =

@@ -1,0 +1,83 @@
+use Rattle.std.proofs.Common.{◌≡◌, ◌-◌, ◌∙◌, None, Some, ap, subst, arith, rules}
+use Rattle.csr_store.specs.Run.{Run}
+use Rattle.bpf_run.specs.Calls.{calls_on, Charges}
+use Rattle.bpf_run.proofs.Charging.{charges-none}
+use Rattle.entry_ops.specs.declared.form.Form.TheVariants.{Select}
+use Rattle.entry_ops.specs.inner.Walking.{form_all_calls}
+use Rattle.entry_ops.specs.inner.Sifting.{Sifting, final, standing}
+use Rattle.entry_ops.proofs.Standing.{empty_run}
+use Rattle.entry_ops.proofs.Regions.{begin-room, begin-stop, whole-rows, whole-costs, whole-spent}
+use Rattle.entry_ops.proofs.select.select_region.Goals as goal
+
+pub returns-in-Err : goal.returns-in-Err
+returns-in-Err c = record { rows = tt; steps = tt; spent = charges-none _ 0 }
+
+pub keep_rows-requires-clause-ready : goal.keep_rows-requires-clause-ready
+keep_rows-requires-clause-ready c =
+    let begun = ap (λ (e : Sifting). final c.args.operator.now e c.begin-2.new.self) c.in-Ok.ensures in
+    record {
+      holds = search rules;
+      open_row = record {
+        columns_are = ap (λ (r : Run). r.columns) begun ∙ c.columns.ensures.columns;
+        none = ap
+            (λ (r : Run). r.opened) begun;
+      };
+      room = begin-room c.args.operator.now c.operator.result.now (Select c.args.thunk) c.args.masked.a.now None
+          (Some c.args.masked.mask.now) c.args.range.start c.args.range.end
+          (standing c.args.operator.now c.in-Ok.sieve c.begin-2.new.self) (ap (λ (e : Sifting). e.steps) c.in-Ok.ensures)
+          (ap (calls_on c.args.operator.now) c.begin-2.ensures.none) c.program.ensures.accepted c.operator.ensures c.requires.kind
+          c.columns.ensures.is_grid c.requires.rows.within;
+    }
+
+pub returns-in-Err-keep_rows : goal.returns-in-Err-keep_rows
+returns-in-Err-keep_rows c =
+    let same : c.keep_rows.new.sieve.steps ≡ c.steps.result = cc in
+    let all = form_all_calls (Select c.args.thunk) c.args.operator.now c.args.masked.a.now None (Some c.args.masked.mask.now)
+    c.args.range.start (c.args.range.end - c.args.range.start) in
+    record {
+      rows = tt;
+      steps = tt;
+      spent = subst (λ n. Charges all 0 n) same
+          (begin-stop _ _ (standing c.args.operator.now c.in-Ok.sieve c.begin-2.new.self)
+          (ap (λ (e : Sifting). final c.args.operator.now e c.begin-2.new.self) c.in-Ok.ensures)
+          (ap (calls_on c.args.operator.now) c.begin-2.ensures.none) (ap (λ (e : Sifting). e.steps) c.in-Ok.ensures) all _
+          c.in-Err-keep_rows.ensures.spent);
+    }
+
+pub flush-requires-clause-room : goal.flush-requires-clause-room
+flush-requires-clause-room c =
+    let room = begin-room c.args.operator.now c.operator.result.now (Select c.args.thunk) c.args.masked.a.now None
+    (Some c.args.masked.mask.now) c.args.range.start c.args.range.end
+    (standing c.args.operator.now c.in-Ok.sieve c.begin-2.new.self) (ap (λ (e : Sifting). e.steps) c.in-Ok.ensures)
+    (ap (calls_on c.args.operator.now) c.begin-2.ensures.none) c.program.ensures.accepted c.operator.ensures c.requires.kind
+    c.columns.ensures.is_grid c.requires.rows.within in
+    let costs = whole-costs _ _ (standing c.args.operator.now c.in-Ok.sieve c.begin-2.new.self)
+    (ap (λ (e : Sifting). final c.args.operator.now e c.begin-2.new.self) c.in-Ok.ensures)
+    (ap (calls_on c.args.operator.now) c.begin-2.ensures.none) (ap (λ (e : Sifting). e.steps) c.in-Ok.ensures) _ _ _
+    c.in-Ok-keep_rows.ensures.does.adds in
+    omega (arith, room, costs)
+
+pub returns-in-Err-flush : goal.returns-in-Err-flush
+returns-in-Err-flush c =
+    record {
+      rows = tt;
+      steps = tt;
+      spent = whole-spent _ _ (standing c.args.operator.now c.in-Ok.sieve c.begin-2.new.self)
+          (ap (λ (e : Sifting). final c.args.operator.now e c.begin-2.new.self) c.in-Ok.ensures)
+          (ap (calls_on c.args.operator.now) c.begin-2.ensures.none) (ap (λ (e : Sifting). e.steps) c.in-Ok.ensures) _ _ _
+          c.in-Ok-keep_rows.ensures.does.adds
+          _ (let s = c.in-Err-flush.ensures.spent in cc);
+    }
+
+pub returns : goal.returns
+returns c =
+    let begun = ap (λ (e : Sifting). final c.args.operator.now e c.begin-2.new.self) c.in-Ok.ensures
+    ∙ ap (empty_run c.args.range.start) c.columns.ensures.columns in
+    let none = ap (calls_on c.args.operator.now) c.begin-2.ensures.none in
+    let zero = ap (λ (e : Sifting). e.steps) c.in-Ok.ensures in
+    let start = standing c.args.operator.now c.in-Ok.sieve c.begin-2.new.self in
+    let costs = whole-costs _ _ start begun none zero _ _ _ c.in-Ok-keep_rows.ensures.does.adds in
+    let rows = whole-rows _ _ start begun none zero _ _ _ c.in-Ok-keep_rows.ensures.does.adds in
+    let made = ap (λ (e : Sifting). e.steps) c.in-Ok-flush.ensures.made.made in
+    let kept = ap (λ (e : Sifting). e.rows) c.in-Ok-flush.ensures.made.made in
+    record { rows = c.into_rows.ensures ∙ (kept ∙ rows); steps = cc; spent = tt }

@@ -1,0 +1,58 @@
+//! A part of a result, and what is made of it.
+ghost use Rattle.std.specs.Prelude.{◌≡◌};
+ghost use Rattle.job_forms.specs.Region.{nothing_made, told};
+
+use csr_store::{Matrix, Rows};
+use std::alloc::{AllocError, Global};
+use std::ops::Range;
+
+/// A part of a result: the rows of a range, under a mask if there is one. A mask is structural (`GrB_STRUCTURE` of the GraphBLAS): a
+/// position passes where it stores something.
+#[derive(Drop)]
+pub struct Region<'m> {
+    pub range: Range<u64>,
+    pub mask: Option<&'m Matrix>,
+}
+
+/// What was made of a region: its rows, or want of memory; and the steps of the calls that were made.
+#[derive(Drop)]
+pub struct Made {
+    pub result: Result<Rows, AllocError>,
+    pub steps: u64,
+}
+
+/// Rows that are being made, with the steps of the calls so far.
+#[derive(Drop)]
+pub struct Making {
+    pub rows: Rows,
+    pub steps: u64,
+}
+
+impl Making {
+    /// No row yet, of those from `first` on, and no call. Takes no memory.
+    pub fn begin(alloc: Global, first: u64, columns: u64) -> Self
+        ensures { result ≡ nothing_made first columns }
+    {
+        Making {
+            rows: Rows::begin(alloc, first, columns),
+            steps: 0,
+        }
+    }
+
+    /// What was made: the rows, unless memory was refused, and the steps.
+    pub fn finish(self, filled: Result<(), AllocError>) -> Made
+        ensures { result ≡ told self filled }
+    {
+        let Making { rows, steps } = self;
+        match filled {
+            Ok(()) => Made {
+                result: Ok(rows),
+                steps,
+            },
+            Err(error) => Made {
+                result: Err(error),
+                steps,
+            },
+        }
+    }
+}

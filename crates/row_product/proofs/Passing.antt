@@ -1,0 +1,76 @@
+-- A row of B read beside the mask's row: the cells that pass.
+use Rattle.std.proofs.Common.{◌≡◌, ℕ, suc, ◌≤◌, ◌<◌, Bool, true, false, cond, nat_eq, eq-eqb, if◌then◌else◌}
+use Rattle.std.proofs.Common.{List, [], ◌∷◌, ◌++◌, Some, is_some, inl, inr, refl, sym, ap, ◌∙◌, subst, append_assoc, arith}
+use Rattle.std.proofs.lemmas.Bool.{cases_lt, ne_eqb}
+use Rattle.csr_store.specs.Grid.{Cell}
+use Rattle.csr_store.proofs.Along.{Ascends, at, ascends-weaken, at-below, at-after}
+use Rattle.row_product.specs.inner.Adding.{taking}
+use Rattle.row_product.specs.inner.Beside.{stores, IsBeside}
+
+-- the same test takes the same cells
+pub taking_same : (t u : ℕ → Bool) (cs : List Cell) → ((j : ℕ) → t j ≡ u j) → taking t cs ≡ taking u cs
+taking_same t u [] e = refl
+taking_same t u (c ∷ cs) e =
+    ap (λ b. if b then c ∷ taking t cs else taking t cs) (e c.0) ∙ ap (λ us. if u c.0 then c ∷ us else us) (taking_same t u cs e)
+
+-- a row that has nothing before column k
+pub stores_first : (n k : ℕ) (row : List Cell) (c : Cell) (more : List Cell) → row ≡ c ∷ more → Ascends k n row
+    → nat_eq c.0 k ≡ stores row k
+stores_first n k row c more e h =
+    let a = subst (Ascends k n) e h in
+    let l = a.0 in
+    elim (cases_lt k c.0) [
+      | inl m ↦ ne_eqb c.0 k (λ q. omega (arith, m, q))
+          ∙ sym (ap (λ us. stores us k) e ∙ ap is_some (at-below (suc k) n (c ∷ more) k (omega (arith, m), a.1, a.2) (omega arith)))
+      | inr m ↦ let q : c.0 ≡ k = omega (arith, l, m) in
+          eq-eqb c.0 k q ∙ sym (ap (λ us. stores us k) e
+          ∙ ap (λ b. is_some (cond b (Some c.1) (at more k))) (eq-eqb k c.0 (sym q)))
+    ]
+
+-- a row without its first cell shows the same from a later column on
+pub left_further : (n column : ℕ) (row left : List Cell) (c : Cell) (more : List Cell) → left ≡ c ∷ more → c.0 < column
+    → Ascends 0 n left × ((j : ℕ) → column ≤ j → at row j ≡ at left j)
+    → Ascends 0 n more × ((j : ℕ) → column ≤ j → at row j ≡ at more j)
+left_further n column row left c more e l i =
+    let a = subst (Ascends 0 n) e i.0 in (
+      ascends-weaken 0 (suc c.0) n more (omega arith) a.2,
+      λ j h. i.1 j h ∙ (ap (λ us. at us j) e ∙ at-after c more j (omega (arith, h, l))),
+    )
+
+-- one cell further, where the mask's row is read up to its column
+pub beside_further : (whole : List Cell) (n : ℕ) (cells mask : List Cell) (c : Cell) (more left : List Cell)
+    → IsBeside whole n cells mask
+    → cells ≡ c ∷ more → Ascends c.0 n left → ((j : ℕ) → c.0 ≤ j → at mask j ≡ at left j) → IsBeside whole n more left
+beside_further whole n cells mask c more left b e o s =
+    let a = subst (Ascends b.low n) e b.ascends in
+    let l = a.0 in
+    record {
+      low = suc c.0;
+      ascends = a.2;
+      order = ascends-weaken 0 c.0 n left (omega arith) o;
+      same = λ j h. sym (s j (omega (arith, h))) ∙ b.same j (omega (arith, h, l));
+    }
+
+-- and whether it is taken
+taken_so : (whole : List Cell) (n : ℕ) (cells mask : List Cell) (c : Cell) (more left : List Cell) → IsBeside whole n cells mask
+    → cells ≡ c ∷ more → ((j : ℕ) → c.0 ≤ j → at mask j ≡ at left j) → (b : Bool) → b ≡ stores left c.0
+    → taking (stores whole) cells ≡ (if b then c ∷ taking (stores whole) more else taking (stores whole) more)
+taken_so whole n cells mask c more left b e s t h =
+    let a = subst (Ascends b.low n) e b.ascends in
+    ap (taking (stores whole)) e
+    ∙ ap (λ q. if q then c ∷ taking (stores whole) more else taking (stores whole) more)
+    (sym (h ∙ ap is_some (sym (s c.0 (omega arith)) ∙ b.same c.0 a.0)))
+
+pub passing_more : (whole : List Cell) (n : ℕ) (cells mask : List Cell) (c : Cell) (more left from : List Cell) (ps : List Cell)
+    → IsBeside whole n cells mask → cells ≡ c ∷ more → ((j : ℕ) → c.0 ≤ j → at mask j ≡ at left j) → true ≡ stores left c.0
+    → ps ++ taking (stores whole) cells ≡ taking (stores whole) from
+    → (ps ++ c ∷ []) ++ taking (stores whole) more ≡ taking (stores whole) from
+passing_more whole n cells mask c more left from ps b e s t h =
+    append_assoc ps (c ∷ []) (taking (stores whole) more)
+    ∙ (ap (λ us. ps ++ us) (sym (taken_so whole n cells mask c more left b e s true t)) ∙ h)
+
+pub passing_less : (whole : List Cell) (n : ℕ) (cells mask : List Cell) (c : Cell) (more left from : List Cell) (ps : List Cell)
+    → IsBeside whole n cells mask → cells ≡ c ∷ more → ((j : ℕ) → c.0 ≤ j → at mask j ≡ at left j) → false ≡ stores left c.0
+    → ps ++ taking (stores whole) cells ≡ taking (stores whole) from → ps ++ taking (stores whole) more ≡ taking (stores whole) from
+passing_less whole n cells mask c more left from ps b e s t h =
+    ap (λ us. ps ++ us) (sym (taken_so whole n cells mask c more left b e s false t)) ∙ h

@@ -1,0 +1,141 @@
+use Rattle.std.proofs.Common.{◌≡◌, ◌<◌, ◌+◌, ◌++◌, length, subst, sym, ap, ◌∙◌, refl, arith, rules}
+use Rattle.std.proofs.lemmas.List.{length-append}
+use Rattle.std.specs.List.{AllByRecursion}
+use Rattle.bpf_run.specs.Calls.{calls_on, pairs_with}
+use Rattle.bpf_run.proofs.Charging.{Spends, charges-none, spends-start, spends-step, spends-none}
+use Rattle.csr_store.specs.Grid.{Cell, row_of}
+use Rattle.csr_store.specs.Run.{Run}
+use Rattle.csr_store.proofs.Along.{Ascends, row_of-ascends}
+use Rattle.csr_store.proofs.Filling.{on_err}
+use Rattle.job_forms.proofs.Counting.{row_few}
+use Rattle.row_product.specs.inner.Adding.{taking}
+use Rattle.row_product.specs.inner.Beside.{stores}
+use Rattle.row_product.specs.inner.Single.{multiplied, IsBehind}
+use Rattle.row_product.proofs.Multiplying.{Pushing, pushing_start, pushing_part, behind_first, calls_by_parts}
+use Rattle.row_product.proofs.Parts.{taking_ascends, taking_few}
+use Rattle.row_product.proofs.single.push_row_under.Goals as goal
+
+pub returns-in_err-reserve-clause-row : goal.returns-in_err-reserve-clause-row
+returns-in_err-reserve-clause-row c = record {
+  rows = search rules;
+  steps = search rules;
+  spent = on_err c.from_residual.result (charges-none _ c.args.making.now.steps);
+}
+
+pub loop-row-init : goal.loop-row-init
+loop-row-init c =
+    let mul = c.args.factors.now.mul.now in
+    let x = c.args.cell.1 in
+    let b = c.args.factors.now.b.now in
+    let t = stores c.args.stored.now in
+    let row = row_of b c.args.cell.0 in
+    let passing = taking t row in
+    let from = c.args.making.now.rows in
+    let e = c.row-cells.ensures in
+    let l = ap (λ us. length (taking t us)) e in
+    let n : b.columns ≡ from.columns = sym c.requires.push.columns in
+    let rises = row_of-ascends b c.args.cell.0 c.columns-columns.ensures.is_grid in
+    let behind : IsBehind from.columns from.opened passing = record {
+      low = 0;
+      below = subst (AllByRecursion (λ (d : Cell). d.0 < 0)) (sym c.requires.push.none_open) tt;
+      ascends = subst (λ w. Ascends 0 w passing) n (taking_ascends t 0 b.columns b.columns row (omega arith) rises);
+    } in
+    record {
+      pushing = subst (λ us. Pushing from (multiplied mul x passing) c.reserve.new.self (taking t us) (multiplied mul x
+          (taking t us)))
+          (sym e) (subst (λ r. Pushing from (multiplied mul x passing) r passing (multiplied mul x passing)) (sym c.reserve.ensures)
+          (pushing_start from (multiplied mul x passing) passing behind));
+      spends = subst (λ us. Spends (calls_on mul (pairs_with x passing)) c.args.making.now.steps
+          (calls_on mul (pairs_with x (taking t us))) c.args.making.now.steps) (sym e)
+          (spends-start (calls_on mul (pairs_with x passing)) c.args.making.now.steps);
+      few = omega (arith, l);
+      beside = record {
+        low = 0;
+        ascends = subst (Ascends 0 b.columns) (sym e) rises;
+        order = c.requires.order;
+        same = λ j h. refl;
+      };
+      sums = refl;
+      allowed = refl;
+      room = c.requires.room;
+    }
+
+pub push_products-requires-clause-behind : goal.push_products-requires-clause-behind
+push_products-requires-clause-behind c =
+    let t = stores c.args.stored.now in
+    let cs = c.deref.result.now in
+    let ds = taking t c.list_passing-row.result.cells.now in
+    let next = c.list_passing-row.ensures.listed c.args.stored.now c.args.factors.now.b.now.columns c.loop-row.invariant.beside in
+    let parts : taking t c.loop-row.row.cells.now ≡ cs ++ ds = sym (ap (λ us. us ++ ds) c.deref.ensures.value ∙ next.1) in
+    let now = c.loop-row.making.rows in
+    let m = c.loop-row.invariant.pushing in
+    let n = c.args.making.now.rows.columns in
+    subst (λ w. IsBehind w now.opened cs) (sym (ap (λ (u : Run). u.columns) m.run))
+    (behind_first n now.opened cs ds (subst (IsBehind n now.opened) parts m.behind))
+
+pub returns-in_err-steps-clause-row : goal.returns-in_err-steps-clause-row
+returns-in_err-steps-clause-row c = record {
+  rows = search rules;
+  steps = search rules;
+  spent = on_err c.from_residual-in_err-steps.result (spends-none _ c.args.making.now.steps _ c.loop-row.making.steps
+      c.loop-row.invariant.spends);
+}
+
+pub returns-in_err-steps-clause-little : goal.returns-in_err-steps-clause-little
+returns-in_err-steps-clause-little c =
+    let f = c.loop-row.invariant.few in
+    let w = taking_few (stores c.args.stored.now) (row_of c.args.factors.now.b.now c.args.cell.0) in
+    let r = row_few c.args.factors.now.b.now c.args.cell.0 c.columns-columns.ensures.is_grid in
+    omega (arith, f, w, r)
+
+pub overflow_add-making : goal.overflow_add-making
+overflow_add-making c =
+    let t = stores c.args.stored.now in
+    let cs = c.deref.result.now in
+    let ds = taking t c.list_passing-row.result.cells.now in
+    let next = c.list_passing-row.ensures.listed c.args.stored.now c.args.factors.now.b.now.columns c.loop-row.invariant.beside in
+    let parts : taking t c.loop-row.row.cells.now ≡ cs ++ ds = sym (ap (λ us. us ++ ds) c.deref.ensures.value ∙ next.1) in
+    let p = ap length parts in
+    let a = length-append cs ds in
+    let f = c.loop-row.invariant.few in
+    let l = c.in_ok-steps.ensures.pushed.little in
+    let w = taking_few t (row_of c.args.factors.now.b.now c.args.cell.0) in
+    let r = row_few c.args.factors.now.b.now c.args.cell.0 c.columns-columns.ensures.is_grid in
+    let m = c.requires.push.room in
+    omega (arith, p, a, f, l, w, r, m)
+
+pub loop-row-preserved : goal.loop-row-preserved
+loop-row-preserved c =
+    let mul = c.args.factors.now.mul.now in
+    let x = c.args.cell.1 in
+    let t = stores c.args.stored.now in
+    let cs = c.deref.result.now in
+    let ds = taking t c.list_passing-row.result.cells.now in
+    let next = c.list_passing-row.ensures.listed c.args.stored.now c.args.factors.now.b.now.columns c.loop-row.invariant.beside in
+    let parts : taking t c.loop-row.row.cells.now ≡ cs ++ ds = sym (ap (λ us. us ++ ds) c.deref.ensures.value ∙ next.1) in
+    let p = ap length parts in
+    let a = length-append cs ds in
+    let i = c.loop-row.invariant in
+    let f = i.few in
+    let e = c.in_ok-steps.ensures.pushed in
+    let l = e.little in
+    record {
+      pushing = pushing_part mul x c.args.making.now.rows (multiplied mul x (taking t
+          (row_of c.args.factors.now.b.now c.args.cell.0)))
+          c.loop-row.making.rows (taking t c.loop-row.row.cells.now) cs ds c.push_products.new.rows i.pushing parts e.rows;
+      spends = spends-step _ c.args.making.now.steps _ c.loop-row.making.steps (calls_on mul (pairs_with x cs))
+          (calls_on mul (pairs_with x ds)) _ i.spends (ap (λ us. calls_on mul (pairs_with x us)) parts ∙ calls_by_parts mul x cs ds)
+          (ap (λ k. c.loop-row.making.steps + k) e.steps);
+      few = omega (arith, p, a, f, l);
+      beside = next.0;
+      sums = c.push_products.ensures.sums ∙ i.sums;
+      allowed = i.allowed;
+      room = c.list_passing-row.ensures.room.1;
+    }
+
+pub returns-clause-little : goal.returns-clause-little
+returns-clause-little c =
+    let f = c.loop-row.invariant.few in
+    let w = taking_few (stores c.args.stored.now) (row_of c.args.factors.now.b.now c.args.cell.0) in
+    let r = row_few c.args.factors.now.b.now c.args.cell.0 c.columns-columns.ensures.is_grid in
+    omega (arith, f, w, r)
