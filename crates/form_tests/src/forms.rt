@@ -159,17 +159,8 @@ fn whole<'m>(
     let Some(first) = rows_of(alloc, calls, job, operator, a, b, mask, columns, 0..middle) else {
         return Ok(None);
     };
-    let Some(second) = rows_of(
-        alloc,
-        calls,
-        job,
-        operator,
-        a,
-        b,
-        mask,
-        columns,
-        middle..rows,
-    ) else {
+    let rest = middle..rows;
+    let Some(second) = rows_of(alloc, calls, job, operator, a, b, mask, columns, rest) else {
         return Ok(None);
     };
     let steps = first.steps.wrapping_add(second.steps);
