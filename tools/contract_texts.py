@@ -5,17 +5,18 @@ An item is exported where it stands in a module that is public, or where lib.rt 
 import glob
 import os
 import re
-from typing import Iterator, List, NamedTuple, Set
+from typing import Iterator, List, NamedTuple
 
-from sessions import TOP
-
-CRATES = os.path.join(TOP, 'crates')
+CRATES = os.path.join(os.path.dirname(os.path.dirname(os.path.abspath(__file__))), 'crates')
 FUNCTION = re.compile(r'^( *)(pub(?:\([a-z]+\))? )?(?:const )?fn (\w+)', re.M)
 BLOCK = re.compile(r'^(?:(?:pub(?:\(\w+\))? )?trait (\w+)|impl(?:<.*?>)? (?:(\w+)(?:<.*?>)? for )?(\w+))', re.M)
 ITEM = re.compile(r'^(?:pub(?:\(\w+\))? )?(?:struct|enum|trait) (\w+)', re.M)
 CLAUSE = re.compile(r'\{$|;$|^ *(?:requires|ensures) ', re.M)
+NEXT_CLAUSE = re.compile(r'(?:\s|//.*)*(?:requires|ensures)\b[^{]*')
+BRACE = re.compile('[{}]')
 LABEL = re.compile(r'^( *(?:requires|ensures)) \w+ (?=\{)', re.M)
-MEMBER = re.compile(r'^ +ghost (?!use|invariant)\w.*?;$', re.M | re.S)
+MEMBER = re.compile(r'^ +ghost (?!use|invariant)\w+( = )?[^{,;]*', re.M)
+FIELD = re.compile(r'^ +(?:pub(?:\(\w+\))? )?ghost (?!use|invariant)\w+: [^\n]*,$', re.M)
 
 
 def read(path: str) -> str:
@@ -69,16 +70,20 @@ class Crate:
             else:
                 seen = head.group(2) == 'pub ' and (path in self.open or head.group(3) in self.exported)
             if seen:
-                yield LABEL.sub(r'\1 ', clauses_of(text[head.start():], head.group(1)))
+                yield LABEL.sub(r'\1 ', clauses_of(text[head.start():]))
 
     def views(self, path: str) -> Iterator[str]:
-        """The ghost members of a file's types and traits, but for invariants, that contracts of other crates see."""
+        """The ghost members and fields of a file's types and traits, but for invariants, that contracts of other crates see."""
         text = read(path)
         blocks = blocks_of(text)
         for member in MEMBER.finditer(text):
             block = block_at(blocks, member.start())
             if self.sees(block.of_type) and self.sees(block.of_trait):
-                yield member.group(0)
+                yield text[member.start():end_of_braces(text, member.end())]
+        for field in FIELD.finditer(text):
+            holder = [found.group(1) for found in ITEM.finditer(text, 0, field.start())]
+            if holder and self.sees(holder[-1]):
+                yield field.group(0)
 
     def seen(self, path: str) -> Iterator[str]:
         yield from self.contracts(path)
@@ -93,13 +98,27 @@ def block_at(blocks: List[Block], at: int) -> Block:
     return next((block for block in reversed(blocks) if block.start < at), NO_BLOCK)
 
 
-def clauses_of(rest: str, indent: str) -> str:
-    """A function's text up to its body: a function with clauses has the brace of its body on a line of its own."""
+def clauses_of(rest: str) -> str:
+    """A function's signature with its clauses, each of one line or of many."""
     first = CLAUSE.search(rest)
     if not first or not first.group(0).lstrip().startswith(('requires', 'ensures')):
         return rest[:first.start()] if first else rest
-    end = re.compile(r'^' + indent + r'\{$|^(?:' + indent + r')?\}$|\};$', re.M).search(rest)
-    return rest[:end.end() if end else len(rest)]
+    end = first.start()
+    clause = NEXT_CLAUSE.match(rest, end)
+    while clause:
+        end = end_of_braces(rest, clause.end())
+        clause = NEXT_CLAUSE.match(rest, end)
+    return rest[:end]
+
+
+def end_of_braces(text: str, at: int) -> int:
+    """Where the braces end that begin at a place; the place itself where none begin there."""
+    depth = 0
+    for brace in BRACE.finditer(text, at if text[at:at + 1] == '{' else len(text)):
+        depth += 1 if brace.group(0) == '{' else -1
+        if not depth:
+            return brace.end()
+    return at
 
 
 def all_crates() -> List[Crate]:

@@ -7,17 +7,71 @@
 See `Session` and `Matrix`; `asm`, `code` and `c` make operators, `unary`, `binary`, `indexunary` and `semiring` hold the ready
 ones; `algorithms` has those of LAGraph, `draw` pictures; `errors` says what is raised.
 """
-from . import algorithms, draw
-from .compile import CompileError, c
-from .errors import (BudgetExceeded, Busy, Closed, DimensionMismatch, DomainMismatch, NoThread, NotMade, OperatorRefused,
-                     OutOfMemory, Refused, SpmatError, TextRefused, TooLarge)
-from .mask import Mask
-from .matrix import Matrix
-from .operators import Operator, Semiring, asm, binary, code, indexunary, select, semiring, unary
-from .session import Budget, JobResult, Session
+from __future__ import annotations
 
-__version__ = '0.1'
+import importlib
+import os
+from typing import TYPE_CHECKING, Any, Dict, List
+
+if TYPE_CHECKING:
+    from . import algorithms, draw
+    from .compile import CompileError, c
+    from .errors import (BudgetExceeded, Busy, Closed, DimensionMismatch, DomainMismatch, NoThread, NotMade, OperatorRefused,
+                         OutOfMemory, ReadError, Refused, SpmatError, TextRefused, TooLarge)
+    from .jobs import JobResult
+    from .mask import Mask
+    from .matrix import Matrix, bipartite
+    from .operators import Operator, Semiring, asm, binary, code, indexunary, select, semiring, unary
+    from .rounds import fixpoint
+    from .session import Budget, Session
+
+
+def _version() -> str:
+    """The version, which stands in the file VERSION: at the top of the repository, and in what is installed beside this module."""
+    with open(os.path.join(os.path.dirname(os.path.abspath(__file__)), 'VERSION'), encoding='ascii') as file:
+        return file.read().strip()
+
+
+__version__ = _version()
 __all__ = ['Budget', 'BudgetExceeded', 'Busy', 'Closed', 'CompileError', 'DimensionMismatch', 'DomainMismatch', 'JobResult', 'Mask',
-           'Matrix', 'NoThread', 'NotMade', 'Operator', 'OperatorRefused', 'OutOfMemory', 'Refused', 'Semiring', 'Session',
-           'SpmatError', 'TextRefused', 'TooLarge', 'algorithms', 'asm', 'binary', 'c', 'code', 'draw', 'indexunary', 'select',
-           'semiring', 'unary']
+           'Matrix', 'NoThread', 'NotMade', 'Operator', 'OperatorRefused', 'OutOfMemory', 'ReadError', 'Refused', 'Semiring', 'Session',
+           'SpmatError', 'TextRefused', 'TooLarge', 'algorithms', 'asm', 'binary', 'bipartite', 'c', 'code', 'draw', 'fixpoint',
+           'indexunary', 'select', 'semiring', 'unary']
+
+# Each name is imported when it is first asked for: networkx imports this package to ask for its backend's names, and a program
+# that makes a session doesn't wait for pictures.
+_PLACES: Dict[str, str] = {name: module for module, names in {
+    'compile': 'CompileError c',
+    'errors': 'BudgetExceeded Busy Closed DimensionMismatch DomainMismatch NoThread NotMade OperatorRefused OutOfMemory ReadError '
+              'Refused SpmatError TextRefused TooLarge',
+    'jobs': 'JobResult',
+    'mask': 'Mask',
+    'matrix': 'Matrix bipartite',
+    'operators': 'Operator Semiring asm binary code indexunary select semiring unary',
+    'rounds': 'fixpoint',
+    'session': 'Budget Session'}.items() for name in names.split()}
+
+
+def __getattr__(name: str) -> Any:
+    if name in _PLACES:
+        found = getattr(importlib.import_module('.' + _PLACES[name], __name__), name)
+    else:
+        found = None if name.startswith('_') else _module(name)
+    if found is None:
+        raise AttributeError('module %r has no attribute %r' % (__name__, name))
+    globals()[name] = found
+    return found
+
+
+def _module(name: str) -> Any:
+    """A module of this package, or None where it has none of this name."""
+    try:
+        return importlib.import_module('.' + name, __name__)
+    except ModuleNotFoundError as fault:
+        if fault.name != '%s.%s' % (__name__, name):
+            raise
+        return None
+
+
+def __dir__() -> List[str]:
+    return sorted({*globals(), *__all__})

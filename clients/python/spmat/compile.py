@@ -21,7 +21,9 @@ from .operators import Operator
 OLDEST, NEWEST = 18, 29
 PREFACE = ('typedef signed char int8_t; typedef short int16_t; typedef int int32_t; typedef long int64_t; '
            'typedef unsigned char uint8_t; typedef unsigned short uint16_t; typedef unsigned uint32_t; '
-           'typedef unsigned long uint64_t;\n')
+           'typedef unsigned long uint64_t;\n'
+           '#define INT64_MAX 9223372036854775807L\n#define INT64_MIN (-INT64_MAX - 1)\n#define UINT64_MAX 18446744073709551615UL\n'
+           '#define INT32_MAX 2147483647\n#define INT32_MIN (-INT32_MAX - 1)\n#define UINT32_MAX 4294967295U\n')
 # What C leaves undefined and clang would compile into something is an error; so is a function that nobody declared.
 ERRORS = ('return-type', 'uninitialized', 'sometimes-uninitialized', 'division-by-zero', 'shift-count-overflow',
           'shift-count-negative', 'array-bounds', 'implicit-function-declaration')
@@ -36,6 +38,8 @@ HINTS = (
     ("built-in function '__", 'floating point has no code here: scale to whole numbers (fixed point)'),
     ('stack arguments are not supported|too many arg', 'an operator has 1, 2 or 4 parameters'),
     ('stack limit is exceeded', 'an operator has 512 bytes of stack: no larger arrays'),
+    ('file not found', 'there is no C library for operators, so no <stdlib.h> and the like: <stdint.h>, <stddef.h>, <stdbool.h> and '
+     '<limits.h> are there'),
     ('dynamic stack allocation', 'the size of an array has to be a constant'),
     ('implicit-function-declaration', 'an operator calls nothing outside itself: define the function above it, `static inline`'),
     ('-Wreturn-type', 'end each way through the function with `return`'),
@@ -72,7 +76,8 @@ def find(path: Optional[str] = None) -> Compiler:
 
 
 def _version(path: str) -> int:
-    said = subprocess.run([path, '--version'], stdout=subprocess.PIPE, stderr=subprocess.STDOUT, universal_newlines=True).stdout
+    said = subprocess.run([path, '--version'], stdout=subprocess.PIPE, stderr=subprocess.STDOUT, universal_newlines=True,
+                          check=False).stdout
     numbers = re.search(r'clang version (\d+)', said)
     if not numbers:
         raise CompileError('%s does not say that it is clang: %.100r' % (path, said))
@@ -88,7 +93,7 @@ def compiled(source: str, compiler: Compiler) -> bytes:
         with open(written, 'w', encoding='utf-8') as file:
             file.write(PREFACE + '#line 1 "operator.c"\n' + source + '\n')
         done = subprocess.run([compiler.path] + FLAGS + ['-c', written, '-o', made], stdout=subprocess.PIPE, stderr=subprocess.PIPE,
-                              universal_newlines=True, errors='replace')
+                              universal_newlines=True, errors='replace', check=False)
         if done.returncode:
             raise CompileError(_words(done.stderr))
         with open(made, 'rb') as object_file:

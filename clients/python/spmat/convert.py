@@ -1,4 +1,4 @@
-"""Triples from what callers have, looked at before anything is sent: lists, arrays of numpy, scipy.sparse, networkx."""
+"""Triples from what callers have, looked at before anything is sent: lists, arrays of numpy, scipy.sparse."""
 from __future__ import annotations
 
 import math
@@ -6,10 +6,11 @@ import numbers
 import operator
 from typing import Any, Callable, Dict, Iterable, List, Optional, Sequence, Tuple
 
-from .errors import refusal
+from .errors import Refused, refusal
 from .market import FEW, MOST_SIDE, Triples, find_numpy, is_array
 
 LEAST, MOST = -1 << 63, (1 << 63) - 1
+DUP_OP = 'dup_op= folds the values of a position that repeats'
 
 
 def checked(rows: Any, columns: Any, values: Any, nrows: Optional[int] = None, ncols: Optional[int] = None) -> Triples:
@@ -38,14 +39,19 @@ def _outside(what: str, number: int, least: int, most: int, at: int) -> ValueErr
 
 
 def columns_of(triples: Any) -> Tuple[Any, Any, Any]:
-    """The rows, columns and values of (row, column, value), or of an array of numpy with these as its columns."""
-    if is_array(triples) and triples.shape[1:] == (3,):
-        return triples[:, 0], triples[:, 1], triples[:, 2]
+    """The rows, columns and values of (row, column, value) or (row, column), whose value is 1; or of an array of numpy with these as
+    its columns."""
+    if is_array(triples) and triples.shape[1:] in ((2,), (3,)):
+        return triples[:, 0], triples[:, 1], triples[:, 2] if triples.shape[1] == 3 else 1
     many = list(triples)
-    if any(len(triple) != 3 for triple in many):
-        raise ValueError('a triple is (row, column, value)')
-    rows, columns, values = zip(*many) if many else ((), (), ())
-    return rows, columns, values
+    lengths = {len(triple) for triple in many}
+    if not lengths <= {2, 3}:
+        at = next(at for at, triple in enumerate(many) if len(triple) not in (2, 3))
+        raise ValueError('a triple is (row, column, value), or (row, column) for a value of 1, not %r (entry %d)' % (many[at], at))
+    if lengths == {2, 3}:
+        many = [(*triple, 1) if len(triple) == 2 else triple for triple in many]
+    parts = tuple(zip(*many)) if many else ((), (), ())
+    return parts[0], parts[1], parts[2] if len(parts) == 3 else 1
 
 
 def whole(number: Any, what: str = 'value') -> int:
@@ -57,8 +63,13 @@ def whole(number: Any, what: str = 'value') -> int:
     if not isinstance(number, numbers.Real):
         raise TypeError('a %s is a whole number, not %r' % (what, number))
     if not math.isfinite(number) or number != int(number):
-        raise ValueError('a %s is a whole number, not %r: scale it first' % (what, number))
+        raise ValueError('a %s is a whole number, not %r%s' % (what, number, _mend(what)))
     return int(number)
+
+
+def _mend(what: str) -> str:
+    """What to do about numbers that aren't whole: of indices nothing."""
+    return ': scale it first' if what in ('value', 'weight', 'thunk', 'fill') else ''
 
 
 def word(number: Any, what: str) -> int:
@@ -115,10 +126,14 @@ def whole_array(many: Any, what: str) -> Any:
     """One dimension of numbers as an array of int64. TypeError for what is no number, ValueError for more dimensions, for values
     that aren't whole, and for those beyond 64 bits."""
     import numpy
+    if not hasattr(many, '__array__'):
+        many = many if hasattr(many, '__len__') else list(many)
+        if numpy.asarray(many).dtype.kind == 'f':  # numpy made floats of a list with ints that no float holds
+            many = numpy.array(whole_list(many, what), object)
     array = numpy.asarray(many)
     if array.ndim != 1:
         raise ValueError('one dimension of %ss is wanted, not %d' % (what, array.ndim))
-    if array.dtype.kind == 'O' or (array.dtype.kind == 'f' and not len(array)):
+    if array.dtype.kind == 'O' or not len(array):
         return numpy.array([word(number, what) for number in array.tolist()], numpy.int64)
     if array.dtype.kind not in 'biuf':
         raise TypeError('%ss are whole numbers, not %s' % (what, array.dtype))
@@ -130,7 +145,7 @@ def whole_array(many: Any, what: str) -> Any:
         wrong = array > numpy.uint64(MOST)
     if wrong is not None and wrong.any():
         at = int(wrong.argmax())
-        raise ValueError('a %s is a whole number of 64 bits, not %s (entry %d): scale it first' % (what, array[at], at))
+        raise ValueError('a %s is a whole number of 64 bits, not %s (entry %d)%s' % (what, array[at], at, _mend(what)))
     return array.astype(numpy.int64, copy=False)
 
 
@@ -178,32 +193,11 @@ def from_scipy(matrix: Any) -> Triples:
     return checked(coo.row, coo.col, coo.data, *coo.shape)
 
 
-def from_graph(graph: Any, weight: Optional[str], nodelist: Optional[Sequence[Any]], folds: bool) -> Tuple[Triples, List[Any]]:
-    """The triples of a networkx graph, and its nodes by index. Entry (i, j) is the edge from node i to node j; an undirected edge
-    stands both ways, a loop once. Edges that leave `nodelist` are left out. ValueError for a multigraph, whose positions may
-    repeat, unless the caller folds them."""
-    if not hasattr(graph, 'is_multigraph'):
-        raise TypeError('a graph of networkx is wanted, not %s' % type(graph).__name__)
-    nodes = list(graph) if nodelist is None else list(nodelist)
-    index: Dict[Any, int] = {node: at for at, node in enumerate(nodes)}
-    if len(index) != len(nodes):
-        raise ValueError('a node stands twice in nodelist')
-    missing = [node for node in nodes if node not in graph]
-    if missing:
-        raise ValueError('no node of the graph: %r' % (missing[0],))
-    rows, columns, values = [], [], []  # type: List[int], List[int], List[Any]
-    both = not graph.is_directed()
-    for u, v, value in graph.edges(data=weight, default=1) if weight is not None else ((u, v, 1) for u, v in graph.edges()):
-        if u in index and v in index:
-            i, j = index[u], index[v]
-            for a, b in ((i, j), (j, i)) if both and i != j else ((i, j),):
-                rows.append(a)
-                columns.append(b)
-                values.append(value)
-    triples = checked(rows, columns, values, len(nodes), len(nodes))
-    if graph.is_multigraph() and not folds:
-        raise ValueError('a multigraph may have parallel edges: dup_op= says how they are folded, such as "plus"')
-    return triples, nodes
+def repeated(triples: Triples, at: int) -> Refused:
+    """The refusal (M8) of entry `at` of triples, whose position an earlier one has."""
+    i, j = int(triples.rows[at]), int(triples.columns[at])
+    first = next(k for k, place in enumerate(zip(triples.rows, triples.columns)) if place == (i, j))
+    return refusal('M8', detail='row %d, column %d is given as entry %d and as entry %d; %s' % (i, j, first, at, DUP_OP))
 
 
 Fold = Callable[[Triples], Any]

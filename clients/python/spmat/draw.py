@@ -1,5 +1,6 @@
 """Pictures of matrices and graphs, by matplotlib: where the entries stand, how many vertices have which degree, the levels of a
-breadth-first search. Each is written to a file, whose ending says the format (.png, .svg, .pdf).
+breadth-first search. Each is a figure of matplotlib, which a notebook shows; with a path it is written there, and the path's ending says
+the format (.png, .svg, .pdf).
 
 Little comes out of a large matrix: the server counts the entries in a raster, or the edges between levels, and the client draws
 the counts. matplotlib (and numpy, which it brings) is imported when a picture is drawn.
@@ -7,6 +8,7 @@ the counts. matplotlib (and numpy, which it brings) is imported when a picture i
 from __future__ import annotations
 
 import errno
+import io
 import os
 from typing import Any, Dict, List, Optional, Sequence, Set, Tuple, Union
 
@@ -18,7 +20,9 @@ FEW_ROWS = 64              # with a line between squares up to so many
 FEW_VERTICES = 150         # `levels` shows each vertex up to so many
 FEW_EDGES = 700
 FEW_LEVELS = 16            # .. and above that a circle a level, up to so many
-LABELS = 60                # vertices have labels up to so many
+LABELS = 60                # vertices have their names, up to so many, and above that where a column has no more than so many
+ROOM = 45
+SHORT, LONG = 3, 24        # letters of a name that a circle holds, and of one that stands beside it
 INK, PALE, GREY, WARM = '#1f4e79', '#c9d3dd', '#5a6672', '#b5651d'
 
 
@@ -40,10 +44,25 @@ def check(path: Path) -> None:
 
 
 def _figure(width: float, height: float) -> Tuple[Any, Any]:
-    """A figure of its own and its axes: nothing of pyplot, whose state is the caller's."""
+    """A figure of its own and its axes: nothing of pyplot, whose state is the caller's. Notebooks show it."""
     from matplotlib.figure import Figure
-    figure = Figure(figsize=(width, height), dpi=130)
+
+    class Picture(Figure):  # type: ignore[misc]
+        """A figure that a notebook shows without more."""
+
+        def _repr_png_(self) -> bytes:
+            held = io.BytesIO()
+            self.savefig(held, format='png', bbox_inches='tight')
+            return held.getvalue()
+    figure = Picture(figsize=(width, height), dpi=130)
     return figure, figure.add_subplot()
+
+
+def _saved(figure: Any, path: Optional[Path]) -> Any:
+    """The figure, written to a path where there is one."""
+    if path is not None:
+        figure.savefig(path, bbox_inches='tight')
+    return figure
 
 
 def _note(axes: Any, text: str, place: Tuple[float, float], off: Tuple[int, int], **look: Any) -> None:
@@ -96,7 +115,7 @@ def _shades() -> Any:
     return ListedColormap([colormaps['viridis_r'](.15 + .85 * at / 255) for at in range(256)])
 
 
-def spy(A: Matrix, path: Path, size: int = RASTER, first: int = 0) -> None:
+def spy(A: Matrix, path: Optional[Path] = None, size: int = RASTER, first: int = 0) -> Any:  # pylint: disable=too-many-locals
     """Where the entries of a matrix stand: a square each, where it has up to `size` rows and columns; above that how many stand in
     each cell of a raster of `size` by `size`. The first row is at the top, and has the number `first`. Runs: 1, or 3. ImportError
     where there is no matplotlib."""
@@ -117,10 +136,10 @@ def spy(A: Matrix, path: Path, size: int = RASTER, first: int = 0) -> None:
                             aspect='equal' if 3 * min(A.shape) > max(A.shape) else 'auto', **look)
         if not small:
             cell = '%s by %s' % tuple(format(-(-side // cells), ',') for side, cells in zip(A.shape, shown.shape))
-            bar = figure.colorbar(image, ax=axes, fraction=.046, pad=.03, label='entries in a cell of %s' % cell)
-            _plain(bar.ax.yaxis, least, max(least + 1, most))
+            scale = figure.colorbar(image, ax=axes, fraction=.046, pad=.03, label='entries in a cell of %s' % cell)
+            _plain(scale.ax.yaxis, least, max(least + 1, most))
     axes.xaxis.tick_top()
-    for axis, count in ((axes.xaxis, A.ncols), (axes.yaxis, A.nrows)):
+    for axis in (axes.xaxis, axes.yaxis):
         axis.get_major_locator().set_params(integer=True)
         axis.set_major_formatter(lambda place, _: format(int(place), ',') if place == int(place) else '')
     axes.tick_params(labelsize=8)
@@ -128,10 +147,10 @@ def spy(A: Matrix, path: Path, size: int = RASTER, first: int = 0) -> None:
         axes.vlines([left + j for j in range(1, A.ncols)], left, bottom, color='white', linewidth=1)
         axes.hlines([left + i for i in range(1, A.nrows)], left, right, color='white', linewidth=1)
     axes.set_title('%s, %s, %s' % (_many(A.nrows, 'row'), _many(A.ncols, 'column'), _entries(A)), fontsize=10)
-    figure.savefig(path, bbox_inches='tight')
+    return _saved(figure, path)
 
 
-def degree_histogram(A: Matrix, path: Path) -> None:
+def degree_histogram(A: Matrix, path: Optional[Path] = None) -> Any:
     """How many rows have how many entries (vertices their edges that leave them): a bar each for degrees up to 40, above that
     points in logarithmic axes. Vertices without an edge are told in the title. Runs: 2; one column comes out."""
     import numpy
@@ -157,10 +176,10 @@ def degree_histogram(A: Matrix, path: Path) -> None:
     alone = A.nrows - len(degrees)
     axes.set_title('%s, %s%s' % (_many(A.nrows, 'vertex', 'vertices'), _entries(A),
                                  ', %s of degree 0' % format(alone, ',') if alone else ''), fontsize=10)
-    figure.savefig(path, bbox_inches='tight')
+    return _saved(figure, path)
 
 
-def levels(G: Matrix, found: Matrix, path: Path) -> None:
+def levels(G: Matrix, found: Matrix, path: Optional[Path] = None) -> Any:
     """The levels of a breadth-first search on a drawing of the graph; `found` is what `algorithms.bfs_levels` gave.
 
     Up to 150 vertices and 700 edges each vertex is drawn, a level a column, and each edge. Above that each level is a circle with
@@ -177,10 +196,10 @@ def levels(G: Matrix, found: Matrix, path: Path) -> None:
         figure = _circles(G, at, deepest)
     else:
         figure = _depths(at, deepest)
-    figure.axes[0].set_title('%s, %s, %s%s' % (
-        _many(G.nrows, 'vertex', 'vertices'), _entries(G), _many(deepest + 1, 'level'),
-        ', %s not reached' % format(G.nrows - len(at), ',') if len(at) < G.nrows else ''), fontsize=10)
-    figure.savefig(path, bbox_inches='tight')
+    left = ', %s not reached' % format(G.nrows - len(at), ',') if len(at) < G.nrows else ''
+    title = '%s, %s, %s%s' % (_many(G.nrows, 'vertex', 'vertices'), _entries(G), _many(deepest + 1, 'level'), left)
+    figure.axes[0].set_title(title, fontsize=10)   # pylint: disable=unsubscriptable-object
+    return _saved(figure, path)
 
 
 def _order(columns: List[List[int]], near: Dict[int, Set[int]]) -> None:
@@ -192,7 +211,8 @@ def _order(columns: List[List[int]], near: Dict[int, Set[int]]) -> None:
             height = {i: k / max(1, len(beside) - 1) for k, i in enumerate(beside)}
             old = {i: k / max(1, len(columns[number]) - 1) for k, i in enumerate(columns[number])}
             heights = {i: [height[j] for j in near[i] if j in height] for i in columns[number]}
-            columns[number].sort(key=lambda i: (sum(heights[i]) / len(heights[i]) if heights[i] else old[i], old[i]))
+            middle = {i: (sum(found) / len(found) if found else old[i], old[i]) for i, found in heights.items()}
+            columns[number].sort(key=middle.__getitem__)
 
 
 def _each_vertex(G: Matrix, at: Dict[int, int], deepest: int) -> Any:
@@ -209,7 +229,9 @@ def _each_vertex(G: Matrix, at: Dict[int, int], deepest: int) -> Any:
         columns[at.get(i, deepest + 1)].append(i)
     _order(columns, near)
     tallest = max((len(column) for column in columns), default=1)
-    figure, axes = _figure(max(5, min(14, 1.7 * len(columns))), max(4, min(9, .4 * tallest)))
+    longest = max((len(str(name)) for name in G.nodes or ()), default=0)
+    wide = 1.7 + .06 * min(LONG, longest) if longest > SHORT else 1.7
+    figure, axes = _figure(max(5, min(16, wide * len(columns))), max(4, min(9, (.4 if G.nrows <= LABELS else .2) * tallest)))
     place = {i: (level + .4 * (level > deepest), (len(column) - 1) / 2 - k) for level, column in enumerate(columns)
              for k, i in enumerate(column)}
     shrink = 8 if G.nrows <= LABELS else 5
@@ -226,7 +248,7 @@ def _each_vertex(G: Matrix, at: Dict[int, int], deepest: int) -> Any:
     axes.set_xticks(range(deepest + 1))
     axes.set_xlabel('level')
     axes.set_yticks([])
-    axes.set_xlim(-.6, max((x for x, _ in place.values()), default=0) + .6)
+    axes.set_xlim(-.6, max((x for x, _ in place.values()), default=0) + (.6 if longest <= SHORT else 1))
     axes.set_ylim(-tallest / 2 - .3, tallest / 2 + .3)
     for side in ('left', 'right', 'top'):
         axes.spines[side].set_visible(False)
@@ -234,20 +256,35 @@ def _each_vertex(G: Matrix, at: Dict[int, int], deepest: int) -> Any:
 
 
 def _dots(axes: Any, G: Matrix, place: Dict[int, Tuple[float, float]], at: Dict[int, int], deepest: int) -> None:
-    """The vertices, coloured by level, with their labels where they are few."""
+    """The vertices, coloured by level, with their names: within the circle where they are short, else to its right. Above 60 vertices
+    those of columns with room have theirs."""
     from matplotlib import colormaps
     colours = colormaps['viridis_r']
     labels: Sequence[Any] = G.nodes if G.nodes is not None else range(G.nrows)
     few = G.nrows <= LABELS
+    heights = [y for _, y in place.values()]
+    crowded = max(heights, default=0.) - min(heights, default=0.) > ROOM
     for i, (x, y) in place.items():
         share = at[i] / max(1, deepest) if i in at else 0
-        axes.plot([x], [y], 'o', markersize=15 if few else 8, color=colours(.08 + .85 * share) if i in at else PALE,
+        name = str(labels[i])
+        inside = few and len(name) <= SHORT
+        axes.plot([x], [y], 'o', markersize=15 if inside else 8, color=colours(.08 + .85 * share) if i in at else PALE,
                   markeredgecolor='white', markeredgewidth=1, zorder=2)
-        if few:
-            axes.annotate('%.12s' % (labels[i],), (x, y), ha='center', va='center', fontsize=7, zorder=3,
+        if inside:
+            axes.annotate(name, (x, y), ha='center', va='center', fontsize=7, zorder=3,
                           color='white' if i in at and share > .35 else 'black')
+        elif few or not crowded:
+            axes.annotate(name if len(name) <= LONG else name[:LONG - 2] + '..', (x, y), xytext=(6, 0), textcoords='offset points', ha='left',
+                          va='center', fontsize=7 if few else 5.5, zorder=3, color='black',
+                          path_effects=_halo())
     if len(at) < G.nrows:
         _note(axes, 'not reached', (deepest + 1.4, 0), (0, -14), xycoords=('data', 'axes fraction'), color=GREY)
+
+
+def _halo() -> List[Any]:
+    """A white edge round letters, so that lines behind them don't hide them."""
+    from matplotlib.patheffects import withStroke
+    return [withStroke(linewidth=2, foreground='white')]
 
 
 def _between(G: Matrix, at: Dict[int, int], deepest: int) -> Dict[Tuple[int, int], int]:

@@ -2,6 +2,7 @@
 
     SpmatError
         Closed               the session has ended; open another one
+        ReadError            a file, or a line of it, isn't what was to be read; a ValueError
         NotMade              this matrix was the result of a run that was refused; its cause says why
         Refused              the server answered `no ..`, or would have
             OperatorRefused      mend the operator (rules A1 to A6, V1 to V16, S9)
@@ -19,7 +20,7 @@ here once, in the words of docs/protocol.md and docs/operators.md.
 """
 from __future__ import annotations
 
-from typing import Callable, Dict, Optional, Sequence, Tuple, Type
+from typing import Any, Callable, Dict, Optional, Sequence, Tuple, Type
 
 SENTENCES: Dict[str, str] = {
     'S1': "unknown command: the first word is no command's, whatever follows it",
@@ -92,6 +93,13 @@ MENDS: Dict[str, str] = {
 }
 
 
+COMMANDS: Dict[str, str] = {
+    'matrix': 'matrix NAME LEN', 'asm': 'asm NAME KIND LEN', 'op': 'op NAME KIND LEN', 'dis': 'dis NAME', 'types': 'types NAME',
+    'apply': 'apply OUT OP A [THUNK] [mask M]', 'select': 'select OUT OP A THUNK [mask M]', 'union': 'union OUT OP A B [mask M]',
+    'both': 'both OUT OP A B [mask M]', 'product': 'product OUT ADD MUL A B [mask M]', 'reduce': 'reduce OUT OP A [mask M]',
+    'run': 'run', 'show': 'show NAME', 'budget': 'budget', 'quit': 'quit'}
+
+
 class SpmatError(Exception):
     """Everything that this package raises of its own."""
 
@@ -99,6 +107,18 @@ class SpmatError(Exception):
 class Closed(SpmatError):
     """The session has ended: by close, by a refusal that ends sessions, or because the program or the connection is gone. Its words
     are what the program said, its status among them."""
+
+
+class ReadError(SpmatError, ValueError):
+    """A file isn't what was to be read: `.file` its name, `.at` the line, from 1, or None, `.line` what stands there."""
+
+    def __init__(self, file: str, at: Optional[int], words: str, line: str = '') -> None:
+        self.file, self.at, self.words, self.line = file, at, words, line
+        place = file if at is None else '%s, line %d' % (file, at)
+        super().__init__('%s: %s%s' % (place, words, ': %r' % line if line else ''))
+
+    def __reduce__(self) -> Tuple[Any, ...]:
+        return type(self), (self.file, self.at, self.words, self.line)
 
 
 class NotMade(SpmatError):
@@ -113,28 +133,51 @@ class Refused(SpmatError):
     def __init__(self, rule: str, numbers: Sequence[int] = (), command: str = '', line: str = '', detail: str = '') -> None:
         self.rule, self.numbers, self.command, self.line, self.detail = rule, tuple(numbers), command, line, detail
         self.at: Optional[int] = self.numbers[0] if self.numbers and is_placed(rule) else None
+        self.file, self.said = '', ''
+        self.text_line: Optional[int] = None
         key = rule if rule in SENTENCES and not (self.numbers and rule + ' SPENT' in SENTENCES) else rule + ' SPENT'
         self.sentence = SENTENCES.get(key, 'a refusal that this client does not know')
         super().__init__(self._message())
 
     def _message(self) -> str:
-        text = '%s: %s' % (self.rule, self.sentence)
+        text = '%s: %s' % (self.rule, self.said or self.sentence)
         if self.at is not None:
             text += ', %s %d' % ('slot' if self.rule.startswith('V') else 'line', self.at)
+            text += ' of ' + self.file if self.file else ''
+            text += ', line %d' % self.text_line if self.text_line is not None else ''
             text += ": '%s'" % self.line if self.line else ''
-        text += ' (in `%s`)' % self.command if self.command else ''
+        text += ' (in `%s`)' % self.command if self.command and not self.file else ''
         more = [self.detail] if self.detail else []
         more += ['to mend it: ' + MENDS[self.rule]] if self.rule in MENDS else []
         return '; '.join([text] + more)
+
+    def of_file(self, file: str = '', said: str = '') -> 'Refused':
+        """This refusal, of a line of a file, with other words for its sentence where they are given."""
+        return self._told(self.detail, file or self.file, said or self.said, self.text_line)
+
+    def on_line(self, number: Optional[int], detail: str = '') -> 'Refused':
+        """This refusal of a slot, with the line of the text that it comes from, and a hint."""
+        return self._told(detail or self.detail, self.file, self.said, number)
+
+    def _told(self, detail: str, file: str, said: str, text_line: Optional[int]) -> 'Refused':
+        out = type(self)(self.rule, self.numbers, self.command, self.line, detail)
+        out.file, out.said, out.text_line = file, said, text_line
+        out.args = (out._message(),)               # pylint: disable=protected-access  # of the same class
+        return out
 
     def hinting(self, rule: str, hint: str) -> 'Refused':
         """This refusal, with a hint where it is by this rule and has none yet."""
         if self.rule != rule or self.detail:
             return self
-        return type(self)(self.rule, self.numbers, self.command, self.line, hint)
+        return self._told(hint, self.file, self.said, self.text_line)
 
-    def __reduce__(self) -> Tuple[type, tuple]:
-        return type(self), (self.rule, self.numbers, self.command, self.line, self.detail)
+    def __reduce__(self) -> Tuple[Any, ...]:
+        return _again, (type(self), (self.rule, self.numbers, self.command, self.line, self.detail), self.file, self.said, self.text_line)
+
+
+def _again(kind: Type[Refused], told: Tuple[Any, ...], file: str, said: str, text_line: Optional[int]) -> Refused:
+    """A refusal that was pickled."""
+    return kind(*told).of_file(file, said).on_line(text_line)
 
 
 class OperatorRefused(Refused):
@@ -224,4 +267,12 @@ def refusal_of(reply: str, command: str, near: Optional[Near] = None) -> Refused
     rule = words[1] if len(words) > 1 else ''
     numbers = [int(word) for word in words[2:] if word.isdigit()]
     line = near(rule, numbers[0]) if near is not None and numbers and is_placed(rule) else ''
-    return refusal(rule, numbers, command, line)
+    return refusal(rule, numbers, command, line, form_of(command) if rule in ('S1', 'S2') else '')
+
+
+def form_of(command: str) -> str:
+    """How the command of a line is written, in words; of a line that is no command's all there are."""
+    word = command.split()[0] if command.split() else ''
+    if word in COMMANDS:
+        return 'it is written `%s`%s' % (COMMANDS[word], '; KIND is unary, binary or index' if 'KIND' in COMMANDS[word] else '')
+    return 'commands are ' + ', '.join(COMMANDS)

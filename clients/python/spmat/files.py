@@ -12,24 +12,45 @@ import gzip
 import os
 from typing import Any, Callable, Dict, Iterator, List, NamedTuple, Optional, Tuple
 
-from .convert import LEAST, MOST
+from .convert import LEAST
 from .errors import Refused, refusal
 from .market import FEW, MOST_SIDE, Triples, find_numpy, is_array, line_at
+from .notes import Notes
+from .values import NOT_WHOLE, check_scale, scaled_array, whole_of
 
-FIELDS = {'integer': 'integer', 'unsigned-integer': 'integer', 'pattern': 'pattern', 'real': 'real', 'double': 'real'}
+FIELDS = {'integer': 'integer', 'unsigned-integer': 'integer', 'pattern': 'pattern', 'real': 'real', 'double': 'real',
+          'complex': 'complex'}
 SYMMETRIES = ('general', 'symmetric', 'skew-symmetric')
 _OPENERS: Dict[str, Callable[..., Any]] = {'.gz': gzip.open, '.bz2': bz2.open}
 ENDINGS = tuple(_OPENERS)
 _DIGITS = b'+-0123456789 \t\r\n'
-_EXACT = float(1 << 53)
+NO_MARKET = 'this is no Matrix Market file, which begins with %%MatrixMarket: read_graph reads edge lists, CSV, TSV and DIMACS too'
 COMMAND = 'mmread'                                 # what refusals of a file name as their command
 
 
+class Values(NamedTuple):
+    """What is read of values: nothing, so that each entry is 1; or whole numbers, multiplied by a scale and rounded where there is
+    one."""
+    read: bool = True
+    scale: Optional[float] = None
+
+
 class Kind(NamedTuple):
-    """The words of line 1 behind `matrix`."""
+    """The words of line 1 behind `matrix`, and what is read of values."""
     array: bool
     field: str
     symmetry: str
+    values: Values = Values()
+
+    @property
+    def width(self) -> int:
+        """The fields of an entry's line."""
+        return {'pattern': 0, 'complex': 2}.get(self.field, 1) + (0 if self.array else 2)
+
+    @property
+    def notes(self) -> Notes:
+        """What is known of the matrix."""
+        return Notes(directed=False if self.symmetry == 'symmetric' else None, weighted=self.field != 'pattern' and self.values.read)
 
 
 def load(source: Any) -> bytes:
@@ -57,19 +78,25 @@ def is_plain(text: bytes) -> bool:
     return words[2].lower() == 'coordinate' and words[3].lower() in ('integer', 'pattern') and words[4].lower() in SYMMETRIES[:2]
 
 
-def kind_of(text: bytes) -> Kind:
+def kind_of(text: bytes, values: Values = Values()) -> Kind:
     """What line 1 says. M1 or M2 where it is of no kind that can be had as whole numbers."""
     words = text.split(b'\n', 1)[0].decode('utf-8', 'replace').split()
-    if len(words) != 5 or words[0] != '%%MatrixMarket':
+    if words[:1] != ['%%MatrixMarket']:
+        raise refused('M1', text, 1).of_file(said=NO_MARKET)
+    if len(words) != 5:
         raise refused('M1', text, 1)
     form, field, symmetry = (word.lower() for word in words[2:])
     if words[1].lower() != 'matrix' or form not in ('coordinate', 'array') or symmetry not in SYMMETRIES + ('hermitian',):
         raise refused('M2', text, 1)
-    if field not in FIELDS or symmetry == 'hermitian' or (form, field) == ('array', 'pattern'):
+    if field not in FIELDS or (form, field) == ('array', 'pattern'):
         raise refused('M2', text, 1, 'values are whole numbers: real, integer or pattern (of coordinate)')
+    if values.read and (symmetry == 'hermitian' or field == 'complex'):
+        raise refused('M2', text, 1, 'values are whole numbers, and these are complex: values=False reads none')
     if (field, symmetry) == ('pattern', 'skew-symmetric'):
         raise refused('M2', text, 1, 'a pattern has no signs')
-    return Kind(form == 'array', FIELDS[field], symmetry)
+    if not values.read and symmetry != 'general':
+        symmetry = 'symmetric'                     # the places alone
+    return Kind(form == 'array', FIELDS[field], symmetry, values)
 
 
 def refused(rule: str, text: bytes, at: int, detail: str = '') -> Refused:
@@ -77,10 +104,10 @@ def refused(rule: str, text: bytes, at: int, detail: str = '') -> Refused:
     return refusal(rule, [at], COMMAND, line_at(text, at), detail)
 
 
-def parse(text: bytes) -> Tuple[Triples, str]:
+def parse(text: bytes, values: Values = Values()) -> Tuple[Triples, str]:
     """The entries of a file as they stand there, and its symmetry: unless that is `general`, those of the other triangle are put
     into the lower one (negated, where it is `skew-symmetric`), and `mirrored` gives the whole."""
-    kind = kind_of(text)
+    kind = kind_of(text, values)
     lines = _Lines(text)
     number, fields = lines.next_line('M3')
     if len(fields) != (2 if kind.array else 3):
@@ -94,7 +121,7 @@ def parse(text: bytes) -> Tuple[Triples, str]:
     if count > MOST_SIDE:
         raise refused('M4', text, number, '%d values' % count)
     triples = read_quickly(kind, text[lines.at:], count, nrows, ncols) or _slowly(kind, lines, count, nrows, ncols)
-    return _lowered(triples, kind.symmetry), kind.symmetry
+    return lowered(triples, kind.symmetry), kind.symmetry
 
 
 def mirrored(triples: Triples, symmetry: str) -> Triples:
@@ -115,10 +142,11 @@ def mirrored(triples: Triples, symmetry: str) -> Triples:
 
 def repeated(text: bytes) -> Refused:
     """The refusal (M8) of the first line of a text whose position was given before; one of a text has to be."""
-    kind = kind_of(text)
+    kind = kind_of(text, Values(read=False))
     lines = _Lines(text)
     lines.next_line('M3')
     seen: Dict[Tuple[int, ...], int] = {}
+    number, at = 0, ()                             # type: int, Tuple[int, ...]
     for number, fields in lines:
         at = tuple(int(field) for field in fields[:2])
         at = at if kind.symmetry == 'general' else (max(at), min(at))
@@ -176,23 +204,26 @@ def _index(text: bytes, number: int, field: bytes, rule: str) -> int:
 
 def _value(text: bytes, number: int, field: bytes, kind: Kind) -> int:
     """A whole value within 64 bits; refused with its line otherwise."""
+    word = field.decode('ascii', 'replace')
     try:
-        if kind.field == 'integer':
-            value = int(field)
+        if kind.field == 'integer' and kind.values.scale is None:
+            value = int(word)
+            exact = decimal.Decimal(value)
         else:
-            exact = decimal.Decimal(field.decode('ascii').lower().replace('d', 'e'))
-            if not exact.is_finite() or exact.adjusted() > 30:
-                raise refused('M7', text, number)
-            if exact != exact.to_integral_value():
-                raise refused('M5', text, number, 'not a whole number: scale the values first')
-            value = int(exact)
-    except (ValueError, decimal.InvalidOperation) as fault:
-        if isinstance(fault, Refused):
-            raise
+            exact = decimal.Decimal(word.lower().replace('d', 'e'))
+        if '_' in word:
+            raise ValueError
+    except (ValueError, decimal.InvalidOperation):
         raise refused('M5', text, number) from None
-    if not LEAST <= value <= MOST or (kind.symmetry == 'skew-symmetric' and value == LEAST) or b'_' in field:
-        raise refused('M5' if b'_' in field else 'M7', text, number)
-    return value
+    if kind.symmetry == 'skew-symmetric' and exact == LEAST:
+        raise refused('M7', text, number)
+    return whole_of(exact, word, check_scale(kind.values.scale), lambda words: refused(
+        'M5' if NOT_WHOLE in words else 'M7', text, number).of_file(said=words))
+
+
+def _of_fields(text: bytes, number: int, fields: List[bytes], kind: Kind) -> int:
+    """The value of an entry's fields behind its place: 1 where there are none, or they aren't read."""
+    return 1 if kind.field == 'pattern' or not kind.values.read else _value(text, number, fields[0], kind)
 
 
 def _slowly(kind: Kind, lines: _Lines, count: int, nrows: int, ncols: int) -> Triples:
@@ -206,7 +237,7 @@ def _slowly(kind: Kind, lines: _Lines, count: int, nrows: int, ncols: int) -> Tr
             raise refused('M10', text, number)
         if kind.array:
             i, j = next(places)
-            value = _value(text, number, fields[0], kind) if len(fields) == 1 else None
+            value = _of_fields(text, number, fields, kind) if len(fields) == kind.width else None
         else:
             i, j, value = read_entry(kind, text, number, fields, nrows, ncols)
         if value is None:
@@ -221,10 +252,10 @@ def _slowly(kind: Kind, lines: _Lines, count: int, nrows: int, ncols: int) -> Tr
 
 def read_entry(kind: Kind, text: bytes, number: int, fields: List[bytes], nrows: int, ncols: int) -> Tuple[int, int, int]:
     """The row, column and value of an entry's fields, which stand in line `number` of a text; refused with its line otherwise."""
-    if len(fields) != (2 if kind.field == 'pattern' else 3):
+    if len(fields) != kind.width:
         raise refused('M5', text, number)
     i, j = (_index(text, number, field, 'M5') for field in fields[:2])
-    value = 1 if kind.field == 'pattern' else _value(text, number, fields[2], kind)
+    value = _of_fields(text, number, fields[2:], kind)
     if not (1 <= i <= nrows and 1 <= j <= ncols):
         raise refused('M6', text, number)
     if kind.symmetry == 'skew-symmetric' and i == j:
@@ -235,30 +266,39 @@ def read_entry(kind: Kind, text: bytes, number: int, fields: List[bytes], nrows:
 def read_quickly(kind: Kind, body: bytes, count: int, nrows: int, ncols: int) -> Optional[Triples]:
     """All lines at once by numpy; None where it isn't there, the text is short, or something is unusual or wrong."""
     numpy = find_numpy() if len(body) > FEW else None
-    each = 1 if kind.array else 2 if kind.field == 'pattern' else 3
-    allowed = _DIGITS + (b'.eE' if kind.field == 'real' else b'')
+    each = kind.width
+    allowed = _DIGITS + (b'.eE' if kind.field in ('real', 'complex') else b'')
     if numpy is None or body.translate(None, allowed):
         return None
+    if even_lines(body, each) != count:
+        return None
+    numbers = numpy.fromstring(body, numpy.int64 if kind.field in ('integer', 'pattern') else numpy.float64, sep=' ')
+    if len(numbers) != each * count:
+        return None
+    i, j = _grid(kind.symmetry, nrows, ncols) if kind.array else (numbers[0::each] - 1, numbers[1::each] - 1)
+    values = _read_values(kind, numbers[0 if kind.array else 2::max(each, 1)], count)
+    outside = (i < 0) | (i >= nrows) | (j < 0) | (j >= ncols) | (i != numpy.trunc(i)) | (j != numpy.trunc(j))
+    if values is None or outside.any() or (kind.symmetry == 'skew-symmetric' and (i == j).any()):
+        return None
+    return Triples(i.astype(numpy.int64), j.astype(numpy.int64), values, nrows, ncols)
+
+
+def _read_values(kind: Kind, found: Any, count: int) -> Any:
+    """The values of entries as whole numbers; None where they have to be looked at one by one."""
+    import numpy
+    if kind.field == 'pattern' or not kind.values.read:
+        return numpy.ones(count, numpy.int64)
+    return scaled_array(found.astype(numpy.float64) if kind.field == 'integer' else found, kind.values.scale)
+
+
+def even_lines(body: bytes, each: int) -> Optional[int]:
+    """The number of lines, where each has so many fields between blanks; else None. numpy is wanted."""
+    import numpy
     marks = numpy.frombuffer(body if body.endswith(b'\n') else body + b'\n', numpy.uint8)
     begins = marks > 32
     begins[1:] &= marks[:-1] <= 32
     fields = numpy.cumsum(begins)[marks == 10]
-    if len(fields) != count or (fields != each * numpy.arange(1, count + 1)).any():
-        return None
-    numbers = numpy.fromstring(body, numpy.float64 if kind.field == 'real' else numpy.int64, sep=' ')
-    if len(numbers) != each * count:
-        return None
-    if kind.array:
-        i, j = _grid(kind.symmetry, nrows, ncols)
-        values = numbers
-    else:
-        i, j = numbers[0::each] - 1, numbers[1::each] - 1
-        values = numbers[2::3] if each == 3 else numpy.ones(count, numpy.int64)
-    wild = numpy.abs(values) >= _EXACT
-    outside = (i < 0) | (i >= nrows) | (j < 0) | (j >= ncols) | (i != numpy.trunc(i)) | (j != numpy.trunc(j))
-    if (wild | outside | (values != numpy.trunc(values))).any() or (kind.symmetry == 'skew-symmetric' and (i == j).any()):
-        return None
-    return Triples(i.astype(numpy.int64), j.astype(numpy.int64), values.astype(numpy.int64), nrows, ncols)
+    return None if (fields != each * numpy.arange(1, len(fields) + 1)).any() else len(fields)
 
 
 def _grid(symmetry: str, nrows: int, ncols: int) -> Tuple[Any, Any]:
@@ -271,7 +311,7 @@ def _grid(symmetry: str, nrows: int, ncols: int) -> Tuple[Any, Any]:
     return rows, columns
 
 
-def _lowered(triples: Triples, symmetry: str) -> Triples:
+def lowered(triples: Triples, symmetry: str) -> Triples:
     """Entries of the upper triangle in the lower one."""
     if symmetry == 'general':
         return triples

@@ -5,10 +5,12 @@ step of Python for an entry.
 """
 from __future__ import annotations
 
+import functools
 import sys
 from typing import Any, Iterator, List, NamedTuple, Optional, Tuple
 
 BANNER = b'%%MatrixMarket matrix coordinate integer general\n'
+HEAD_LINES = 2                                     # lines before the first entry in a text of ours
 EMPTY = BANNER + b'0 0 0\n'
 MOST_SIDE = 16_777_216
 MOST_TEXT = 268_435_456
@@ -26,9 +28,9 @@ class Triples(NamedTuple):
 
 
 def is_array(thing: Any) -> bool:
-    """Whether this is an array of numpy; numpy isn't imported for it."""
-    numpy = sys.modules.get('numpy')
-    return numpy is not None and isinstance(thing, numpy.ndarray)
+    """Whether this is an array of numpy; numpy isn't imported for it, and may be half imported by another thread."""
+    array = getattr(sys.modules.get('numpy'), 'ndarray', None)
+    return array is not None and isinstance(thing, array)
 
 
 def find_numpy() -> Any:
@@ -72,12 +74,19 @@ def _width(number: int) -> int:
     return -(-len(str(number)) // 4) * 4
 
 
+@functools.lru_cache(maxsize=None)
+def _four_digits() -> Any:
+    """The digits of 0 to 9999, four each, as a word. Made once, at the first use."""
+    import numpy
+    return numpy.frombuffer(b''.join(b'%04d' % k for k in range(10000)), numpy.uint32)
+
+
 class _Table:
     """Lines of one width: three numbers of so many digits, the last with a sign where one is wanted, blanks between them, LF."""
 
     def __init__(self, numpy: Any, widths: List[int], signed: bool) -> None:
         self._numpy, self._widths, self._signed = numpy, widths, signed
-        self._four = numpy.frombuffer(b''.join(b'%04d' % k for k in range(10000)), numpy.uint32)
+        self._four = _four_digits()
         self.line = sum(widths) + 3 + signed
 
     def fill(self, rows: Any, columns: Any, values: Any, bare: bool) -> bytes:
@@ -93,7 +102,8 @@ class _Table:
             values = numpy.where(values < 0, 0 - values.astype(numpy.uint64), values.astype(numpy.uint64))
         at = self._digits(values, self._widths[2], out, at, keep)
         out[:, at] = 10
-        return (out if keep is None else out[keep]).tobytes()
+        text: bytes = (out if keep is None else out[keep]).tobytes()
+        return text
 
     def _digits(self, numbers: Any, width: int, out: Any, at: int, keep: Any) -> int:
         """Writes numbers that aren't negative into columns of the table, four digits at a time; the place behind them."""

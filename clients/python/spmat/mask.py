@@ -1,17 +1,17 @@
 """Masks: where a result may have entries."""
 from __future__ import annotations
 
-from typing import TYPE_CHECKING, NamedTuple, Optional, Union
+from typing import TYPE_CHECKING, Any, NamedTuple, Optional, Union
 
 if TYPE_CHECKING:
-    from .matrix import Matrix
+    from .results import Held
 
 
 class Mask(NamedTuple):
     """`A.S` where A has an entry, `A.V` where it has one that isn't 0, `~A.S` and `~A.V` everywhere else. In the GraphBLAS a
     structural mask, a value mask, and their complements. The server knows `A.S` alone; what the others take stands at `Matrix.S`
     and `Matrix.V`."""
-    matrix: 'Matrix'
+    matrix: Any
     value: bool = False
     complement: bool = False
 
@@ -22,11 +22,11 @@ class Mask(NamedTuple):
         return '%s%r.%s' % ('~' if self.complement else '', self.matrix, 'V' if self.value else 'S')
 
 
-def as_mask(mask: Union['Matrix', Mask, None]) -> Optional[Mask]:
+def as_mask(mask: Union['Held', Mask, None]) -> Optional[Mask]:
     """A mask that is given as itself, or as a matrix, which is its structure. TypeError for anything else."""
     if mask is None or isinstance(mask, Mask):
         return mask
-    from .matrix import Matrix
-    if isinstance(mask, Matrix):
+    from .results import Held
+    if isinstance(mask, Held):
         return Mask(mask)
     raise TypeError('a mask is A.S, A.V, ~A.S, ~A.V or a matrix, not %r' % (mask,))

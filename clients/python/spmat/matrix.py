@@ -1,11 +1,15 @@
-"""Matrices of a session: jobs on them, masks, and what they hold."""
+"""Matrices of a session: jobs on them, and masks. `results` has what they hold, `indexing` what stands in brackets."""
 from __future__ import annotations
 
-import weakref
-from typing import TYPE_CHECKING, Any, Dict, List, Optional, Sequence, Tuple, Union
+# a matrix asks others of its class for what callers need not see
+# pylint: disable=protected-access,invalid-unary-operand-type
 
-from . import convert, market
-from .errors import NotMade, refusal
+import weakref
+from typing import TYPE_CHECKING, Any, Dict, NamedTuple, Optional, Sequence, Tuple, Union
+
+from . import convert, html, limits, market, notes
+from .errors import NotMade, TooLarge, refusal
+from .indexing import Signs, picked
 from .mask import Mask, as_mask
 from .operators import READY, Operator, Semiring, binary, find, find_semiring, indexunary, unary
 
@@ -17,11 +21,11 @@ Ring = Union[str, Semiring, Tuple[Op, Op]]
 MaskLike = Union['Matrix', Mask, None]
 
 
-class Matrix:
+class Matrix(Signs):
     """A matrix that the session holds, or the result of a job that waits. Sessions make them; nothing changes one.
 
-    `nrows`, `ncols`, `shape`; `name` and, of a networkx graph, `nodes`; of a job's result `price`, the most steps that the job
-    could take, and `steps`, those that it took (None until it ran). Vectors are matrices of one column.
+    `nrows`, `ncols`, `shape`; `name`, and the names of its vertices, `nodes`, which results carry on; of a job's result `price`, the
+    most steps that the job could take, and `steps`, those that it took (None until it ran). Vectors are matrices of one column.
 
     Each method that takes an operator queues one job, unless it says otherwise, and answers at once with the matrix that it will
     be; it costs no run. Where an operand or the mask is itself a job's result that waits, the queue runs first; so it does where
@@ -34,13 +38,16 @@ class Matrix:
     def __init__(self, session: 'Session', key: str, nrows: int, ncols: int, nvals: Optional[int], name: Optional[str] = None,
                  price: Optional[int] = None) -> None:
         self.session, self.key, self.name = session, key, name or key
-        self.nrows, self.ncols, self.price = nrows, ncols, price
+        self.nrows, self.ncols, self._price = nrows, ncols, price
+        self.most = market.MOST_SIDE if nvals is None else nvals       # entries, at most
         self.steps: Optional[int] = None
-        self.nodes: Optional[List[Any]] = None
+        self.notes = notes.NOTHING
         self._nvals = nvals
         self._lost: Optional[BaseException] = None
         self._transposed: Optional['weakref.ref[Matrix]'] = None
-        session.hold(self)
+        self.kept: Dict[str, Any] = {}                     # what algorithms found out about it
+        if key:
+            session.hold(self)
 
     def __reduce__(self) -> Any:
         raise TypeError('a matrix belongs to its session, and can not be pickled: pickle to_text() or to_coo()')
@@ -49,12 +56,12 @@ class Matrix:
         state = 'never made' if self._lost is not None else 'queued' if self._nvals is None else '%d entries' % self._nvals
         return '<Matrix %s %dx%d, %s>' % (self.name, self.nrows, self.ncols, state)
 
+    def _repr_html_(self) -> str:
+        return html.matrix(self)
+
     # -- what it is
 
-    @property
-    def shape(self) -> Tuple[int, int]:
-        """Rows and columns."""
-        return self.nrows, self.ncols
+    in_one_place = True                            # one session has it whole
 
     @property
     def waits(self) -> bool:
@@ -86,7 +93,18 @@ class Matrix:
 
     def settle(self, nvals: int, steps: int) -> None:
         """The session's word that the job ran."""
-        self._nvals, self.steps = nvals, steps
+        self._nvals, self.most, self.steps = nvals, nvals, steps
+
+    def priced(self, price: int) -> None:
+        """The session's word of the most steps that the job can take."""
+        self._price = price
+
+    @property
+    def price(self) -> Optional[int]:
+        """Of a job's result the most steps that the job could take; None of another matrix. A job that waits to be sent is sent."""
+        if self._price is None and self.waits:
+            self.session.flush()
+        return self._price
 
     def lose(self, cause: BaseException) -> None:
         """The session's word that the run was refused."""
@@ -111,31 +129,48 @@ class Matrix:
         """Each entry's answer: f(x) of a unary operator; f(x, right) or f(left, x) of a binary one; of an index operator f(x,
         row, column, right), where `right` is 0 unless given. A bound binary operator is sent as an index operator of one (right)
         or two (left) more instructions, once for all numbers. In the GraphBLAS GrB_apply."""
-        op, thunk = _applied(op, right, left)
-        return self._job('apply', [op], [], self.shape, thunk, mask, name)
+        sent = applied(op, right, left)
+        told = notes.of_applied(self.notes, sent.op, sent.even)
+        return self._job(_Job('apply', [sent.op], [self], self.shape, told, sent.thunk), mask, name)
 
     def select(self, op: Op, thunk: int = 0, *, mask: MaskLike = None, name: Optional[str] = None) -> 'Matrix':
         """The entries for which an index operator's answer isn't 0, with their values. Its name may be a sign: `A.select(">=",
         3)` is `A.select("valuege", 3)`. In the GraphBLAS GrB_select."""
-        return self._job('select', [_of_kind('index', op, 'select')], [], self.shape, convert.word(thunk, 'thunk'), mask, name)
+        found, thunk = _of_kind('index', op, 'select'), convert.word(thunk, 'thunk')
+        told = notes.of_selected(self.notes, found, thunk)
+        return self._job(_Job('select', [found], [self], self.shape, told, thunk), mask, name)
 
     def ewise_add(self, other: 'Matrix', op: Op = 'plus', *, mask: MaskLike = None, name: Optional[str] = None) -> 'Matrix':
         """op(x, y) where both have an entry, else a copy of the one that has. In the GraphBLAS GrB_eWiseAdd; here `union`."""
         self._check_shape('union', other, self.shape)
-        return self._job('union', [_of_kind('binary', op, 'union')], [other], self.shape, None, mask, name)
+        told = notes.of_pair(self.notes, other.notes)
+        return self._job(_Job('union', [_of_kind('binary', op, 'union')], [self, other], self.shape, told), mask, name)
 
     def ewise_mult(self, other: 'Matrix', op: Op = 'times', *, mask: MaskLike = None, name: Optional[str] = None) -> 'Matrix':
         """op(x, y) where both have an entry. In the GraphBLAS GrB_eWiseMult; here `both`."""
         self._check_shape('both', other, self.shape)
-        return self._job('both', [_of_kind('binary', op, 'both')], [other], self.shape, None, mask, name)
+        told = notes.of_pair(self.notes, other.notes)
+        return self._job(_Job('both', [_of_kind('binary', op, 'both')], [self, other], self.shape, told), mask, name)
 
-    def mxm(self, other: 'Matrix', op: Ring = 'plus_times', *, mask: MaskLike = None, name: Optional[str] = None) -> 'Matrix':
+    def mxm(self, other: 'Matrix', op: Ring = 'plus_times', *, mask: MaskLike = None, parts: bool = False,
+            name: Optional[str] = None) -> 'Matrix':
         """The product over a semiring: at (i, j) the terms mul(A(i, k), B(k, j)) for k stored in both, folded by add with
-        ascending k. Any two binary operators, by name "min_plus". In the GraphBLAS GrB_mxm; here `product`."""
+        ascending k. Any two binary operators: by name "min_plus", of one's own a pair (add, mul) or `semiring(add, mul)`. In the
+        GraphBLAS GrB_mxm; here `product`.
+
+        Of more than 16,777,216 multiplications (in the rows of which the mask stores something), or a price above 2^32 steps, it is
+        TooLarge; with `parts=True` it is then made by halves of this matrix's rows, their halves, and so on, 2 jobs and 2 runs more for
+        each halving."""
         self._check_shape('product', other, (self.ncols, None))
         ring = find_semiring(op)
         ops = [_of_kind('binary', ring.add, 'product'), _of_kind('binary', ring.mul, 'product')]
-        return self._job('product', ops, [other], (self.nrows, other.ncols), None, mask, name)
+        told = notes.of_product(self.notes, other.notes, ring.mul, self is other)
+
+        def job(rows: 'Matrix') -> 'Matrix':
+            return self._queued(_Job('product', ops, [rows, other], (self.nrows, other.ncols), told), mask, name)
+        if parts:
+            return limits.in_parts(self, job)
+        return self._job(_Job('product', ops, [self, other], (self.nrows, other.ncols), told), mask, name)
 
     def mxv(self, vector: 'Matrix', op: Ring = 'plus_times', *, mask: MaskLike = None, name: Optional[str] = None) -> 'Matrix':
         """`mxm` with a column; the result is a column. In the GraphBLAS GrB_mxv."""
@@ -152,17 +187,27 @@ class Matrix:
     def reduce_rowwise(self, op: Op = 'plus', *, mask: MaskLike = None, name: Optional[str] = None) -> 'Matrix':
         """A column: the fold of each row that isn't empty, from its first column to its last. In the GraphBLAS GrB_reduce by
         rows."""
-        return self._job('reduce', [_of_kind('binary', op, 'reduce')], [], (self.nrows, 1), None, mask, name)
+        told = notes.of_rows(self.notes)
+        return self._job(_Job('reduce', [_of_kind('binary', op, 'reduce')], [self], (self.nrows, 1), told), mask, name)
 
-    def _job(self, form: str, ops: Sequence[Operator], others: Sequence['Matrix'], shape: Tuple[int, int], thunk: Optional[int],
-             mask: MaskLike, name: Optional[str]) -> 'Matrix':
+    def _job(self, job: '_Job', mask: MaskLike, name: Optional[str]) -> 'Matrix':
+        """Queues a job; where it is too large, says how large it is."""
+        try:
+            return self._queued(job, mask, name)
+        except TooLarge as fault:
+            where = as_mask(mask)
+            cut = where.matrix if where is not None and not where.complement else None
+            raise limits.explained(fault, job.form, job.ops, job.operands, cut) from None
+
+    def _queued(self, job: '_Job', mask: MaskLike, name: Optional[str]) -> 'Matrix':
         where = as_mask(mask)
-        if where is None:
-            return self.session.submit(form, ops, [self, *others], shape, thunk, None, name)
-        _check_mask(where, shape)
-        if where.complement:
-            return self.session.submit(form, ops, [self, *others], shape, thunk).without(~where, name=name)
-        return self.session.submit(form, ops, [self, *others], shape, thunk, where.matrix._structure(where.value), name)
+        if where is not None:
+            _check_mask(where, job.shape)
+        cut = where.matrix._structure(where.value) if where is not None and not where.complement else None
+        inner = None if where is not None and where.complement else name
+        made = self.session.submit(job.form, job.ops, job.operands, job.shape, job.thunk, cut, inner)
+        made.notes = job.told if cut is None else notes.masked(job.told, cut.notes)
+        return made.without(~where, name=name) if where is not None and where.complement else made
 
     def _structure(self, value: bool) -> 'Matrix':
         """A matrix whose structure is this mask's."""
@@ -173,6 +218,12 @@ class Matrix:
             raise TypeError('a matrix is wanted, not %r' % (other,))
         if any(want is not None and want != got for want, got in zip(shape, other.shape)):
             raise refusal('J5', command=form, detail='%dx%d and %dx%d' % (*self.shape, *other.shape))
+
+    def __getitem__(self, at: Any) -> Union['Matrix', Optional[int]]:
+        """`G[i, j]`: the value of an entry, None where there is none. `G[i, :]` a row, `G[:, j]` a column, `G[rows, columns]` with
+        lists or slices a part. Rows and columns are named as `index` has it, or counted from 0. 1 job for the rows and 1 for the
+        columns that are chosen, and 1 run where both are; a value comes with 1 run more. In the GraphBLAS GrB_extract."""
+        return picked(self, at)
 
     # -- what the protocol leaves out
 
@@ -197,7 +248,7 @@ class Matrix:
         held = self._transposed() if self._transposed is not None else None
         if held is None:
             held = self.session.from_text(market.swapped(self.to_text()))
-            held.nodes = self.nodes
+            held.notes = notes.turned(self.notes)
             held._transposed, self._transposed = weakref.ref(self), weakref.ref(held)
         return held
 
@@ -207,8 +258,10 @@ class Matrix:
         if 1 not in self.shape:
             return self.select(indexunary.diag).reduce_rowwise(binary.first)
         rows, columns, values = self.to_coo()
-        at = rows if self.ncols == 1 else columns
-        return self.session.from_coo(at, at, values, max(self.shape), max(self.shape))
+        at, count = (rows, self.nrows) if self.ncols == 1 else (columns, self.ncols)
+        made = self.session.from_coo(at, at, values, count, count)
+        made.notes = notes.on_diagonal(self.notes)
+        return made
 
     def dup(self, *, mask: MaskLike = None, name: Optional[str] = None) -> 'Matrix':
         """A copy: 1 job, and with a complement as its mask what `without` takes."""
@@ -263,72 +316,27 @@ class Matrix:
         differ = self.ewise_mult(other, binary.ne)
         return differ.nvals == self.nvals and differ.select(indexunary.nonzero).nvals == 0
 
-    # -- what it holds
-
     def to_text(self) -> bytes:
         """The canonical Matrix Market text: coordinate integer general, entries by ascending row and column. Runs the queue where
-        this matrix waits, as all of the following do."""
+        this matrix waits, as all else does that tells what it holds."""
         return self.session.text_of(self)
 
-    def to_coo(self, *, arrays: Optional[bool] = None) -> Tuple[Any, Any, Any]:
-        """Rows, columns (from 0) and values, by ascending row and column: arrays of numpy where it is there, else lists; `arrays`
-        says which. In python-graphblas the same name."""
-        wanted = market.find_numpy() is not None if arrays is None else arrays
-        return market.read(self.to_text(), wanted)[:3]
 
-    def to_triples(self) -> List[Tuple[int, int, int]]:
-        """(row, column, value) by ascending row and column."""
-        return list(zip(*market.read(self.to_text())[:3]))
+class _Job(NamedTuple):
+    """A job of one of the protocol's forms, and what is known of its result."""
+    form: str
+    ops: Sequence[Operator]
+    operands: Sequence[Matrix]
+    shape: Tuple[int, int]
+    told: notes.Notes
+    thunk: Optional[int] = None
 
-    def to_dict(self) -> Dict[Tuple[int, int], int]:
-        """{(row, column): value}. In python-graphblas `to_dicts`."""
-        rows, columns, values = market.read(self.to_text())[:3]
-        return dict(zip(zip(rows, columns), values))
 
-    def to_list(self, missing: Any = None) -> List[Any]:
-        """The values of a column or a row, `missing` where there is no entry. DimensionMismatch for another shape."""
-        if 1 not in self.shape:
-            raise refusal('J5', detail='a column or a row is wanted, and this is %dx%d' % self.shape)
-        out = [missing] * max(self.shape)
-        for i, j, value in self.to_triples():
-            out[i if self.ncols == 1 else j] = value
-        return out
-
-    def to_dense(self, fill: int = 0) -> Any:
-        """An array of numpy of this shape, `fill` where there is no entry. In python-graphblas the same name."""
-        import numpy
-        table = numpy.full(self.shape, convert.word(fill, 'fill'), numpy.int64)
-        rows, columns, values = self.to_coo(arrays=True)
-        table[rows, columns] = values
-        return table
-
-    def to_scipy_sparse(self, format: str = 'csr') -> Any:
-        """A matrix of scipy.sparse, of int64. In python-graphblas `io.to_scipy_sparse`."""
-        import scipy.sparse
-        rows, columns, values = self.to_coo(arrays=True)
-        return scipy.sparse.coo_matrix((values, (rows, columns)), self.shape).asformat(format)
-
-    def to_networkx(self, directed: bool = True, weight: str = 'weight', nodes: Optional[Sequence[Any]] = None) -> Any:
-        """A networkx graph of a square matrix: DiGraph, or Graph where `directed` isn't set (then one of (i, j) and (j, i) is
-        enough). Its nodes are `nodes`, those that the matrix came with, or 0 to n - 1. In python-graphblas `io.to_networkx`."""
-        import networkx
-        if self.nrows != self.ncols:
-            raise refusal('J5', detail='a graph is square, and this is %dx%d' % self.shape)
-        labels = list(nodes if nodes is not None else self.nodes if self.nodes is not None else range(self.nrows))
-        if len(labels) != self.nrows:
-            raise ValueError('%d nodes for %d rows' % (len(labels), self.nrows))
-        graph = networkx.DiGraph() if directed else networkx.Graph()
-        graph.add_nodes_from(labels)
-        graph.add_weighted_edges_from(((labels[i], labels[j], value) for i, j, value in self.to_triples()), weight)
-        return graph
-
-    def mmwrite(self, target: Any) -> None:
-        """Writes the text to a path, or to a file opened in binary. In python-graphblas `io.mmwrite`."""
-        if hasattr(target, 'write'):
-            target.write(self.to_text())
-            return
-        with open(target, 'wb') as file:
-            file.write(self.to_text())
+class Applied(NamedTuple):
+    """The operator and thunk that `apply` sends, and whether its answers are the same at each row and column."""
+    op: Operator
+    thunk: Optional[int]
+    even: bool
 
 
 def _check_mask(mask: Mask, shape: Tuple[int, int]) -> None:
@@ -343,8 +351,8 @@ def _of_kind(kind: str, op: Op, form: str) -> Operator:
     return found
 
 
-def _applied(op: Op, right: Optional[int], left: Optional[int]) -> Tuple[Operator, Optional[int]]:
-    """The operator and thunk that `apply` sends."""
+def applied(op: Op, right: Optional[int], left: Optional[int]) -> Applied:
+    """What `apply` sends."""
     if right is not None and left is not None:
         raise TypeError('right= or left=, not both')
     bound = right is not None or left is not None
@@ -352,11 +360,27 @@ def _applied(op: Op, right: Optional[int], left: Optional[int]) -> Tuple[Operato
     found = find(kinds[1] if op not in READY[kinds[0]] and op in READY[kinds[1]] else kinds[0], op)
     thunk = convert.word(left if left is not None else right if right is not None else 0, 'thunk')
     if found.kind == 'index' and left is None:
-        return found, thunk
+        return Applied(found, thunk, False)
     if found.kind == 'binary' and bound:
-        return (found.bind_right() if right is not None else found.bind_left()), thunk
+        return Applied(found.bind_right() if right is not None else found.bind_left(), thunk, True)
     if found.kind == 'unary' and not bound:
-        return found, None
+        return Applied(found, None, True)
     how = ' with %s=' % ('right' if right is not None else 'left') if bound else ''
     raise refusal('J4', command='apply', detail='a unary or index operator, or a binary one with right= or left=, is wanted, '
                   'and this is %r%s' % (found, how))
+
+
+def bipartite(B: Matrix) -> Matrix:
+    """The square matrix of a bipartite graph, from the matrix B whose rows and columns are its two kinds of vertices: first the rows,
+    then the columns, and each entry as an edge both ways. No job: the entries come to the client and go back, as for `T`."""
+    rows, columns, values = B.to_coo()
+    ends = B.nrows + B.ncols
+    if market.is_array(rows):
+        import numpy
+        i, j = numpy.concatenate((rows, columns + B.nrows)), numpy.concatenate((columns + B.nrows, rows))
+        made = B.session.from_coo(i, j, numpy.concatenate((values, values)), ends, ends)
+    else:
+        behind = [column + B.nrows for column in columns]
+        made = B.session.from_coo(rows + behind, behind + rows, values + values, ends, ends)
+    made.notes = notes.of_both_sides(B.notes, B.nrows, B.ncols)
+    return made

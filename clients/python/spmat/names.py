@@ -19,7 +19,7 @@ class Names:
     """
 
     def __init__(self) -> None:
-        self._dropped: Deque[str] = collections.deque()   # as they were collected
+        self.dropped: Deque[str] = collections.deque()    # as they were collected
         self._free: Deque[str] = collections.deque()
         self._given: Set[str] = set()                     # wished by the caller, and held
         self._sizes: Dict[str, int] = {}                  # rows and entries of what a name stands for
@@ -44,7 +44,11 @@ class Names:
 
     def hold(self, matrix: Any, name: str) -> None:
         """Gives the name back when the matrix is collected."""
-        weakref.finalize(matrix, self._dropped.append, name).atexit = False
+        weakref.finalize(matrix, self.dropped.append, name).atexit = False
+
+    def drop(self, name: str) -> None:
+        """Takes a name back that no matrix has: once the job that binds it is done, it is used again."""
+        self.dropped.append(name)
 
     def bound(self, name: str, rows: int, entries: int) -> None:
         """What a name stands for now."""
@@ -53,10 +57,10 @@ class Names:
     def settle(self, waiting: Set[str]) -> Iterator[str]:
         """Makes names of collected matrices free, and yields those whose matrix is to be overwritten before. Names that waiting
         jobs will bind stay as they are."""
-        for _ in range(len(self._dropped)):
-            name = self._dropped.popleft()
+        for _ in range(len(self.dropped)):
+            name = self.dropped.popleft()
             if name in waiting:
-                self._dropped.append(name)
+                self.dropped.append(name)
                 continue
             if self._sizes.pop(name, 0) > SMALL:
                 yield name

@@ -6,7 +6,7 @@ writes with `-g`. Nothing here looks at the instructions.
 from __future__ import annotations
 
 import struct
-from typing import Dict, Iterator, List, NamedTuple, Optional, Tuple
+from typing import Iterator, List, NamedTuple, Optional, Tuple
 
 LOCAL, FUNCTION = 0, 2                                  # of a symbol: its binding and its type
 SYMBOLS, RELOCATIONS_WITH_ADDENDS, RELOCATIONS = 2, 4, 9  # types of sections

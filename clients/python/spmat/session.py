@@ -2,86 +2,81 @@
 from __future__ import annotations
 
 import contextlib
-import copy
 import itertools
 import re
-import weakref
-from typing import Any, Dict, Iterable, Iterator, List, NamedTuple, Optional, Sequence, Tuple, Union
+from typing import TYPE_CHECKING, Any, Callable, Dict, Iterator, List, NamedTuple, Optional, Sequence, Tuple, Union
 
 from . import convert, files, market
-from .errors import BudgetExceeded, OutOfMemory, SpmatError, TextRefused, refusal
+from .errors import OperatorRefused, Refused, TextRefused, refusal
+from .jobs import QUEUE, Budget as Budget, Job, JobResult as JobResult, Most, Queue, Run, most_of  # pylint: disable=unused-import
+from .kept import Kept
 from .market import Triples
 from .matrix import Matrix
 from .names import Names
-from .operators import Operator, find
-from .wire import MOST_STEPS, Connection, Program, Progress, Reply
+from .operators import Operator, find, telling
+from .outbox import Later, Outbox
+from .program import Program
+from .reading import Layout, Request, name_of
+from .sources import DupOp, Sources
+from .wire import MOST_STEPS, Address, Connection, Progress, Reply, Sent
 
-QUEUE = 64                                         # jobs that may wait
+if TYPE_CHECKING:
+    import ssl
+
 MOST_OPERATOR = 262_144                            # bytes of an operator's body
-DUP_OP = 'dup_op= folds the values of a position that repeats'
 KEPT_ONES = 4                                      # rows of ones that a session keeps, of one length each
+CODE_RULES = ('V1', 'V2', 'V3', 'V4', 'V5', 'V6')   # of code that stands for no program
 LONG = 1 << 20                                     # longer ones are not kept
 
 
-class Budget(NamedTuple):
-    """Steps: left, reserved for jobs that wait, spent. Over TCP it is one for all sessions of the server."""
-    left: int
-    reserved: int
-    spent: int
-
-
-class JobResult(NamedTuple):
-    """A job that `run` settled: its result (None where nobody holds it any more), its form as the protocol names it, the most steps
-    that it could have taken, and those that it took."""
-    matrix: Optional[Matrix]
-    form: str
-    price: int
-    steps: int
-
-
-class _Waiting(NamedTuple):
-    matrix: 'weakref.ref[Matrix]'
+class Uploaded(NamedTuple):
+    """An operator that the server has: its name there, and its instructions."""
     name: str
-    form: str
-    price: int
+    instructions: int
 
 
-class Session:
+class Session(Sources[Matrix]):
     """One session of the server: `Session()` starts a process `spmat run` of its own, `Session.connect(host, port)` is one of
-    `spmat serve`. Use it in a `with`, or close it.
+    `spmat serve`, `Session.connect(path)` one at a socket file. Use it in a `with`, or close it.
 
     `steps` is the budget, 0 to 2^62 (also 1e9), `workers` 1 to 64 threads, `program` the words that start the program (without
-    them the variable SPMAT, then `spmat` on the PATH). `progress(what, done, of)` is called in long work: what is 'sent' or
-    'received' (bytes of one matrix text) or 'jobs' (0 of n as a run begins, n of n as it ends); what it raises amid a command
-    ends the session.
+    them the variable SPMAT, then the program that the package carries, then `spmat` on the PATH). `progress(what, done, of)` is
+    called in long work: what is 'sent' or 'received' (bytes of one matrix text) or 'jobs' (0 of n as a run begins, n of n as it
+    ends); what it raises amid a command ends the session.
 
     Methods of matrices queue jobs; what needs a result runs the queue first. Threads take turns: while one thread waits for a
-    reply, others wait for it. Ctrl-C while a reply is awaited closes the session, and the process that it started is ended. A
-    session belongs to the process that opened it, and can't be pickled; operators can.
+    reply, others wait for it. Ctrl-C while a reply is awaited leaves the session as it is: the command goes on, and what comes
+    next waits for its end; `close` ends it at once, with the process that was started. Where a command isn't sent whole yet, Ctrl-C comes
+    when it is, and a second one ends the session, with all that it held (`connection.ended` says so). A session belongs to the process
+    that opened it, and can't be pickled; operators can.
 
     `runs`, `jobs` and `connection.commands` count what was sent."""
 
     def __init__(self, steps: float = MOST_STEPS, workers: int = 1, program: Optional[Program] = None,
                  progress: Optional[Progress] = None) -> None:
-        self._begin(Connection.to_child(steps, workers, program, progress))
+        self._begin(Connection.to_child(steps, workers, program, progress), shared=False)
 
     @classmethod
     def connect(cls, host: str = '127.0.0.1', port: int = 7171, timeout: Optional[float] = None,
-                progress: Optional[Progress] = None) -> Session:
-        """A session of `spmat serve`. Raises OSError where nobody listens, and Busy where the server has as many sessions as it
-        serves. `timeout` in seconds; where it passes amid a command the session is closed."""
+                progress: Optional[Progress] = None, tls: Optional[ssl.SSLContext] = None) -> Session:
+        """A session of `spmat serve`; where `host` has a slash, of `spmat.socket` or another server at this socket file. `tls` is an
+        `ssl.SSLContext`, where TLS is spoken in front of the server; the name in its certificate has to be `host`.
+
+        Raises OSError where nobody listens or TLS is refused, Closed where the connection is closed before a first answer, and Busy
+        where the server has as many sessions as it serves. `timeout` in seconds; where it passes amid a command the session is
+        closed."""
         session = cls.__new__(cls)
-        session._begin(Connection.to_server(host, port, timeout, progress))
+        session._begin(Connection.to_server(Address(host, port, tls), timeout, progress), shared=True)
         return session
 
-    def _begin(self, connection: Connection) -> None:
+    def _begin(self, connection: Connection, shared: bool) -> None:
         self.connection = connection
-        self.runs = 0
         self.jobs = 0
         self._lock = connection.lock
-        self._queue: List[_Waiting] = []
         self._names = Names()
-        self._operators: Dict[Operator, str] = {}
+        self._outbox = Outbox(connection)
+        self._queue = Queue(self._outbox, self._names, shared)
+        self._operators: Dict[Operator, Uploaded] = {}
         self._ones: Dict[int, Matrix] = {}
         self.budget()                              # says at once where there is no session
 
@@ -97,6 +92,11 @@ class Session:
     def __repr__(self) -> str:
         return '<Session, %s>' % ('%d jobs wait' % len(self._queue) if self.connection.ended is None else 'ended')
 
+    @property
+    def runs(self) -> int:
+        """How many runs were asked for."""
+        return self._queue.runs
+
     def close(self) -> None:
         """Ends the session. Its matrices are gone; jobs that wait are not run."""
         self.connection.quit()
@@ -104,32 +104,53 @@ class Session:
     def budget(self) -> Budget:
         """What the budget holds. No run."""
         with self._turn():
-            return Budget(*map(int, self._command('budget').words[1:4]))
+            told = Budget(*map(int, self._command('budget').words[1:4]))
+            self._queue.left = told.left
+            return told
 
     # -- one command
 
     @contextlib.contextmanager
     def _turn(self) -> Iterator[None]:
-        """One thread at a time. What comes between a command and the note of it (Ctrl-C) ends the session."""
-        with self._lock:
+        """One thread at a time. What comes between a command and the note of it ends the session; Ctrl-C is put off until the note is
+        made, or the reply is awaited."""
+        with self._lock, self.connection.guard:
             self.connection.check_open()
             try:
                 yield
             except Exception:
                 raise
             except BaseException as fault:
-                self.connection.end('amid its work came ' + type(fault).__name__, kill=True)
+                if not self.connection.owes:
+                    self.connection.end('amid its work came ' + type(fault).__name__, kill=True)
                 raise
 
     def _sweep(self) -> None:
         """Overwrites large matrices that nobody holds, as no command forgets one."""
-        for name in self._names.settle({job.name for job in self._queue}):
-            with contextlib.suppress(OutOfMemory):
-                self.connection.command('matrix ' + name, market.EMPTY)
+        if self._names.dropped:
+            for name in self._names.settle(self._queue.names()):
+                self._outbox.put(Later(Sent('matrix ' + name, market.EMPTY), lambda _: None, lambda _: None, matters=False))
 
     def _command(self, line: str, body: Optional[bytes] = None, near: Any = None) -> Reply:
         self._sweep()
-        return self.connection.command(line, body, near)
+        reply = self._exchange(Sent(line, body, near))
+        assert reply is not None
+        return reply
+
+    def _exchange(self, last: Optional[Sent] = None, late: Optional[Callable[[Reply], object]] = None) -> Optional[Reply]:
+        """Sends what waits to be sent, and one command more, whose reply `late` gets where Ctrl-C comes before it."""
+        many = self._queue.running
+        if many:
+            self.connection.tell('jobs', 0, many)
+        reply = self._outbox.exchange(last, late)
+        if many:
+            self.connection.tell('jobs', many, many)
+        return reply
+
+    def flush(self) -> None:
+        """Sends the jobs that wait to be sent, so that their prices are known. No run but those that stand behind them."""
+        with self._turn():
+            self._exchange()
 
     # -- matrices in
 
@@ -151,21 +172,31 @@ class Session:
             self._names.bound(key, nrows, nvals)
             return Matrix(self, key, nrows, ncols, nvals, name=name)
 
-    def from_coo(self, rows: Iterable[int], columns: Iterable[int], values: Any = 1, nrows: Optional[int] = None,
-                 ncols: Optional[int] = None, *, dup_op: Union[str, Operator, None] = None, name: Optional[str] = None) -> Matrix:
-        """A matrix from rows and columns (from 0) and values, or one value for all: lists, or arrays of numpy. Sizes that aren't
-        given are the least that fit. Values are whole numbers of 64 bits, else a ValueError. Where a position repeats it is a
-        TextRefused (M8), or with `dup_op` its values are folded by that binary operator in their order; this takes 1 job and 1
-        run where any repeats. In python-graphblas `Matrix.from_coo`."""
-        return self._from(convert.checked(rows, columns, values, nrows, ncols), dup_op, name)
+    def keep(self, entries: Triples) -> Matrix:
+        """A matrix of entries by ascending row and column, which aren't looked at. The client keeps them; they are sent when a job
+        wants them."""
+        return Kept(self, entries)
 
-    def _from(self, triples: Triples, dup_op: Union[str, Operator, None] = None, name: Optional[str] = None) -> Matrix:
+    def send(self, kept: Kept, entries: Triples) -> str:
+        """Sends the entries of a matrix that is kept, with the next command; its name."""
+        with self._turn():
+            key, text = self._names.take(), market.write(entries)
+            self._outbox.put(Later(Sent('matrix ' + key, text), lambda _: None, kept.lose))
+            self._names.bound(key, entries.nrows, len(entries.rows))
+            if self._outbox.is_full:
+                self._exchange()
+            return key
+
+    def _from(self, triples: Triples, dup_op: DupOp = None, name: Optional[str] = None) -> Matrix:
+        folded = self._folded(triples, dup_op)
         try:
-            return self.from_text(market.write(self._folded(triples, dup_op)), name)
+            return self.from_text(market.write(folded), name)
         except TextRefused as refused:
-            raise refused.hinting('M8', DUP_OP) from None
+            if refused.rule != 'M8' or refused.at is None:
+                raise
+            raise convert.repeated(folded, refused.at - market.HEAD_LINES - 1) from None
 
-    def _folded(self, triples: Triples, dup_op: Union[str, Operator, None]) -> Triples:
+    def _folded(self, triples: Triples, dup_op: DupOp) -> Triples:
         """Each position once: values that share one are folded by the server, in a matrix with a row for each such position."""
         if dup_op is None:
             return triples
@@ -173,46 +204,39 @@ class Session:
         return convert.unrepeated(triples, lambda many: self._from(many).reduce_rowwise(op).to_coo(
             arrays=market.is_array(many.rows))[2])
 
-    def from_triples(self, triples: Iterable[Tuple[int, int, int]], nrows: Optional[int] = None, ncols: Optional[int] = None, *,
-                     dup_op: Union[str, Operator, None] = None, name: Optional[str] = None) -> Matrix:
-        """A matrix from (row, column, value), or an array of numpy with these as its columns; see `from_coo`."""
-        return self.from_coo(*convert.columns_of(triples), nrows, ncols, dup_op=dup_op, name=name)
-
-    def from_dense(self, rows: Any, missing: Optional[int] = None, *, name: Optional[str] = None) -> Matrix:
-        """A matrix from a table: a list of rows, or an array of numpy; of one dimension it is a column. Each cell is an entry,
-        but for those that are `missing`. In python-graphblas `Matrix.from_dense`."""
-        return self._from(convert.from_dense(rows, missing), name=name)
-
-    def from_scipy_sparse(self, matrix: Any, *, name: Optional[str] = None) -> Matrix:
-        """A matrix from one of scipy.sparse, of any format; entries of one position are added up, as scipy has it. ValueError for
-        values that aren't whole. In python-graphblas `io.from_scipy_sparse`."""
-        return self._from(convert.from_scipy(matrix), name=name)
-
-    def from_networkx(self, graph: Any, weight: Optional[str] = 'weight', nodelist: Optional[Sequence[Any]] = None, *,
-                      dup_op: Union[str, Operator, None] = None, name: Optional[str] = None) -> Matrix:
-        """The adjacency matrix of a networkx graph: entry (i, j) is the edge from node i to node j of `nodelist` (all nodes, in
-        the graph's order), with the edge's `weight`, or 1 where it has none or `weight` is None. An undirected edge stands both
-        ways. `nodes` of the matrix has the nodes by index. ValueError for weights that aren't whole, and for multigraphs without
-        `dup_op`, which folds parallel edges (1 job and 1 run where there are any). In python-graphblas `io.from_networkx`."""
-        triples, nodes = convert.from_graph(graph, weight, nodelist, dup_op is not None)
-        matrix = self._from(triples, dup_op, name)
-        matrix.nodes = nodes
-        return matrix
-
-    def mmread(self, source: Any, *, dup_op: Union[str, Operator, None] = None, name: Optional[str] = None) -> Matrix:
+    def mmread(self, source: Any, *, values: bool = True, scale: Optional[float] = None, dup_op: DupOp = None,
+               name: Optional[str] = None) -> Matrix:
         """A matrix from a Matrix Market file: a path (also .gz and .bz2), or a file opened in binary. What the server reads is
-        sent as it is; `real` values that are whole, `array`, `skew-symmetric`, and with `dup_op` positions that repeat (1 job and
-        1 run where any do) are made so here. ValueError names the line. In python-graphblas `io.mmread`."""
-        text = files.load(source)
+        sent as it is; `real` values, `array`, `skew-symmetric`, and with `dup_op` positions that repeat (1 job and 1 run where any
+        do) are made so here. Values are whole numbers; with `scale` they are multiplied by it and rounded to the nearest, and with
+        `values=False` not read, so that each entry is 1, also of `complex` files. ValueError names the file and the line. In
+        python-graphblas `io.mmread`; `read_graph` reads other formats too."""
+        request = Request('mtx', Layout(values=values, scale=scale))
+        return self._market(name_of(source), files.load(source), request, dup_op, name)
+
+    def _market(self, file: str, text: bytes, request: Request, dup_op: DupOp, name: Optional[str]) -> Matrix:
+        values = files.Values(request.layout.values, request.layout.scale)
         try:
-            if dup_op is None and files.is_plain(text):
-                return self.from_text(text, name)
-            triples, symmetry = files.parse(text)
-            return self.from_text(market.write(files.mirrored(self._folded(triples, dup_op), symmetry)), name)
+            made, kind = self._of_market(text, values, dup_op, name)
         except TextRefused as refused:
             if refused.rule == 'M8' and refused.command != files.COMMAND and not files.is_plain(text):
-                raise files.repeated(text) from None       # the line of the file, not that of the text that was made of it
-            raise refused.hinting('M8', DUP_OP) from None
+                raise files.repeated(text).of_file(file) from None       # the file's line, not that of the text that was made of it
+            said = '' if text.split()[:1] == [b'%%MatrixMarket'] else files.NO_MARKET
+            raise refused.hinting('M8', convert.DUP_OP).of_file(file, said if refused.rule == 'M1' else '') from None
+        except Refused as refused:
+            raise refused.of_file(file) from None
+        made.notes = kind.notes if dup_op is None else kind.notes._replace(weighted=True)
+        return made
+
+    def _of_market(self, text: bytes, values: files.Values, dup_op: DupOp, name: Optional[str]) -> Tuple[Matrix, files.Kind]:
+        """The matrix of a text, as it is sent or made here, and what its first line says."""
+        as_it_is = dup_op is None and files.is_plain(text) and values == files.Values()
+        if as_it_is:
+            made = self.from_text(text, name)      # which refuses a first line of any other form
+            return made, files.kind_of(text)
+        triples, symmetry = files.parse(text, values)
+        made = self.from_text(market.write(files.mirrored(self._folded(triples, dup_op), symmetry)), name)
+        return made, files.kind_of(text, values)
 
     def full(self, nrows: int, ncols: int, value: int = 1, *, name: Optional[str] = None) -> Matrix:
         """A matrix with one value everywhere."""
@@ -241,7 +265,16 @@ class Session:
     def text_of(self, matrix: Matrix) -> bytes:
         """The canonical text of a matrix; see `Matrix.to_text`."""
         with self._turn():
-            return self._command('show ' + matrix.wait().key).body
+            matrix.check_usable()
+            if matrix.waits:
+                self._queue.run_later()
+            try:
+                body = self._command('show ' + matrix.key).body
+            except Refused as refused:
+                raise self._outbox.refused or refused
+            if self._outbox.refused is not None:
+                raise self._outbox.refused
+            return body
 
     def hold(self, matrix: Matrix) -> None:
         """Takes the matrix's name back when it is collected."""
@@ -254,17 +287,28 @@ class Session:
         if not isinstance(op, Operator):
             raise TypeError('an operator is wanted, such as spmat.binary.plus, not %r' % (op,))
         with self._turn():
-            if op not in self._operators:
-                if len(op.body) > MOST_OPERATOR:
-                    raise refusal('S7', detail='the operator has %d bytes' % len(op.body))
-                name = self._operator_name(op)
-                self._command('%s %s %s' % ('op' if op.text is None else 'asm', name, op.kind), op.body, op.line_at)
-                self._operators[op] = name
-            return self._operators[op]
+            return self._uploaded(op).name
+
+    def _uploaded(self, op: Operator) -> Uploaded:
+        if op not in self._operators:
+            if len(op.body) > MOST_OPERATOR:
+                raise refusal('S7', detail='the operator has %d bytes' % len(op.body))
+            name = self._operator_name(op)
+            try:
+                reply = self._command('%s %s %s' % ('op' if op.text is None else 'asm', name, op.kind), op.body, op.line_at)
+            except OperatorRefused as refused:
+                raise telling.mended(op, refused) from None
+            self._operators[op] = Uploaded(name, int(reply.words[-1]))
+        return self._operators[op]
+
+    def length_of(self, op: Operator) -> int:
+        """The number of an operator's instructions, the most steps that a call takes."""
+        with self._turn():
+            return self._uploaded(op).instructions
 
     def _operator_name(self, op: Operator) -> str:
         """The operator's own name where the server takes it and no other has it, else a number."""
-        taken = set(self._operators.values())
+        taken = {uploaded.name for uploaded in self._operators.values()}
         if op.name and op.name not in taken and re.fullmatch('[A-Za-z0-9_]{1,32}', op.name):
             return op.name
         return next(name for name in map('f{}'.format, itertools.count(len(taken) + 1)) if name not in taken)
@@ -280,83 +324,74 @@ class Session:
         with self._turn():
             return self._command('types ' + self.upload(op)).lines
 
+    def check(self, op: Operator) -> telling.Check:
+        """What the verifier says of an operator: whether it is accepted, the instructions with what R0 to R10 hold before each, and
+        where it is refused the refusal, with the rows up to there. No job; it is uploaded. Printed, it is a table."""
+        try:
+            lines, types = self.dis(op).splitlines(), self.types(op)
+        except OperatorRefused as refused:
+            known = refused.rule.startswith('V') and refused.at is not None and refused.rule not in CODE_RULES
+            return telling.Check(op, refused, telling.rows_before(op, refused.at or 0) if known else [])
+        return telling.Check(op, None, telling.rows_of(lines, types))
+
     # -- jobs
 
-    def run(self) -> List[JobResult]:
+    def run(self) -> Run:
         """Runs the jobs that wait. Matrix methods do it where they need a result. Where the run is refused (OutOfMemory,
         NoThread) the queue is empty all the same, and each result of it raises NotMade from then on."""
         with self._turn():
-            if not self._queue:
-                return []
+            self.connection.settle()
+            if not len(self._queue) and not self._queue.running:
+                return Run()
+            self._queue.run_later()
             self._sweep()
-            self.connection.tell('jobs', 0, len(self._queue))
-            queue, self._queue = self._queue, []
-            self.runs += 1
-            try:
-                reply = self.connection.command('run')
-            except BaseException as fault:
-                cause = _without_frames(fault)
-                for job in queue:
-                    matrix = job.matrix()
-                    if matrix is not None:
-                        matrix.lose(cause)
-                raise
-            results = [self._settled(job, line) for job, line in zip(queue, reply.lines)]
-            self.connection.tell('jobs', len(queue), len(queue))
-            return results
-
-    def _settled(self, job: _Waiting, line: str) -> JobResult:
-        nrows, _, entries, steps = map(int, line.split()[1:5])
-        self._names.bound(job.name, nrows, entries)
-        matrix = job.matrix()
-        if matrix is not None:
-            matrix.settle(entries, steps)
-        return JobResult(matrix, job.form, job.price, steps)
+            self._exchange()
+            if self._outbox.refused is not None:
+                raise self._outbox.refused
+            return self._queue.results()
 
     def submit(self, form: str, ops: Sequence[Operator], operands: Sequence[Matrix], shape: Tuple[int, int],
                thunk: Optional[int] = None, mask: Optional[Matrix] = None, name: Optional[str] = None) -> Matrix:
         """Queues a job of one of the protocol's forms with a structural mask; the matrix methods use it. A job takes the versions
         that its names have when it is submitted, so an operand or mask that waits makes the queue run first. So does a full
         queue, and a budget that is too small while jobs wait: then what they don't take comes back, and the job is sent once
-        more."""
+        more.
+
+        A job that can be refused by nothing but want of memory, as what is known of its operands' entries tells, is sent with the next
+        command that needs an answer, and so is the run before it; any other at once."""
         with self._turn():
             needed = [*operands] + ([mask] if mask is not None else [])
             for matrix in needed:
                 if matrix.session is not self:
                     raise ValueError('a matrix of another session')
                 matrix.check_usable()
-            if any(matrix.waits for matrix in needed):
-                self.run()
-            names = [self.upload(op) for op in ops] + [matrix.key for matrix in operands]
-            if len(self._queue) >= QUEUE:
-                self.run()
-            self._sweep()
-            key = self._names.take(name)
-            words = [form, key] + names + ([str(thunk)] if thunk is not None else [])
+            sent = [self._operators.get(op) or self._uploaded(op) for op in ops]
+            words = [op.name for op in sent] + [matrix.key for matrix in operands] + ([str(thunk)] if thunk is not None else [])
             words += ['mask', mask.key] if mask is not None else []
-            try:
-                price = self._priced(' '.join(words))
-            except BaseException:
-                self._names.give_back(key)
-                raise
-            result = Matrix(self, key, shape[0], shape[1], None, name=name, price=price)
-            self._queue.append(_Waiting(weakref.ref(result), key, form, price))
+            if len(self._queue) >= QUEUE or self._queue.has(needed):
+                self._queue.run_later()
+            most = most_of(form, sum(op.instructions for op in sent), operands, mask, shape)
+            job = self._handed_in(form, words, most, name)
+            result = Matrix(self, job.name, shape[0], shape[1], None, name=name, price=job.price)
+            result.most = most.entries
+            job.bind(result)
             self.jobs += 1
             return result
 
-    def _priced(self, line: str) -> int:
+    def _handed_in(self, form: str, words: List[str], most: Most, name: Optional[str]) -> Job:
+        """A job that is handed in, now or with the next command."""
+        job = Job(self._names.take(name), form, most)
+        line = ' '.join([form, job.name, *words])
+        if self._queue.is_sure(most):
+            self._queue.add_later(job, line)
+            if self._outbox.is_full or self._queue.is_long:
+                self._exchange()
+                self._sweep()                      # so that a loop of jobs uses the names of what nobody holds again
+            return job
         try:
-            return int(self._command(line).words[2])
-        except BudgetExceeded:
-            if not self._queue:
-                raise
-        self.run()
-        return int(self._command(line).words[2])
-
-
-def _without_frames(fault: BaseException) -> BaseException:
-    """The same exception without the frames that it came through, which would keep their matrices."""
-    try:
-        return copy.copy(fault).with_traceback(None)
-    except Exception:
-        return SpmatError('%s: %s' % (type(fault).__name__, fault))
+            self._queue.add_now(job, line, self._exchange)
+        except BaseException:
+            if not self.connection.owes:
+                self._names.give_back(job.name)
+            raise
+        return job

@@ -90,9 +90,9 @@ class Scripted(Listener):
         self.seen = []
 
     def _handle(self, connection):
-        with connection, connection.makefile('rb') as source:
+        with contextlib.suppress(OSError), connection, connection.makefile('rb') as source:
             for line in source:
-                words = line.decode().split()
+                words = line.decode('latin-1').split()
                 if not words:
                     continue
                 body = source.read(int(words[-1])) if words[0] in ('matrix', 'asm', 'op') else None

@@ -151,14 +151,17 @@ class Algorithms(unittest.TestCase):
         wide, G = s.from_triples([(0, 1, 1)], 2, 3), s.from_triples([(0, 1, 1), (1, 0, 1)], 2, 2)
         for name in algorithms.__all__:
             function = getattr(algorithms, name)
-            more = {'bfs_levels': (0,), 'bfs_parents': (0,), 'sssp': (0,), 'k_truss': (3,), 'k_core': (2,)}.get(name, ())
-            if name != 'Progress':
+            more = {'bfs_levels': (0,), 'bfs_parents': (0,), 'sssp': (0,), 'k_truss': (3,), 'k_core': (2,), 'k_hop': (1,),
+                    'path_lengths': ([0],), 'shared_neighbours': ([0], [0])}.get(name, ())
+            if name[0].islower():
                 with self.subTest(algorithm=name), self.assertRaisesRegex(ValueError, 'square'):
                     function(wide, *more)
         for function in (algorithms.bfs_levels, algorithms.bfs_parents, algorithms.sssp):
             for source in (-1, 2, 0.5, '0', None, True):
                 with self.assertRaisesRegex(ValueError, 'no vertex'):
                     function(G, source)
+                with self.assertRaisesRegex(ValueError, 'no vertex'):
+                    function(G, 0, target=source if source is not None else 7)
             with self.assertRaisesRegex(ValueError, 'transpose'):
                 function(G, 0, wide)
         for call in (lambda: algorithms.k_truss(G, 2), lambda: algorithms.k_core(G, 0), lambda: algorithms.pagerank(G, damping=1),

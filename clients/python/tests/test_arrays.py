@@ -67,6 +67,33 @@ class Numpy(Case):
         self.assertEqual(s.from_triples(table, 3, 4).to_triples(), [tuple(row) for row in table.tolist()])
         self.assertEqual(s.from_coo([numpy.int32(2)], [numpy.uint8(1)], [numpy.float32(3)]).to_triples(), [(2, 1, 3)])
 
+    def test_lists_beside_arrays(self):
+        """A list with a float in it stays as it is, where numpy would round its whole numbers to floats."""
+        import numpy
+        for values in ([2 ** 53 + 1, 1.0], [1.0, 2 ** 63 - 1], [-2 ** 63, 2.0], (2 ** 53 + 1, numpy.float64(3))):
+            A = self.s.from_coo(numpy.arange(2), [0, 0], values, 2, 1)
+            self.assertEqual(A.to_list(), [int(value) for value in values])
+        for values in ([2 ** 53 + 1, .5], [2 ** 63, -1], [2 ** 64, 1.0], [1.0, float('nan')]):
+            with self.assertRaises(ValueError):
+                self.s.from_coo(numpy.arange(2), [0, 0], values, 2, 1)
+        self.assertEqual(self.s.from_coo(iter([0, 1]), numpy.arange(2), (k for k in (5, 6))).to_dict(), {(0, 0): 5, (1, 1): 6})
+
+    def test_repeated_entries_are_named(self):
+        import numpy
+        with self.assertRaises(spmat.TextRefused) as said:
+            self.s.from_coo(numpy.array([4, 0, 1, 0]), numpy.array([0, 2, 0, 2]), numpy.arange(4))
+        self.assertIn('row 0, column 2 is given as entry 1 and as entry 3', str(said.exception))
+        self.assertNotIn('line', str(said.exception))
+
+    def test_small_arrays_are_quick(self):
+        """The table of digits is made once, not at each upload."""
+        import numpy
+        market.write(market.Triples(numpy.arange(3), numpy.arange(3), numpy.arange(3), 3, 3))
+        before = market._four_digits.cache_info().misses
+        for _ in range(5):
+            market.write(market.Triples(numpy.arange(3), numpy.arange(3), numpy.arange(3), 3, 3))
+        self.assertEqual(market._four_digits.cache_info().misses, before)
+
     def test_wrong_arrays(self):
         import numpy
         s, one = self.s, numpy.array([0])
@@ -188,60 +215,6 @@ class Scipy(Case):
         M = scipy.sparse.coo_matrix((values, (rows, columns)), (1 << 20, 1 << 20))
         theirs = least(1, lambda: scipy.io.mmwrite(io.BytesIO(), M))
         self.assertLess(3 * ours, theirs)
-
-
-@needs('networkx')
-class Networkx(Case):
-    def test_graphs(self):
-        import networkx
-        G = networkx.Graph([('a', 'b'), ('b', 'c'), ('c', 'c')])
-        A = self.s.from_networkx(G)
-        self.assertEqual((A.nodes, A.to_dict()), (['a', 'b', 'c'], {(0, 1): 1, (1, 0): 1, (1, 2): 1, (2, 1): 1, (2, 2): 1}))
-        self.assertTrue(networkx.is_isomorphic(A.to_networkx(directed=False), G))
-        self.assertEqual(set(A.to_networkx(directed=False).edges), set(G.edges))
-        D = networkx.gnp_random_graph(20, .2, seed=1, directed=True)
-        B = self.s.from_networkx(D)
-        self.assertEqual(set(B.to_dict()), set(D.edges))
-        self.assertEqual(set(B.to_networkx().edges), set(D.edges))
-        self.assertEqual(set(B.to_networkx().nodes), set(D.nodes))
-
-    def test_weights(self):
-        import networkx
-        G = networkx.DiGraph()
-        G.add_edge(0, 1, weight=5, cost=7)
-        G.add_edge(1, 2)
-        self.assertEqual(self.s.from_networkx(G).to_dict(), {(0, 1): 5, (1, 2): 1})
-        self.assertEqual(self.s.from_networkx(G, 'cost').to_dict(), {(0, 1): 7, (1, 2): 1})
-        self.assertEqual(self.s.from_networkx(G, None).to_dict(), {(0, 1): 1, (1, 2): 1})
-        self.assertEqual(self.s.from_networkx(G).to_networkx()[0][1], {'weight': 5})
-        self.assertEqual(self.s.from_networkx(G).to_networkx(weight='w', nodes='xyz')['x']['y'], {'w': 5})
-        G.add_edge(2, 0, weight=.5)
-        with self.assertRaises(ValueError):
-            self.s.from_networkx(G)
-
-    def test_nodelist(self):
-        import networkx
-        G = networkx.path_graph(4)
-        self.assertEqual(self.s.from_networkx(G, nodelist=[2, 1]).to_dict(), {(0, 1): 1, (1, 0): 1})
-        for wrong in ([1, 1], [1, 9]):
-            with self.assertRaises(ValueError):
-                self.s.from_networkx(G, nodelist=wrong)
-
-    def test_multigraphs(self):
-        import networkx
-        G = networkx.MultiGraph()
-        G.add_weighted_edges_from([(0, 1, 5), (0, 1, 7), (1, 1, 2), (1, 1, 3)])
-        with self.assertRaises(ValueError) as said:
-            self.s.from_networkx(G)
-        self.assertIn('dup_op=', str(said.exception))
-        self.assertEqual(self.s.from_networkx(G, dup_op='plus').to_dict(), {(0, 1): 12, (1, 0): 12, (1, 1): 5})
-        self.assertEqual(self.s.from_networkx(G, dup_op='min').to_dict(), {(0, 1): 5, (1, 0): 5, (1, 1): 2})
-
-    def test_out_of_range(self):
-        with self.assertRaises(spmat.DimensionMismatch):
-            self.s.full(1, 2).to_networkx()
-        with self.assertRaises(ValueError):
-            self.s.full(2, 2).to_networkx(nodes='abc')
 
 
 if __name__ == '__main__':

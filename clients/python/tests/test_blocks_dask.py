@@ -18,7 +18,7 @@ import support
 import test_blocks
 import spmat
 from spmat import algorithms, blocks
-from spmat.blocks import tasks
+from spmat.blocks import place, tasks
 
 WORKERS = 3
 GRAPH = graphs.UNDIRECTED[-1]
@@ -37,6 +37,11 @@ def computed_again(dask_scheduler):
 def uploads_of(store):
     """How many texts a worker's session took in because they weren't there."""
     return store.uploads
+
+
+def program_of(settings):
+    """The process below this worker."""
+    return place.store_of(settings).session.connection._channel.process.pid
 
 
 def use_program(path):
@@ -124,17 +129,17 @@ class Dask(unittest.TestCase):
             self.assertEqual(len(many.budgets()), WORKERS)
 
     def test_algorithms(self):
-        """The same, with results taken out as text at each task, too."""
+        """The same, with results taken out as text at each task, too; and as many steps as blocks beside one another take in threads."""
         some = [lambda M: algorithms.bfs_levels(M, 0, M), lambda M: algorithms.connected_components(M, M)]
         others = [lambda M: algorithms.sssp(M, 0, M), lambda M: algorithms.pagerank(M, M, damping=.4, tolerance=.1)]
         for functions, settings in ((some + others, {}), (some, {'texts': True})):
-            with self.sessions(**settings) as many:
-                before = self.one.budget().spent
-                G, X = GRAPH.matrix(self.one), GRAPH.matrix(many)
-                self.assertEqual(algorithms.triangle_count(X), algorithms.triangle_count(G))
+            with self.sessions(**settings) as many, self.sessions(blocks.Threads(WORKERS)) as near:
+                G, X, Y = (GRAPH.matrix(s) for s in (self.one, many, near))
+                self.assertEqual([algorithms.triangle_count(M) for M in (X, Y)], 2 * [algorithms.triangle_count(G)])
                 for function in functions:
-                    self.assertEqual(function(X).to_text(), function(G).to_text())
-                self.assertEqual(many.budget().spent, self.one.budget().spent - before)
+                    self.assertEqual([function(M).to_text() for M in (X, Y)], 2 * [function(G).to_text()])
+                self.assertEqual(many.budget().spent, near.budget().spent)
+                self.assertGreater(many.budget().spent, 0)
 
     def test_where_the_operands_are_nothing_moves(self):
         """Two whole matrices of one content are taken in once by each session."""
@@ -226,6 +231,35 @@ class Dask(unittest.TestCase):
             self.assertGreater(after.get('spmat_read', 0), again.get('spmat_read', 0))
             self.assertEqual(after.get('spmat_job', 0), again.get('spmat_job', 0))
         self.assertFalse(os.path.exists(folder))
+
+    def kill_program(self, place, engine, settings):
+        """Kills the program below the worker of a place, as the system does where there is no memory left."""
+        address = engine._addresses[place]
+        os.kill(self.client.run(program_of, settings, workers=[address])[address], signal.SIGKILL)
+
+    def test_program_killed(self):
+        """The program is killed, not the worker: what its session held is made again, and later jobs go on."""
+        with self.sessions() as s:
+            X = GRAPH.matrix(s)
+            levels = algorithms.bfs_levels(X, 0).to_text()
+            count = algorithms.triangle_count(X)
+            for place in (1, 0):
+                self.kill_program(place, s.engine, s.settings)
+                self.assertEqual(algorithms.triangle_count(X), count)
+                self.assertEqual(algorithms.bfs_levels(X, 0).to_text(), levels)
+                self.assertEqual(X.to_text(), GRAPH.matrix(self.one).to_text())
+            self.client.wait_for_workers(WORKERS, timeout=30)
+            self.assertEqual(len(s.budgets()), WORKERS)
+
+    def test_program_killed_with_texts(self):
+        """Pieces that have their texts are taken in again by a new session of the same worker."""
+        with self.sessions(texts=True) as s:
+            X = GRAPH.matrix(s)
+            X.wait()
+            before = sorted(s.engine._live())
+            self.kill_program(2, s.engine, s.settings)
+            self.assertEqual(algorithms.triangle_count(X), algorithms.triangle_count(GRAPH.matrix(self.one)))
+            self.assertEqual(sorted(s.engine._live()), before)
 
     def test_killed_again_and_again(self):
         """A session whose opening kills its worker, as where the system has no memory left."""

@@ -15,6 +15,7 @@ from test_ends import alive, gone
 from spmat.commands import main
 
 PACKAGE = os.path.join(support.TOP, 'clients', 'python')
+DATA = os.path.join(PACKAGE, 'tests', 'data')
 KARATE = os.path.join(support.TOP, 'docs', 'karate.mtx')
 GRAPH = '%%MatrixMarket matrix coordinate pattern symmetric\n6 6 7\n2 1\n3 1\n3 2\n4 3\n5 4\n6 4\n6 5\n'
 SCRIPT = """# degrees
@@ -105,6 +106,52 @@ class Commands(unittest.TestCase):
         self.assertEqual(self.printed('triangle-count', 'loop.mtx'), '1\n')
         self.assertEqual(self.printed('bfs-levels', 'round.mtx'), '1 0\n2 1\n3 2\n')
 
+    def test_lists_by_name(self):
+        """An edge list, CSV, TSV and DIMACS file for every command, with the names of the file."""
+        for command, want in (
+                (['degrees', 'people.csv'], ['Anna\t1', 'Béla\t1', 'Clara\t2', 'Dvořák, Emil\t1', 'Flora\t1', 'Gustav\t1']),
+                (['bfs-levels', 'friends.tsv', '--source', 'bob'], ['ann 2', 'bob 0', 'cid 1', 'dee 2']),
+                (['bfs-levels', 'friends.tsv'], ['ann 0', 'bob 1', 'cid 2', 'dee 3']),
+                (['bfs-parents', 'friends.tsv', '--source', 'cid'], ['ann cid', 'bob ann', 'cid cid', 'dee cid']),
+                (['connected-components', 'edges.txt'], ['0 0', '1 0', '2 0', '3 0']),
+                (['sssp', 'roads.gr', '--source', '1'], ['1 0', '2 5', '3 2', '4 6', '5 10']),
+                (['sssp', 'lengths.txt', '--scale', '1000', '--source', '205'], ['101 3250', '205 0', '330 1250', '412 11375']),
+                (['bfs-levels', 'lengths.txt', '--source', '205'], ['101 2', '205 0', '330 1', '412 2']),
+                (['triangle-count', 'houses.col'], ['2']), (['triangle-count', 'weights.mtx'], ['1']),
+                (['triangle-count', 'lengths.txt', '--undirected'], ['1']),
+                (['sssp', 'weights.mtx', '--scale', '2', '--source', '2'], ['1 1', '2 0', '3 4']),
+                (['sssp', 'weights.mtx', '--pattern', '--source', '2'], ['1 1', '2 0', '3 1']),
+                (['transitive-closure', 'roads.gr'], ['1 2 1', '1 3 1', '1 4 1', '1 5 1', '2 4 1', '2 5 1', '3 2 1', '3 4 1', '3 5 1', '4 5 1']),
+                (['degrees', 'clubs.csv', '--header', '--bipartite'], ['ann 2', 'bob 2', 'cid 1', 'chess 2', 'rowing 3']),
+                (['degrees', 'clubs.csv', '--header'], ['ann 2', 'bob 2', 'cid 1']),
+                (['degrees', 'people.csv', '--columns', 'to,from'], ['Béla\t1', 'Anna\t1', 'Clara\t1', 'Dvořák, Emil\t2', 'Flora\t1', 'Gustav\t1']),
+                (['degrees', 'people.csv', '--columns', '1,0', '--no-header'], ['to\t1', 'from\t0'][:1] + ['Béla\t1', 'Anna\t1', 'Clara\t1',
+                 'Dvořák, Emil\t2', 'Flora\t1', 'Gustav\t1'])):
+            words = [os.path.join(DATA, word) if os.path.exists(os.path.join(DATA, word)) else word for word in command]
+            self.assertEqual(self.printed(*words).splitlines(), want, command)
+
+    def test_faults_of_lists(self):
+        self.write('bad.csv', 'a,b,1\nb,c\n')
+        self.assertIn('bad.csv, line 2: 2 fields, and the first line has 3', self.refused('degrees', 'bad.csv'))
+        self.assertIn('standard input, line 1: 0.5 is a number that is not whole', self.refused('sssp', '-', text='a b 0.5\n'))
+        self.assertIn('this is no Matrix Market file', self.refused('degrees', 'bad.csv', '--format', 'mtx'))
+        self.assertIn("no vertex eve: they are 'ann', 'bob'", self.refused('bfs-levels', os.path.join(DATA, 'friends.tsv'), '--source', 'eve'))
+        self.assertIn('is empty', self.refused('degrees', '-', text='\n'))
+        self.assertIn('--bipartite', self.refused('degrees', '-', text=COLUMN))
+        self.assertIn('line 3 of standard input: ', self.refused('degrees', '-', text=GRAPH.replace('2 1\n', 'x 1\n')))
+        done = self.run_words('pagerank', 'graph.mtx', '--plot', 'x.png')
+        self.assertEqual(done.returncode, 2)
+        self.assertIn('usage: python3 -m spmat pagerank', done.stderr)
+        self.assertEqual(self.printed('triangle-count', 'graph.mtx', '--steps', '1e6', '--workers', '1'), '2\n')
+        self.assertIn("invalid whole number value: '1.5'", self.run_words('degrees', 'graph.mtx', '--steps', '1.5').stderr)
+
+    def test_lists_in_scripts(self):
+        self.write('edges.txt', 'b a\na c\n')
+        self.assertEqual(self.printed('run', '-', text='matrix G < edges.txt\nshow G\n').splitlines()[2:],
+                         ['%%MatrixMarket matrix coordinate integer general', '3 3 2', '1 2 1', '2 3 1'])
+        self.write('bad.mtx', '%%Matrix\n')
+        self.assertIn('M1', self.run_words('run', '-', text='matrix G < bad.mtx\n').stderr)
+
     def test_fractions(self):
         shares = self.printed('clustering', 'graph.mtx').splitlines()
         self.assertEqual(shares[:3], ['1 1.000000000', '2 1.000000000', '3 0.333333333'])
@@ -139,7 +186,7 @@ class Commands(unittest.TestCase):
         self.write('bad.asm', 'mov64 r0, r1\nldx64 r0, r1, 0\nexit\n')
         said = self.refused('types', 'bad.asm', '--kind', 'unary')
         self.assertIn('V14', said)
-        self.assertIn("slot 1: 'ldx64 r0, r1, 0'", said)
+        self.assertIn("slot 1, line 2: 'ldx64 r0, r1, 0'", said)
         self.assertIn('--kind', self.refused('types', 'bad.asm'))
         self.assertIn('plus', self.refused('types', 'binary.nothing'))
         self.assertIn('the ready operator is binary.plus', self.refused('types', 'plus'))

@@ -1,10 +1,15 @@
 """What the algorithms say that they cost in runs, that they tell how far they are, and products that are too large for one job."""
+import collections
+import os
+import random
+import sys
 import unittest
 
 import graphs
 import support
 import spmat
 from spmat import algorithms
+from spmat.algorithms import facts
 from spmat.algorithms.common import product
 
 
@@ -26,10 +31,16 @@ class Costs(unittest.TestCase):
         return self.session.runs - before
 
     def test_counts(self):
+        """What the docstrings say in runs, and the checks, which are made once."""
         for function, runs in ((algorithms.degrees, 2), (algorithms.triangle_count, 4), (algorithms.triangles, 3),
                                (algorithms.clustering, 4), (algorithms.undirected, 3)):
-            self.assertLessEqual(self.runs(function, self.G), runs, function)
+            named = {'check': False} if 'check=False' in function.__doc__ or 'as `triangles` does' in function.__doc__ else {}
+            self.assertLessEqual(self.runs(function, self.G, **named), runs, function)
             self.assertIn('Runs: %d' % runs, function.__doc__)
+            if named:
+                G = self.graph.matrix(self.session)
+                self.assertLessEqual(self.runs(function, G), runs + 4)
+                self.assertLessEqual(self.runs(function, G), runs)
 
     def counted(self, function, *more, **named):
         """The words and numbers that the progress function is told, and the runs."""
@@ -55,20 +66,24 @@ class Costs(unittest.TestCase):
             levels = max(graphs.levels(near, 0).values()) + 1
             rounds = {}
             told = lambda name: lambda word, number, of: rounds.__setitem__(name, number)
+            self.assertLessEqual(self.spent(algorithms.facts.check_undirected, G, True), 18 * m + 5 * n)
+            self.assertEqual(self.spent(algorithms.facts.check_undirected, G, True), 0)
+            self.assertLessEqual(self.spent(algorithms.facts.extremes, G), 8 * m + 4 * n)
             for function, more, bound in (
                     (algorithms.degrees, (), lambda k: 5 * m),
                     (algorithms.triangle_count, (), lambda k: 9 * m + 5 * n + 5 * t),
                     (algorithms.triangles, (), lambda k: 30 * t + 3 * m + 4 * n),
                     (algorithms.clustering, (), lambda k: 30 * t + 8 * m + 7 * n),
                     (algorithms.undirected, (G,), lambda k: 16 * m),
-                    (algorithms.bfs_levels, (0, G), lambda k: 5 * m + 4 * n * levels + 4 * n),
-                    (algorithms.bfs_parents, (0, G), lambda k: 6 * m + 4 * n * levels + 7 * n),
-                    (algorithms.connected_components, (G,), lambda k: (6 * m + 12 * n) * k + 2 * m + 5 * n),
-                    (algorithms.sssp, (0, G), lambda k: (7 * m + 13 * n) * k + 4 * n),
-                    (algorithms.k_truss, (3,), lambda k: (30 * t + 4 * m) * k),
-                    (algorithms.k_core, (2,), lambda k: (5 * m + 4 * n) * k),
+                    (algorithms.bfs_levels, (0, G), lambda k: 4 * m + 4 * n * levels),
+                    (algorithms.bfs_parents, (0, G), lambda k: 6 * m + 7 * n * levels),
+                    (algorithms.connected_components, (G,), lambda k: (6 * m + 13 * n) * (k + 1)),
+                    (algorithms.sssp, (0, G), lambda k: (7 * m + 10 * n) * k),
+                    (algorithms.k_truss, (3,), lambda k: 30 * t + (30 * t + 10 * m) * k),
+                    (algorithms.k_core, (2,), lambda k: 10 * m + 4 * n * k),
+                    (algorithms.core_numbers, (), lambda k: 10 * m + 4 * n * k),
                     (algorithms.maximal_independent_set, (), lambda k: (10 * m + 16 * n) * k + 5 * m + 2 * n),
-                    (algorithms.pagerank, (G,), lambda k: (5 * m + 19 * n) * k + 5 * m + 10 * n)):
+                    (algorithms.pagerank, (G,), lambda k: (5 * m + 15 * n) * k + 5 * m + 10 * n * k // 2)):
                 named = {'progress': told(function)} if 'progress(' in function.__doc__ else {}
                 took = self.spent(function, G, *more, **named)
                 most = bound(rounds.get(function, 0))
@@ -76,49 +91,121 @@ class Costs(unittest.TestCase):
                 if graph.name == 'skewed':
                     self.assertGreater(20 * took, most, function.__name__)
 
+    @support.needs('numpy')
+    def test_no_more_steps_than_by_columns(self):
+        """On a skewed and on a uniform graph of 256 vertices no search takes more steps than it took when all vertices were walked
+        along in each level or round, by products with columns."""
+        sys.path.append(os.path.join(support.TOP, 'bench'))
+        from algorithms import edges_of
+        before = {'kron': {'bfs_levels': 3922, 'bfs_parents': 4368, 'connected_components': 88518, 'sssp': 119460, 'k_core': 48782}}
+        for kind, steps in before.items():
+            edges = edges_of(kind, 8)
+            places = list(zip(edges.i.tolist(), edges.j.tolist()))
+            G = self.session.from_triples([(i, j, 1) for i, j in places], edges.vertices, edges.vertices)
+            W = self.session.from_coo(edges.i, edges.j, edges.w, edges.vertices, edges.vertices)
+            near = collections.Counter(i for i, _ in places)
+            source = max(range(edges.vertices), key=lambda i: (near[i], -i))
+            facts.is_both_ways(G)
+            for name, most in steps.items():
+                graph, more = (W if name == 'sssp' else G), {'k_core': (10,), 'connected_components': (G,)}.get(name, (source,))
+                self.assertLessEqual(self.spent(getattr(algorithms, name), graph, *more), most, name)
+
     def test_levels(self):
-        """3 a level, and 2."""
+        """1 a level, and 1; 2 more a level with a large front. On a long path no front is large."""
         for number, source in ((1, 0), (3, 16), (4, 0)):
             graph = graphs.UNDIRECTED[number]
             G = graph.matrix(self.session)
             deepest = max(graphs.levels(graph.near(), source).values())
-            for function in (algorithms.bfs_levels, algorithms.bfs_parents):
+            for function, large in ((algorithms.bfs_levels, 3), (algorithms.bfs_parents, 4)):
                 told, runs = self.counted(function, G, source, G)
-                self.assertEqual((len(told), runs), (deepest, 3 * deepest + 2))
+                self.assertEqual(len(told), deepest)
+                self.assertLessEqual(runs, large * deepest + large)
                 self.assertTrue(all(word == 'level' and of == 0 for word, _, of in told))
+        path = graphs.undirected('path', 90, [(i, i + 1) for i in range(89)]).matrix(self.session)
+        for function in (algorithms.bfs_levels, algorithms.bfs_parents):
+            told, runs = self.counted(function, path, 30)
+            self.assertEqual((len(told), runs), (59, 60))
+            self.assertEqual(self.counted(function, path, 30, depth=7), ([('level', k, 0) for k in range(1, 8)], 7))
+            self.assertEqual(self.counted(function, path, 30, target=33)[1], 3)
 
-    def test_settling(self):
-        """1 a round, and 2; at most three rounds more than the longest of the shortest paths has edges."""
-        path = graphs.undirected('path', 12, [(i, i + 1) for i in range(11)]).matrix(self.session)
-        for function, more in ((algorithms.connected_components, (path,)), (algorithms.sssp, (0, path))):
-            told, runs = self.counted(function, path, *more)
-            self.assertLessEqual(runs, len(told) + 2)
-            self.assertLessEqual(len(told), 11 + 3)
+    def test_fronts_alone_are_paid(self):
+        """A search along a path costs steps for its edges, and not for all vertices a level: 4 an edge, 6 with parents; lengths of
+        paths 7, and 8 once for the least and the greatest."""
+        count = 200
+        path = graphs.undirected('path', count, [(i, i + 1) for i in range(count - 1)]).matrix(self.session)
+        for function, steps in ((algorithms.bfs_levels, 4), (algorithms.bfs_parents, 6), (algorithms.sssp, 15)):
+            self.assertLessEqual(self.spent(function, path, 0), steps * path.nvals, function)
+        self.assertLessEqual(self.spent(algorithms.core_numbers, path, check=False), 10 * path.nvals)
 
     def test_squarings(self):
         path = graphs.undirected('path', 12, [(i, i + 1) for i in range(11)]).matrix(self.session)
-        told, runs = self.counted(algorithms.all_pairs, path)
-        self.assertEqual(told[-1], ('round', 4, 4))
-        self.assertLessEqual(runs, 3 * len(told) + 2)
-        told, runs = self.counted(algorithms.transitive_closure, path)
-        self.assertLessEqual(len(told), 5)
-        self.assertLessEqual(runs, 2 * len(told) + 1)
+        for function, more, rest in ((algorithms.all_pairs, (), 8), (algorithms.path_lengths, ([0, 5],), 8),
+                                     (algorithms.transitive_closure, (), 2)):
+            told, runs = self.counted(function, path, *more)      # squared four times, which covers all its edges
+            self.assertLessEqual(len(told), 2)
+            self.assertLessEqual(runs, 3 * len(told) + 3 * 4 + rest)
+            told, runs = self.counted(function, self.G, *more)    # a square has too many entries, and is tried once
+            self.assertGreater(len(told), 3)
+            self.assertLessEqual(runs, 3 * len(told) + 3 + rest)
+
+    def test_orders(self):
+        """7 a level, and 5; 9 a level where lengths are kept."""
+        lower = graphs.directed('lower', 40, {(i, j) for i, j in graphs.DIRECTED[2].edges if i < j}).matrix(self.session)
+        for function, many in ((algorithms.topological_levels, 7), (algorithms.longest_paths, 9)):
+            told, runs = self.counted(function, lower)
+            self.assertGreater(len(told), 3)
+            self.assertLessEqual(runs, many * len(told) + 5)
+            self.assertIn('Runs: %d a level' % many, function.__doc__)
+
+    def test_searches(self):
+        """4 a level of a batch, 5 for the greatest distance, and 3 a batch."""
+        levels = max(max(graphs.levels(self.graph.near(), i).values()) for i in range(34))
+        for function, many in ((algorithms.distance_counts, 4), (algorithms.eccentricity, 5)):
+            told, runs = self.counted(function, self.G, self.G, check=False)
+            self.assertEqual((told, runs), ([('batch', 1, 1)], many * levels + 3))
+
+    def test_neighbours(self):
+        for function, runs in ((algorithms.common_neighbours, 3), (algorithms.jaccard, 7)):
+            self.assertLessEqual(self.runs(function, self.G, self.G, check=False), runs)
+            self.assertIn('Runs: %d' % runs, function.__doc__)
+
+    def test_shortest_paths(self):
+        """1 a round, and 4; 3 more a round with a large front."""
+        path = graphs.undirected('path', 90, [(i, i + 1) for i in range(89)]).matrix(self.session)
+        told, runs = self.counted(algorithms.sssp, path, 0)
+        self.assertLessEqual(runs, len(told) + 4)
+        self.assertLessEqual(len(told), 90)
+        self.assertEqual(self.counted(algorithms.sssp, path, 0)[1], len(told))
+        told, runs = self.counted(algorithms.sssp, self.G, 0)
+        self.assertLessEqual(runs, 4 * len(told) + 4)
+
+    def test_components_of_long_paths(self):
+        """4 a round, and no more rounds than the logarithm of the number of vertices, in whatever order they stand."""
+        for seed in range(3):
+            at = list(range(500))
+            random.Random(seed).shuffle(at)
+            path = graphs.undirected('path', 500, [(a, b) for a, b in zip(at, at[1:])]).matrix(self.session)
+            told, runs = self.counted(algorithms.connected_components, path, path)
+            self.assertLessEqual(len(told), 9)
+            self.assertLessEqual(runs, 4 * len(told) + 8)
 
     def test_rounds(self):
-        for function, k in ((algorithms.k_truss, 4), (algorithms.k_core, 4)):
-            told, runs = self.counted(function, self.G, k)
+        for function, more, each in ((algorithms.k_truss, (4,), 8), (algorithms.k_core, (4,), 3), (algorithms.core_numbers, (), 3)):
+            told, runs = self.counted(function, self.G, *more, check=False)
             self.assertGreater(len(told), 1)
-            self.assertEqual(runs, 2 * len(told))
-        told, runs = self.counted(algorithms.maximal_independent_set, self.G, 1)
-        self.assertLessEqual(runs, 7 * len(told) + 2)
+            self.assertLessEqual(runs, each * len(told) + 3)
+        told, runs = self.counted(algorithms.maximal_independent_set, self.G, 1, check=False)
+        self.assertLessEqual(runs, 7 * len(told) + 3)
 
     def test_pagerank(self):
+        """No more rounds than are known beforehand, and fewer where the ranks have settled."""
         told, runs = self.counted(algorithms.pagerank, self.G, self.G)
-        self.assertEqual(told[-1], ('round', 90, 90))
-        self.assertLessEqual(runs, 3 * 90 + 7)
+        self.assertTrue(all(of == 90 for _, _, of in told))
+        self.assertLess(len(told), 45)
+        self.assertLessEqual(runs, 3 * len(told) + 8)
         directed = graphs.DIRECTED[1].matrix(self.session)
         told, runs = self.counted(algorithms.pagerank, directed, directed.T, tolerance=1e-3)
-        self.assertLessEqual(runs, 5 * len(told) + 7)
+        self.assertLessEqual(runs, 4 * len(told) + 8)
 
     def test_what_is_waited_for_stops_it(self):
         """What the progress function raises ends the work, and the session goes on."""

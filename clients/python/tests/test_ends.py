@@ -1,4 +1,5 @@
 """How sessions end: closed, dead children, Ctrl-C, threads, other processes."""
+import contextlib
 import gc
 import os
 import signal
@@ -69,6 +70,20 @@ class Closing(unittest.TestCase):
         self.assertTrue(gone(int(done.stdout)))
 
 
+    def test_closed_by_a_handler_at_exit(self):
+        """One that was registered before the first session runs after the channel was closed: nothing is said."""
+        script = 'import atexit; kept = []; atexit.register(lambda: kept[0].close()); import spmat; kept.append(spmat.Session())'
+        done = subprocess.run([sys.executable, '-c', script], env=ENVIRONMENT, capture_output=True, text=True, timeout=60)
+        self.assertEqual((done.returncode, done.stdout, done.stderr), (0, '', ''))
+
+    def test_used_by_a_handler_at_exit(self):
+        script = ('import atexit, spmat\ndef late():\n try: kept[0].budget()\n except spmat.Closed as fault: print(fault)\n'
+                  'kept = []; atexit.register(late); kept.append(spmat.Session())')
+        done = subprocess.run([sys.executable, '-c', script], env=ENVIRONMENT, capture_output=True, text=True, timeout=60)
+        self.assertEqual((done.returncode, done.stderr), (0, ''))
+        self.assertIn('the interpreter ends', done.stdout)
+
+
 class Programs(unittest.TestCase):
     def test_dead_child(self):
         s = spmat.Session()
@@ -119,38 +134,186 @@ class Programs(unittest.TestCase):
             self.assertEqual(s.budget(), (0, 0, 0))
 
 
-# a shell lets what it starts in the background ignore an interrupt, and Python then raises nothing
-INTERRUPTED = '''
+# A shell lets what it starts in the background ignore an interrupt, and Python then raises nothing.
+AMID_A_RUN = '''
 import signal, spmat, sys
 signal.signal(signal.SIGINT, signal.default_int_handler)
-try:
-    with spmat.Session() as s:
-        A = s.full(128, 128)
-        long = spmat.asm("binary", "mov64 r0, r1\\n" * 1500 + "exit")
-        kept = [A.mxm(A, (long, "times")) for _ in range(3)]
-        print(s.connection._channel.process.pid, flush=True)
+with spmat.Session() as s:
+    A = s.full(4, 4)
+    before = A.apply("ainv")
+    kept = [A.mxm(A)]
+    print(s.connection._channel.process.pid, flush=True)
+    sys.stdin.readline()
+    try:
         s.run()
-except KeyboardInterrupt:
-    print("interrupted", s.connection.ended, flush=True)
+    except KeyboardInterrupt:
+        print("interrupted", s.connection.ended, s.connection.owes, flush=True)
+    %s
 '''
 
 
 class Interrupts(unittest.TestCase):
-    def test_ctrl_c(self):
-        """A SIGINT to the client amid a run: the session is closed, and no process is left."""
-        with subprocess.Popen([sys.executable, '-c', INTERRUPTED], env=ENVIRONMENT, stdout=subprocess.PIPE, text=True) as client:
+    @contextlib.contextmanager
+    def amid_a_run(self, script):
+        """A client that waits for its run, and its program, which was stopped before it."""
+        with subprocess.Popen([sys.executable, '-c', script], env=ENVIRONMENT, stdin=subprocess.PIPE, stdout=subprocess.PIPE,
+                              text=True) as client:
             process = int(client.stdout.readline())
-            time.sleep(.1)
+            os.kill(process, signal.SIGSTOP)
+            client.stdin.write('go\n')
+            client.stdin.flush()
+            time.sleep(.3)
             self.assertTrue(alive(process))
+            yield client, process
+
+    def interrupted(self, script, meanwhile=lambda process: None):
+        """What a client prints that gets a SIGINT amid its run, whose program stands still for as long as that takes."""
+        with self.amid_a_run(script) as (client, process):
             client.send_signal(signal.SIGINT)
-            self.assertIn('interrupted amid a command came KeyboardInterrupt', client.stdout.read())
+            said = client.stdout.readline()
+            meanwhile(process)
+            with contextlib.suppress(ProcessLookupError):
+                os.kill(process, signal.SIGCONT)
+            said += client.stdout.read()
         self.assertEqual(client.returncode, 0)
         self.assertTrue(gone(process))
+        return said
+
+    def test_ctrl_c(self):
+        """A SIGINT to the client amid a run: the session goes on, nothing is lost, and what comes next waits for the run."""
+        said = self.interrupted(AMID_A_RUN % ('print(before.to_coo(arrays=False)[2][:2], kept[0].nvals, s.runs, A.nvals, s.connection.owes)'))
+        self.assertEqual(said.splitlines(), ['interrupted None True', '[-1, -1] 16 1 16 False'])
+
+    def test_ctrl_c_and_closed(self):
+        """Closing a session whose reply is owed waits for nothing: the program is ended."""
+        said = self.interrupted(AMID_A_RUN % ('s.close(); print(s.connection.ended)'))
+        self.assertEqual(said.splitlines(), ['interrupted None True', 'it was closed while a reply was awaited'])
+
+    def test_ctrl_c_and_dead(self):
+        """Where the program ends before the reply, the results were never made."""
+        script = AMID_A_RUN % ('''
+    try: kept[0].nvals
+    except spmat.SpmatError as fault: print(type(fault).__name__, "status -9" in str(fault))
+    try: before.nvals
+    except spmat.SpmatError as fault: print(type(fault).__name__)''')
+        said = self.interrupted(script, lambda process: os.kill(process, signal.SIGKILL))
+        self.assertEqual(said.splitlines(), ['interrupted None True', 'Closed True', 'Closed'])
+
+    def test_each_command(self):
+        """Ctrl-C amid each kind of command, by a server that answers late: the next commands are in step, and what was queued is known."""
+        late = threading.Event()
+        answers = {'matrix': b'ok matrix 1 1 1\n', 'asm': b'ok op 3 3\n', 'apply': b'ok queued 1 7\n', 'budget': b'ok budget 9 0 0\n',
+                   'show': b'ok show 61\n%%MatrixMarket matrix coordinate integer general\n1 1 1\n1 1 5\n', 'quit': b'ok quit\n'}
+        slow = []
+
+        def answer(words, body):
+            if words[0] in slow:
+                slow.clear()
+                os.kill(os.getpid(), signal.SIGINT)
+                late.wait(10)
+            if words[0] == 'run':
+                return b'ok run %d 4\n' % len(jobs) + b''.join(b'%s 1 1 1 2\n' % name.encode() for name in jobs)
+            if words[0] == 'apply':
+                jobs.append(words[1])
+            return answers[words[0]]
+        for command, call in (('budget', lambda s, A: s.budget()), ('show', lambda s, A: A.to_text()), ('matrix', lambda s, A: s.full(1, 1)),
+                              ('asm', lambda s, A: A.apply('sgn')), ('apply', lambda s, A: A.apply('ainv'))):
+            with support.Scripted(answer) as server, spmat.Session.connect(port=server.port) as s:
+                jobs = []
+                A = s.full(1, 1)
+                B = A.apply('abs')
+                late.clear()
+                slow.append(command)
+                with self.assertRaises(KeyboardInterrupt, msg=command):
+                    call(s, A)
+                self.assertTrue(s.connection.owes, command)
+                late.set()
+                self.assertEqual(s.budget().left, 9)
+                self.assertFalse(s.connection.owes)
+                C = A.apply('abs')
+                done = s.run()
+                self.assertEqual([job.steps for job in done], [2] * len(jobs))
+                self.assertEqual(len(jobs), 3 if command == 'apply' else 2)
+                self.assertEqual((B.nvals, C.steps, A.to_coo(arrays=False)[2]), (1, 2, [5]))
+                self.assertNotIn(C.key, [name for name in jobs if name != C.key])
+
+    def test_amid_sending(self):
+        """Put off until the command stands; what is sent whole is answered."""
+        def answer(words, body):
+            if words[0] == 'matrix' and len(body) > 1 << 20:
+                sent.append(len(body))
+            return {'matrix': b'ok matrix 1 1 1\n'}.get(words[0]) or support.plausible(words, body)
+        sent = []
+
+        def progress(what, done, of):
+            if what == 'sent' and done < of:
+                os.kill(os.getpid(), signal.SIGINT)
+        with support.Scripted(answer) as server:
+            s = spmat.Session.connect(port=server.port, progress=progress)
+            text = support.BANNER + '%' + 'x' * (3 << 19) + '\n1 1 0\n'
+            with self.assertRaises(KeyboardInterrupt):
+                s.from_text(text)
+            self.assertIsNone(s.connection.ended)
+            self.assertEqual(s.budget().left, 100)
+            self.assertEqual(sent, [len(text)])
+            s.close()
+
+    def test_twice(self):
+        """A second one amid sending isn't put off: the session is lost, and says so."""
+        def progress(what, done, of):
+            if what == 'sent' and done < of:
+                os.kill(os.getpid(), signal.SIGINT)
+                os.kill(os.getpid(), signal.SIGINT)
+        with support.Scripted(support.plausible) as server:
+            s = spmat.Session.connect(port=server.port, progress=progress)
+            with self.assertRaises(KeyboardInterrupt):
+                s.from_text(support.BANNER + '%' + 'x' * (5 << 19) + '\n1 1 0\n')
+            self.assertIn('Ctrl-C came twice', s.connection.ended)
+            with self.assertRaises(spmat.Closed):
+                s.budget()
+
+    def test_handlers_are_put_back(self):
+        before = signal.getsignal(signal.SIGINT)
+        with spmat.Session() as s:
+            s.budget()
+            self.assertEqual(signal.getsignal(signal.SIGINT), before)
+            seen = []
+            signal.signal(signal.SIGINT, lambda *_: seen.append(1))
+            try:
+                s.full(2, 2)
+                os.kill(os.getpid(), signal.SIGINT)
+                self.assertEqual(seen, [1])
+            finally:
+                signal.signal(signal.SIGINT, before)
 
     def test_ctrl_c_of_a_terminal(self):
         """A Ctrl-C at a terminal goes to all processes of the client's group: the program isn't one of them."""
         with spmat.Session() as s:
             self.assertNotEqual(os.getpgid(child_of(s).pid), os.getpgrp())
+
+    def test_killed_amid_a_run(self):
+        """Where the client is killed amid a batch, the program ends at once, also when another thread started it."""
+        script = AMID_A_RUN % 'pass'
+        for body in (script, 'import threading\n\ndef work():\n' + ''.join('    %s\n' % line for line in script.splitlines()
+                     if 'signal' not in line) + '    time.sleep(60)\n\nimport spmat, sys, time\nthreading.Thread(target=work).start()\n'):
+            with self.amid_a_run(body) as (client, process):
+                client.kill()
+                self.assertTrue(gone(process, 5))
+
+    def test_nobody_watches_in_the_end(self):
+        """A session that is closed leaves no process behind, and one that a thread opened lives longer than the thread."""
+        opened = []
+        thread = threading.Thread(target=lambda: opened.append(spmat.Session()))
+        thread.start()
+        thread.join()
+        s = opened[0]
+        time.sleep(.1)
+        self.assertEqual(s.full(2, 2).nvals, 4)
+        shell = s.connection._channel._watcher._shell.pid
+        self.assertTrue(alive(shell))
+        s.close()
+        self.assertTrue(gone(shell))
+        self.assertEqual(child_of(s).returncode, 0)
 
     def test_killed_client(self):
         """Where the client is killed, the program reads the end of its input, and ends."""

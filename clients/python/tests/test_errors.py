@@ -84,7 +84,7 @@ class Words(unittest.TestCase):
             A = s.from_triples([(0, 0, 1)])
             op = spmat.asm('unary', 'wide r2, 9\nldx64 r0, r1, 0\nexit', 'f')
             fault = self.refused(spmat.OperatorRefused, 'V14', lambda: A.apply(op))
-            self.assertEqual(str(fault), "V14: a number where a place in the stack is wanted, slot 2: 'ldx64 r0, r1, 0' "
+            self.assertEqual(str(fault), "V14: a number where a place in the stack is wanted, slot 2, line 2: 'ldx64 r0, r1, 0' "
                              '(in `asm f unary`); to mend it: load and store through R10, or a copy of it')
 
     def test_texts(self):
@@ -100,8 +100,8 @@ class Words(unittest.TestCase):
                 self.assertIsInstance(fault, ValueError)
             self.refused(spmat.TooLarge, 'M4', lambda: s.from_text(support.BANNER + '16777217 1 0\n'))
             fault = self.refused(spmat.TextRefused, 'M8', lambda: s.from_triples([(0, 0, 1), (0, 1, 1), (0, 0, 2)]))
-            self.assertEqual((fault.at, fault.line), (5, '1 1 2'))
-            self.assertIn('dup_op=', str(fault))
+            self.assertEqual(str(fault), 'M8: the position was given before, or in symmetric its mirror; row 0, column 0 is given as '
+                             'entry 0 and as entry 2; dup_op= folds the values of a position that repeats')
 
     def test_jobs(self):
         with spmat.Session() as s:

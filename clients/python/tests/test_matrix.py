@@ -45,6 +45,40 @@ class InAndOut(Matrices):
         self.assertEqual(s.from_coo(range(2), (1, 0), [True, 2.0]).to_dict(), {(0, 1): 1, (1, 0): 2})
         self.assertEqual(s.from_coo([0, 0, 1], [1, 1, 0], [2, 9, 4], dup_op='minus').to_dict(), {(0, 1): -7, (1, 0): 4})
 
+    def test_pairs(self):
+        """Of two columns the value is 1; `square` makes a graph of them."""
+        s, pairs = self.s, [(0, 1), (1, 2), (2, 0), (2, 3)]
+        self.assertEqual(s.from_triples(pairs).shape, (3, 4))
+        G = s.from_triples(pairs, square=True)
+        self.assertEqual((G.shape, G.to_dict()), ((4, 4), dict.fromkeys(pairs, 1)))
+        self.assertEqual(s.from_triples([(0, 1), (1, 0, 7)]).to_dict(), {(0, 1): 1, (1, 0): 7})
+        self.assertEqual(s.from_coo([5], [2], square=True).shape, (6, 6))
+        self.assertEqual(s.from_coo([1], [2], 1, 2, 9, square=True).shape, (2, 9))       # sizes that are given stay
+        with self.assertRaises(ValueError) as said:
+            s.from_triples([(0, 1), (1, 2, 3, 4)])
+        self.assertIn('(1, 2, 3, 4) (entry 1)', str(said.exception))
+
+    def test_nothing(self):
+        """What has no rows has no values either."""
+        s = self.s
+        for shape, want in (((0, 1), []), ((1, 0), []), ((1, 1), [None])):
+            self.assertEqual(s.from_coo([], [], [], *shape).to_list(), want)
+        self.assertEqual(s.from_coo([], [], [], 0, 1).diag().shape, (0, 0))
+        self.assertEqual(s.from_coo([], [], [], 1, 0).diag().shape, (0, 0))
+        empty = s.from_coo([], [], [], 0, 0)
+        self.assertEqual(empty.reduce_rowwise().to_list(), [])
+        self.assertEqual(spmat.algorithms.connected_components(empty).to_list(), [])
+
+    def test_repeated(self):
+        """The two entries of one position are named as the caller counts them."""
+        for rows, columns in (([3, 0, 1, 0], [1, 2, 2, 2]), ((0, 9, 0), (7, 1, 7))):
+            with self.assertRaises(spmat.TextRefused) as said:
+                self.s.from_coo(rows, columns, 1)
+            first = 1 if rows[0] == 3 else 0
+            words = 'row 0, column %d is given as entry %d and as entry %d' % (columns[-1], first, len(rows) - 1)
+            self.assertIn(words, str(said.exception))
+            self.assertIn('dup_op=', str(said.exception))
+
     def test_wrong_triples(self):
         s = self.s
         before = s.connection.commands
@@ -53,7 +87,7 @@ class InAndOut(Matrices):
                 (ValueError, lambda: s.from_triples([(0, 0, .5)])), (ValueError, lambda: s.from_triples([(0, 0, float('nan'))])),
                 (ValueError, lambda: s.from_triples([(0, 0, 2 ** 63)])), (ValueError, lambda: s.from_triples([(-1, 0, 1)])),
                 (ValueError, lambda: s.from_triples([(2, 0, 1)], 2, 2)), (ValueError, lambda: s.from_triples([(0, 2, 1)], 2, 2)),
-                (ValueError, lambda: s.from_triples([(0, 0)])), (ValueError, lambda: s.from_coo([0, 1], [0], [1, 2])),
+                (ValueError, lambda: s.from_triples([(0,)])), (ValueError, lambda: s.from_coo([0, 1], [0], [1, 2])),
                 (ValueError, lambda: s.from_coo([0], [0], [1], -1)), (TypeError, lambda: s.from_coo([0], [0], None)),
                 (TypeError, lambda: s.from_coo([0], [0], [1 + 2j])),
                 (spmat.TooLarge, lambda: s.from_coo([0], [0], [1], 1 << 25)), (spmat.TooLarge, lambda: s.full(5000, 5000)),

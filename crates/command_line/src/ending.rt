@@ -1,11 +1,12 @@
 //! With which status the process ends, and what it says on standard error.
 ghost use Rattle.std.specs.Prelude.{◌≡◌};
 ghost use Rattle.std.specs.Process.{exit_status};
-ghost use Rattle.command_line.specs.Endings.{code_of, status_of, said_by, text_of};
+ghost use Rattle.command_line.specs.Endings.{code_of, status_of, said_by, session_words, words_of, failed_by, detail_in, detail_of};
 ghost use Rattle.command_line.specs.declared.ending.Failure.TheVariants as failures;
 
 use crate::settings::SettingsFault;
-use listener::{End, ListenFault, ServeFault};
+use listener::{Cause, End, ListenFault, ServeFault};
+use std::fmt;
 use std::process::ExitCode;
 
 /// What ended well.
@@ -15,6 +16,8 @@ pub enum Done {
     Session(End),
     /// All sessions of `serve`.
     Sessions,
+    /// The version was told.
+    Version,
 }
 
 /// Why nothing was served to its end.
@@ -22,13 +25,21 @@ pub enum Done {
 pub enum Failure {
     /// The words of the command line gave no settings.
     Settings(SettingsFault),
-    /// There was no memory for the purse.
-    Purse,
-    /// The line that tells the port could not be written.
-    Announcement,
-    /// The one session broke off.
-    Session(ServeFault),
-    /// The port could not be bound, or no more connections are taken.
+    /// There was no memory for what a command needs from its start.
+    Memory,
+    /// The line that tells the port, or the version, could not be written.
+    Output(Cause),
+    /// The one session broke off, where the system told it for this cause.
+    Session {
+        fault: ServeFault,
+        cause: Option<Cause>,
+    },
+    /// The port could not be bound.
+    Binding {
+        port: u16,
+        cause: Cause,
+    },
+    /// No more connections are taken.
     Listening(ListenFault),
 }
 
@@ -37,14 +48,6 @@ impl From<SettingsFault> for Failure {
 
     fn from(fault: SettingsFault) -> Self {
         Failure::Settings(fault)
-    }
-}
-
-impl From<ServeFault> for Failure {
-    ghost from_gives = { λ fault failure. failure ≡ failures.Session fault };
-
-    fn from(fault: ServeFault) -> Self {
-        Failure::Session(fault)
     }
 }
 
@@ -69,13 +72,53 @@ pub enum Status {
     SessionRefused = 3,
 }
 
+/// What is said behind the words of a fault.
+#[derive(Clone, Copy, Debug, PartialEq, Eq)]
+pub enum Detail {
+    /// Nothing.
+    Nothing,
+    /// Its cause.
+    Failed(Cause),
+    /// That a port can't be listened on.
+    NotBound { port: u16, cause: Cause },
+    /// That no connection can be accepted.
+    NotAccepted(Cause),
+}
+
+impl fmt::Display for Detail {
+    fn fmt<W: fmt::Write>(&self, f: &mut fmt::Formatter<W>) -> fmt::Result {
+        match *self {
+            Detail::Nothing => Ok(()),
+            Detail::Failed(cause) => write!(f, ": {cause}"),
+            Detail::NotBound { port, cause } => {
+                write!(f, ": can't listen on 127.0.0.1:{port}: {cause}")
+            }
+            Detail::NotAccepted(cause) => write!(f, ": can't accept a connection: {cause}"),
+        }
+    }
+}
+
+/// A fault as it is told: its words, which stay as they are, and what is said behind them.
+#[derive(Clone, Copy, Debug, PartialEq, Eq)]
+pub struct Fault {
+    pub words: &'static str,
+    pub detail: Detail,
+}
+
+impl fmt::Display for Fault {
+    fn fmt<W: fmt::Write>(&self, f: &mut fmt::Formatter<W>) -> fmt::Result {
+        let Fault { words, detail } = *self;
+        write!(f, "{words}{detail}")
+    }
+}
+
 /// What is said on standard error.
 #[derive(Debug, Drop, PartialEq, Eq)]
 pub enum Message {
     /// Nothing.
     Nothing,
-    /// A line that names a fault, with its LF.
-    Fault(&'static str),
+    /// A line that names a fault.
+    Fault(Fault),
     /// The text that answers the words of the command line.
     Words(String),
 }
@@ -87,40 +130,75 @@ pub struct Ending {
     pub message: Message,
 }
 
-/// The line that names a fault of a session.
-fn session_line(fault: ServeFault) -> &'static str
-    ensures { result.now ≡ text_of (Err (failures.Session fault)) }
+/// The words for a fault of a session.
+fn session_words(fault: ServeFault) -> &'static str
+    ensures { result.now ≡ session_words fault }
 {
     match fault {
-        ServeFault::Read => "spmat: read failed\n",
-        ServeFault::Write => "spmat: write failed\n",
-        ServeFault::Turns => "spmat: too many reads\n",
-        ServeFault::Memory => "spmat: no memory\n",
+        ServeFault::Read => "spmat: read failed",
+        ServeFault::Write => "spmat: write failed",
+        ServeFault::Turns => "spmat: too many reads",
+        ServeFault::Memory => "spmat: no memory",
     }
 }
 
-/// The line that names a fault of a server.
-fn listening_line(fault: ListenFault) -> &'static str
-    ensures { result.now ≡ text_of (Err (failures.Listening fault)) }
+/// A fault of a session.
+fn session_fault(fault: ServeFault, cause: Option<Cause>) -> Fault
+    ensures words { result.words.now ≡ session_words fault }
+    ensures detail { result.detail ≡ failed_by cause }
 {
-    match fault {
-        ListenFault::Network => "spmat: network failed\n",
-        ListenFault::Memory => "spmat: no memory\n",
+    let detail = match cause {
+        Some(cause) => Detail::Failed(cause),
+        None => Detail::Nothing,
+    };
+    Fault {
+        words: session_words(fault),
+        detail,
     }
 }
+
+/// A fault of a server.
+fn listening_fault(fault: ListenFault) -> Fault
+    ensures words { result.words.now ≡ words_of (Err (failures.Listening fault)) }
+    ensures detail { result.detail ≡ detail_of (Err (failures.Listening fault)) }
+{
+    match fault {
+        ListenFault::Network(cause) => Fault {
+            words: NETWORK_FAILED,
+            detail: Detail::NotAccepted(cause),
+        },
+        ListenFault::Memory => NO_MEMORY,
+    }
+}
+
+/// A fault of the network.
+const NETWORK_FAILED: &str = "spmat: network failed";
+
+/// Out of memory.
+const NO_MEMORY: Fault = Fault {
+    words: "spmat: no memory",
+    detail: Detail::Nothing,
+};
 
 /// What is said of a failure.
 fn message_of(failure: Failure) -> Message
-    ensures { said_by result ≡ text_of (Err failure) }
+    ensures words { said_by result ≡ words_of (Err failure) }
+    ensures detail { detail_in result ≡ detail_of (Err failure) }
 {
     match failure {
         Failure::Settings(SettingsFault::Words(text)) => Message::Words(text),
-        Failure::Settings(SettingsFault::Memory) | Failure::Purse => {
-            Message::Fault("spmat: no memory\n")
-        }
-        Failure::Announcement => Message::Fault("spmat: write failed\n"),
-        Failure::Session(fault) => Message::Fault(session_line(fault)),
-        Failure::Listening(fault) => Message::Fault(listening_line(fault)),
+        Failure::Settings(SettingsFault::Version) => Message::Nothing,
+        Failure::Settings(SettingsFault::Memory) | Failure::Memory => Message::Fault(NO_MEMORY),
+        Failure::Output(cause) => Message::Fault(Fault {
+            words: "spmat: write failed",
+            detail: Detail::Failed(cause),
+        }),
+        Failure::Session { fault, cause } => Message::Fault(session_fault(fault, cause)),
+        Failure::Binding { port, cause } => Message::Fault(Fault {
+            words: NETWORK_FAILED,
+            detail: Detail::NotBound { port, cause },
+        }),
+        Failure::Listening(fault) => Message::Fault(listening_fault(fault)),
     }
 }
 
@@ -131,6 +209,7 @@ fn status_after(outcome: &Result<Done, Failure>) -> Status
     match outcome {
         Ok(Done::Session(End::Refused(_))) => Status::SessionRefused,
         Ok(_) => Status::Ended,
+        Err(Failure::Settings(SettingsFault::Version)) => Status::Ended,
         Err(Failure::Settings(SettingsFault::Words(_))) => Status::WordsRefused,
         Err(_) => Status::Failed,
     }
@@ -139,7 +218,8 @@ fn status_after(outcome: &Result<Done, Failure>) -> Status
 /// How the process ends, by what became of all.
 pub fn ending_of(outcome: Result<Done, Failure>) -> Ending
     ensures status { result.status ≡ status_of outcome }
-    ensures message { said_by result.message ≡ text_of outcome }
+    ensures message { said_by result.message ≡ words_of outcome }
+    ensures detail { detail_in result.message ≡ detail_of outcome }
 {
     let status = status_after(&outcome);
     let message = match outcome {
@@ -156,7 +236,7 @@ pub fn finish<H: Eprint>(rt: &H, ending: Ending) -> ExitCode
     let Ending { status, message } = ending;
     let _ = match message {
         Message::Nothing => Ok(()),
-        Message::Fault(line) => rt.eprint(line),
+        Message::Fault(fault) => rt.eprintln(fault),
         Message::Words(text) => rt.eprint(text),
     };
     ExitCode::from(status as u8)

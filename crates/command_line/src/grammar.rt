@@ -4,8 +4,9 @@ ghost use Rattle.clap.specs.Words.{app_of, rule_of};
 ghost use Rattle.clap.specs.declared.builder.command.Command.TheViews.{out-Command};
 ghost use Rattle.command_line.specs.Words as line;
 
+use crate::version::VERSION;
 use clap::builder::ValueParser;
-use clap::{Arg, Command, value_parser};
+use clap::{Arg, ArgAction, Command, value_parser};
 use std::alloc::{AllocError, Global};
 
 /// The most steps that a budget opens with: 2^62.
@@ -93,6 +94,19 @@ fn idle_option<'a>(alloc: Global) -> Arg<'a>
     number_option(alloc, "idle", "SECONDS", help, numbers, false)
 }
 
+/// The flag `--log`.
+fn log_option<'a>(alloc: Global) -> Arg<'a>
+    ensures rule { rule_of result ≡ line.log_option }
+    ensures local { result.global ≡ false }
+{
+    Arg::new(alloc, "log")
+        .long("log")
+        .help(
+            "Write a line on standard error for each session that ends, and for each client turned away",
+        )
+        .action(ArgAction::SetTrue)
+}
+
 /// The command `run`.
 fn run_command<'a>(alloc: Global) -> Result<Command<'a>, AllocError>
     ensures { IfOk result (λ command. (app_of command ≡ line.run_command) × ((out-Command command).has_globals ≡ false)) }
@@ -101,7 +115,8 @@ fn run_command<'a>(alloc: Global) -> Result<Command<'a>, AllocError>
     Command::new(alloc, "run")
         .about("Serves one session on standard input and output")
         .arg(steps_option(alloc, help))?
-        .arg(workers_option(alloc))
+        .arg(workers_option(alloc))?
+        .arg(idle_option(alloc))
 }
 
 /// The command `serve`.
@@ -110,19 +125,21 @@ fn serve_command<'a>(alloc: Global) -> Result<Command<'a>, AllocError>
 {
     let help = "Steps that the jobs of all sessions may spend: 0 to 4611686018427387904 (2^62)";
     Command::new(alloc, "serve")
-        .about("Serves up to 16 sessions at once over TCP, on one purse of steps")
+        .about("Serves up to 16 sessions at once over TCP, on one budget of steps")
         .arg(port_option(alloc))?
         .arg(steps_option(alloc, help))?
         .arg(workers_option(alloc))?
         .arg(sessions_option(alloc))?
-        .arg(idle_option(alloc))
+        .arg(idle_option(alloc))?
+        .arg(log_option(alloc))
 }
 
-/// The command line: `spmat run ..` or `spmat serve ..`.
+/// The command line: `spmat run ..`, `spmat serve ..` or `spmat --version`.
 pub fn program<'a>(alloc: Global) -> Result<Command<'a>, AllocError>
     ensures { IfOk result (λ command. app_of command ≡ line.program) }
 {
     Command::new(alloc, "spmat")
+        .version(VERSION)
         .about(
             "A server for jobs over sparse matrices of 64-bit integers, whose operators are BPF code",
         )

@@ -8,19 +8,22 @@ use thiserror::Error;
 /// What the program is asked to do.
 #[derive(Clone, Copy, Debug, PartialEq, Eq)]
 pub enum Settings {
-    /// Serve one session on standard input and output, with a budget of so many steps.
+    /// Serve one session on standard input and output, with a budget of so many steps, and for so many seconds without a word
+    /// of its client, if a number is given.
     Run {
         steps: u64,
         workers: u64,
+        idle: Option<u64>,
     },
     /// Serve sessions on a port of this machine, all on one purse of so many steps: so many sessions, if a number is given, and
-    /// for so many seconds without a word of its client each, if a number is given.
+    /// for so many seconds without a word of its client each, if a number is given; with a log of them or without.
     Serve {
         port: u16,
         steps: u64,
         workers: u64,
         sessions: Option<u64>,
         idle: Option<u64>,
+        log: bool,
     },
 }
 
@@ -30,6 +33,9 @@ pub enum SettingsFault {
     /// The words are refused, or ask for help: the text for standard error.
     #[error("{0}")]
     Words(String),
+    /// The words ask for the version of the program.
+    #[error("the version is asked for")]
+    Version,
     /// There was no memory to read them.
     #[error("no memory")]
     Memory,

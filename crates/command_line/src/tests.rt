@@ -1,9 +1,10 @@
 //! The words of the command line, and the statuses.
-use crate::ending::{Done, Ending, Failure, Message, Status, ending_of, finish};
+use crate::ending::{Detail, Done, Ending, Failure, Fault, Message, Status, ending_of, finish};
 use crate::settings::{Settings, SettingsFault};
 use crate::words::settings_of;
-use listener::{End, FatalRule, ListenFault, ServeFault};
+use listener::{Cause, End, FatalRule, ListenFault, ServeFault};
 use std::alloc::Global;
+use std::io;
 use std::process::{Abort, ExitCode};
 use std::test::Fail;
 
@@ -15,7 +16,11 @@ fn settings_from(alloc: Global, line: &str) -> Result<Settings, SettingsFault> {
 
 /// Settings of `run`.
 fn run(steps: u64, workers: u64) -> Settings {
-    Settings::Run { steps, workers }
+    Settings::Run {
+        steps,
+        workers,
+        idle: None,
+    }
 }
 
 #[test]
@@ -26,6 +31,7 @@ fn words_that_are_taken(rt: HostRuntime) {
         workers: 1,
         sessions: None,
         idle: None,
+        log: false,
     };
     let all = Settings::Serve {
         port: 65535,
@@ -33,6 +39,12 @@ fn words_that_are_taken(rt: HostRuntime) {
         workers: 64,
         sessions: Some(1_000_000),
         idle: Some(2),
+        log: true,
+    };
+    let patient = Settings::Run {
+        steps: 1,
+        workers: 1,
+        idle: Some(1_000_000),
     };
     let cases = [
         ("spmat run --steps 100 --workers 1", run(100, 1)),
@@ -45,13 +57,22 @@ fn words_that_are_taken(rt: HostRuntime) {
         (" run --steps 1 --workers 1", run(1, 1)),
         ("spmat serve --port 1 --steps 0 --workers 1", few),
         (
-            "spmat serve --idle 2 --sessions 1000000 --workers 64 --steps 9 --port 65535",
+            "spmat serve --idle 2 --log --sessions 1000000 --workers 64 --steps 9 --port 65535",
             all,
         ),
+        ("spmat run --idle 1000000 --steps 1 --workers 1", patient),
     ];
     for (line, settings) in cases {
         let asked = settings_from(rt.alloc(), line);
         assert!(rt; matches!(&asked, Ok(s) if *s == settings), "{line}");
+    }
+}
+
+#[test]
+fn the_version_is_asked_for(rt: HostRuntime) {
+    for line in ["spmat --version", "spmat -V"] {
+        let asked = settings_from(rt.alloc(), line);
+        assert!(rt; matches!(&asked, Err(SettingsFault::Version)), "{line}");
     }
 }
 
@@ -109,6 +130,19 @@ fn words_that_are_refused(rt: HostRuntime) {
             "spmat serve --port 7 --steps 1 --workers 1 --idle 1000001",
             "1000001 is not in 1..=1000000",
         ),
+        (
+            "spmat run --steps 1 --workers 1 --idle 0",
+            "0 is not in 1..=1000000",
+        ),
+        (
+            "spmat serve --port 7 --steps 1 --workers 1 --log=yes",
+            "unexpected value 'yes'",
+        ),
+        (
+            "spmat run --steps 1 --workers 1 --log",
+            "unexpected argument '--log'",
+        ),
+        ("spmat run --version", "unexpected argument '--version'"),
     ];
     for (line, said) in cases {
         assert_refused(&rt, rt.alloc(), line, said);
@@ -122,7 +156,7 @@ fn help_names_the_ranges(rt: HostRuntime) {
         ("spmat --help", "Serves up to 16 sessions at once over TCP"),
         (
             "spmat run --help",
-            "Usage: spmat run --steps <N> --workers <W>",
+            "Usage: spmat run [OPTIONS] --steps <N> --workers <W>",
         ),
         ("spmat run --help", "0 to 4611686018427387904"),
         (
@@ -136,46 +170,120 @@ fn help_names_the_ranges(rt: HostRuntime) {
             "End after so many sessions: 1 to 1000000",
         ),
         ("spmat serve --help", "--idle <SECONDS>"),
+        ("spmat serve --help", "--log"),
+        ("spmat --help", "--version"),
     ];
     for (line, said) in cases {
         assert_refused(&rt, rt.alloc(), line, said);
     }
 }
 
-/// A failure ends the program with status 1, and names itself by this line.
-fn assert_named<H: Abort>(rt: &H, failure: Failure, line: &'static str) {
+/// A failure ends the program with status 1, and names itself by these words, with this behind them.
+fn assert_named<H: Abort>(rt: &H, failure: Failure, words: &'static str, detail: Detail) {
     let failed = Ending {
         status: Status::Failed,
-        message: Message::Fault(line),
+        message: Message::Fault(Fault { words, detail }),
     };
     assert_eq!(rt; ending_of(Err(failure)), failed);
 }
 
+/// The cause that the system tells by this number.
+fn cause(code: i32) -> Cause {
+    Cause::of(&io::Error::from_raw_os_error(code))
+}
+
 #[test]
 fn failures_are_named(rt: HostRuntime) {
+    let closed = cause(32);
     let sessions = [
-        (ServeFault::Read, "spmat: read failed\n"),
-        (ServeFault::Write, "spmat: write failed\n"),
-        (ServeFault::Turns, "spmat: too many reads\n"),
-        (ServeFault::Memory, "spmat: no memory\n"),
+        (ServeFault::Read, "spmat: read failed"),
+        (ServeFault::Write, "spmat: write failed"),
+        (ServeFault::Turns, "spmat: too many reads"),
+        (ServeFault::Memory, "spmat: no memory"),
     ];
-    for (fault, line) in sessions {
-        assert_named(&rt, Failure::Session(fault), line);
+    for (fault, words) in sessions {
+        let failure = Failure::Session { fault, cause: None };
+        assert_named(&rt, failure, words, Detail::Nothing);
+        let failure = Failure::Session {
+            fault,
+            cause: Some(closed),
+        };
+        assert_named(&rt, failure, words, Detail::Failed(closed));
     }
-    let listening = [
-        (ListenFault::Network, "spmat: network failed\n"),
-        (ListenFault::Memory, "spmat: no memory\n"),
-    ];
-    for (fault, line) in listening {
-        assert_named(&rt, Failure::Listening(fault), line);
-    }
-    assert_named(&rt, Failure::Purse, "spmat: no memory\n");
-    assert_named(&rt, Failure::Announcement, "spmat: write failed\n");
+    let failure = Failure::Listening(ListenFault::Network(closed));
     assert_named(
         &rt,
-        Failure::Settings(SettingsFault::Memory),
-        "spmat: no memory\n",
+        failure,
+        "spmat: network failed",
+        Detail::NotAccepted(closed),
     );
+    let failure = Failure::Listening(ListenFault::Memory);
+    assert_named(&rt, failure, "spmat: no memory", Detail::Nothing);
+    let failure = Failure::Binding {
+        port: 7,
+        cause: closed,
+    };
+    let detail = Detail::NotBound {
+        port: 7,
+        cause: closed,
+    };
+    assert_named(&rt, failure, "spmat: network failed", detail);
+    assert_named(&rt, Failure::Memory, "spmat: no memory", Detail::Nothing);
+    assert_named(
+        &rt,
+        Failure::Output(closed),
+        "spmat: write failed",
+        Detail::Failed(closed),
+    );
+    let failure = Failure::Settings(SettingsFault::Memory);
+    assert_named(&rt, failure, "spmat: no memory", Detail::Nothing);
+}
+
+/// A fault is told in these words.
+fn assert_told<H: Abort>(
+    rt: &H,
+    alloc: Global,
+    words: &'static str,
+    detail: Detail,
+    line: &str,
+) -> Result<(), Fail> {
+    let fault = Fault { words, detail };
+    assert_eq!(rt; format!(in alloc; "{fault}")?.as_str(), line);
+    Ok(())
+}
+
+#[test]
+fn faults_tell_their_causes(rt: HostRuntime) -> Result<(), Fail> {
+    let in_use = Detail::NotBound {
+        port: 7171,
+        cause: cause(98),
+    };
+    let told = [
+        (
+            "spmat: network failed",
+            in_use,
+            "spmat: network failed: can't listen on 127.0.0.1:7171: the address is in use",
+        ),
+        (
+            "spmat: network failed",
+            Detail::NotAccepted(cause(24)),
+            "spmat: network failed: can't accept a connection: Too many open files (os error 24)",
+        ),
+        (
+            "spmat: write failed",
+            Detail::Failed(cause(32)),
+            "spmat: write failed: the other end is closed",
+        ),
+        (
+            "spmat: too many reads",
+            Detail::Nothing,
+            "spmat: too many reads",
+        ),
+    ];
+    for (words, detail, line) in told {
+        assert_told(&rt, rt.alloc(), words, detail, line)?;
+    }
+    Ok(())
 }
 
 /// What ended well says nothing, and has this status.
@@ -193,6 +301,7 @@ fn sessions_end(rt: HostRuntime) {
         assert_silent(&rt, Done::Session(end), Status::Ended);
     }
     assert_silent(&rt, Done::Sessions, Status::Ended);
+    assert_silent(&rt, Done::Version, Status::Ended);
     for rule in [
         FatalRule::MalformedWords,
         FatalRule::InputEndsInBody,
@@ -238,6 +347,7 @@ fn faults_have_texts(rt: HostRuntime) -> Result<(), Fail> {
     let text = String::from_str(rt.alloc(), "no words")?;
     for (fault, said) in [
         (SettingsFault::Words(text), "no words"),
+        (SettingsFault::Version, "the version is asked for"),
         (SettingsFault::Memory, "no memory"),
     ] {
         assert_eq!(rt; format!(in rt.alloc(); "{fault}")?.as_str(), said);

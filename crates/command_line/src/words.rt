@@ -1,8 +1,8 @@
 //! The settings that the words of the command line give.
-ghost use Rattle.std.specs.Prelude.{◌≡◌, ◌≤◌, ℕ, Option, Some, true, is_some, codes, IfOk, IfSome, MatchResult, map};
-ghost use Rattle.clap.specs.Words.{found_of, kind_of, one_of, rows_of, takes};
+ghost use Rattle.std.specs.Prelude.{◌≡◌, ◌≢◌, ◌≤◌, ℕ, Option, Some, Err, true, is_some, codes, IfOk, IfSome, MatchResult, map};
+ghost use Rattle.clap.specs.Words.{first_of, found_of, kind_of, one_of, rows_of, takes};
 ghost use Rattle.command_line.specs.Words as line;
-ghost use Rattle.command_line.specs.Words.{IsAsked, IsAskedIn, IsNumberOf, IsNumberIfAny};
+ghost use Rattle.command_line.specs.Words.{AsksVersion, IsAsked, IsAskedIn, IsNumberOf, IsNumberIfAny, MayAskVersion};
 ghost use Rattle.command_line.specs.InRange.{IsInRange, IsWithin};
 
 use crate::grammar::{LAST_PORT, MOST_SECONDS, MOST_SESSIONS, MOST_STEPS, MOST_WORKERS, program};
@@ -16,12 +16,17 @@ use std::convert::AsStr;
 const NO_NUMBERS: &str =
     "error: a number is missing or not in its range, as `--help` of the command tells them\n";
 
-/// The fault that an error of `clap` is: memory ran out, or the words are refused with its text.
+/// The fault that an error of `clap` is: memory ran out, the version is asked for, or the words are refused with its text.
 fn fault_of(alloc: Global, error: &clap::Error) -> SettingsFault
-    ensures { kind_of error.now ≡ ErrorKind.OutOfMemory → result ≡ SettingsFault.Memory }
+    ensures memory { kind_of error.now ≡ ErrorKind.OutOfMemory → result ≡ SettingsFault.Memory }
+    ensures version { kind_of error.now ≡ ErrorKind.DisplayVersion → result ≡ SettingsFault.Version }
+    ensures told { result ≡ SettingsFault.Version → kind_of error.now ≡ ErrorKind.DisplayVersion }
 {
     if error.kind() == ErrorKind::OutOfMemory {
         return SettingsFault::Memory;
+    }
+    if error.kind() == ErrorKind::DisplayVersion {
+        return SettingsFault::Version;
     }
     match format!(in alloc; "{error}") {
         Ok(text) => SettingsFault::Words(text),
@@ -55,6 +60,16 @@ fn is_given(matches: &ArgMatches<'_>, name: &str) -> bool
     }
 }
 
+/// Whether a flag is set.
+fn is_set(matches: &ArgMatches<'_>, name: &str) -> bool
+    ensures { result ≡ line.is_set (first_of name.now (rows_of (found_of matches.now))) }
+{
+    match matches.get_str(name) {
+        Some(text) => text == "true",
+        None => false,
+    }
+}
+
 /// The number that an option has where it is given, if it lies in a range from 1.
 fn number_if_any(matches: &ArgMatches<'_>, name: &str, most: u64) -> Option<Option<u64>>
     ensures given { IfSome result (λ o. IsWithin most o ×
@@ -79,6 +94,7 @@ fn run_settings(matches: &ArgMatches<'_>) -> Option<Settings>
     Some(Settings::Run {
         steps: number(matches, "steps", 0, MOST_STEPS as u64)?,
         workers: number(matches, "workers", 1, MOST_WORKERS as u64)?,
+        idle: number_if_any(matches, "idle", MOST_SECONDS as u64)?,
     })
 }
 
@@ -97,6 +113,7 @@ fn serve_settings(matches: &ArgMatches<'_>) -> Option<Settings>
         workers,
         sessions: number_if_any(matches, "sessions", MOST_SESSIONS as u64)?,
         idle: number_if_any(matches, "idle", MOST_SECONDS as u64)?,
+        log: is_set(matches, "log"),
     })
 }
 
@@ -118,14 +135,17 @@ fn settings_in(name: &str, matches: &ArgMatches<'_>) -> Option<Settings>
 ///
 /// # Errors
 ///
-/// `Words` with the text of `clap`, where it refuses them or they ask for help, and `Memory`. Words that `clap` takes, with numbers
-/// in their ranges, are refused only where memory runs out.
+/// `Words` with the text of `clap`, where it refuses them or they ask for help, `Version`, where they ask for the version, and
+/// `Memory`. Words that `clap` takes, with numbers in their ranges, are refused only where memory runs out.
 pub fn settings_of<'a, S: AsStr>(alloc: Global, words: &'a [S]) -> Result<Settings, SettingsFault>
     ensures asked { IfOk result (λ s. IsAsked (map S.text words.now) s) }
     ensures range { IfOk result (λ s. IsInRange s) }
     ensures taken { (s : Settings) → takes line.program (map S.text words.now) ≡ true →
         IsAsked (map S.text words.now) s → IsInRange s →
         MatchResult result (λ t. t ≡ s) (λ fault. fault ≡ SettingsFault.Memory) }
+    ensures version { AsksVersion (map S.text words.now) → result ≢ Err SettingsFault.Memory →
+        result ≡ Err SettingsFault.Version }
+    ensures told { result ≡ Err SettingsFault.Version → MayAskVersion (map S.text words.now) }
 {
     let matches = match program::<'a>(alloc)?.try_get_matches_from(words) {
         Ok(matches) => matches,

@@ -17,8 +17,10 @@ pub mod Valuing
 pub mod Revalued
 pub mod Joining
 pub mod Along
+pub mod Starting
 pub mod Appending
 pub mod Blocks
 pub mod Keeping
 pub mod InRuns
 pub mod Copied
+pub mod Column

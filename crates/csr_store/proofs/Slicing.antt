@@ -147,7 +147,7 @@ module _ (rows columns : ℕ) (starts : List ℕ) (cells : List Cell) (h : AreSt
       ap length (row_between k l) ∙ omega (arith, length-take (get_or starts (k + 1) 0 - get_or starts k 0) (drop (get_or starts k 0) cells), length-drop (get_or starts k 0) cells)
 
   -- a start is the number of entries before
-  start_is : (k : ℕ) → k ≤ rows → get_or starts k 0 ≡ row_start (grid rows columns (by_rows (ends_of starts) cells)) k
+  pub start_is : (k : ℕ) → k ≤ rows → get_or starts k 0 ≡ row_start (grid rows columns (by_rows (ends_of starts) cells)) k
   start_is zero l = start_at starts 0 h.begin ∙ sym (row_start-zero (grid rows columns (by_rows (ends_of starts) cells)))
   start_is (suc k) l =
       let before = start_is k (omega arith) in

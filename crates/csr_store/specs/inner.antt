@@ -8,3 +8,4 @@ pub mod Packed
 pub mod Run
 pub mod Cells
 pub mod Copied
+pub mod Column

@@ -1,5 +1,5 @@
 //! A finished matrix.
-ghost use Rattle.std.specs.Prelude.{◌≡◌, ◌<◌, ◌≤◌, ◌+◌, ◌-◌, ◌*◌, ◌/◌, ◌∷◌, ◌++◌, [], length, map, IfOk, OnOk, IfSome, IsSome};
+ghost use Rattle.std.specs.Prelude.{◌≡◌, ◌<◌, ◌≤◌, ◌+◌, ◌-◌, ◌*◌, ◌/◌, ◌∷◌, ◌++◌, ◌↔◌, [], length, map, IfOk, OnOk, IfSome, IsSome, IsTrue};
 ghost use Rattle.std.specs.List.{range_with_len, AllByRecursion};
 ghost use Rattle.std.specs.FinMap as fin;
 ghost use Rattle.csr_store.specs.Along.{along};
@@ -8,6 +8,8 @@ ghost use Rattle.csr_store.specs.ByRows.{grid, by_rows, ends_of};
 ghost use Rattle.csr_store.specs.inner.ByRows.{AreStarts};
 ghost use Rattle.csr_store.specs.Valued.{rows_of};
 ghost use Rattle.csr_store.specs.inner.Cells.{AreBases, joined};
+
+mod column;
 
 use crate::cells::{Cells, HEIGHT};
 use crate::row::value_at;
@@ -136,6 +138,20 @@ impl Matrix {
         ensures { IfOk result (λ s. s ≡ starts.items) }
     {
         self.starts.shared_or(alloc, starts)
+    }
+
+    /// Whether no entry stands in the rows from one up to another. That is seen from where these start and end, however many
+    /// they are.
+    pub fn is_blank(&self, range: Range<u64>) -> bool
+        requires { range.end ≤ self.now.rows }
+        ensures { IsTrue result ↔ (along (row_of self.now) range.start (range.end - range.start) ≡ []) }
+    {
+        if range.end <= range.start {
+            return true;
+        }
+        let _ = self.rows();
+        let starts = self.starts();
+        starts[range.start as usize] == starts[range.end as usize]
     }
 
     /// The entries of row `i`, counted from 0, by ascending column.

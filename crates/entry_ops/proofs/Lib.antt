@@ -15,6 +15,7 @@ pub mod Positions
 pub mod OpenRows
 pub mod Giving
 pub mod Adding
+pub mod Nothing
 pub mod Singly
 pub mod Folding
 pub mod InOrder

@@ -1,4 +1,5 @@
 -- What serves this crate's own modules: contracts between them, invariants and proofs. No public contract reaches it.
+pub mod Blank
 pub mod Coming
 pub mod Folding
 pub mod Heads

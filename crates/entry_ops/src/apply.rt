@@ -4,6 +4,7 @@ ghost use Rattle.bpf_insn.specs.declared.operands.Kind.TheVariants as kinds;
 ghost use Rattle.job_forms.specs.Forms.{apply_kind, apply_at, apply_calls_at, select_at, select_calls_at};
 ghost use Rattle.job_forms.specs.Region.{IsRegion, IsPartOf};
 
+use crate::blank::{blank_region, is_blank, is_shut};
 use crate::form::Form;
 use crate::keeping::keep_region;
 use crate::line::Sources;
@@ -32,6 +33,9 @@ pub fn apply_rows<'m>(
     ensures { IsPartOf a.now.columns (apply_at operator.now thunk a.now) (apply_calls_at operator.now thunk a.now)
         region.entry result }
 {
+    if is_blank(a, &region) || is_shut(&region) {
+        return blank_region(alloc, a.columns(), region.range);
+    }
     let Some(_) = region.mask else {
         return map_region(alloc, calls, a, operator, thunk, region.range);
     };
@@ -66,6 +70,9 @@ pub fn select_rows<'m>(
     ensures { IsPartOf a.now.columns (select_at operator.now thunk a.now) (select_calls_at operator.now thunk a.now)
         region.entry result }
 {
+    if is_blank(a, &region) || is_shut(&region) {
+        return blank_region(alloc, a.columns(), region.range);
+    }
     let Some(mask) = region.mask else {
         return keep_region(alloc, calls, a, operator, thunk, region.range);
     };

@@ -13,6 +13,7 @@
 
 mod ahead;
 mod apply;
+mod blank;
 mod coming;
 mod emitter;
 mod folds;

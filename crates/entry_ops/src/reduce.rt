@@ -6,6 +6,7 @@ ghost use Rattle.job_forms.specs.Forms.{reduce_at, reduce_calls_at};
 ghost use Rattle.job_forms.specs.Region.{IsRegion, IsPartOf};
 ghost use Rattle.entry_ops.specs.inner.Folding.{CanReduce, AddsReduced};
 
+use crate::blank::{blank_region, is_blank, is_shut};
 use crate::folds::{BLOCK_ROWS, Block, Folds};
 use crate::in_order::fill_in_order;
 use bpf_run::{Calls, Prepared};
@@ -64,6 +65,9 @@ pub fn reduce_rows<'m>(
 {
     let _ = operator.operator().program();
     let _ = a.columns();
+    if is_blank(a, &region) || is_shut(&region) {
+        return blank_region(alloc, 1, region.range);
+    }
     let mut making = Making::begin(alloc, region.range.start, 1);
     if operator.len() <= MOST_IN_ORDER {
         let filled = fill_in_order(a, operator, region, &mut making);

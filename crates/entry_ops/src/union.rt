@@ -4,6 +4,7 @@ ghost use Rattle.bpf_insn.specs.declared.operands.Kind.TheVariants as kinds;
 ghost use Rattle.job_forms.specs.Forms.{union_at, both_at, joint_calls_at};
 ghost use Rattle.job_forms.specs.Region.{IsRegion, IsPartOf};
 
+use crate::blank::{blank_region, is_blank, is_shut};
 use crate::form::Form;
 use crate::line::Sources;
 use crate::rows::fill_region;
@@ -29,6 +30,9 @@ pub fn union_rows<'m>(
     ensures { IsPartOf a.now.columns (union_at operator.now a.now b.now) (joint_calls_at operator.now a.now b.now)
         region.entry result }
 {
+    if is_blank(a, &region) && is_blank(b, &region) || is_shut(&region) {
+        return blank_region(alloc, a.columns(), region.range);
+    }
     let sources = Sources {
         left: a,
         right: Some(b),
@@ -54,6 +58,9 @@ pub fn both_rows<'m>(
     ensures { IsPartOf a.now.columns (both_at operator.now a.now b.now) (joint_calls_at operator.now a.now b.now)
         region.entry result }
 {
+    if is_blank(a, &region) || is_blank(b, &region) || is_shut(&region) {
+        return blank_region(alloc, a.columns(), region.range);
+    }
     let sources = Sources {
         left: a,
         right: Some(b),

@@ -1,3 +1,4 @@
 pub mod Forms
 pub mod Product
 pub mod Region
+pub mod inner

@@ -3,11 +3,13 @@ use Rattle.std.proofs.Common.{◌≡◌, ◌≤◌, ◌<◌, ◌-◌, ◌*◌, �
 use Rattle.std.proofs.Common.{Some, ap, sym, ◌∙◌, refl, arith}
 use Rattle.std.proofs.lemmas.Bool.Decides.{nat_tests}
 use Rattle.std.proofs.lemmas.Nat.{mul-le}
-use Rattle.csr_store.specs.Grid.{limit}
+use Rattle.bpf_verify.specs.Accepted.{Accepted}
+use Rattle.csr_store.specs.Grid.{Grid, limit}
 use Rattle.csr_store.specs.Along.{summed}
 use Rattle.job_plan.specs.declared.error.JobError.{JobError}
 use Rattle.job_plan.specs.declared.error.JobError.TheVariants.{WrongKind, WrongShapes, WrongMask, ResultTooLarge, PriceTooHigh}
-use Rattle.job_plan.specs.Job.{Job}
+use Rattle.job_plan.specs.Job.{Job, Form, Product}
+use Rattle.job_plan.specs.Forms.{operation}
 use Rattle.job_plan.specs.Costing.{costing}
 use Rattle.job_plan.specs.Meaning.{row_count}
 use Rattle.job_plan.specs.Price.{price_in, price_of}
@@ -66,6 +68,14 @@ pub price_by_rounds : (job : Job) (first n rounds round : ℕ) → rounds ≡ su
     → round ≡ (costing job.form).round → rounds * round ≡ price_in job first n
 price_by_rounds job first n rounds round e f =
     rw (e, f) (sym (summed-times ((costing job.form).rounds job.mask) (costing job.form).round first n))
+
+-- the price of a product, of which the entries that it can have are its rounds
+pub price_by_product : (job : Job) (add mul : Accepted) (a b : Grid) (entries round : ℕ) → job.form ≡ Product add mul a b
+    → entries ≡ (costing job.form).entries job.mask → round ≡ (costing job.form).round → entries * round ≡ price_of job
+price_by_product job add mul a b entries round is e f =
+    price_by_rounds job 0 (row_count job) entries round
+    (e ∙ ap (λ (g : Form). (costing g).entries job.mask) is
+    ∙ sym (ap (λ (g : Form). summed ((costing g).rounds job.mask) 0 (operation g).rows) is)) f
 
 -- some of the rows take few rounds
 pub few_of_rows : (job : Job) (first last : ℕ) → Passes job → last ≤ row_count job

@@ -1,17 +1,16 @@
 -- A job whose result isn't too large takes no more rounds than a matrix has entries.
-use Rattle.std.proofs.Common.{◌≡◌, ◌≤◌, ◌+◌, ◌-◌, ◌<◌, ℕ, zero, suc, min, true, false, cond, Option, None, Some, List, map, length, slice_index_or, ap, ◌∙◌, refl, arith}
+use Rattle.std.proofs.Common.{◌≡◌, ◌≤◌, ◌+◌, ◌-◌, ◌<◌, ℕ, zero, suc, min, true, false, not, nat_eq, cond, if◌then◌else◌, Option, None, Some, List, [], length, ap, refl, arith}
 use Rattle.std.specs.FinMap.{len-entries}
-use Rattle.std.specs.List.{range_with_len}
-use Rattle.std.proofs.lemmas.List.FromFn.{get_or-map-range_with_len, length-map-range_with_len}
-use Rattle.csr_store.specs.Grid.{Grid, IsGrid, limit, row_start}
+use Rattle.csr_store.specs.Grid.{Grid, Cell, IsGrid, limit, row_of, row_start}
 use Rattle.csr_store.specs.Mask.{row_passes}
-use Rattle.csr_store.specs.Along.{summed}
+use Rattle.csr_store.specs.Along.{along, summed}
 use Rattle.csr_store.proofs.ByRow.{row_start-zero, row_start-next, row_start-within}
+use Rattle.csr_store.proofs.Starting.{row_blank}
 use Rattle.job_plan.specs.Job.{Form, Apply, Select, Union, Both, Product, Reduce}
 use Rattle.job_plan.specs.Forms.{operation}
 use Rattle.job_plan.specs.Costing.{costing, count, of_passing, if_passing}
 use Rattle.job_plan.specs.Kept.{IsForm}
-use Rattle.job_plan.proofs.Sums.{summed-le}
+use Rattle.job_plan.proofs.Sums.{IsAdding, summed-le, adding_room}
 
 -- the entries of rows that follow one another
 counted : (a : Grid) (from n : ℕ) → row_start a from + summed (count a) from n ≡ row_start a (from + n)
@@ -23,27 +22,9 @@ counted a from (suc n) =
     let e = ap (row_start a) (let z : suc from + n ≡ from + suc n = omega arith in z) in
     omega arith
 
--- the same, of two numbers that count the entries before rows
+-- the same, by where rows start
 pub between : (a : Grid) (from to : ℕ) → from ≤ to → row_start a to - row_start a from ≡ summed (count a) from (to - from)
 between a from to h =
-    let c = counted a from (to - from) in
-    let e = ap (row_start a) (let z : from + (to - from) ≡ to = omega (arith, h) in z) in
-    omega (arith, c, e)
-
--- what stands in the list of starts
-pub start_at : (a : Grid) (starts : List ℕ) (i : ℕ) → starts ≡ map (row_start a) (range_with_len 0 (a.rows + 1)) → i ≤ a.rows
-    → slice_index_or starts i 0 ≡ row_start a i
-start_at a starts i e h =
-    ap (λ xs. slice_index_or xs i 0) e
-    ∙ get_or-map-range_with_len (row_start a) 0 (a.rows + 1) i i 0 (omega (arith, h)) (omega arith)
-
-pub start_inside : (a : Grid) (starts : List ℕ) (i : ℕ) → starts ≡ map (row_start a) (range_with_len 0 (a.rows + 1)) → i ≤ a.rows
-    → i < length starts
-start_inside a starts i e h =
-    let l = ap length e in let n = length-map-range_with_len (row_start a) 0 (a.rows + 1) in omega (arith, l, n, h)
-
-pub rise : (a : Grid) (from to : ℕ) → from ≤ to → row_start a from ≤ row_start a to
-rise a from to h =
     let c = counted a from (to - from) in
     let e = ap (row_start a) (let z : from + (to - from) ≡ to = omega (arith, h) in z) in
     omega (arith, c, e)
@@ -73,7 +54,7 @@ pub passing_le : (mask : Option Grid) (i n : ℕ) → of_passing mask i n ≤ n
 passing_le None i n = omega arith
 passing_le (Some mask) i n = omega arith
 
-passing_if : (mask : Option Grid) (i n : ℕ) → if_passing mask i n ≤ n
+pub passing_if : (mask : Option Grid) (i n : ℕ) → if_passing mask i n ≤ n
 passing_if mask i n = elim (row_passes mask i) as (λ b. cond b n 0 ≤ n) [ true ↦ omega arith | false ↦ omega arith ]
 
 below : (p : ℕ → ℕ) (a : Grid) (n : ℕ) → IsGrid a → ((i : ℕ) → p i ≤ count a i) → summed p 0 n ≤ limit
@@ -90,3 +71,34 @@ few_rounds (Both f a b) mask h e =
 few_rounds (Product add mul a b) mask h e = e
 few_rounds (Reduce f a) mask h e =
     below _ a a.rows h.1 (λ i. let l = passing_if mask i (count a i - 1) in omega arith)
+
+-- ---- sums over rows, of which none has more than its entries
+
+pub few_of : (p : ℕ → ℕ) (a : Grid) (from n : ℕ) → IsGrid a → ((i : ℕ) → p i ≤ count a i) → summed p from n ≤ limit
+few_of p a from n g h = let s = summed-le p (count a) from n h in let f = some_entries a from n g in omega (arith, s, f)
+
+-- a sum that goes on stays within that
+pub room_of : (p : ℕ → ℕ) (a : Grid) (from to i sum more : ℕ) → IsGrid a → ((i : ℕ) → p i ≤ count a i)
+    → IsAdding p from to i sum → i < to → more ≡ p i → sum + more ≤ limit
+room_of p a from to i sum more g h adding l e =
+    let room = adding_room p from to i sum more adding l e in
+    let few = few_of p a from (to - from) g h in
+    omega (arith, room, few)
+
+-- nothing, where no row has anything
+none_of : (p : ℕ → ℕ) (from n : ℕ) → ((i : ℕ) → from ≤ i → i < from + n → p i ≡ 0) → summed p from n ≡ 0
+none_of p from zero h = refl
+none_of p from (suc n) h =
+    let here = h from (omega arith) (omega arith) in
+    let rest = none_of p (suc from) n (λ i l u. h i (omega (arith, l)) (omega (arith, u))) in
+    omega (arith, here, rest)
+
+pub blank_sum : (p : ℕ → ℕ) (a : Grid) (from n : ℕ) → along (row_of a) from n ≡ [] → ((i : ℕ) → row_of a i ≡ [] → p i ≡ 0)
+    → summed p from n ≡ 0
+blank_sum p a from n b h = none_of p from n (λ i l u. h i (row_blank a from n i b l u))
+
+pub blank_count : (a : Grid) (i : ℕ) → row_of a i ≡ [] → count a i ≡ 0
+blank_count a i e = ap length e
+
+pub blank_if : (mask : Grid) (i n : ℕ) → row_of mask i ≡ [] → if_passing (Some mask) i n ≡ 0
+blank_if mask i n e = ap (λ (row : List Cell). if not (nat_eq (length row) 0) then n else 0) e

@@ -2,7 +2,7 @@
 -- ascending position. GraphBLAS C API Specification 2.0, "Masks" and "Operations"; steps and bounds are this project's own.
 use Rattle.std.specs.Prelude.{◌≡◌, ℕ, List, Option}
 use Rattle.std.specs.FinMap as fin
-use Rattle.csr_store.specs.Grid.{Grid, IsInside, Position}
+use Rattle.csr_store.specs.Grid.{Grid, IsGrid, IsInside, Position}
 use Rattle.csr_store.specs.Run.{Row}
 use Rattle.csr_store.specs.Mask.{cut, rows_under, all_listed_under}
 use Rattle.bpf_run.specs.Calls.{Call, steps_of, bound_of}
@@ -16,12 +16,13 @@ row_count job = (operation job.form).rows
 abbrev pub column_count : Job → ℕ
 column_count job = (operation job.form).columns
 
--- what stands at a position inside them
+-- what stands at a position inside these sizes
 abbrev pub value_at : Job → Position → Option ℕ
 value_at job at = cut job.mask (operation job.form).value_at at
 
--- its matrix
+-- its matrix, which has no entry elsewhere
 pub record IsMatrixOf (job : Job) (g : Grid) : Type 0 where
+  pub grid : IsGrid g
   pub rows : g.rows ≡ row_count job
   pub columns : g.columns ≡ column_count job
   pub values : (at : Position) → IsInside g at → fin.get g.cells at ≡ value_at job at

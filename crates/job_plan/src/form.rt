@@ -1,17 +1,17 @@
 //! The table of the six forms, in code: a function for each of its columns, with a line for each form.
-ghost use Rattle.std.specs.Prelude.{◌≡◌, ◌≤◌, ◌<◌, ◌-◌, IfSome, length, min, true};
+ghost use Rattle.std.specs.Prelude.{◌≡◌, ◌≤◌, ◌-◌, length, true};
 ghost use Rattle.bpf_verify.specs.Accepted.{IsAccepted};
 ghost use Rattle.csr_store.specs.Along.{summed};
-ghost use Rattle.csr_store.specs.Grid.{limit, IsGrid, row_of};
+ghost use Rattle.csr_store.specs.Grid.{limit, IsGrid};
 ghost use Rattle.csr_store.specs.Mask.{mask_of, HasShape};
-ghost use Rattle.job_forms.specs.Product.{mults_of};
+ghost use Rattle.job_forms.specs.Product.{mults_under};
 ghost use Rattle.job_plan.specs.Kept.{form_of, IsForm, IsMask};
 ghost use Rattle.job_plan.specs.Forms.{operation, same_kind, is_of, same_shape};
-ghost use Rattle.job_plan.specs.Costing.{costing, count, of_passing, if_passing};
+ghost use Rattle.job_plan.specs.Costing.{costing};
 ghost use Rattle.job_plan.specs.Refusal.{has_shape};
 
 use crate::job::Form;
-use crate::rows::{count, count_in, folds, folds_in, lesser};
+use crate::rows::{count_in, folds_in, folds_under, least_in, lesser_in};
 use bpf_insn::Kind;
 use bpf_run::Prepared;
 use csr_store::Matrix;
@@ -143,23 +143,6 @@ impl Form {
         }
     }
 
-    /// How many rounds of calls row `i` takes at most.
-    fn rounds_of_row(&self, mask: Option<&Matrix>, i: u64) -> u64
-        requires shapes { (operation (form_of self.now)).shapes ≡ true }
-        requires mask { has_shape (operation (form_of self.now)).rows (operation (form_of self.now)).columns (mask_of mask) ≡ true }
-        requires row { i < (operation (form_of self.now)).rows }
-        ensures { result ≡ (costing (form_of self.now)).rounds (mask_of mask.entry) i }
-    {
-        match self {
-            Form::Apply { operand, .. } => of_passing(mask, i, count(operand, i)),
-            Form::Select { operand, .. } => of_passing(mask, i, count(operand, i)),
-            Form::Union { left, right, .. } => of_passing(mask, i, lesser(left, right, i)),
-            Form::Both { left, right, .. } => of_passing(mask, i, lesser(left, right, i)),
-            Form::Product { left, right, .. } => mults_of_row(left, right, mask, i),
-            Form::Reduce { operand, .. } => if_passing(mask, i, folds(operand, i)),
-        }
-    }
-
     /// How many instructions the operators of a round have.
     pub(crate) fn round(&self) -> u64
         ensures round { result ≡ (costing (form_of self.now)).round }
@@ -180,32 +163,22 @@ impl Form {
         requires shapes { (operation (form_of self.now)).shapes ≡ true }
         requires mask { has_shape (operation (form_of self.now)).rows (operation (form_of self.now)).columns (mask_of mask) ≡ true }
         requires within { range.end ≤ (operation (form_of self.now)).rows }
-        requires few { summed ((costing (form_of self.now)).rounds (mask_of mask)) range.start (range.end - range.start) ≤ limit }
         ensures { result ≡ summed ((costing (form_of self.now)).rounds (mask_of mask.entry)) range.start
             (range.end - range.start) }
     {
         match (self, mask) {
             (Form::Apply { operand, .. }, None) => count_in(operand, range),
+            (Form::Apply { operand, .. }, Some(mask)) => lesser_in(operand, mask, range),
             (Form::Select { operand, .. }, None) => count_in(operand, range),
+            (Form::Select { operand, .. }, Some(mask)) => lesser_in(operand, mask, range),
+            (Form::Union { left, right, .. }, None) => lesser_in(left, right, range),
+            (Form::Union { left, right, .. }, Some(mask)) => least_in(left, right, mask, range),
+            (Form::Both { left, right, .. }, None) => lesser_in(left, right, range),
+            (Form::Both { left, right, .. }, Some(mask)) => least_in(left, right, mask, range),
+            (Form::Product { left, right, .. }, _) => mults_in(left, right, mask, range),
             (Form::Reduce { operand, .. }, None) => folds_in(operand, range),
-            _ => self.rounds_by_row(mask, range),
+            (Form::Reduce { operand, .. }, Some(mask)) => folds_under(operand, mask, range),
         }
-    }
-
-    /// The same, one row after the other.
-    fn rounds_by_row(&self, mask: Option<&Matrix>, range: Range<u64>) -> u64
-        requires shapes { (operation (form_of self.now)).shapes ≡ true }
-        requires mask { has_shape (operation (form_of self.now)).rows (operation (form_of self.now)).columns (mask_of mask) ≡ true }
-        requires within { range.end ≤ (operation (form_of self.now)).rows }
-        requires few { summed ((costing (form_of self.now)).rounds (mask_of mask)) range.start (range.end - range.start) ≤ limit }
-        ensures { result ≡ summed ((costing (form_of self.now)).rounds (mask_of mask.entry)) range.start
-            (range.end - range.start) }
-    {
-        let mut rounds = 0;
-        for i in range.start..range.end {
-            rounds += self.rounds_of_row(mask, i);
-        }
-        rounds
     }
 }
 
@@ -251,35 +224,15 @@ pub(crate) fn has_shape(rows: u64, columns: u64, mask: Option<&Matrix>) -> bool
     }
 }
 
-/// How many multiplications row `i` of a product takes.
-fn mults_of_row(a: &Matrix, b: &Matrix, mask: Option<&Matrix>, i: u64) -> u64
+/// How many multiplications some rows of a product take.
+fn mults_in(a: &Matrix, b: &Matrix, mask: Option<&Matrix>, range: Range<u64>) -> u64
     requires shapes { a.now.columns ≡ b.now.rows }
     requires mask { HasShape a.now.rows b.now.columns (mask_of mask) }
-    requires row { i < a.now.rows }
-    ensures { result ≡ if_passing (mask_of mask.entry) i (mults_of b.now (row_of a.now i)) }
+    requires within { range.end ≤ a.now.rows }
+    ensures { result ≡ mults_under (mask_of mask.entry) a.now b.now range.start (range.end - range.start) }
 {
-    let _rows = a.rows();
-    mult_count_in(a, b, mask, i..i + 1)
-}
-
-/// `n`, but no more than a mask lets pass of row `i`.
-fn of_passing(mask: Option<&Matrix>, i: u64, n: u64) -> u64
-    requires { IfSome mask (λ m. i < m.now.rows) }
-    ensures { result ≡ of_passing (mask_of mask.entry) i n }
-{
-    match mask {
-        Some(mask) => n.min(count(mask, i)),
-        None => n,
+    if range.end <= range.start {
+        return 0;
     }
-}
-
-/// `n`, where a mask lets something of row `i` pass, else 0.
-fn if_passing(mask: Option<&Matrix>, i: u64, n: u64) -> u64
-    requires { IfSome mask (λ m. i < m.now.rows) }
-    ensures { result ≡ if_passing (mask_of mask.entry) i n }
-{
-    match mask {
-        Some(mask) => if mask.row(i).is_empty() { 0 } else { n },
-        None => n,
-    }
+    mult_count_in(a, b, mask, range)
 }

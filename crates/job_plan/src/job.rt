@@ -4,6 +4,7 @@ ghost use Rattle.std.specs.Option.{option_map};
 ghost use Rattle.std.specs.Arc.{arc_value};
 ghost use Rattle.std.specs.String.{string_bytes};
 ghost use Rattle.csr_store.specs.Mask.{mask_of};
+ghost use Rattle.job_plan.specs.Costing.{costing};
 ghost use Rattle.job_plan.specs.Kept.{form_of};
 ghost use Rattle.job_plan.specs.Meaning.{row_count};
 ghost use Rattle.job_plan.specs.Price.{price_of, price_in};
@@ -140,17 +141,19 @@ impl Job {
         ensures priced { IfOk result (λ _. IsPriced self.now) }
         ensures fault { IfErr result (λ fault. job_fault self.now ≡ Some fault) }
     {
-        self.check()?;
-        let price = self.price_of_rows(0..self.form.rows());
+        let entries = self.check()?;
+        let price = self.price_of_all(entries);
         if price > MOST_STEPS {
             return Err(JobError::PriceTooHigh);
         }
         Ok(price)
     }
 
-    /// Tells the first rule that is broken, of those that come before the price.
-    fn check(&self) -> Result<(), JobError>
+    /// How many entries the result can have, as the form says it; or the first rule that is broken, of those that come before the
+    /// price.
+    fn check(&self) -> Result<u64, JobError>
         ensures passes { IfOk result (λ _. Passes self.now) }
+        ensures entries { IfOk result (λ n. n ≡ (costing self.now.form).entries self.now.mask) }
         ensures fault { IfErr result (λ fault. job_fault self.now ≡ Some fault) }
     {
         let form = &self.form;
@@ -165,10 +168,24 @@ impl Job {
         if !has_shape(form.rows(), form.columns(), mask) {
             return Err(JobError::WrongMask);
         }
-        if form.entries(mask) > MOST_ENTRIES {
+        let entries = form.entries(mask);
+        if entries > MOST_ENTRIES {
             return Err(JobError::ResultTooLarge);
         }
-        Ok(())
+        Ok(entries)
+    }
+
+    /// The price of all rows, where it is known how many entries the result can have: of a product these are its multiplications,
+    /// which are counted once.
+    fn price_of_all(&self, entries: u64) -> u64
+        requires passes { Passes self.now }
+        requires entries { entries ≡ (costing self.now.form).entries self.now.mask }
+        ensures { result ≡ price_of self.now }
+    {
+        if let Form::Product { .. } = &self.form {
+            return entries * self.form.round();
+        }
+        self.price_of_rows(0..self.form.rows())
     }
 
     /// The price of some rows.

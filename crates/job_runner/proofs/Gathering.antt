@@ -8,11 +8,11 @@ use Rattle.race_board.specs.declared.stand.Stand.{Stand}
 use Rattle.race_board.specs.declared.stand.Stand.TheVariants.{ToldEnd}
 use Rattle.race_board.specs.Race.{Worker, BoardState, SeatState, IsToldEnd, total_of, times_completed, times_drawn}
 use Rattle.race_board.specs.Race.{one_if_same, one_if_below, steps_of, workers_of, IsFinished}
-use Rattle.race_board.specs.Chunks.{CostAtMost, completed_by, recorded_by, failed_chunk, sum_below, times_in}
+use Rattle.race_board.specs.Chunks.{CostAtMost, CostJust, completed_by, recorded_by, failed_chunk, sum_below, times_in}
 use Rattle.race_board.proofs.Sums.{sum_append}
 use Rattle.race_board.proofs.Elements.{all_snoc}
 use Rattle.race_board.proofs.Seats.{workers_snoc}
-use Rattle.race_board.proofs.Chunks.{completed_snoc, recorded_steps, recorded_at_most, closed_recorded, closed_completed, below_one}
+use Rattle.race_board.proofs.Chunks.{cost_append as just_append, completed_snoc, recorded_steps, recorded_at_most, closed_recorded, closed_completed, below_one}
 use Rattle.job_plan.specs.Job.{Job}
 use Rattle.job_runner.specs.declared.piece.Piece.{Piece}
 use Rattle.job_runner.specs.declared.crew.Ended.{Ended}
@@ -73,6 +73,20 @@ gathered_cost board jobs seats e h k =
     subst (λ (ws : List Worker). CostAtMost (chunk_steps jobs) (recorded_by ws)) (sym (workers_snoc seats e.seat))
     (cost_more (chunk_steps jobs) (workers_of seats) e.seat.worker k (cost_ended board jobs e h))
 
+just_pieces : (jobs : List Job) (ps : List Piece) → AllByRecursion (IsPieceOf jobs) ps → CostJust (chunk_steps jobs) (recorded ps)
+just_pieces jobs [] h = tt
+just_pieces jobs (p ∷ ps) h = (h.0.steps, just_pieces jobs ps h.1)
+
+-- what a worker completed took just the steps of its chunks
+pub gathered_just : (board : BoardState) (jobs : List Job) (seats : List SeatState) (e : Ended) → IsEnded board jobs e
+    → CostJust (chunk_steps jobs) (completed_by (workers_of seats))
+    → CostJust (chunk_steps jobs) (completed_by (workers_of (seats ++ e.seat ∷ [])))
+gathered_just board jobs seats e h k =
+    subst (CostJust (chunk_steps jobs))
+    (sym (ap completed_by (workers_snoc seats e.seat) ∙ completed_snoc (workers_of seats) e.seat.worker))
+    (just_append (chunk_steps jobs) (completed_by (workers_of seats)) e.seat.worker.done k
+    (subst (CostJust (chunk_steps jobs)) (sym h.done) (just_pieces jobs e.worked.pieces.items h.pieces)))
+
 some_of : (a b n : ℕ) → n ≡ a + b → 0 < n → (0 < a) ⊎ (0 < b)
 some_of zero b n e l = inr (omega (arith, e, l))
 some_of (suc a) b n e l = inl (omega arith)
@@ -104,7 +118,7 @@ pub neither : (a b : Bool) → (a || b) ≡ false → (a ≡ false) × (b ≡ fa
 neither false b h = (refl, h)
 neither true b h = absurd (cc)
 
-below_summed : (g : ℕ → ℕ) (n : ℕ) → sum_below g n ≡ summed g 0 n
+pub below_summed : (g : ℕ → ℕ) (n : ℕ) → sum_below g n ≡ summed g 0 n
 below_summed g zero = refl
 below_summed g (suc n) =
     let h = below_summed g n in

@@ -5,7 +5,7 @@ use Rattle.std.specs.List.{AllByRecursion}
 use Rattle.std.proofs.lemmas.Bool.{lt-ltb, le-ltb}
 use Rattle.std.proofs.lemmas.List.{drop_more, take_more, map-append}
 use Rattle.csr_store.specs.Along.{along, summed}
-use Rattle.csr_store.specs.Grid.{Grid}
+use Rattle.csr_store.specs.Grid.{Grid, IsGrid}
 use Rattle.csr_store.specs.ByRows.{grid}
 use Rattle.csr_store.specs.Run.{AreEven, Run, Follow, all_ended, numbered}
 use Rattle.csr_store.proofs.Along.{along-split, along-same}
@@ -28,7 +28,7 @@ use Rattle.job_runner.proofs.Listed.{along-shift, summed-split, summed-shift, su
 
 -- ---- one job
 
-flat-ones : {X T : Type 0} → (f : X → List T) (x : ℕ → X) (from n : ℕ)
+pub flat-ones : {X T : Type 0} → (f : X → List T) (x : ℕ → X) (from n : ℕ)
     → flat_map f (along (λ c. x c ∷ []) from n) ≡ along (λ c. f (x c)) from n
 flat-ones f x from zero = refl
 flat-ones f x from (suc n) = ap (λ ys. f (x from) ++ ys) (flat-ones f x (suc from) n)
@@ -102,13 +102,14 @@ even_all job = evens job 0 (chunks_in job) (omega arith)
 -- its matrix
 pub joined_matrix : (k : ℕ) (job : Job) (runs : List Run) (rows columns : ℕ) (g : Grid) → Cover k job
     → runs ≡ listed (run_in_job job) (chunks_in job)
-    → rows ≡ row_count job → columns ≡ column_count job → g ≡ grid rows columns (numbered 0 (all_ended runs)) → IsMatrixOf job g
-joined_matrix k job runs rows columns g c r a b e =
-    subst (IsMatrixOf job)
-    (sym (e ∙ ap (λ n. grid n columns (numbered 0 (all_ended runs))) a
+    → rows ≡ row_count job → columns ≡ column_count job → g ≡ grid rows columns (numbered 0 (all_ended runs)) → IsGrid g
+    → IsMatrixOf job g
+joined_matrix k job runs rows columns g c r a b e within =
+    let whole : Grid = grid (row_count job) (column_count job) (numbered 0 (rows_in job 0 (row_count job))) in
+    let same : g ≡ whole = e ∙ ap (λ n. grid n columns (numbered 0 (all_ended runs))) a
     ∙ ap (λ n. grid (row_count job) n (numbered 0 (all_ended runs))) b
-    ∙ ap (λ rs. grid (row_count job) (column_count job) (numbered 0 rs)) (ap all_ended r ∙ ended_all k job c)))
-    (matrix_of job)
+    ∙ ap (λ rs. grid (row_count job) (column_count job) (numbered 0 rs)) (ap all_ended r ∙ ended_all k job c) in
+    subst (IsMatrixOf job) (sym same) (matrix_of job (subst IsGrid same within))
 
 -- ---- the first job, and those behind it
 

@@ -9,4 +9,5 @@ pub mod Working
 pub mod Costs
 pub mod Placing
 pub mod Gathering
+pub mod Racing
 pub mod Crews

@@ -4,7 +4,7 @@ use Rattle.std.proofs.lemmas.Bool.{ne_eqb}
 use Rattle.std.proofs.lemmas.Bool.Decides.{eqb_tells}
 use Rattle.std.specs.Map.{lookup}
 use Rattle.std.specs.FinMap.{get-from_entries}
-use Rattle.csr_store.specs.Grid.{Cell, Entry, row_cells, at_row}
+use Rattle.csr_store.specs.Grid.{Cell, Entry, IsGrid, row_cells, at_row}
 use Rattle.csr_store.specs.Along.{along, cell_at, row_by}
 use Rattle.csr_store.specs.ByRows.{grid}
 use Rattle.csr_store.specs.Run.{Row, numbered}
@@ -109,8 +109,10 @@ value_in at j from (suc n) l u = elim (eqb_tells from j) [
 
 -- ---- a job's rows make its matrix
 
-pub matrix_of : (job : Job) → IsMatrixOf job (grid (row_count job) (column_count job) (numbered 0 (rows_in job 0 (row_count job))))
-matrix_of job = record {
+pub matrix_of : (job : Job) → IsGrid (grid (row_count job) (column_count job) (numbered 0 (rows_in job 0 (row_count job))))
+    → IsMatrixOf job (grid (row_count job) (column_count job) (numbered 0 (rows_in job 0 (row_count job))))
+matrix_of job within = record {
+  grid = within;
   rows = refl;
   columns = refl;
   values = λ at inside.

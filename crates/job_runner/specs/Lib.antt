@@ -2,4 +2,5 @@ pub mod Chunk
 pub mod Batch
 pub mod Theorem
 pub mod Worked
+pub mod Whole
 pub mod inner

@@ -3,6 +3,7 @@ ghost use Rattle.std.specs.Prelude.{◌≡◌, ◌<◌, ◌≤◌, ◌^◌, leng
 ghost use Rattle.job_plan.specs.Chunks.{plan_chunks};
 ghost use Rattle.job_runner.specs.Batch.{AreResultsOf, result_of, total_steps};
 ghost use Rattle.job_runner.specs.Theorem.{BatchTheorem};
+ghost use Rattle.job_runner.specs.Whole.{IsRaced};
 ghost use Rattle.job_runner.specs.Worked.{prices_of};
 
 use crate::answer::{BatchAnswer, BatchFault, Cause, JobResult};
@@ -11,14 +12,21 @@ use crate::gate::Gate;
 use crate::gathered::Gathered;
 use crate::join::join_jobs;
 use crate::places::in_order;
-use job_plan::Plan;
+use job_plan::{Plan, price};
 use race_board::Board;
 use std::alloc::{AllocError, Global};
 use std::sync::Wait;
 use std::thread::Threads;
 
-/// Runs a plan on up to so many workers: no more than the plan has chunks, one of them on the calling thread, each other in a
-/// thread of its own. They draw chunks from one board, and share the plan's operators and matrices.
+/// How many steps or rows are worth a thread: by the clock it costs some 40 microseconds to start and to join one.
+const WORK_OF_A_WORKER: u64 = 200_000;
+
+/// How many rows a chunk has at most.
+const CHUNK_ROWS: u64 = 256;
+
+/// Runs a plan on up to so many workers: no more than the plan has chunks, and no more than its price and its rows feed. One of them
+/// is on the calling thread, each other in a thread of its own. They draw chunks from one board, and share the plan's operators and
+/// matrices.
 ///
 /// # Errors
 ///
@@ -35,13 +43,16 @@ pub fn run_batch<H: Threads + Wait, G: Gate + Sync>(
     requires few { workers ≤ 64 }
     ensures theorem { IfOk result (λ a. BatchTheorem plan.now (map result_of a.results.items)) }
     ensures results { IfOk result (λ a. AreResultsOf plan.now (map result_of a.results.items)) }
+    ensures raced { IfOk result (λ a. IsRaced plan.now (map result_of a.results.items) a.spent) }
+    ensures spent_all { IfOk result (λ a. a.spent ≡ total_steps plan.now) }
     ensures spent { IfErr result (λ f. f.spent ≤ total_steps plan.now) }
     ensures thread { IfErr result (λ f. f.cause ≡ Cause.Thread → 1 < workers) }
 {
     let _jobs = plan.jobs();
+    let _chunks = plan.chunks();
     let mut spent = 0;
     match results(rt, alloc, plan, workers, gate, &mut spent) {
-        Ok(results) => Ok(BatchAnswer { results }),
+        Ok(results) => Ok(BatchAnswer { results, spent }),
         Err(cause) => Err(BatchFault { cause, spent }),
     }
 }
@@ -69,10 +80,12 @@ fn results<H: Threads + Wait, G: Gate + Sync>(
     requires few { workers ≤ 64 }
     requires spent { spent.old ≡ 0 }
     ensures results { IfOk result (λ rs. AreResultsOf plan.now (map result_of rs.items)) }
+    ensures raced { IfOk result (λ rs. IsRaced plan.now (map result_of rs.items) spent.new) }
     ensures spent { spent.new ≤ total_steps plan.now }
     ensures thread { IfErr result (λ why. why ≡ Cause.Thread → 1 < workers) }
 {
-    let count = workers.min(plan.chunks()).max(1);
+    let _ = plan.chunks();
+    let count = worker_count(plan, workers);
     let gathered = Gathered::new(alloc, plan, count)?;
     let (board, seats) = Board::open(alloc, prices(alloc, plan)?, count)?;
     let task = Task {
@@ -94,6 +107,25 @@ fn results<H: Threads + Wait, G: Gate + Sync>(
     }
     let pieces = in_order(alloc, plan, places)?;
     Ok(join_jobs(alloc, plan, pieces)?)
+}
+
+/// How many of so many workers a plan is given.
+fn worker_count(plan: &Plan, workers: u64) -> u64
+    requires { 1 ≤ workers }
+    ensures some { 1 ≤ result }
+    ensures few { result ≤ workers }
+{
+    let fed = 1 + work(plan) / WORK_OF_A_WORKER;
+    workers.min(plan.chunks()).min(fed).max(1)
+}
+
+/// What a plan's jobs may cost, with a step for each row of their chunks.
+fn work(plan: &Plan) -> u64 {
+    let mut work = plan.chunks().saturating_mul(CHUNK_ROWS);
+    for job in plan.jobs() {
+        work = work.saturating_add(price(job));
+    }
+    work
 }
 
 /// The prices of a plan's chunks, in order of their numbers.

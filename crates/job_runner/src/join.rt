@@ -58,6 +58,7 @@ fn join_job(
     let (rows, columns) = sizes(job);
     let (runs, steps) = gather(alloc, job, (rows + 255) / 256, pieces)?;
     let matrix = stack_runs(alloc, rows, columns, runs, first_operand(job))?;
+    let _rows = matrix.rows();
     let version = Arc::new(alloc, matrix)?;
     Ok(JobResult { version, steps })
 }

@@ -117,8 +117,8 @@ fn increments(rt: &impl Abort, alloc: Global, rows: u32) -> Result<Plan, AllocEr
     plan_of(rt, alloc, form)
 }
 
-/// Whether that job gave its matrix and its steps.
-fn is_incremented(answer: &BatchAnswer, rows: u64) -> bool {
+/// Whether such a job gave its matrix and its steps, each call at this cost.
+fn is_incremented(answer: &BatchAnswer, rows: u64, cost: u64) -> bool {
     let Some(result) = answer.results.get(0) else {
         return false;
     };
@@ -129,7 +129,7 @@ fn is_incremented(answer: &BatchAnswer, rows: u64) -> bool {
     }
     answer.results.len() == 1
         && result.version.entries() == rows
-        && result.steps == rows.wrapping_mul(3)
+        && result.steps == rows.wrapping_mul(cost)
 }
 
 #[test]
@@ -137,7 +137,8 @@ fn three_chunks_of_a_diagonal(rt: HostRuntime) -> Result<(), Fail> {
     let plan = increments(&rt, rt.alloc(), 600)?;
     assert_eq!(rt; plan.chunks(), 3);
     let answer = answer(&rt, rt.alloc(), &plan);
-    assert!(rt; is_incremented(&answer, 600));
+    assert!(rt; is_incremented(&answer, 600, 3));
+    assert_eq!(rt; answer.spent, 1800);
     Ok(())
 }
 

@@ -1,3 +1,4 @@
-pub mod Fresh
 pub mod Entrances
 pub mod Listening
+pub mod Metering
+pub mod inner

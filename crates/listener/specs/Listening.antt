@@ -9,5 +9,5 @@ use Rattle.listener.specs.declared.fault.ListenFault.TheVariants.{Network, Memor
 abbrev pub Listened : Option ℕ → EntranceState → EntranceState → Result (Unit {0}) ListenFault → Type 0
 Listened (Some count) old new (Ok done) = (old.accepted + count ≤ new.accepted) × (new.failures ≡ old.failures)
 Listened None old new (Ok done) = ⊥
-Listened sessions old new (Err Network) = new.failures ≡ old.failures + 1
+Listened sessions old new (Err (Network cause)) = new.failures ≡ old.failures + 1
 Listened sessions old new (Err Memory) = new ≡ old

@@ -1,22 +1,24 @@
 //! A listener whose connections are served.
-ghost use Rattle.std.specs.Prelude.{◌≡◌, ◌≤◌, ◌<◌, ◌+◌, ◌≢◌, None, OnOk, IfOk, IfErr};
+ghost use Rattle.std.specs.Prelude.{◌≡◌, ◌≤◌, ◌<◌, ◌+◌, ◌≢◌, None, OnOk, IfOk, IfSome};
 ghost use Rattle.wire.specs.Devices.{failures_in};
 ghost use Rattle.step_purse.specs.Passes.{IsPassOf};
+ghost use Rattle.session.specs.Rooms.{full_room};
 ghost use Rattle.listener.specs.Listening.{Listened};
 
 use crate::connection::admit;
-use crate::entrance::{Entrance, FromListener};
+use crate::entrance::{AcceptFailed, Entrance, FromListener};
 use crate::fault::ListenFault;
 use crate::house::{House, Terms};
+use crate::journal::Journal;
 use crate::seats::SEATS;
 use session::Room;
-use std::alloc::Global;
 use std::marker::Brand;
 use std::net::{OpenListener, TcpStream};
 use std::sync::Wait;
 use std::sync::ledger::{Blank, Ledger};
 use std::thread;
 use std::thread::{Scope, Threads};
+use std::time::Clock;
 use step_purse::{Pass, Purse};
 
 /// What the next session is started with: a pass, of which its own is split off, and its room, if there was memory for it.
@@ -32,29 +34,37 @@ struct Ready {
 ///
 /// No connection could be accepted.
 #[tactic(auto, using(step_purse::proofs::Shares::whole_gives))]
-fn start_next<'s, 'a, E: Entrance + Drop, R: Threads + Wait + Sync, L: Ledger + Send + Sync>(
+fn start_next<
+    's,
+    'a,
+    E: Entrance + Drop,
+    R: Threads + Wait + Clock + Sync,
+    L: Ledger + Send + Sync,
+>(
     scope: &Scope<'s, &'a ()>,
     rt: &'a R,
     house: &'a House<'a, L>,
     entrance: &mut E,
     ready: Ready,
-) -> Result<Ready, ListenFault>
+) -> Result<Ready, AcceptFailed>
     requires own { IsPassOf house.now.purse.now ready.pass }
     requires whole { 0 < ready.pass.known.share.wholes }
+    requires full { IfSome ready.room (λ r. r ≡ full_room house.now.terms.workers) }
+    ensures full { IfOk result (λ r. IfSome r.room (λ room. room ≡ full_room house.now.terms.workers)) }
     ensures own { IfOk result (λ r. IsPassOf house.now.purse.now r.pass) }
     ensures whole { IfOk result (λ r. 0 < r.pass.known.share.wholes) }
     ensures accepted { OnOk result ((E.state entrance.old).accepted < (E.state entrance.new).accepted) }
     ensures failures { (E.state entrance.new).failures ≡ (E.state entrance.old).failures + failures_in result }
-    ensures network { IfErr result (λ f. f ≡ ListenFault.Network) }
 {
     let Ready { mut pass, mut room } = ready;
     for _ in rt.forever() {
-        let Ok(stream) = entrance.accept() else {
-            return Err(ListenFault::Network);
+        let caller = match entrance.accept() {
+            Ok(caller) => caller,
+            Err(refused) => return Err(refused),
         };
         let (kept, given) = house.purse.split(rt, pass);
         pass = kept;
-        let is_started = admit(scope, rt, house, room, given, stream);
+        let is_started = admit(scope, rt, house, room, given, caller);
         room = house.room();
         if is_started {
             return Ok(Ready { pass, room });
@@ -68,48 +78,54 @@ fn start_next<'s, 'a, E: Entrance + Drop, R: Threads + Wait + Sync, L: Ledger + 
 /// # Errors
 ///
 /// A connection could not be accepted before.
-fn start_some<'s, 'a, E: Entrance + Drop, R: Threads + Wait + Sync, L: Ledger + Send + Sync>(
+fn start_some<
+    's,
+    'a,
+    E: Entrance + Drop,
+    R: Threads + Wait + Clock + Sync,
+    L: Ledger + Send + Sync,
+>(
     scope: &Scope<'s, &'a ()>,
     rt: &'a R,
     house: &'a House<'a, L>,
     entrance: &mut E,
     ready: Ready,
     count: u64,
-) -> Result<(), ListenFault>
+) -> Result<(), AcceptFailed>
     requires own { IsPassOf house.now.purse.now ready.pass }
     requires whole { 0 < ready.pass.known.share.wholes }
+    requires full { IfSome ready.room (λ r. r ≡ full_room house.now.terms.workers) }
     ensures accepted { OnOk result ((E.state entrance.old).accepted + count ≤ (E.state entrance.new).accepted) }
     ensures failures { (E.state entrance.new).failures ≡ (E.state entrance.old).failures + failures_in result }
-    ensures network { IfErr result (λ f. f ≡ ListenFault.Network) }
 {
     let mut ready = ready;
     for _ in 0..count {
         match start_next(scope, rt, house, entrance, ready) {
             Ok(next) => ready = next,
-            Err(fault) => return Err(fault),
+            Err(failed) => return Err(failed),
         }
     }
     Ok(())
 }
 
 /// Starts sessions until a connection can't be accepted, and tells that fault.
-fn start_all<'s, 'a, E: Entrance + Drop, R: Threads + Wait + Sync, L: Ledger + Send + Sync>(
+fn start_all<'s, 'a, E: Entrance + Drop, R: Threads + Wait + Clock + Sync, L: Ledger + Send + Sync>(
     scope: &Scope<'s, &'a ()>,
     rt: &'a R,
     house: &'a House<'a, L>,
     entrance: &mut E,
     ready: Ready,
-) -> ListenFault
+) -> AcceptFailed
     requires own { IsPassOf house.now.purse.now ready.pass }
     requires whole { 0 < ready.pass.known.share.wholes }
-    ensures failures { (E.state entrance.new).failures ≡ (E.state entrance.old).failures + 1 }
-    ensures network { result ≡ ListenFault.Network }
+    requires full { IfSome ready.room (λ r. r ≡ full_room house.now.terms.workers) }
+    ensures { (E.state entrance.new).failures ≡ (E.state entrance.old).failures + 1 }
 {
     let mut ready = ready;
     for _ in rt.forever() {
         match start_next(scope, rt, house, entrance, ready) {
             Ok(next) => ready = next,
-            Err(fault) => return fault,
+            Err(failed) => return failed,
         }
     }
     unreachable!()
@@ -120,7 +136,7 @@ fn start_all<'s, 'a, E: Entrance + Drop, R: Threads + Wait + Sync, L: Ledger + S
 /// # Errors
 ///
 /// A connection could not be accepted before.
-fn start<'s, 'a, E: Entrance + Drop, R: Threads + Wait + Sync, L: Ledger + Send + Sync>(
+fn start<'s, 'a, E: Entrance + Drop, R: Threads + Wait + Clock + Sync, L: Ledger + Send + Sync>(
     scope: &Scope<'s, &'a ()>,
     rt: &'a R,
     house: &'a House<'a, L>,
@@ -129,11 +145,18 @@ fn start<'s, 'a, E: Entrance + Drop, R: Threads + Wait + Sync, L: Ledger + Send 
 ) -> Result<(), ListenFault>
     requires own { IsPassOf house.now.purse.now ready.pass }
     requires whole { 0 < ready.pass.known.share.wholes }
+    requires full { IfSome ready.room (λ r. r ≡ full_room house.now.terms.workers) }
     ensures { Listened house.now.terms.sessions (E.state entrance.old) (E.state entrance.new) result }
 {
     match house.terms.sessions {
-        Some(count) => start_some(scope, rt, house, entrance, ready, count),
-        None => Err(start_all(scope, rt, house, entrance, ready)),
+        Some(count) => match start_some(scope, rt, house, entrance, ready, count) {
+            Ok(()) => Ok(()),
+            Err(failed) => Err(ListenFault::Network(failed.cause)),
+        },
+        None => {
+            let failed = start_all(scope, rt, house, entrance, ready);
+            Err(ListenFault::Network(failed.cause))
+        }
     }
 }
 
@@ -144,12 +167,12 @@ fn start<'s, 'a, E: Entrance + Drop, R: Threads + Wait + Sync, L: Ledger + Send 
 /// # Errors
 ///
 /// As those of `serve_listener`, beside the entrance.
-pub fn serve_entrance<'a, E: Entrance + Drop, R: Threads + Wait + Sync, L: Ledger + Send + Sync>(
-    rt: &'a R,
-    house: &'a House<'a, L>,
-    entrance: E,
-    pass: Pass,
-) -> (E, Result<(), ListenFault>)
+pub fn serve_entrance<
+    'a,
+    E: Entrance + Drop,
+    R: Threads + Wait + Clock + Sync,
+    L: Ledger + Send + Sync,
+>(rt: &'a R, house: &'a House<'a, L>, entrance: E, pass: Pass) -> (E, Result<(), ListenFault>)
     requires own { IsPassOf house.now.purse.now pass }
     requires whole { 0 < pass.known.share.wholes }
     ensures { Listened house.now.terms.sessions (E.state entrance) (E.state result.0) result.1 }
@@ -165,6 +188,7 @@ pub fn serve_entrance<'a, E: Entrance + Drop, R: Threads + Wait + Sync, L: Ledge
         move |scope| -> (E, Result<(), ListenFault>)
             requires own { IsPassOf house.now.purse.now ready.pass }
             requires whole { 0 < ready.pass.known.share.wholes }
+            requires full { IfSome ready.room (λ r. r ≡ full_room house.now.terms.workers) }
             ensures ended { Listened house.entry.now.terms.sessions (E.state entrance) (E.state result.0) result.1 }
         {
             let mut entrance = entrance;
@@ -177,17 +201,17 @@ pub fn serve_entrance<'a, E: Entrance + Drop, R: Threads + Wait + Sync, L: Ledge
 /// As `serve_listener`, with the counts by ledgers of the caller's: of seats, of accepted connections and of failures.
 fn serve_counted<
     N: OpenListener<Stream = TcpStream>,
-    R: Threads + Wait + Sync,
+    R: Threads + Wait + Clock + Sync + AllocGlobal,
     L: Ledger + Send + Sync,
     C: Ledger,
     F: Ledger,
 >(
     rt: &R,
-    alloc: Global,
     listener: &N,
     purse: &Purse,
     pass: Pass,
     terms: Terms,
+    journal: Option<&Journal>,
     blanks: (Blank, Blank, Blank),
 ) -> Result<(), ListenFault>
     requires own { IsPassOf purse.now pass }
@@ -198,7 +222,7 @@ fn serve_counted<
     ensures { OnOk result (terms.sessions ≢ None) }
 {
     let (seats, accepted, failures) = blanks;
-    let house = House::<L>::new(alloc, purse, terms, seats);
+    let house = House::<L>::new(rt.alloc(), purse, terms, journal, seats);
     let entrance = FromListener::<N, C, F>::new(listener, accepted, failures);
     let (_entrance, ended) = serve_entrance(rt, &house, entrance, pass);
     ended
@@ -212,18 +236,21 @@ fn serve_counted<
 ///
 /// `Memory` where the room of the first session was refused, before any connection was accepted. `Network` where a connection
 /// could not be accepted; sessions that run go on to their ends first.
-pub fn serve_listener<N: OpenListener<Stream = TcpStream>, R: Threads + Wait + Sync>(
+pub fn serve_listener<
+    N: OpenListener<Stream = TcpStream>,
+    R: Threads + Wait + Clock + Sync + AllocGlobal,
+>(
     rt: &R,
-    alloc: Global,
     listener: &N,
     purse: &Purse,
     pass: Pass,
     terms: Terms,
+    journal: Option<&Journal>,
 ) -> Result<(), ListenFault>
     requires own { IsPassOf purse.now pass }
     requires whole { 0 < pass.known.share.wholes }
     ensures { OnOk result (terms.sessions ≢ None) }
 {
     let blanks = (Blank::new(SEATS), Blank::new(1), Blank::new(1));
-    serve_counted::<N, R, Brand, Brand, Brand>(rt, alloc, listener, purse, pass, terms, blanks)
+    serve_counted::<N, R, Brand, Brand, Brand>(rt, listener, purse, pass, terms, journal, blanks)
 }

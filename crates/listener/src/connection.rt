@@ -1,21 +1,29 @@
 //! One connection, from its start to its end.
-ghost use Rattle.std.specs.Prelude.{◌≡◌};
+ghost use Rattle.std.specs.Prelude.{◌≡◌, ◌<◌, IfSome};
 ghost use Rattle.step_purse.specs.Passes.{IsPassOf};
+ghost use Rattle.session.specs.Rooms.{full_room};
 
+use crate::entrance::Caller;
+use crate::entry::{Ending, Entry};
 use crate::house::House;
-use crate::patient::{Patient, set_idle};
+use crate::patient::{Patient, Traffic, set_idle};
 use crate::seats::{Seat, take_seat};
-use crate::streams::serve_pass;
-use session::Room;
+use crate::streams::{Served, serve_pass};
+use session::{End, FromRead, Room, ServeFault, ToWrite};
 use std::io::{Read, Write};
-use std::net::{Shutdown, TcpStream};
+use std::marker::Brand;
+use std::net::{Shutdown, SocketAddr, TcpStream};
 use std::sync::Wait;
-use std::sync::ledger::Ledger;
+use std::sync::ledger::{Blank, Ledger};
 use std::thread::{Scope, Threads};
+use std::time::{Clock, Duration, Instant};
 use step_purse::{Pass, Purse};
 
 /// How many reads of what a client has still sent are made before its connection is closed.
 const LAST_READS: u64 = 64;
+
+/// What a client is told for which there is no session.
+const NO_BUSY: &[u8] = b"no busy\n";
 
 /// Ends a connection: tells the client that nothing more comes, and takes what it has sent already, since the system takes back
 /// the last replies of a connection that is closed with something unread. It never waits.
@@ -36,58 +44,151 @@ fn hang_up(stream: &TcpStream) {
 /// Tells a client that there is no session for it, and ends its connection.
 fn turn_away(stream: &TcpStream) {
     let mut to = stream;
-    let _ = to.write_all(b"no busy\n");
+    let _ = to.write_all(NO_BUSY);
     hang_up(stream);
+}
+
+/// Leaves a line in the log, if there is one, for a client that was turned away.
+fn note_turned_away<R: Wait, L: Ledger>(rt: &R, house: &House<'_, L>, client: SocketAddr) {
+    if let Some(journal) = house.journal {
+        let entry = Entry {
+            client,
+            ending: Ending::TurnedAway,
+            time: Some(Duration::ZERO),
+            received: 0,
+            sent: NO_BUSY.len() as u64,
+            commands: 0,
+            spent: 0,
+        };
+        journal.note(rt, entry);
+    }
+}
+
+/// As `serve_pass`, over a reader and a writer whose calls are counted by ledgers of the caller's.
+fn serve_counted<
+    R: Read + Drop,
+    W: Write + Drop,
+    H: Threads + Wait,
+    A: Ledger,
+    B: Ledger,
+    C: Ledger,
+    D: Ledger,
+>(
+    rt: &H,
+    purse: &Purse,
+    given: (Room, Pass),
+    reader: R,
+    writer: W,
+    blanks: (Blank, Blank, Blank, Blank),
+) -> Served
+    requires own { IsPassOf purse.now given.1 }
+    requires reads { (blanks.0.name ≡ A.name) × (blanks.0.parts ≡ A.parts) × (0 < blanks.0.parts) }
+    requires failed_reads { (blanks.1.name ≡ B.name) × (blanks.1.parts ≡ B.parts) × (0 < blanks.1.parts) }
+    requires writes { (blanks.2.name ≡ C.name) × (blanks.2.parts ≡ C.parts) × (0 < blanks.2.parts) }
+    requires failed_writes { (blanks.3.name ≡ D.name) × (blanks.3.parts ≡ D.parts) × (0 < blanks.3.parts) }
+{
+    let (room, pass) = given;
+    let (reads, failed_reads, writes, failed_writes) = blanks;
+    let mut source = FromRead::<R, A, B>::new(reader, reads, failed_reads);
+    let mut sink = ToWrite::<W, C, D>::new(writer, writes, failed_writes);
+    serve_pass(rt, room, &mut source, &mut sink, purse, pass)
+}
+
+/// As `serve_pass`, over a reader and a writer.
+fn serve_sides<R: Read + Drop, W: Write + Drop, H: Threads + Wait>(
+    rt: &H,
+    purse: &Purse,
+    given: (Room, Pass),
+    reader: R,
+    writer: W,
+) -> Served
+    requires { IsPassOf purse.now given.1 }
+{
+    let blanks = (Blank::new(1), Blank::new(1), Blank::new(1), Blank::new(1));
+    serve_counted::<R, W, H, Brand, Brand, Brand, Brand>(rt, purse, given, reader, writer, blanks)
+}
+
+/// How a session ended, by its outcome, where a call that failed had waited for too long or not.
+fn ending_of(outcome: Result<End, ServeFault>, is_idle: bool) -> Ending {
+    match outcome {
+        Ok(end) => Ending::Ended(end),
+        Err(ServeFault::Read | ServeFault::Write) if is_idle => Ending::Idle,
+        Err(fault) => Ending::BrokenOff(fault),
+    }
 }
 
 /// A session from its start to its end, in a thread of its own. Its seat is free before its connection is closed, so that a
 /// client that saw the end finds it.
-fn attend<'h, R: Threads + Wait, L: Ledger>(
-    rt: &'h R,
+fn attend<'a, R: Threads + Wait + Clock, L: Ledger>(
+    rt: &'a R,
+    house: &'a House<'a, L>,
     room: Room,
-    purse: &Purse,
     pass: Pass,
-    stream: TcpStream,
-    seat: Seat<'h, R, L>,
+    caller: Caller,
+    seat: Seat<'a, R, L>,
 )
-    requires own { IsPassOf purse.now pass }
+    requires own { IsPassOf house.now.purse.now pass }
+    requires full { room ≡ full_room house.now.terms.workers }
 {
-    let (reader, writer) = (Patient::new(&stream), Patient::new(&stream));
-    let _ = serve_pass(rt, room, reader, writer, purse, pass);
+    let Caller { stream, address } = caller;
+    let began = match house.journal {
+        Some(_) => Instant::now(rt).ok(),
+        None => None,
+    };
+    let (mut received, mut sent) = (Traffic::none(), Traffic::none());
+    let reader = Patient::new(&stream, &mut received);
+    let writer = Patient::new(&stream, &mut sent);
+    let served = serve_sides(rt, house.purse, (room, pass), reader, writer);
     drop(seat);
+    if let Some(journal) = house.journal {
+        let entry = Entry {
+            client: address,
+            ending: ending_of(served.outcome, received.is_idle || sent.is_idle),
+            time: began.and_then(|began| began.elapsed(rt).ok()),
+            received: received.bytes,
+            sent: sent.bytes,
+            commands: served.commands,
+            spent: served.spent,
+        };
+        journal.note(rt, entry);
+    }
     hang_up(&stream);
 }
 
 /// Starts a session for a connection, or tells the client that there is none, where there is no room, no seat or no thread.
 /// Answers whether one was started.
-pub fn admit<'s, 'a, R: Threads + Wait + Sync, L: Ledger + Send + Sync>(
+pub fn admit<'s, 'a, R: Threads + Wait + Clock + Sync, L: Ledger + Send + Sync>(
     scope: &Scope<'s, &'a ()>,
     rt: &'a R,
     house: &'a House<'a, L>,
     room: Option<Room>,
     pass: Pass,
-    stream: TcpStream,
+    caller: Caller,
 ) -> bool
     requires own { IsPassOf house.now.purse.now pass }
+    requires full { IfSome room (λ r. r ≡ full_room house.now.terms.workers) }
 {
-    let _ = stream.set_nodelay(true);
-    if set_idle(&stream, house.terms.idle).is_err() {
-        turn_away(&stream);
+    let client = caller.address;
+    let _ = caller.stream.set_nodelay(true);
+    if set_idle(&caller.stream, house.terms.idle).is_err() {
+        turn_away(&caller.stream);
+        note_turned_away(rt, house, client);
         return false;
     }
     let (Some(room), Some(seat)) = (room, take_seat(rt, &house.seats)) else {
-        turn_away(&stream);
+        turn_away(&caller.stream);
+        note_turned_away(rt, house, client);
         return false;
     };
-    let second = stream.try_clone();
-    let purse = house.purse;
-    match scope.spawn(move || attend(rt, room, purse, pass, stream, seat)) {
+    let second = caller.stream.try_clone();
+    match scope.spawn(move || attend(rt, house, room, pass, caller, seat)) {
         Ok(_running) => true,
         Err(refused) => {
             drop(refused);
             if let Ok(second) = second {
                 turn_away(&second);
             }
+            note_turned_away(rt, house, client);
             false
         }
     }

@@ -2,15 +2,25 @@
 ghost use Rattle.std.specs.Prelude.{◌≡◌, ◌<◌};
 ghost use Rattle.listener.specs.Entrances.{EntranceState, after_accept};
 
-use std::net::{OpenListener, TcpStream};
+use crate::fault::Cause;
+use std::net::{OpenListener, SocketAddr, TcpStream};
 use std::sync::ledger::{Blank, Ledger};
 use thiserror::Error;
 use wire::Count;
 
-/// No connection could be accepted.
-#[derive(Debug, Drop, Error)]
-#[error("accept failed")]
-pub struct AcceptFailed;
+/// No connection could be accepted, for this cause.
+#[derive(Clone, Copy, Debug, PartialEq, Eq, Error)]
+#[error("accept failed: {cause}")]
+pub struct AcceptFailed {
+    pub cause: Cause,
+}
+
+/// A connection that was accepted, and where it comes from.
+#[derive(Drop)]
+pub struct Caller {
+    pub stream: TcpStream,
+    pub address: SocketAddr,
+}
 
 /// What connections come in by: calls of `accept` and those that failed are counted, for contracts alone.
 pub trait Entrance {
@@ -22,7 +32,7 @@ pub trait Entrance {
     /// # Errors
     ///
     /// None could be accepted.
-    fn accept(&mut self) -> Result<TcpStream, AcceptFailed>
+    fn accept(&mut self) -> Result<Caller, AcceptFailed>
         ensures { state self.new ≡ after_accept (state self.old) result };
 }
 
@@ -54,15 +64,17 @@ impl<'l, N: OpenListener<Stream = TcpStream>, C: Ledger, F: Ledger> Entrance
     for FromListener<'l, N, C, F> {
     ghost state = { λ s. record { accepted = s.accepted; failures = s.failures } };
 
-    fn accept(&mut self) -> Result<TcpStream, AcceptFailed> {
+    fn accept(&mut self) -> Result<Caller, AcceptFailed> {
         match self.listener.accept() {
-            Ok((stream, _)) => {
+            Ok((stream, address)) => {
                 self.accepted.tick();
-                Ok(stream)
+                Ok(Caller { stream, address })
             }
-            Err(_) => {
+            Err(error) => {
                 self.failures.tick();
-                Err(AcceptFailed)
+                Err(AcceptFailed {
+                    cause: Cause::of(&error),
+                })
             }
         }
     }

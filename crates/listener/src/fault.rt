@@ -1,13 +1,53 @@
 //! Why no more connections are taken.
 
+use std::io::ErrorKind;
+use std::{fmt, io};
 use thiserror::Error;
+
+/// Why a call of the system failed, as far as that is known.
+#[derive(Clone, Copy, Debug, PartialEq, Eq)]
+pub enum Cause {
+    /// The system tells it by this number.
+    System(i32),
+    /// It waited for as long as it may.
+    Idle,
+    /// The system doesn't tell it.
+    Unknown,
+}
+
+impl Cause {
+    /// The cause that an error tells.
+    pub fn of(error: &io::Error) -> Self {
+        match error.raw_os_error() {
+            Some(code) => Cause::System(code),
+            None => Cause::Unknown,
+        }
+    }
+}
+
+impl fmt::Display for Cause {
+    fn fmt<W: fmt::Write>(&self, f: &mut fmt::Formatter<W>) -> fmt::Result {
+        let code = match *self {
+            Cause::System(code) => code,
+            Cause::Idle => return f.write_str("the time that --idle gives is over"),
+            Cause::Unknown => return f.write_str("the system tells no cause"),
+        };
+        let error = io::Error::from_raw_os_error(code);
+        match error.kind() {
+            ErrorKind::AddrInUse => f.write_str("the address is in use"),
+            ErrorKind::PermissionDenied => f.write_str("permission denied"),
+            ErrorKind::BrokenPipe => f.write_str("the other end is closed"),
+            _ => write!(f, "{error}"),
+        }
+    }
+}
 
 /// Why no more connections are taken.
 #[derive(Clone, Copy, Debug, PartialEq, Eq, Error)]
 pub enum ListenFault {
-    /// A connection could not be accepted.
+    /// A connection could not be accepted, for this cause.
     #[error("network failed")]
-    Network,
+    Network(Cause),
     /// The room of the first session was refused. No connection was accepted.
     #[error("no memory")]
     Memory,

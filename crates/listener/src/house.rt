@@ -1,6 +1,8 @@
 //! What all sessions of a listener share.
-ghost use Rattle.std.specs.Prelude.{◌≡◌, ◌≤◌};
+ghost use Rattle.std.specs.Prelude.{◌≡◌, ◌≤◌, IfSome};
+ghost use Rattle.session.specs.Rooms.{full_room};
 
+use crate::journal::Journal;
 use crate::seats::Seats;
 use session::Room;
 use std::alloc::Global;
@@ -29,11 +31,19 @@ pub struct House<'p, L: Ledger> {
     pub purse: &'p Purse,
     pub seats: Mutex<Seats<L>>,
     pub terms: Terms,
+    /// Where a line is left for each connection, if anywhere.
+    pub journal: Option<&'p Journal>,
 }
 
 impl<'p, L: Ledger> House<'p, L> {
     /// A house of sixteen free seats, which are counted by this ledger.
-    pub fn new(alloc: Global, purse: &'p Purse, terms: Terms, blank: Blank) -> Self
+    pub fn new(
+        alloc: Global,
+        purse: &'p Purse,
+        terms: Terms,
+        journal: Option<&'p Journal>,
+        blank: Blank,
+    ) -> Self
         requires name { blank.name ≡ L.name }
         requires parts { blank.parts ≡ L.parts }
         requires sixteen { blank.parts ≡ 16 }
@@ -45,11 +55,14 @@ impl<'p, L: Ledger> House<'p, L> {
             purse,
             seats: Mutex::new(Seats::<L>::new(blank)),
             terms,
+            journal,
         }
     }
 
-    /// Room for the next session, if there is memory for it.
-    pub fn room(&self) -> Option<Room> {
+    /// Room for the next session, if there is memory for it: that of 4,294,967,296 reads, with the workers of the terms.
+    pub fn room(&self) -> Option<Room>
+        ensures { IfSome result (λ r. r ≡ full_room self.now.terms.workers) }
+    {
         Room::new(self.alloc, self.terms.workers).ok()
     }
 }

@@ -1,31 +1,39 @@
 //! Sessions for whoever connects: up to sixteen at once, each in a thread of its own, on one purse of steps.
 //!
-//! The contracts: `serve_streams` is a session over any reader and any writer (`specs/Fresh.antt`, over the session's own
-//! `specs/Talk.antt`). `serve_pass` is one within a purse that others draw on too: its calls of the purse are those that its
-//! pass gained, in order, and the pass that is handed back owes what it owed. `serve_entrance` ends well only after the number
-//! of sessions that was asked for, and else by one accept that failed, the last (`specs/Listening.antt`). No more than sixteen
-//! seats are taken at any time: that is the invariant of `Seats`, and a session holds a seat as long as it runs.
+//! The contracts: `serve_pass` is one session over any source and any sink, within a purse that others draw on too. It carries the
+//! session theorem (the session's own `specs/Talk.antt`): what was read and written, how many calls of each device were made and
+//! failed, and how it ended belong together. Its calls of the purse are those that its pass gained, in order, the pass that is
+//! handed back owes what it owed, and the steps that are told are those that these calls spent (`specs/Metering.antt`). Each
+//! session of a server has the room of 4,294,967,296 reads and the workers that were asked for (`House::room`).
+//! `serve_entrance` ends well only after the number of connections that was asked for, and else by one accept that failed, the
+//! last (`specs/Listening.antt`). No more than sixteen seats are taken at any time: that is the invariant of `Seats`. The queue of
+//! the log gives lines in the order in which they came, and counts those that it drops (`Waiting` in `journal`).
 //!
-//! **What no contract says** is what a connection that was accepted is given: a session, or `no busy`. Neither do contracts say
-//! what a socket carries, nor that sessions run at once. Tests over the loopback show these.
+//! **What no contract says** is what a connection that was accepted is given: a session, or `no busy`; that a session holds a
+//! seat while it runs; what a socket carries; that sessions run at once; what a line of the log tells, and that it is written.
+//! Tests over the loopback and on the program show these.
 //!
-//! Read `streams` first (one session), then `seats`, `entrance` (what connections come in by), `connection` (one connection from
-//! its start to its end), `patient` (for how long a session waits for its client), `house` (what all sessions share) and
-//! `accepting`, from `serve_listener` down to one accept.
+//! Read `streams` first (one session), with `meter` (its budget); then `seats`, `entrance` (what connections come in by),
+//! `connection` (one connection from its start to its end), `patient` (for how long a session waits for its client), `house` (what
+//! all sessions share) and `accepting`, from `serve_listener` down to one accept; then `entry` and `journal` (the log).
 #![tactic(auto)]
 
 mod accepting;
 mod connection;
 mod entrance;
+mod entry;
 mod fault;
 mod house;
+mod journal;
+mod meter;
 mod patient;
 mod seats;
 mod streams;
 
 pub use accepting::{serve_entrance, serve_listener};
-pub use entrance::{AcceptFailed, Entrance, FromListener};
-pub use fault::ListenFault;
+pub use entrance::{AcceptFailed, Caller, Entrance, FromListener};
+pub use fault::{Cause, ListenFault};
 pub use house::{House, Terms};
-pub use session::{End, FatalRule, Room, ServeFault};
-pub use streams::{serve_pass, serve_streams};
+pub use journal::Journal;
+pub use session::{End, FatalRule, FromRead, Room, ServeFault, Sink, Source, ToWrite};
+pub use streams::{Served, serve_pass};

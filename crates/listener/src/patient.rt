@@ -1,4 +1,4 @@
-//! For how long a session waits for its client.
+//! For how long a session waits for its client, and how much goes over its connection.
 ghost use Rattle.std.specs.Prelude.{◌≡◌};
 
 use std::io;
@@ -18,17 +18,45 @@ pub fn set_idle(stream: &TcpStream, idle: Option<u64>) -> io::Result<()> {
     stream.set_write_timeout(longest)
 }
 
+/// What went over one side of a connection.
+#[derive(Clone, Copy, Debug, PartialEq, Eq)]
+pub struct Traffic {
+    /// How many bytes.
+    pub bytes: u64,
+    /// Whether the last call waited for as long as it may.
+    pub is_idle: bool,
+}
+
+impl Traffic {
+    /// Nothing yet.
+    pub fn none() -> Self {
+        Traffic {
+            bytes: 0,
+            is_idle: false,
+        }
+    }
+
+    /// Notes what a call of the side gave.
+    fn note(&mut self, outcome: &io::Result<usize>) {
+        match outcome {
+            Ok(count) => self.bytes = self.bytes.saturating_add(*count as u64),
+            Err(error) => self.is_idle = error.kind() == ErrorKind::WouldBlock,
+        }
+    }
+}
+
 /// A side of a connection whose calls are made again where a signal cut them short, as where the process was stopped and goes on.
 /// The client's time begins anew then.
 #[derive(Drop)]
 pub struct Patient<'s> {
     stream: &'s TcpStream,
+    traffic: &'s mut Traffic,
 }
 
 impl<'s> Patient<'s> {
-    /// A side of this connection.
-    pub fn new(stream: &'s TcpStream) -> Self {
-        Patient { stream }
+    /// A side of this connection, whose traffic is noted.
+    pub fn new(stream: &'s TcpStream, traffic: &'s mut Traffic) -> Self {
+        Patient { stream, traffic }
     }
 }
 
@@ -45,6 +73,7 @@ impl Read for Patient<'_> {
         for _ in 0..u64::MAX {
             let outcome = self.stream.read(buf);
             if !is_cut_short(&outcome) {
+                self.traffic.note(&outcome);
                 return outcome;
             }
         }
@@ -57,6 +86,7 @@ impl Write for Patient<'_> {
         for _ in 0..u64::MAX {
             let outcome = self.stream.write(buf);
             if !is_cut_short(&outcome) {
+                self.traffic.note(&outcome);
                 return outcome;
             }
         }

@@ -13,3 +13,5 @@ pub mod Barren
 pub mod Bits
 pub mod Spreading
 pub mod Passing
+pub mod Column
+pub mod Listed

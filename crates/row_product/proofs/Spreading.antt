@@ -34,7 +34,7 @@ spread_empty n (k ∷ ks) (s ∷ sums) h j =
     ∙ (ap (λ us. slot us j) (set-get_or (spread n ks sums) k None) ∙ rest j)
 
 -- a listed column is from the least on, and below the bound
-apart_at : (low n : ℕ) (ks : List ℕ) (p d : ℕ) → IsApart low n ks → p < length ks → (low ≤ get_or ks p d) × (get_or ks p d < n)
+pub apart_at : (low n : ℕ) (ks : List ℕ) (p d : ℕ) → IsApart low n ks → p < length ks → (low ≤ get_or ks p d) × (get_or ks p d < n)
 apart_at low n [] p d a l = absurd (omega (arith, l))
 apart_at low n (k ∷ ks) zero d a l = (a.0, a.1)
 apart_at low n (k ∷ ks) (suc p) d a l =

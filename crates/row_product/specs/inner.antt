@@ -1,6 +1,7 @@
 -- What serves this crate's own modules: contracts between them, invariants and proofs. No public contract reaches it.
 pub mod Adding
 pub mod Beside
+pub mod Column
 pub mod Masked
 pub mod Emitting
 pub mod Few

@@ -1,12 +1,12 @@
 //! A row of sums, to which the cells of rows of B are added, each times a word.
-ghost use Rattle.std.specs.Prelude.{◌≡◌, ◌≤◌, ℕ, None, [], length, IfOk, OnOk};
+ghost use Rattle.std.specs.Prelude.{◌≡◌, ◌≤◌, ◌<◌, ◌+◌, ◌*◌, ◌^◌, ◌++◌, ℕ, None, [], length, IfOk, OnOk};
 ghost use Rattle.bpf_verify.specs.Accepted.{Accepted};
 ghost use Rattle.csr_store.specs.Along.{row_by};
 ghost use Rattle.row_product.specs.inner.Adding.{none_gathered, AreBelow, AreTerms, ArePut, MayPut, IsMet};
 ghost use Rattle.row_product.specs.inner.Emitting.{MayEmit};
 ghost use Rattle.row_product.specs.inner.Masked.{AreMasked};
 ghost use Rattle.row_product.specs.inner.Rows.{IsPart, AddsCells};
-ghost use Rattle.row_product.specs.inner.Single.{IsBehind, Pushes};
+ghost use Rattle.row_product.specs.inner.Single.{multiplied, IsBehind, AreCharged};
 ghost use Rattle.row_product.specs.inner.Sums.{slot};
 
 use crate::additions::Additions;
@@ -16,6 +16,7 @@ use crate::sums::Sums;
 use crate::terms::Terms;
 use bpf_run::{Calls, Prepared, run_known};
 use csr_store::Rows;
+use job_forms::Making;
 use std::alloc::{AllocError, Global};
 use std::marker::Model;
 
@@ -91,24 +92,27 @@ impl Accumulator {
             )
     }
 
-    /// Puts a word times each of up to 64 cells into the open row, without a sum. Answers the steps.
+    /// Puts a word times each of up to 64 cells into the open row, without a sum. The calls are made, and charged, before memory may
+    /// be wanting.
     pub(crate) fn push_products(
         &mut self,
         factors: &MaskedFactors,
         x: u64,
         cells: &[(u64, u64)],
-        rows: &mut Rows,
-    ) -> Result<u64, AllocError>
+        making: &mut Making,
+    ) -> Result<(), AllocError>
         requires factors { AreMasked factors.now }
         requires few { length cells.now ≤ 64 }
-        requires behind { IsBehind rows.old.columns rows.old.opened cells.now }
-        ensures pushed { IfOk result (λ s. Pushes factors.now x cells.now rows.old rows.new s) }
+        requires room { making.old.steps + 8192 * length cells.now < 2 ^ 64 }
+        requires behind { IsBehind making.old.rows.columns making.old.rows.opened cells.now }
+        ensures pushed { OnOk result (making.new.rows
+            ≡ record making.old.rows { opened = making.old.rows.opened ++ multiplied factors.now.mul.now x cells.now }) }
+        ensures charged { AreCharged factors.now x cells.now making.old making.new }
         ensures sums { self.new ≡ self.old }
     {
         let _mul = factors.mul.operator().program();
-        let multiplied = self.products.make_with(factors.mul, x, cells);
-        push_words(cells, self.products.values(), rows)?;
-        Ok(multiplied)
+        making.steps += self.products.make_with(factors.mul, x, cells);
+        push_words(cells, self.products.values(), &mut making.rows)
     }
 
     /// Puts the sums into the open row, by ascending column.

@@ -1,8 +1,8 @@
 //! The columns of a row's terms, listed, where these are few beside all columns.
-ghost use Rattle.std.specs.Prelude.{◌≡◌, ◌<◌, ℕ, None, length, OnOk};
+ghost use Rattle.std.specs.Prelude.{◌≡◌, ◌<◌, ◌++◌, ℕ, None, length, map, OnOk};
 ghost use Rattle.std.specs.List.{AllByRecursion};
 ghost use Rattle.csr_store.specs.Grid.{Cell};
-ghost use Rattle.row_product.specs.inner.Few.{IsApart};
+ghost use Rattle.row_product.specs.inner.Few.{met, AreListed, IsApart};
 ghost use Rattle.row_product.specs.inner.Sums.{slot};
 
 use csr_store::Matrix;
@@ -11,9 +11,7 @@ use std::alloc::{AllocError, Global};
 /// The columns of a row's terms, ascending, each with room for its sum. Begun anew for each row.
 #[derive(Drop)]
 pub(crate) struct Columns {
-    /// The column of each term.
-    gathered: Vec<u64>,
-    /// Each of these once.
+    /// The column of each term, once.
     pub(crate) listed: Vec<u64>,
     /// What the terms at each of them have come to.
     pub(crate) sums: Vec<Option<u64>>,
@@ -23,7 +21,6 @@ impl Columns {
     /// Of no row yet. Takes no memory.
     pub(crate) fn new(alloc: Global) -> Self {
         Columns {
-            gathered: Vec::new(alloc),
             listed: Vec::new(alloc),
             sums: Vec::new(alloc),
         }
@@ -33,12 +30,14 @@ impl Columns {
     pub(crate) fn begin(&mut self, row: &[(u64, u64)], b: &Matrix) -> Result<(), AllocError>
         requires within { AllByRecursion (λ (c : Cell). c.0 < b.now.rows) row.now }
         ensures apart { OnOk result (IsApart 0 b.now.columns self.new.listed.items) }
+        ensures listed { OnOk result (AreListed self.new.listed.items (met b.now row.now)) }
         ensures paired { OnOk result (length self.new.sums.items ≡ length self.new.listed.items) }
         ensures none { OnOk result ((p : ℕ) → slot self.new.sums.items p ≡ None) }
     {
-        gather(row, b, &mut self.gathered)?;
-        self.gathered.sort_unstable();
-        list_once(&self.gathered, b.columns(), &mut self.listed)?;
+        let _columns = b.columns();
+        gather(row, b, &mut self.listed)?;
+        self.listed.sort_unstable();
+        self.listed.dedup();
         self.sums.clear();
         self.sums.resize(self.listed.len(), None)
     }
@@ -47,28 +46,22 @@ impl Columns {
 /// Gathers the columns of the rows of B that the cells of a row of A name, one row after the other.
 fn gather(row: &[(u64, u64)], b: &Matrix, gathered: &mut Vec<u64>) -> Result<(), AllocError>
     requires within { AllByRecursion (λ (c : Cell). c.0 < b.now.rows) row.now }
+    ensures { OnOk result (gathered.new.items ≡ met b.now row.now) }
 {
     let _rows = b.rows();
     gathered.clear();
     for cell in row {
-        for entry in b.row(cell.0) {
-            gathered.push(entry.0)?;
-        }
+        add_columns(b.row(cell.0), gathered)?;
     }
     Ok(())
 }
 
-/// Lists those of some columns that are above all before them, and below a bound.
-fn list_once(columns: &[u64], bound: u64, listed: &mut Vec<u64>) -> Result<(), AllocError>
-    ensures { OnOk result (IsApart 0 bound listed.new.items) }
+/// Adds the columns of cells.
+fn add_columns(cells: &[(u64, u64)], gathered: &mut Vec<u64>) -> Result<(), AllocError>
+    ensures { OnOk result (gathered.new.items ≡ gathered.old.items ++ map (λ (c : Cell). c.0) cells.now) }
 {
-    listed.clear();
-    let mut least = 0;
-    for column in columns {
-        if *column >= least && *column < bound {
-            listed.push(*column)?;
-            least = *column + 1;
-        }
+    for cell in cells {
+        gathered.push(cell.0)?;
     }
     Ok(())
 }

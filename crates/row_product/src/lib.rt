@@ -14,6 +14,10 @@
 //! all: it makes the row of B that it names, each word multiplied, and where there is a mask it is read beside the mask's row, for
 //! the cells that pass.
 //!
+//! A product of one column is summed without any of this: the terms of a row are one list, which is folded (`one_column`, over
+//! `specs/inner/Column.antt`). Those of up to 64 cells of a row of A are listed in one loop (`named`), in which no jump waits for
+//! whether B has a word.
+//!
 //! The sums have their room when a range has a term, never before, and not while the terms so far are few beside many columns: each
 //! row is then summed in lists that are as long as it has terms. So the work is linear in the multiplications, the rows and the
 //! entries, but for the order of a row's columns; and the room of the result is taken row by row.
@@ -23,7 +27,8 @@
 //! `progress` (rows of B, under the mask, over `specs/inner/Rows.antt`), `accumulator` (cells of one row of B) with `terms`,
 //! `additions`, `sums`, `held` and `marked` (what is kept of columns), `emit` (sums into the result, over
 //! `specs/inner/Emitting.antt`) and `marks` (the mask's row), over `specs/inner/Sums.antt`, `specs/inner/Adding.antt` and
-//! `specs/inner/Held.antt`; and `few` (rows of few terms) with `columns` (the columns of these terms), over `specs/inner/Few.antt`.
+//! `specs/inner/Held.antt`; `few` (rows of few terms) with `columns` (the columns of these terms), over `specs/inner/Few.antt`;
+//! and `one_column` with `named`.
 #![tactic(auto)]
 
 mod accumulator;
@@ -36,6 +41,8 @@ mod few;
 mod held;
 mod marked;
 mod marks;
+mod named;
+mod one_column;
 mod product;
 mod progress;
 mod room;

@@ -1,4 +1,5 @@
 //! One row of a product.
+ghost use Rattle.row_product.specs.inner.Masked.{IsNext, AddsRow, IsCharged};
 ghost use Rattle.row_product.specs.inner.Progress.{IsReady, AllForbidden, stands};
 ghost use Rattle.row_product.specs.inner.Rows.{IsRowOfA, AreSummed};
 
@@ -29,6 +30,25 @@ fn sum_under(factors: &MaskedFactors, i: u64, progress: &mut Progress) -> u64
     }
 }
 
+/// Adds row `i` of the product, by its sums. All its calls are made, and charged, before memory may be wanting.
+fn fill_summed(
+    factors: &MaskedFactors,
+    i: u64,
+    progress: &mut Progress,
+    making: &mut Making,
+) -> Result<(), AllocError>
+    requires next { IsNext factors.now i making.old }
+    requires ready { IsReady factors.now.b.now.columns progress.old × AllForbidden progress.old }
+    ensures row { AddsRow factors.now i making.old making.new result }
+    ensures charged { IsCharged factors.now i making.old making.new }
+    ensures ready { IsReady factors.now.b.now.columns progress.new × AllForbidden progress.new }
+{
+    let columns = factors.b.columns();
+    making.steps += sum_under(factors, i, progress);
+    progress.sums.emit(columns, &mut making.rows)?;
+    making.rows.end_row()
+}
+
 impl Room for Progress {
     ghost is_ready = { λ columns p. IsReady columns p × AllForbidden p };
 
@@ -42,12 +62,9 @@ impl Room for Progress {
         if !is_open(factors.mask, i) {
             return making.rows.end_row();
         }
-        let columns = factors.b.columns();
         if let Some(cell) = sole_entry(factors, i) {
             return fill_sole(factors, i, cell, self, making);
         }
-        making.steps += sum_under(factors, i, self);
-        self.sums.emit(columns, &mut making.rows)?;
-        making.rows.end_row()
+        fill_summed(factors, i, self, making)
     }
 }

@@ -66,8 +66,7 @@ fn push_row(
     making.rows.reserve(cells.len())?;
     while !cells.is_empty() {
         let (now, rest) = cells.split_at(cells.len().min(MOST_CALLS));
-        let steps = sums.push_products(factors, x, now, &mut making.rows)?;
-        making.steps += steps;
+        sums.push_products(factors, x, now, making)?;
         cells = rest;
     }
     making.rows.end_row()
@@ -102,10 +101,9 @@ fn push_row_under(
     };
     while !row.cells.is_empty() {
         row = list_passing(row, &mut progress.passing);
-        let steps = progress
+        progress
             .sums
-            .push_products(factors, x, &progress.passing, &mut making.rows)?;
-        making.steps += steps;
+            .push_products(factors, x, &progress.passing, making)?;
     }
     making.rows.end_row()
 }

@@ -3,12 +3,13 @@ ghost use Rattle.std.specs.Prelude.{◌≡◌, ◌<◌};
 ghost use Rattle.step_purse.specs.Passes.{IsPassOf};
 
 use listener::{ListenFault, Terms, serve_listener};
-use std::alloc::{AllocError, Global};
+use std::alloc::AllocError;
 use std::io;
 use std::io::{Read, Write};
 use std::net::{Ipv4Addr, Net, OpenListener, SocketAddr, TcpListener, TcpStream};
 use std::sync::Wait;
 use std::thread::{Threads, join};
+use std::time::Clock;
 use step_purse::Purse;
 
 /// A listener on a free port of the loopback, and its address.
@@ -56,18 +57,17 @@ pub fn quit(stream: &TcpStream) -> io::Result<bool> {
 /// Serves so many sessions over a purse of 12, each batch on two workers, beside a client, and says how both ended.
 pub fn serve_beside<
     N: OpenListener<Stream = TcpStream> + Sync,
-    R: Threads + Wait + Sync,
+    R: Threads + Wait + Clock + Sync + AllocGlobal,
     C: FnOnce() -> io::Result<bool>,
 >(
     rt: &R,
-    alloc: Global,
     listener: &N,
     sessions: Option<u64>,
     client: C,
 ) -> Result<(Result<(), ListenFault>, io::Result<bool>), AllocError>
     requires { C.pre client }
 {
-    let (purse, pass) = Purse::open(alloc, 12)?;
+    let (purse, pass) = Purse::open(rt.alloc(), 12)?;
     let purse = &purse;
     let server = move || -> Result<(), ListenFault>
         requires own { IsPassOf purse.now pass }
@@ -78,7 +78,7 @@ pub fn serve_beside<
             sessions,
             idle: None,
         };
-        serve_listener(rt, alloc, listener, purse, pass, terms)
+        serve_listener(rt, listener, purse, pass, terms, None)
     };
     Ok(join(rt, server, client))
 }

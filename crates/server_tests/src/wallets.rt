@@ -1,14 +1,19 @@
 //! Sessions within a purse that another pass draws on too, over memory: what the other finds after each end and each fault.
+ghost use Rattle.std.specs.Prelude.{◌≡◌, ◌<◌};
+ghost use Rattle.step_purse.specs.Passes.{IsPassOf};
+
 use crate::talk::{PRODUCT, SET_UP, SETUP};
-use listener::{End, FatalRule, Room, ServeFault, serve_pass};
+use listener::{End, FatalRule, FromRead, Room, ServeFault, Served, ToWrite, serve_pass};
 use std::alloc::Global;
 use std::io;
 use std::io::{ErrorKind, Read, Write};
+use std::marker::Brand;
 use std::process::Abort;
 use std::sync::Wait;
+use std::sync::ledger::{Blank, Ledger};
 use std::test::Fail;
 use std::thread::Threads;
-use step_purse::{Purse, Totals};
+use step_purse::{Pass, Purse, Totals};
 
 /// A reader that gives bytes, and then ends or fails.
 #[derive(Drop)]
@@ -48,6 +53,42 @@ impl Write for Taking<'_> {
     }
 }
 
+/// As `serve_pass`, over a reader and a writer whose calls are counted by ledgers of the caller's.
+fn serve_counted<A: Ledger, B: Ledger, C: Ledger, D: Ledger, H: Threads + Wait>(
+    rt: &H,
+    reader: Given<'_>,
+    writer: Taking<'_>,
+    purse: &Purse,
+    given: (Room, Pass),
+    blanks: (Blank, Blank, Blank, Blank),
+) -> Served
+    requires own { IsPassOf purse.now given.1 }
+    requires reads { (blanks.0.name ≡ A.name) × (blanks.0.parts ≡ A.parts) × (0 < blanks.0.parts) }
+    requires failed_reads { (blanks.1.name ≡ B.name) × (blanks.1.parts ≡ B.parts) × (0 < blanks.1.parts) }
+    requires writes { (blanks.2.name ≡ C.name) × (blanks.2.parts ≡ C.parts) × (0 < blanks.2.parts) }
+    requires failed_writes { (blanks.3.name ≡ D.name) × (blanks.3.parts ≡ D.parts) × (0 < blanks.3.parts) }
+{
+    let (room, pass) = given;
+    let (reads, failed_reads, writes, failed_writes) = blanks;
+    let mut source = FromRead::<Given, A, B>::new(reader, reads, failed_reads);
+    let mut sink = ToWrite::<Taking, C, D>::new(writer, writes, failed_writes);
+    serve_pass(rt, room, &mut source, &mut sink, purse, pass)
+}
+
+/// As `serve_pass`, over memory.
+fn serve_over<H: Threads + Wait>(
+    rt: &H,
+    reader: Given<'_>,
+    writer: Taking<'_>,
+    purse: &Purse,
+    given: (Room, Pass),
+) -> Served
+    requires { IsPassOf purse.now given.1 }
+{
+    let blanks = (Blank::new(1), Blank::new(1), Blank::new(1), Blank::new(1));
+    serve_counted::<Brand, Brand, Brand, Brand, H>(rt, reader, writer, purse, given, blanks)
+}
+
 /// A way by which a session ends while it holds a job of 12 steps: what it reads last, and which of its devices fail.
 #[derive(Clone, Copy)]
 struct Last<'a> {
@@ -56,6 +97,8 @@ struct Last<'a> {
     pieces: u64,
     reads: u64,
     outcome: Result<End, ServeFault>,
+    /// How many commands it takes beside those that went before.
+    commands: u64,
 }
 
 /// A session that has run the product once, queued it again, and then ends so, leaves nothing reserved to another pass.
@@ -77,8 +120,10 @@ fn assert_settled<H: Threads + Wait + Abort>(
         pieces: last.pieces,
     };
     let room = Room::with_reads(alloc, 2, last.reads)?;
-    let (_pass, ended) = serve_pass(rt, room, reader, writer, &purse, pass);
-    assert_eq!(rt; ended, last.outcome);
+    let served = serve_over(rt, reader, writer, &purse, (room, pass));
+    assert_eq!(rt; served.outcome, last.outcome);
+    assert_eq!(rt; served.spent, 9);
+    assert_eq!(rt; served.commands, last.commands.wrapping_add(7));
     let queued = format!(in alloc;
         "{SET_UP}ok queued 1 12\nok run 1 9\nC 1 1 1 9\nok queued 1 12\n"
     )?;
@@ -99,6 +144,7 @@ const LAST: Last<'static> = Last {
     pieces: u64::MAX,
     reads: 4,
     outcome: Ok(End::InputEnd),
+    commands: 0,
 };
 
 #[test]
@@ -116,6 +162,7 @@ fn each_end_settles(rt: HostRuntime) -> Result<(), Fail> {
             Last {
                 text,
                 outcome,
+                commands: 1,
                 ..LAST
             },
         )?;
@@ -128,6 +175,7 @@ fn each_end_settles(rt: HostRuntime) -> Result<(), Fail> {
         Last {
             text,
             outcome,
+            commands: 1,
             ..LAST
         },
     )?;
@@ -145,6 +193,7 @@ fn each_fault_settles(rt: HostRuntime) -> Result<(), Fail> {
         Last {
             text: "budget\n",
             pieces: 7,
+            commands: 1,
             outcome: Err(ServeFault::Write),
             ..LAST
         },

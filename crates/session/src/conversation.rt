@@ -7,6 +7,7 @@ ghost use Rattle.workspace.specs.Workspace.{state_of};
 ghost use Rattle.session.specs.Exchange.{Exchanged, behind};
 ghost use Rattle.session.specs.inner.Exchange.{Conversed};
 ghost use Rattle.session.specs.Next.{next};
+ghost use Rattle.session.specs.Rooms.{full_room};
 ghost use Rattle.session.specs.Talk.{Outcome};
 
 use crate::answering::respond_and_say;
@@ -33,6 +34,8 @@ struct Desk {
     workspace: Workspace,
     /// How many workers run a batch.
     workers: u64,
+    /// How many commands were taken, or the largest number there is. No contract speaks of it.
+    commands: u64,
     ghost line_room: { 1026 ≤ vec_capacity line },
     ghost some: { 1 ≤ workers },
     ghost few: { workers ≤ 64 },
@@ -45,6 +48,7 @@ impl Desk {
         requires few { workers ≤ 64 }
         ensures input { IfOk result (λ d. d.input ≡ record { bytes = []; ended = false; reads_left = reads }) }
         ensures state { IfOk result (λ d. state_of d.workspace ≡ empty) }
+        ensures workers { IfOk result (λ d. d.workers ≡ workers) }
     {
         Ok(Desk {
             input: Input::new(alloc, reads)?,
@@ -52,6 +56,7 @@ impl Desk {
             reply: Reply::new(alloc)?,
             workspace: Workspace::new(alloc)?,
             workers,
+            commands: 0,
         })
     }
 }
@@ -91,19 +96,22 @@ fn answer_line<R: Source, W: Sink, T: Steps, H: Threads + Wait>(
     ensures bounded { reach desk.new.input ≤ reach desk.old.input }
 {
     match hear(alloc, parse(&desk.line), &mut desk.input, reader) {
-        Ok(heard) => match respond_and_say(
-            rt,
-            alloc,
-            heard,
-            &mut desk.workspace,
-            desk.workers,
-            writer,
-            steps,
-            &mut desk.reply,
-        ) {
-            Ok(end) => Ok(end),
-            Err(_) => Err(ServeFault::Write),
-        },
+        Ok(heard) => {
+            desk.commands = desk.commands.saturating_add(heard.count());
+            match respond_and_say(
+                rt,
+                alloc,
+                heard,
+                &mut desk.workspace,
+                desk.workers,
+                writer,
+                steps,
+                &mut desk.reply,
+            ) {
+                Ok(end) => Ok(end),
+                Err(_) => Err(ServeFault::Write),
+            }
+        }
         Err(fault) => Err(fault_of(fault)),
     }
 }
@@ -133,19 +141,22 @@ fn exchange<R: Source, W: Sink, T: Steps, H: Threads + Wait>(
 {
     match next_line(&mut desk.input, reader, &mut desk.line) {
         Ok(Lined::Whole) => answer_line(rt, alloc, desk, reader, writer, steps),
-        Ok(Lined::Over) => match respond_and_say(
-            rt,
-            alloc,
-            Heard::Stopped(FatalRule::LineTooLong),
-            &mut desk.workspace,
-            desk.workers,
-            writer,
-            steps,
-            &mut desk.reply,
-        ) {
-            Ok(end) => Ok(end),
-            Err(_) => Err(ServeFault::Write),
-        },
+        Ok(Lined::Over) => {
+            desk.commands = desk.commands.saturating_add(1);
+            match respond_and_say(
+                rt,
+                alloc,
+                Heard::Stopped(FatalRule::LineTooLong),
+                &mut desk.workspace,
+                desk.workers,
+                writer,
+                steps,
+                &mut desk.reply,
+            ) {
+                Ok(end) => Ok(end),
+                Err(_) => Err(ServeFault::Write),
+            }
+        }
         Ok(Lined::Nothing) => Ok(Some(End::InputEnd)),
         Err(fault) => Err(fault_of(fault)),
     }
@@ -184,7 +195,7 @@ fn converse<R: Source, W: Sink, T: Steps, H: Threads + Wait>(
 }
 
 /// The room of one session, made before it begins, so that a server can know that it has it. A contract sees how many reads
-/// the session may make.
+/// the session may make, and on how many workers its batches run.
 #[derive(Drop)]
 pub struct Room {
     alloc: Global,
@@ -192,13 +203,14 @@ pub struct Room {
 }
 
 impl Model for Room {
-    ghost use Rattle.std.specs.Prelude.{ℕ, ◌≡◌, [], false};
+    ghost use Rattle.std.specs.Prelude.{◌≡◌, [], false};
     ghost use Rattle.workspace.specs.State.{empty};
     ghost use Rattle.workspace.specs.Workspace.{state_of};
+    ghost use Rattle.session.specs.Rooms.{RoomState};
 
-    ghost Value = { ℕ };
+    ghost Value = { RoomState };
 
-    ghost view = { λ r. r.desk.input.reads_left };
+    ghost view = { λ r. record { reads = r.desk.input.reads_left; workers = r.desk.workers } };
 
     ghost invariant = { λ r. (r.desk.input.bytes ≡ []) × (r.desk.input.ended ≡ false) × (state_of r.desk.workspace ≡ empty) };
 }
@@ -215,7 +227,7 @@ impl Room {
     pub fn new(alloc: Global, workers: u64) -> Result<Room, AllocError>
         requires some { 1 ≤ workers }
         requires few { workers ≤ 64 }
-        ensures { IfOk result (λ r. r ≡ 4294967296) }
+        ensures { IfOk result (λ r. r ≡ full_room workers) }
     {
         Room::with_reads(alloc, workers, MOST_READS)
     }
@@ -228,7 +240,7 @@ impl Room {
     pub fn with_reads(alloc: Global, workers: u64, reads: u64) -> Result<Room, AllocError>
         requires some { 1 ≤ workers }
         requires few { workers ≤ 64 }
-        ensures { IfOk result (λ r. r ≡ reads) }
+        ensures { IfOk result (λ r. r ≡ record { reads = reads; workers = workers }) }
     {
         let desk = Desk::new(alloc, workers, reads)?;
         Ok(Room { alloc, desk })
@@ -246,16 +258,35 @@ impl Room {
         writer: &mut W,
         steps: &mut T,
     ) -> Result<End, ServeFault>
-        ensures said { Outcome T.leads self
+        ensures said { Outcome T.leads self.reads
             (record { budget = steps.old; source = R.state reader.old; sink = W.state writer.old })
             (record { budget = steps.new; source = R.state reader.new; sink = W.state writer.new }) result }
         ensures owed { T.owes steps.new ≡ T.owes steps.old }
         ensures begun { result ≢ Err ServeFault.Memory }
     {
+        let (outcome, _commands) = self.serve_counting(rt, reader, writer, steps);
+        outcome
+    }
+
+    /// Serves a session in this room, as `serve` does, and tells how many commands were taken, each of which has a reply: command
+    /// lines with their bodies, and a line that was too long. No contract speaks of that number.
+    pub fn serve_counting<R: Source, W: Sink, T: Steps, H: Threads + Wait>(
+        self,
+        rt: &H,
+        reader: &mut R,
+        writer: &mut W,
+        steps: &mut T,
+    ) -> (Result<End, ServeFault>, u64)
+        ensures said { Outcome T.leads self.reads
+            (record { budget = steps.old; source = R.state reader.old; sink = W.state writer.old })
+            (record { budget = steps.new; source = R.state reader.new; sink = W.state writer.new }) result.0 }
+        ensures owed { T.owes steps.new ≡ T.owes steps.old }
+        ensures begun { result.0 ≢ Err ServeFault.Memory }
+    {
         let Room { alloc, mut desk } = self;
         let outcome = converse(rt, alloc, &mut desk, reader, writer, steps);
         release(rt, &desk.workspace, steps);
-        outcome
+        (outcome, desk.commands)
     }
 }
 

@@ -21,6 +21,16 @@ pub enum Heard<'a> {
     Dropped { header: Header<'a> },
 }
 
+impl Heard<'_> {
+    /// How many commands this is, of those that have a reply: a blank line is none.
+    pub fn count(&self) -> u64 {
+        match self {
+            Heard::Plain(Command::Blank) => 0,
+            _ => 1,
+        }
+    }
+}
+
 /// Reads what a line asks for to its end.
 ///
 /// # Errors

@@ -31,7 +31,7 @@ const SETUP_TEXT: &str = "ok matrix 1 1 1
 ok op 3 3
 ";
 
-/// The session of `cases/first-run`, of 169 bytes.
+/// The session of the case first-run, of 169 bytes.
 const FIRST_RUN: &str = "matrix A 62
 %%MatrixMarket matrix coordinate integer general
 1 1 1

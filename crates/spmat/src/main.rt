@@ -1,27 +1,34 @@
 //! `spmat`, a server for jobs over sparse matrices whose operators are BPF code.
 //!
-//! The program is thin: `command_line` reads its words and tells its end, and `serving` has its two commands, one session on standard
-//! input and output, and sessions over TCP.
+//! The program is thin: `command_line` reads its words and tells its end; `solo` has one session on any two devices, `standard`
+//! makes devices of standard input and output, and `serving` has sessions over TCP.
 //!
-//! What a session reads, does and writes is the contract of `listener::serve_pass`, and how serving a listener ends that of
-//! `listener::serve_entrance`.
+//! What a session reads, does and writes is the contract of `solo::run` (`specs/inner/Running.antt`), and for one of many that of
+//! `listener::serve_pass`. How serving a listener ends is the contract of `listener::serve_entrance`.
 #![tactic(auto)]
 
-ghost use Rattle.std.specs.Prelude.{◌≡◌, IfOk};
+ghost use Rattle.std.specs.Prelude.{◌≡◌, ◌≤◌, ◌^◌, IfOk};
 ghost use Rattle.command_line.specs.InRange.{IsInRange};
 
 mod serving;
+mod solo;
+mod standard;
 
-use crate::serving::{run, serve};
-use command_line::{Done, Failure, Settings, SettingsFault, ending_of, finish, settings_of};
-use listener::Terms;
-use std::env;
+use crate::serving::serve;
+use crate::solo::run_over;
+use crate::standard::Side;
+use command_line::{
+    Done, Failure, Settings, SettingsFault, VERSION, ending_of, finish, settings_of,
+};
+use listener::{Cause, ServeFault, Terms};
 use std::io::ErrorKind;
 use std::net::{Net, TcpListener, TcpStream};
 use std::process::ExitCode;
 use std::rt::Env;
 use std::sync::Wait;
 use std::thread::Threads;
+use std::time::Clock;
+use std::{env, io};
 
 const NOT_TEXT: &str = "error: the command line is not text\n";
 
@@ -37,35 +44,80 @@ fn read_settings<H: Env + AllocGlobal>(rt: &H) -> Result<Settings, SettingsFault
     settings_of(rt.alloc(), words.as_slice())
 }
 
+/// Tells the version on standard output.
+fn tell_version<H: Print>(rt: &H) -> Result<Done, Failure> {
+    match println!(rt; "spmat {VERSION}") {
+        Ok(()) => Ok(Done::Version),
+        Err(error) => Err(Failure::Output(Cause::of(&error))),
+    }
+}
+
+/// Serves one session on standard input and output, each call of which waits for so many seconds at most, if a number is given.
+fn run<H>(rt: &H, steps: u64, workers: u64, idle: Option<u64>) -> Result<Done, Failure>
+where
+    H: Input + Print + Threads + Wait + AllocGlobal,
+    requires steps { steps ≤ 2 ^ 62 }
+    requires some { 1 ≤ workers }
+    requires few { workers ≤ 64 }
+{
+    let (mut unread, mut unwritten) = (None, None);
+    let reader = Side::input(rt.reader(), idle, &mut unread);
+    let writer = Side::output(io::writer(rt), idle, &mut unwritten);
+    match run_over(rt, reader, writer, steps, workers) {
+        Ok(end) => Ok(Done::Session(end)),
+        Err(fault) => {
+            let cause = match fault {
+                ServeFault::Read => unread,
+                ServeFault::Write => unwritten,
+                ServeFault::Turns | ServeFault::Memory => None,
+            };
+            Err(Failure::Session { fault, cause })
+        }
+    }
+}
+
 /// Does what the words of the command line ask for.
 fn answer<H>(rt: &H) -> Result<Done, Failure>
 where
     H: Env
+        + Clock
         + Input
         + Print
+        + Eprint
         + Net<Listener = TcpListener, Stream = TcpStream>
         + Threads
         + Wait
         + Sync
         + AllocGlobal,
 {
-    match read_settings(rt)? {
-        Settings::Run { steps, workers } => Ok(Done::Session(run(rt, steps, workers)?)),
-        Settings::Serve {
-            port,
-            steps,
-            workers,
-            sessions,
-            idle,
-        } => {
+    match read_settings(rt) {
+        Ok(
+            Settings::Run {
+                steps,
+                workers,
+                idle,
+            },
+        ) => run(rt, steps, workers, idle),
+        Ok(
+            Settings::Serve {
+                port,
+                steps,
+                workers,
+                sessions,
+                idle,
+                log,
+            },
+        ) => {
             let terms = Terms {
                 workers,
                 sessions,
                 idle,
             };
-            serve(rt, port, steps, terms)?;
+            serve(rt, port, steps, terms, log)?;
             Ok(Done::Sessions)
         }
+        Err(SettingsFault::Version) => tell_version(rt),
+        Err(fault) => Err(Failure::Settings(fault)),
     }
 }
 

@@ -1,10 +1,15 @@
 """Graph algorithms, in LAGraph's names.
 
-A graph is a square Matrix: an entry (i, j) is an edge from vertex i to vertex j, and vertices count from 0. An undirected graph has
-both (i, j) and (j, i); `undirected` makes one of any graph. What is said of each vertex comes as a column (`to_list()` gives its
-values). Each function stops by itself, works in jobs of the session that holds the graph, and says in its docstring what it costs:
-runs (a trip to the server each, some 50 microseconds) and steps (what the budget pays). Nothing is used but methods of matrices,
-and `full`, `identity` and `from_coo` of the session that holds them.
+A graph is a square Matrix: an entry (i, j) is an edge from vertex i to vertex j, and vertices count from 0, or have the names
+that the matrix carries. An undirected graph has both (i, j) and (j, i); `undirected` makes one of any graph. What is said of
+each vertex comes as a column (`to_list()` gives its values). Each function stops by itself, works in jobs of the session that
+holds the graph, and says in its docstring what it costs: runs and steps (what the budget pays).
+
+Searches, cores and components keep a number for each vertex at the client, and ask the session for what leads out of the vertices that
+changed: so a round costs what these vertices' edges do. While many change at a time, the session's jobs do it all.
+
+What a graph has to be is looked at where it is first asked, by a job or two, and kept with the matrix. Else a ValueError says what to do;
+`check=False` leaves it out.
 
 | Function | What it gives | LAGraph |
 |---|---|---|
@@ -14,19 +19,46 @@ and `full`, `identity` and `from_coo` of the session that holds them.
 | `bfs_levels(G, source)`, `bfs_parents(G, source)` | breadth-first search | `LAGr_BreadthFirstSearch` |
 | `connected_components(G)` | the least vertex of each one's component | `LAGr_ConnectedComponents` |
 | `sssp(W, source)`, `all_pairs(W)` | lengths of shortest paths | `LAGr_SingleSourceShortestPath` |
+| `path_lengths(W, sources)` | lengths from some vertices to all | |
 | `transitive_closure(G)` | what can be reached | |
-| `k_truss(G, k)`, `k_core(G, k)` | dense parts | `LAGraph_KTruss`, `LAGraph_KCore` |
+| `strongly_connected_components(G)` | the least vertex of each one's strong component | |
+| `topological_levels(G)`, `longest_paths(W)` | an order of a graph without cycles, or its cycle | |
+| `eccentricity(G)`, `diameter(G)` | the greatest distances | |
+| `distance_counts(G)` | how many vertices are how far | |
+| `common_neighbours(G)`, `jaccard(G)` | of pairs that share a neighbour | |
+| `shared_neighbours(G, firsts, seconds)` | of pairs that are given | |
+| `squares(G)` | cycles of four edges at each vertex | |
+| `bipartite_sides(G)` | two sides without an edge inside one | |
+| `k_truss(G, k)`, `k_core(G, k)`, `core_numbers(G)` | dense parts | `LAGraph_KTruss`, `LAGraph_KCore` |
+| `k_hop(G, k, sources)` | what lies within k edges of each source | |
+| `betweenness(G)` | shortest paths through each vertex, in fixed point | `LAGr_Betweenness` |
+| `minimum_spanning_forest(W)` | by Boruvka's algorithm | `LAGraph_msf` |
+| `label_propagation(G)` | communities | `LAGraph_cdlp` |
 | `pagerank(G)` | ranks in fixed point | `LAGr_PageRank` |
 | `maximal_independent_set(G)` | by Luby's algorithm | `LAGraph_MaximalIndependentSet` |
 """
+from .batches import betweenness, k_hop
 from .common import Progress, undirected
+from .communities import label_propagation
 from .components import connected_components, maximal_independent_set
-from .cores import k_core, k_truss
+from .cores import core_numbers, k_core
 from .counts import clustering, degrees, triangle_count, triangles
-from .paths import all_pairs, sssp, transitive_closure
+from .distances import Bounds, diameter, distance_counts, eccentricity
+from .orders import CycleError, longest_paths, topological_levels
+from .pairs import all_pairs, path_lengths, transitive_closure
+from .paths import sssp
+from .graph import GraphMatrix
 from .ranks import pagerank
+from .sides import bipartite_sides
+from .similarity import common_neighbours, jaccard, shared_neighbours, squares
+from .strong import strongly_connected_components
 from .traversal import bfs_levels, bfs_parents
+from .trees import minimum_spanning_forest
+from .trusses import k_truss
 
-__all__ = ['Progress', 'all_pairs', 'bfs_levels', 'bfs_parents', 'clustering', 'connected_components', 'degrees', 'k_core',
-           'k_truss', 'maximal_independent_set', 'pagerank', 'sssp', 'transitive_closure',
-           'triangle_count', 'triangles', 'undirected']
+__all__ = ['all_pairs', 'betweenness', 'bfs_levels', 'bfs_parents', 'bipartite_sides', 'Bounds', 'clustering', 'common_neighbours',
+           'connected_components', 'core_numbers', 'CycleError', 'degrees', 'diameter', 'distance_counts', 'eccentricity',
+           'GraphMatrix', 'jaccard', 'k_core', 'k_hop', 'k_truss', 'label_propagation', 'longest_paths',
+           'maximal_independent_set', 'minimum_spanning_forest', 'pagerank', 'path_lengths', 'Progress', 'shared_neighbours',
+           'squares', 'sssp', 'strongly_connected_components', 'topological_levels', 'transitive_closure', 'triangle_count',
+           'triangles', 'undirected']

@@ -1,11 +1,11 @@
 """What the algorithms share: columns, checks of what is handed in, products by parts, and rounds until nothing changes."""
 from __future__ import annotations
 
-from typing import Callable, Optional, Union
+from typing import Any, Callable, List, Optional
 
 from ..errors import TooLarge
-from ..matrix import Matrix
-from ..operators import Semiring, asm
+from ..operators import asm
+from .graph import GraphMatrix, M, Ring
 
 Progress = Optional[Callable[[str, int, int], None]]
 """Called as a session's `progress` is: with a word ('level' or 'round'), the number of those that have ended, and of how
@@ -13,10 +13,10 @@ many; 0 where that isn't known."""
 NOT_THIS_ROW = asm('index', 'mov64 r0, 1\njne64 r2, r4, 1\nmov64 r0, 0\nexit\n')
 
 
-def order(graph: Matrix, transpose: Optional[Matrix] = None) -> int:
+def order(graph: GraphMatrix, transpose: Optional[GraphMatrix] = None) -> int:
     """The number of vertices. Raises TypeError where the graph is no matrix, ValueError where it isn't square, or its transpose is
     of another size."""
-    if not isinstance(graph, Matrix):
+    if not hasattr(type(graph), 'mxm'):
         raise TypeError('a graph is a matrix of a session, as from_coo or from_networkx makes it, not %s' % type(graph).__name__)
     if graph.nrows != graph.ncols:
         raise ValueError('a graph is a square matrix; this one has %d rows and %d columns' % (graph.nrows, graph.ncols))
@@ -26,29 +26,49 @@ def order(graph: Matrix, transpose: Optional[Matrix] = None) -> int:
     return graph.nrows
 
 
-def vertex(number: int, count: int) -> int:
+def vertex(number: Any, count: int) -> int:
     """A vertex. Raises ValueError where it is none of 0 to count - 1."""
     if isinstance(number, bool) or not hasattr(number, '__index__') or not 0 <= number < count:
         raise ValueError('no vertex %r: they are 0 to %d' % (number, count - 1) if count else 'the graph has no vertex')
     return int(number)
 
 
-def column(like: Matrix, value: int) -> Matrix:
+def places(graph: GraphMatrix, named: Any) -> List[int]:
+    """The vertices that are meant by one vertex, or by several: by their names where the graph has any, or as numbers. ValueError
+    where one isn't there."""
+    names = graph.nodes
+    try:
+        alone = names is not None and named in names
+    except (TypeError, ValueError):
+        alone = False
+    if alone or isinstance(named, str) or not hasattr(named, '__iter__'):
+        return [graph.index(named)]
+    return [graph.index(one) for one in named]
+
+
+def beside(graph: GraphMatrix, result: M) -> M:
+    """A column that says something of each vertex, with the graph's names of its vertices."""
+    if graph.nodes is not None:
+        result.nodes = graph.nodes
+    return result
+
+
+def column(like: M, value: int) -> M:
     """A column of one value, with a row for each vertex of a graph."""
     return like.session.full(like.nrows, 1, value)
 
 
-def spot(like: Matrix, row: int, value: int) -> Matrix:
+def spot(like: M, row: int, value: int) -> M:
     """A column of one entry."""
     return like.session.from_coo([row], [0], [value], like.nrows, 1)
 
 
-def nothing(like: Matrix) -> Matrix:
+def nothing(like: M) -> M:
     """A column without entries."""
     return like.session.from_coo([], [], [], like.nrows, 1)
 
 
-def loops(like: Matrix, value: int) -> Matrix:
+def loops(like: M, value: int) -> M:
     """A loop of one value at each vertex: a diagonal matrix."""
     return like.session.identity(like.nrows, value)
 
@@ -58,7 +78,7 @@ def tell(progress: Progress, word: str, number: int, of: int = 0) -> None:
         progress(word, number, of)
 
 
-def until_as_many(first: Matrix, step: Callable[[Matrix], Matrix], progress: Progress) -> Matrix:
+def until_as_many(first: M, step: Callable[[M], M], progress: Progress) -> M:
     """What a step comes to that only adds entries, or only takes some away: the first result with as many as there were before.
     `progress('round', i, 0)` is called after each step."""
     now, number = first, 0
@@ -72,7 +92,7 @@ def until_as_many(first: Matrix, step: Callable[[Matrix], Matrix], progress: Pro
         now = then
 
 
-def product(a: Matrix, b: Matrix, semiring: Union[str, Semiring], mask: Optional[Matrix] = None) -> Matrix:
+def product(a: M, b: M, semiring: Ring, mask: Optional[M] = None) -> M:
     """`a.mxm(b, semiring, mask=mask.S)`; where that is refused as too large (over 16,777,216 multiplications), by halves of the
     rows of `a`, their halves, and so on, joined afterwards. Runs: those that the operands want, and 2 for each halving. Raises
     TooLarge where a single row is too dear (its price above 2^32)."""
@@ -82,7 +102,7 @@ def product(a: Matrix, b: Matrix, semiring: Union[str, Semiring], mask: Optional
         return _by_halves(a, b, semiring, mask, 0, a.nrows)
 
 
-def _by_halves(a: Matrix, b: Matrix, semiring: Union[str, Semiring], mask: Optional[Matrix], first: int, end: int) -> Matrix:
+def _by_halves(a: M, b: M, semiring: Ring, mask: Optional[M], first: int, end: int) -> M:
     middle = (first + end) // 2
     parts = []
     for rows, start, stop in ((a.select('rowle', middle - 1), first, middle), (a.select('rowgt', middle - 1), middle, end)):
@@ -95,25 +115,25 @@ def _by_halves(a: Matrix, b: Matrix, semiring: Union[str, Semiring], mask: Optio
     return parts[0].ewise_add(parts[1], 'first')
 
 
-class NotSettled(Exception):
+class NotSettled(RuntimeError):
     """More rounds than there can be."""
 
 
-def settle(step: Callable[[Matrix], Matrix], start: Matrix, progress: Progress = None, most: Optional[int] = None) -> Matrix:
+def settle(step: Callable[[M], M], start: M, progress: Progress = None, most: Optional[int] = None) -> M:
     """`start`, `step(start)`, `step(step(start))` and so on, until two that follow are the same. Positions may be added on the way,
     and none may go.
 
     Runs: 1 a round. Round k and the comparison of rounds k-1 and k-2 stand in one batch, so two rounds too many are made. Raises
     NotSettled where `most` rounds are too few.
     """
-    older: Optional[Matrix] = None
-    differs: Optional[Matrix] = None
+    older: Optional[M] = None
+    differs: Optional[M] = None
     oldest_count, last, number = -1, start, 0
     while True:
         new = step(last)
         changed = differs.select('nonzero', 0) if differs is not None else None
         differs = last.ewise_mult(older, 'ne') if older is not None else None
-        new.nvals                                                          # runs the batch
+        new.wait()                                                         # runs the batch
         number += 1
         tell(progress, 'round', number)
         if changed is not None and older is not None and changed.nvals == 0 and older.nvals == oldest_count:
@@ -124,7 +144,7 @@ def settle(step: Callable[[Matrix], Matrix], start: Matrix, progress: Progress =
         older, last = last, new
 
 
-def undirected(graph: Matrix, GT: Optional[Matrix] = None) -> Matrix:
+def undirected(graph: M, GT: Optional[M] = None) -> M:
     """The graph without its directions, weights and loops: an entry 1 at (i, j) and (j, i) for each edge between two vertices.
 
     `GT` is the transpose, where the caller has it. Runs: 3. Steps: up to 16 an entry.

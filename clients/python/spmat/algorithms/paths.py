@@ -1,71 +1,184 @@
-"""Shortest paths, and what can be reached."""
+"""Shortest paths from one vertex."""
 from __future__ import annotations
 
-from typing import Optional
+from typing import Any, Generic, List, NamedTuple, Optional, Tuple
 
-from ..matrix import Matrix
-from ..operators import asm
-from .common import NotSettled, Progress, loops, order, product, settle, spot, tell, until_as_many, vertex
+from .. import market
+from ..operators import Semiring, asm, binary
+from .common import Progress, beside, order, tell
+from .facts import extremes
+from .graph import M, Numbers
+from .lines import Lines, Tally, Vector
+from .traversal import lines_of
 
-# 1 on the diagonal where the value is below 0, else 0
-BELOW_ZERO = asm('index', 'mov64 r0, 0\njne64 r2, r3, 2\njsge64 r1, 0, 1\nmov64 r0, 1\nexit\n')
 CYCLE = 'a cycle of negative length: paths along it have no least length'
+WRAPS = 'a path is longer than 2^63 - 1, and its length would wrap: divide the values (check=False takes them as they come)'
+UNREACHED = (1 << 63) - 1
+MOST = (1 << 63) - 1
+SHORTEST = Semiring(binary.min, binary.plus)
+# x where it is less than y, else the least number
+LESS = asm('binary', 'mov64 r0, r1\njslt64 r1, r2, 2\nmov64 r0, 1\nlsh64 r0, 63\nexit\n')
+NOT_LESS = -1 << 63
+# 1 where x + y isn't between the least and the greatest number, else 0: the sum has another sign than both, or is one of these
+TOO_LONG = Semiring(binary.max, asm('binary', '''mov64 r0, r1
+add64 r0, r2
+xor64 r1, r0
+xor64 r2, r0
+and64 r1, r2
+mov64 r3, r0
+add64 r3, 1
+mov64 r4, r0
+xor64 r4, -1
+and64 r3, r4
+or64 r1, r3
+mov64 r3, r0
+sub64 r3, 1
+xor64 r3, -1
+and64 r3, r0
+or64 r1, r3
+rsh64 r1, 63
+mov64 r0, r1
+exit
+'''))
+BY_JOBS = 8                                        # a front is large where its edges are an eighth of the vertices
+BACK = 8                                           # rounds with a small front before the client takes over again
 
 
-def sssp(W: Matrix, source: int, WT: Optional[Matrix] = None, progress: Progress = None) -> Matrix:
+class Bounds(NamedTuple):
+    """What a search may use: how long paths may be, the target, and whether no edge is negative."""
+    cutoff: Optional[int]
+    target: Optional[int]
+    ascending: bool
+
+
+class Lengths(Generic[M]):
+    """The lengths that are known, and the vertices whose length changed last. They are kept by the client, or for large fronts by
+    jobs."""
+
+    def __init__(self, lines: Lines[M], source: int, bounds: Bounds) -> None:
+        self.lines, self.bounds = lines, bounds
+        self.known = Tally(lines.count, UNREACHED)
+        self.known.put([source], [0])
+        self.front = Vector([source], [0])
+        self.longest = 0
+
+    def limit(self) -> int:
+        """No path longer than this is of any use; only where no edge is negative."""
+        if not self.bounds.ascending:
+            return MOST
+        target = self.bounds.target
+        limit = MOST if self.bounds.cutoff is None else self.bounds.cutoff
+        return limit if target is None else min(limit, self.known.numbers[target])
+
+    def round_by_client(self, told: 'Told') -> None:
+        """Lengthens the front by an edge, and keeps those that are shorter than what was known."""
+        front = self.lines.put(self.front)
+        told.round(self.longest, self.lines, front)
+        got = self.lines.get(self.lines.step(front, SHORTEST))
+        self.front = _shorter(self.known, got, self.limit())
+        self.known.put(self.front.at, self.front.values)
+        self.longest = _longest(self.front.values)
+
+    def rounds_by_jobs(self, told: 'Told') -> None:
+        """Rounds with known lengths in the session, until none changes or fronts have become small."""
+        lines = self.lines
+        known = lines.put(_reached(self.known))
+        front, small = lines.put(self.front), 0
+        while front.nvals and small < BACK:
+            told.round(self.longest, lines, front)
+            reached = lines.step(front, SHORTEST)
+            front = reached.ewise_add(known, LESS, mask=reached).select('valuene', NOT_LESS)
+            if self.bounds.ascending and self.bounds.cutoff is not None:
+                front = front.select('valuele', self.bounds.cutoff)
+            known = known.ewise_add(front, 'second')
+            self.longest += told.heaviest
+            if self.longest + told.heaviest >= MOST:
+                self.longest = _longest(lines.get(front).values)
+            small = 0 if is_large(front.nvals, lines) else small + 1
+        everything = lines.get(known)
+        self.known.put(everything.at, everything.values)
+        self.front = lines.get(front)
+
+
+class Told:
+    """Counts rounds: says to who waits that one has ended, and refuses what could wrap or goes on for ever."""
+
+    def __init__(self, progress: Progress, most: int, heaviest: int) -> None:
+        self.progress, self.most, self.heaviest, self.number = progress, most, heaviest, 0
+
+    def round(self, longest: int, lines: Lines[M], front: M) -> None:
+        """A round begins, with lengths of up to so much. Where an edge could make one wrap, it is looked whether any does."""
+        if longest + self.heaviest >= MOST and (lines.step(front, TOO_LONG).reduce_scalar('max') or 0):
+            raise ValueError(WRAPS)
+        if self.number > self.most:
+            raise ValueError(CYCLE)
+        if self.number:
+            tell(self.progress, 'round', self.number)
+        self.number += 1
+
+
+def is_large(front: int, lines: Lines[M]) -> bool:
+    """Whether so many vertices have edges enough that it pays to walk along all vertices, by the mean degree."""
+    return BY_JOBS * front * lines.graph.nvals >= lines.count * lines.count
+
+
+def _longest(values: Numbers) -> int:
+    """The greatest distance from 0."""
+    if not len(values):
+        return 0
+    ends = (values.min(), values.max()) if market.is_array(values) else (min(values), max(values))
+    return max(abs(int(end)) for end in ends)
+
+
+def _shorter(known: Tally, got: Vector, limit: int) -> Vector:
+    """Those that are shorter than what was known, and no longer than the limit."""
+    if market.is_array(got.at):
+        keep = (got.values < known.view()[got.at]) & (got.values <= limit)
+        return Vector(got.at[keep], got.values[keep])
+    numbers = known.numbers
+    kept: List[Tuple[int, int]] = [(i, x) for i, x in zip(got.at, got.values) if x < numbers[i] and x <= limit]
+    return Vector([i for i, _ in kept], [x for _, x in kept])
+
+
+def _reached(known: Tally) -> Vector:
+    """The lengths that are known, of all vertices that were reached."""
+    if market.find_numpy() is not None:
+        import numpy
+        at = numpy.flatnonzero(known.view() != UNREACHED)
+        return Vector(at, known.view()[at])
+    places = [i for i, length in enumerate(known.numbers) if length != UNREACHED]
+    return Vector(places, [known.numbers[i] for i in places])
+
+
+def sssp(W: M, source: Any, WT: Optional[M] = None, progress: Progress = None, *, cutoff: Optional[int] = None,
+         target: Any = None, check: bool = True) -> M:
     """The length of the shortest path from the source to each vertex, as a column: 0 at the source; no entry where no path leads.
-    An entry's value is the length of its edge, and may be negative; lengths along a path stay below 2^63.
+    An entry's value is the length of its edge, and may be negative.
 
-    `WT` is the transpose. Without it it is made once, by the client; for an undirected graph hand in W itself.
-    `progress('round', k, 0)` is called after each round.
+    `cutoff` leaves out what is farther. With `target` the length of that vertex is right, and where no edge is negative the search
+    ends as soon as it is known: others may be missing, or too long, then. `WT` is the transpose; it serves blocks alone, where it is
+    made without it. `progress('round', k, 0)` is called after each round.
 
-    Runs: 1 a round, and 2. There are at most three rounds more than edges in the longest of the shortest paths. Steps: up to 7 an
-    edge and 13 a vertex, a round; 4 a vertex. GraphBLAS: `mxv` over min and plus, until nothing changes (Bellman and Ford).
-    LAGraph: `LAGr_SingleSourceShortestPath`. Raises ValueError where the source is no vertex, or reaches a cycle of negative
-    length.
+    Each round lengthens the paths to those vertices whose length changed in the last one, by one edge. The lengths are kept by the
+    client; while many vertices change at a time, by jobs.
+
+    Runs: 1 a round, and 4; 3 more a round with a large front. There are as many rounds as edges in the longest of the shortest
+    paths, and 1. Steps: up to 7 an edge that leaves a vertex whose length changed, a round; 10 a vertex it leads to where the front is
+    large; 8 an edge and 4 a vertex, once, for the least and the greatest value, which are kept with the matrix. GraphBLAS: `vxm` over min and plus
+    (Bellman and Ford). LAGraph: `LAGr_SingleSourceShortestPath`. networkx: `single_source_bellman_ford_path_length`. Raises ValueError
+    where the source is no vertex, or reaches a cycle of negative length, and where lengths could wrap (with `check=False` they are
+    taken to stay below 2^63), and in blocks where WT isn't the transpose.
     """
     count = order(W, WT)
-    source = vertex(source, count)
-    near = (W.T if WT is None else WT).ewise_add(loops(W, 0), 'min')
-    try:
-        return settle(lambda length: near.mxv(length, 'min_plus'), spot(W, source, 0), progress, most=count)
-    except NotSettled:
-        raise ValueError(CYCLE) from None
-
-
-def all_pairs(W: Matrix, progress: Progress = None) -> Matrix:
-    """The length of the shortest path from each vertex (the row) to each (the column); no entry where no path leads. An entry's
-    value is the length of its edge, and may be negative; lengths along a path stay below 2^63.
-
-    `progress('round', k, n)` is called after each squaring, of which there are n at most.
-
-    Runs: 3 a round, and 2; more where the product is made by parts (16,777,216 multiplications: 256 vertices that all reach one
-    another). k rounds cover paths of up to 2^k edges. The result has up to 16,777,216 entries: 4,096 such vertices. Steps: up to 7
-    for each two paths that meet, and 6 an entry of the result, a round; 5 an entry, 4 a vertex. GraphBLAS: `mxm` over min and plus,
-    squared. Raises ValueError where there is a cycle of negative length.
-    """
-    count = order(W)
-    lengths = W.ewise_add(loops(W, 0), 'min')
-    most = max(1, (count - 1).bit_length())
-    for number in range(1, most + 1):
-        longer = product(lengths, lengths, 'min_plus')
-        settled = longer.isequal(lengths)
-        tell(progress, 'round', number, most)
-        if settled:
-            break
-        lengths = longer
-    if lengths.select(BELOW_ZERO, 0).nvals:
-        raise ValueError(CYCLE)
-    return lengths
-
-
-def transitive_closure(G: Matrix, progress: Progress = None) -> Matrix:
-    """An entry 1 from each vertex (the row) to each (the column) that a path of at least one edge leads to.
-
-    `progress('round', k, 0)` is called after each squaring.
-
-    Runs: 2 a round, and 1; more where the product is made by parts. k rounds cover paths of up to 2^k edges. Steps: up to 4 for
-    each two paths that meet and 2 an entry of the result, a round; 2 an edge. GraphBLAS: `mxm` over any and pair, squared.
-    """
-    order(G)
-    return until_as_many(G.apply('one'), lambda reached: reached.ewise_add(product(reached, reached, 'any_pair'), 'any'), progress)
+    source, target = W.index(source), None if target is None else W.index(target)
+    least, most = extremes(W) if check or cutoff is not None or target is not None else (-1, 0)
+    lengths = Lengths(lines_of(W, WT, check, values=True), source, Bounds(cutoff, target, least >= 0))
+    told = Told(progress, count, max(abs(least), abs(most)) if check else 0)
+    while len(lengths.front.at):
+        if is_large(len(lengths.front.at), lengths.lines):
+            lengths.rounds_by_jobs(told)
+        else:
+            lengths.round_by_client(told)
+    tell(progress, 'round', told.number)
+    found = lengths.known.column(W, UNREACHED)
+    return beside(W, found if cutoff is None or least >= 0 else found.select('valuele', cutoff))

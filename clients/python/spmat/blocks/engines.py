@@ -14,8 +14,10 @@ import uuid
 import warnings
 from typing import Any, Callable, Dict, List, Sequence, Tuple
 
+from ..errors import Closed
 from . import tasks
 from .errors import AtBlock, without_frames
+from .leaving import leave
 from .place import Settings, Store, close_store, store_of, version_of
 
 Version = Tuple[str, str]
@@ -78,9 +80,10 @@ class Threads(Engine):
         return tasks.perform(lambda: self._store(settings, place), label, function, args)
 
     def _store(self, settings: Settings, place: int) -> Store:
-        if (settings.token, place) not in self._stores:
-            self._stores[settings.token, place] = Store(settings)
-        return self._stores[settings.token, place]
+        held = self._stores.get((settings.token, place))
+        if held is None or held.lost():
+            self._stores[settings.token, place] = held = Store(settings)
+        return held
 
     def results(self, futures: Sequence[Any], labels: Sequence[str]) -> List[Any]:
         out = []
@@ -105,7 +108,8 @@ class Threads(Engine):
 
     def close(self, settings: Settings) -> None:
         for place, pool in enumerate(self._pools):
-            store = pool.submit(self._stores.pop, (settings.token, place), None).result()
+            taken: Any = self._stores.pop
+            store = pool.submit(taken, (settings.token, place), None).result()
             if store is not None:
                 store.close()
 
@@ -126,7 +130,8 @@ class Dask(Engine):
     others. `distributed.scheduler.active-memory-manager.start: false` leaves a whole matrix with all workers that used it, where else
     all copies but one are dropped after some seconds, sent once more, and made again where that one is lost.
 
-    A worker that is lost loses nothing: the scheduler computes its tasks again on others, from the tasks before them. A block
+    A worker that is lost loses nothing: the scheduler computes its tasks again on others, from the tasks before them. So a worker
+    whose program has ended (the system ends what holds the memory, and that is the program) ends itself, if a nanny starts it anew. A block
     that fails so again and again (`distributed.scheduler.allowed-failures`) ends as BlockFailed."""
 
     recovers = True
@@ -165,7 +170,7 @@ class Dask(Engine):
 
     def results(self, futures: Sequence[Any], labels: Sequence[str]) -> List[Any]:
         try:
-            return self._client.gather(list(futures))
+            return list(self._client.gather(list(futures)))
         except AtBlock as at:
             at.__traceback__ = None                # the client keeps the exception, whose frames would keep the futures
             raise AtBlock(at.label, without_frames(at.fault)) from None
@@ -175,18 +180,23 @@ class Dask(Engine):
             raise AtBlock((failed or list(labels))[0], fault) from fault
 
     def everywhere(self, settings: Settings, function: Callable[..., Any], *args: Any) -> Dict[str, Any]:
-        return self._client.run(_apart, _on_worker, settings, 'a session', function, list(args))
+        return dict(self._client.run(_apart, _on_worker, settings, 'a session', function, list(args)))
 
     def versions(self, settings: Settings) -> Dict[str, Version]:
-        return self._client.run(_apart, version_of, settings.program)
+        return dict(self._client.run(_apart, version_of, settings.program))
 
     def close(self, settings: Settings) -> None:
         self._client.run(_apart, close_store, settings, on_error='ignore')
 
 
 def _on_worker(settings: Settings, label: str, function: Callable[..., Any], args: Sequence[Any]) -> Any:
-    """A task in a worker process of Dask."""
-    return tasks.perform(lambda: store_of(settings), label, function, args)
+    """A task in a worker process of Dask, which ends itself where its program has ended."""
+    try:
+        return tasks.perform(lambda: store_of(settings), label, function, args)
+    except AtBlock as at:
+        if isinstance(at.fault, Closed):
+            leave()
+        raise
 
 
 async def _apart(function: Callable[..., Any], *args: Any) -> Any:

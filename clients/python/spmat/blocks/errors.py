@@ -45,7 +45,7 @@ def without_frames(fault: Exception) -> Exception:
     """The same exception without the frames that it came through."""
     try:
         return copy.copy(fault).with_traceback(None)
-    except Exception:
+    except Exception:                              # pylint: disable=broad-exception-caught  # of whatever can't be copied
         return SpmatError('%s: %s' % (type(fault).__name__, fault))
 
 

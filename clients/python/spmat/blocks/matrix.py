@@ -1,12 +1,16 @@
 """Matrices in row blocks."""
 from __future__ import annotations
 
-from typing import TYPE_CHECKING, Any, Iterable, List, Optional, Sequence, Tuple, Union
+# a mask may be turned, and a file may be a path
+# pylint: disable=invalid-unary-operand-type,inconsistent-return-statements,abstract-method
 
-from .. import convert
+from typing import TYPE_CHECKING, Any, Dict, Iterable, List, Optional, Sequence, Tuple, Union
+
+from .. import convert, notes
 from ..errors import refusal
+from ..indexing import Signs, picked
 from ..mask import Mask, as_mask
-from ..matrix import MaskLike, Matrix, Op, Ring, _applied, _of_kind
+from ..matrix import Op, Ring, _of_kind, applied
 from ..operators import binary, find_semiring, indexunary
 from . import cuts, moves, products, tasks
 from .cuts import Cut
@@ -18,7 +22,10 @@ if TYPE_CHECKING:
 HELD = 16                                          # whole matrices that a result holds, so that it is soon made again
 
 
-class BlockMatrix(Matrix):
+MaskLike = Union['BlockMatrix', Mask, None]
+
+
+class BlockMatrix(Signs):
     """A matrix in row blocks, each in one of several sessions. A `Sessions` makes them; nothing changes one.
 
     A block is a matrix of the whole's shape that has the entries of its own rows alone. So a job is the same command at each block,
@@ -34,13 +41,15 @@ class BlockMatrix(Matrix):
 
     def __init__(self, sessions: 'Sessions', futures: Sequence[Any], cut: Cut, ncols: int, name: Optional[str] = None,
                  holds: Iterable[Any] = ()) -> None:
-        # no session of its own holds it, so nothing of Matrix is set up
         self.sessions, self.futures, self.cut = sessions, list(futures), cut
-        self.nrows, self.ncols, self.name, self.nodes = cut.nrows, ncols, name or 'in blocks', None
-        self.holds = tuple(dict.fromkeys(holds))[-HELD:] if sessions.engine.recovers else ()
+        self.nrows, self.ncols, self.name, self.notes = cut.nrows, ncols, name or 'in blocks', notes.NOTHING
+        self.holds: Tuple[Any, ...] = tuple(dict.fromkeys(holds))[-HELD:] if sessions.engine.recovers else ()
         self._counts: Optional[List[Counts]] = None
         self._whole: Any = None
         self._transposed: Optional['BlockMatrix'] = None
+        self.kept: Dict[str, Any] = {}
+
+    in_one_place = False                           # a row of it lies in one block
 
     def __reduce__(self) -> Any:
         raise TypeError('a matrix belongs to its sessions, and can not be pickled: pickle to_coo(), or write a file')
@@ -49,6 +58,20 @@ class BlockMatrix(Matrix):
         return '<BlockMatrix %s %dx%d, %d blocks>' % (self.name, *self.shape, self.cut.blocks)
 
     # -- what it is
+
+    @property
+    def S(self) -> Mask:
+        """The mask of the positions that are stored here; see `Matrix.S`."""
+        return Mask(self)
+
+    @property
+    def V(self) -> Mask:
+        """The mask of the positions whose value isn't 0; see `Matrix.V`."""
+        return Mask(self, value=True)
+
+    def __getitem__(self, at: Any) -> Any:
+        """`G[i, j]`, `G[i, :]`, `G[rows, columns]`; see `Matrix`."""
+        return picked(self, at)  # type: ignore[arg-type]
 
     @property
     def session(self) -> 'Sessions':  # type: ignore[override]
@@ -69,12 +92,12 @@ class BlockMatrix(Matrix):
         return sum(counts.nvals for counts in self.counts())
 
     @property
-    def price(self) -> int:  # type: ignore[override]
+    def price(self) -> int:
         """Of a job's result the most steps that the job could take, at all blocks together; 0 of what is no job's result."""
         return sum(counts.price for counts in self.counts())
 
     @property
-    def steps(self) -> int:  # type: ignore[override]
+    def steps(self) -> int:
         """Of a job's result the steps that the job took, at all blocks together."""
         return sum(counts.steps for counts in self.counts())
 
@@ -95,46 +118,51 @@ class BlockMatrix(Matrix):
     def apply(self, op: Op, right: Optional[int] = None, *, left: Optional[int] = None, mask: MaskLike = None,
               name: Optional[str] = None) -> 'BlockMatrix':
         """Each entry's answer. In the GraphBLAS GrB_apply."""
-        found, thunk = _applied(op, right, left)
-        return self.job('apply', [], [found, thunk] if found.kind == 'index' else [found], mask=mask, name=name)
+        sent = applied(op, right, left)
+        args = [sent.op, sent.thunk] if sent.op.kind == 'index' else [sent.op]
+        return self.job('apply', [], args, told=notes.of_applied(self.notes, sent.op, sent.even), mask=mask, name=name)
 
     def select(self, op: Op, thunk: int = 0, *, mask: MaskLike = None, name: Optional[str] = None) -> 'BlockMatrix':
         """The entries for which an index operator's answer isn't 0. In the GraphBLAS GrB_select."""
-        return self.job('select', [], [_of_kind('index', op, 'select'), convert.word(thunk, 'thunk')], mask=mask, name=name)
+        found, thunk = _of_kind('index', op, 'select'), convert.word(thunk, 'thunk')
+        return self.job('select', [], [found, thunk], told=notes.of_selected(self.notes, found, thunk), mask=mask, name=name)
 
-    def ewise_add(self, other: Matrix, op: Op = 'plus', *, mask: MaskLike = None, name: Optional[str] = None) -> 'BlockMatrix':
+    def ewise_add(self, other: 'BlockMatrix', op: Op = 'plus', *, mask: MaskLike = None, name: Optional[str] = None) -> 'BlockMatrix':
         """op(x, y) where both have an entry, else a copy. In the GraphBLAS GrB_eWiseAdd; here `union`."""
         self.check_shape('union', other, self.shape)
-        return self.job('ewise_add', [other], [_of_kind('binary', op, 'union')], mask=mask, name=name)
+        told = notes.of_pair(self.notes, other.notes)
+        return self.job('ewise_add', [other], [_of_kind('binary', op, 'union')], told=told, mask=mask, name=name)
 
-    def ewise_mult(self, other: Matrix, op: Op = 'times', *, mask: MaskLike = None, name: Optional[str] = None) -> 'BlockMatrix':
+    def ewise_mult(self, other: 'BlockMatrix', op: Op = 'times', *, mask: MaskLike = None, name: Optional[str] = None) -> 'BlockMatrix':
         """op(x, y) where both have an entry. In the GraphBLAS GrB_eWiseMult; here `both`."""
         self.check_shape('both', other, self.shape)
-        return self.job('ewise_mult', [other], [_of_kind('binary', op, 'both')], mask=mask, name=name)
+        told = notes.of_pair(self.notes, other.notes)
+        return self.job('ewise_mult', [other], [_of_kind('binary', op, 'both')], told=told, mask=mask, name=name)
 
     def reduce_rowwise(self, op: Op = 'plus', *, mask: MaskLike = None, name: Optional[str] = None) -> 'BlockMatrix':
         """A column: the fold of each row that isn't empty. In the GraphBLAS GrB_reduce by rows."""
-        return self.job('reduce_rowwise', [], [_of_kind('binary', op, 'reduce')], 1, mask=mask, name=name)
+        told = notes.of_rows(self.notes)
+        return self.job('reduce_rowwise', [], [_of_kind('binary', op, 'reduce')], 1, told=told, mask=mask, name=name)
 
     def dup(self, *, mask: MaskLike = None, name: Optional[str] = None) -> 'BlockMatrix':
         """A copy; under a mask what of it lies there. Price and steps are those of the last of its jobs, as `Matrix` has it."""
-        return self.job('dup', [], [], mask=mask, name=name)
+        return self.job('dup', [], [], told=self.notes, mask=mask, name=name)
 
-    def without(self, mask: Union[Matrix, Mask], *, name: Optional[str] = None) -> 'BlockMatrix':
+    def without(self, mask: Union['BlockMatrix', Mask], *, name: Optional[str] = None) -> 'BlockMatrix':
         """The entries outside a mask; see `Matrix.without`."""
         where = self._mask(mask, self.shape)
         if where is None:
             raise TypeError('a mask is wanted')
         return self.dup(mask=~where, name=name)
 
-    def update(self, other: Matrix, accum: Optional[Op] = None, mask: MaskLike = None, replace: bool = False, *,
+    def update(self, other: 'BlockMatrix', accum: Optional[Op] = None, mask: MaskLike = None, replace: bool = False, *,
                name: Optional[str] = None) -> 'BlockMatrix':
         """What the GraphBLAS writes C<M, accum> = other; see `Matrix.update`."""
         self.check_shape('union', other, self.shape)
         op = None if accum is None else _of_kind('binary', accum, 'union')
-        return self.job('update', [other], [op], mask=mask, name=name, replace=replace)
+        return self.job('update', [other], [op], told=notes.of_pair(self.notes, other.notes), mask=mask, name=name, replace=replace)
 
-    def isequal(self, other: Matrix) -> bool:
+    def isequal(self, other: 'BlockMatrix') -> bool:
         """Whether both have the same sizes, positions and values. No job where sizes or numbers of entries differ; else 2 jobs at
         each block."""
         self._check_sessions(other)
@@ -144,8 +172,8 @@ class BlockMatrix(Matrix):
         return differ.nvals == self.nvals and differ.select(indexunary.nonzero).nvals == 0
 
     def job(self, method: str, others: Sequence['BlockMatrix'], args: Sequence[Any], ncols: Optional[int] = None, *,
-            mask: MaskLike = None, name: Optional[str] = None, **options: Any) -> 'BlockMatrix':
-        """A method of Matrix at each block. The result has this matrix's rows and cut."""
+            told: notes.Notes, mask: MaskLike = None, name: Optional[str] = None, **options: Any) -> 'BlockMatrix':
+        """A method of Matrix at each block. The result has this matrix's rows and cut, and `told` is known of it without a mask."""
         width = self.ncols if ncols is None else ncols
         where = self._mask(mask, (self.nrows, width))
         there = [self, *(moves.recut(other, self.cut) for other in others)]
@@ -153,13 +181,15 @@ class BlockMatrix(Matrix):
         futures = [self.sessions.submit(k, self.cut.label(k), tasks.job, method, [matrix.futures[k] for matrix in there], held[k],
                                         list(args), options) for k in range(self.cut.blocks)]
         holds = [future for matrix in (*there, *([where.matrix] if where else [])) for future in matrix.holds]
-        return BlockMatrix(self.sessions, futures, self.cut, width, name, holds)
+        made = BlockMatrix(self.sessions, futures, self.cut, width, name, holds)
+        made.notes = told if where is None or where.complement else notes.masked(told, where.matrix.notes)
+        return made
 
     def masked(self, where: Optional[Mask]) -> List[Optional[tasks.MaskPiece]]:
         """A mask at each block, cut as this matrix."""
         if where is None:
             return [None] * self.cut.blocks
-        matrix = moves.recut(where.matrix, self.cut)  # type: ignore[arg-type]
+        matrix = moves.recut(where.matrix, self.cut)
         return [(future, where.value, where.complement) for future in matrix.futures]
 
     def _mask(self, mask: MaskLike, shape: Tuple[int, int]) -> Optional[Mask]:
@@ -171,7 +201,7 @@ class BlockMatrix(Matrix):
             raise refusal('J9', detail='the result is %dx%d, the mask %dx%d' % (*shape, *where.matrix.shape))
         return where
 
-    def check_shape(self, form: str, other: Matrix, shape: Tuple[int, Optional[int]]) -> None:
+    def check_shape(self, form: str, other: 'BlockMatrix', shape: Tuple[int, Optional[int]]) -> None:
         """DimensionMismatch where another matrix isn't of this shape, where None stands for any."""
         self._check_sessions(other)
         if any(want is not None and want != got for want, got in zip(shape, other.shape)):
@@ -185,9 +215,9 @@ class BlockMatrix(Matrix):
 
     # -- products and folds
 
-    def mxm(self, other: Matrix, op: Ring = 'plus_times', *, mask: MaskLike = None, associative: Optional[bool] = None,
-            name: Optional[str] = None) -> 'BlockMatrix':
-        """The product over a semiring; see `Matrix.mxm`. In the GraphBLAS GrB_mxm.
+    def mxm(self, other: 'BlockMatrix', op: Ring = 'plus_times', *, mask: MaskLike = None, parts: bool = False,
+            associative: Optional[bool] = None, name: Optional[str] = None) -> 'BlockMatrix':
+        """The product over a semiring; see `Matrix.mxm`, also for `parts`, by which each block is made. In the GraphBLAS GrB_mxm.
 
         The whole of `other` goes to each session: right for every operator, since the terms of a position are folded in one place.
         Its text has to be one that a session takes (268,435,456 bytes), and is sent once while `other` is held.
@@ -209,17 +239,19 @@ class BlockMatrix(Matrix):
         if associative is None:
             associative = other.ncols > 1 and ring.add in self.sessions.associative
         form = products.by_blocks if associative else products.with_whole
-        made = form(self, other, ring, where, name)
+        made = form(self, other, products.Way(ring, where, parts), name)
+        told = notes.of_product(self.notes, other.notes, ring.mul, self is other)
+        made.notes = told if where is None or where.complement else notes.masked(told, where.matrix.notes)
         waits = other.ncols != 1 or associative or self.sessions.engine.recovers
         return made.wait() if waits else made
 
-    def mxv(self, vector: Matrix, op: Ring = 'plus_times', *, mask: MaskLike = None,
+    def mxv(self, vector: 'BlockMatrix', op: Ring = 'plus_times', *, mask: MaskLike = None,
             name: Optional[str] = None) -> 'BlockMatrix':
         """`mxm` with a column, which goes to each session. In the GraphBLAS GrB_mxv."""
         self.check_shape('product', vector, (self.ncols, 1))
         return self.mxm(vector, op, mask=mask, associative=False, name=name)
 
-    def vxm(self, matrix: Matrix, op: Ring = 'plus_times', *, mask: MaskLike = None,
+    def vxm(self, matrix: 'BlockMatrix', op: Ring = 'plus_times', *, mask: MaskLike = None,
             name: Optional[str] = None) -> 'BlockMatrix':
         """`mxm` of this row with a matrix. In the GraphBLAS GrB_vxm."""
         if self.nrows != 1:
@@ -244,7 +276,7 @@ class BlockMatrix(Matrix):
         some of each. A square matrix's is cut at the same rows, another's by entries. It is kept while this matrix is held."""
         if self._transposed is None:
             self._transposed = moves.transposed(self)
-            self._transposed.nodes = self.nodes
+            self._transposed.notes = notes.turned(self.notes)
         return self._transposed
 
     def diag(self) -> 'BlockMatrix':
@@ -253,8 +285,10 @@ class BlockMatrix(Matrix):
         if 1 not in self.shape:
             return self.select(indexunary.diag).reduce_rowwise(binary.first)
         rows, columns, values = self.to_coo()
-        at = rows if self.ncols == 1 else columns
-        return self.sessions.from_coo(at, at, values, max(self.shape), max(self.shape))
+        at, count = (rows, self.nrows) if self.ncols == 1 else (columns, self.ncols)
+        made = self.sessions.from_coo(at, at, values, count, count)
+        made.notes = notes.on_diagonal(self.notes)
+        return made
 
     # -- where it is cut, and what it holds
 

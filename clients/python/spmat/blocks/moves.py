@@ -2,6 +2,9 @@
 text, and costs no step."""
 from __future__ import annotations
 
+# the whole of a matrix is kept beside it
+# pylint: disable=protected-access
+
 from typing import TYPE_CHECKING, Any, Iterator, List
 
 from . import cuts, tasks
@@ -95,5 +98,5 @@ def checkpoint(matrix: 'BlockMatrix') -> 'BlockMatrix':
 def _like(matrix: 'BlockMatrix', futures: List[Any], cut: Cut, ncols: int) -> 'BlockMatrix':
     """A matrix of the same sessions that stands on another one."""
     out = type(matrix)(matrix.sessions, futures, cut, ncols, matrix.name, matrix.holds)
-    out.nodes = matrix.nodes
+    out.notes = matrix.notes
     return out

@@ -17,6 +17,8 @@ from typing import Any, BinaryIO, Iterable, Iterator, List, Optional, Tuple
 from .. import convert, files, market
 from ..errors import Refused, refusal
 from ..market import Triples
+from ..notes import NOTHING, Notes
+from ..reading import name_of
 from .cuts import Cut
 
 PIECE = 1 << 23                                    # bytes of a file that are read at a time
@@ -45,6 +47,7 @@ class Spooled(abc.ABC):
     """Entries whose rows can be counted, and that are given block by block. To be used in a `with`."""
     nrows: int
     ncols: int
+    notes: Notes = NOTHING
 
     @property
     @abc.abstractmethod
@@ -95,11 +98,11 @@ class Held(Spooled):
             for at in itertools.starmap(slice, zip(bounds, bounds[1:])):
                 yield Triples(rows[order[at]], columns[order[at]], values[order[at]], nrows, ncols)
             return
-        order = sorted(range(len(rows)), key=rows.__getitem__)
-        ascending = [rows[k] for k in order]
+        places = sorted(range(len(rows)), key=rows.__getitem__)
+        ascending = [rows[k] for k in places]
         bounds = [bisect.bisect_left(ascending, bound) for bound in cut.bounds]
         for first, end in zip(bounds, bounds[1:]):
-            part = order[first:end]
+            part = places[first:end]
             yield Triples(ascending[first:end], [columns[k] for k in part], [values[k] for k in part], nrows, ncols)
 
 
@@ -171,7 +174,8 @@ class Spool(Spooled):
         numpy = market.find_numpy()
         if numpy is not None:
             table = numpy.frombuffer(data, numpy.int64).reshape(-1, 3)
-            return Triples(*(table[:, k].copy() for k in range(3)), self.nrows, self.ncols)
+            rows, columns, values = (table[:, k].copy() for k in range(3))
+            return Triples(rows, columns, values, self.nrows, self.ncols)
         words = array.array('q', data)
         return Triples(words[0::3].tolist(), words[1::3].tolist(), words[2::3].tolist(), self.nrows, self.ncols)
 
@@ -214,40 +218,48 @@ def _total(counts: Any) -> int:
 
 # -- Matrix Market files
 
-def spool_of(source: Any) -> Spooled:
-    """The entries of a file, which is read by pieces; an `array` file at once."""
-    if hasattr(source, 'read'):
-        return _File(source).spool()
-    opener = files.opener_of(source)
-    with opener(source, 'rb') as file:
-        return _File(file).spool()
+def spool_of(source: Any, values: files.Values = files.Values()) -> Spooled:
+    """The entries of a file, which is read by pieces; an `array` file at once. What is refused names the file."""
+    try:
+        if hasattr(source, 'read'):
+            return _File(source, values).spool()
+        opener = files.opener_of(source)
+        with opener(source, 'rb') as file:
+            return _File(file, values).spool()
+    except Refused as fault:
+        raise fault.of_file(name_of(source)) from None
 
 
 class _File:
     """A Matrix Market file that is read by pieces."""
 
-    def __init__(self, file: Any) -> None:
-        self._file, self._number = file, 0
+    def __init__(self, file: Any, values: files.Values) -> None:
+        self._file, self._number, self._values = file, 0, values
         first = self._line()
         self._first = first[3:] if first[:3] == b'\xef\xbb\xbf' else first
-        self._kind = files.kind_of(self._first)
+        self._kind = files.kind_of(self._first, values)
 
     def spool(self) -> Spooled:
         if self._kind.array:
-            triples, symmetry = files.parse(self._first + self._file.read())
-            return Held(files.mirrored(triples, symmetry))
-        self.nrows, self.ncols, self._count = self._sizes()
+            triples, symmetry = files.parse(self._first + self._file.read(), self._values)
+            return self._noted(Held(files.mirrored(triples, symmetry)))
+        self.nrows, self.ncols, self._count = self._sizes()     # pylint: disable=attribute-defined-outside-init
         spool = Spool(self.nrows, self.ncols)
         try:
             self._fill(spool)
         except BaseException:
             spool.close()
             raise
+        return self._noted(spool)
+
+    def _noted(self, spool: Spooled) -> Spooled:
+        """The same entries, with what the file's first line says of them."""
+        spool.notes = self._kind.notes
         return spool
 
     def _line(self) -> bytes:
-        line = self._file.readline()
-        if isinstance(line, str):
+        line: bytes = self._file.readline()
+        if not isinstance(line, bytes):
             raise TypeError('open the file in binary: open(path, "rb")')
         self._number += 1 if line else 0
         return line
@@ -301,7 +313,7 @@ class _File:
             try:
                 out.append(files.read_entry(self._kind, line, 1, fields, self.nrows, self.ncols))
             except Refused as fault:
-                raise self._refused(fault.rule, number, line, fault.detail) from None
+                raise self._refused(fault.rule, number, line, fault.detail).of_file(said=fault.said) from None
         rows, columns, values = map(list, zip(*out)) if out else ([], [], [])
         return Triples(rows, columns, values, self.nrows, self.ncols)
 

@@ -16,10 +16,13 @@ import weakref
 from dataclasses import dataclass, field
 from typing import Any, Dict, List, NamedTuple, Optional, Tuple
 
+from ..errors import Closed
 from ..matrix import Matrix
+from ..program import Program, program_words
 from ..session import Session
-from ..wire import MOST_STEPS, Program, program_words
+from ..wire import MOST_STEPS
 from .errors import VersionMismatch
+from .leaving import leave
 
 LEAST_SIZE = 64                                    # bytes that a piece counts for at least, to engines that move data
 
@@ -98,7 +101,11 @@ class Piece:
         return self._digest
 
     def __reduce__(self) -> Any:
-        return _arrived, (self.counts, self.text(), self._digest)
+        try:
+            return _arrived, (self.counts, self.text(), self._digest)
+        except Closed:
+            leave()                                # another worker asks for what this one has lost
+            raise
 
     def __sizeof__(self) -> int:
         """About the bytes of its text, so that engines know what moving it takes."""
@@ -107,7 +114,7 @@ class Piece:
 
 def _arrived(counts: Counts, text: bytes, digest: Optional[bytes]) -> Piece:
     piece = Piece(counts, text=text)
-    piece._digest = digest
+    piece._digest = digest                         # pylint: disable=protected-access  # of this module
     return piece
 
 
@@ -147,6 +154,10 @@ class Store:
         piece = Piece(counts, matrix)
         return piece.keep_text() if self.settings.texts else piece
 
+    def lost(self) -> bool:
+        """Whether the session has ended by itself: its program was killed, or the machine's memory was at its end."""
+        return not self.session.connection.usable()
+
     def close(self) -> None:
         """Ends the session."""
         self.session.close()
@@ -157,11 +168,13 @@ _lock = threading.Lock()
 
 
 def store_of(settings: Settings) -> Store:
-    """The store of this process, which is opened at its first use."""
+    """The store of this process, which is opened at its first use, and anew where its program has ended. What that one held is lost:
+    pieces that have their texts (`texts=True`) are taken in again, others are for the engine to make anew."""
     with _lock:
-        if settings.token not in _stores:
-            _stores[settings.token] = Store(settings)
-        return _stores[settings.token]
+        held = _stores.get(settings.token)
+        if held is None or held.lost():
+            _stores[settings.token] = held = Store(settings)
+        return held
 
 
 def close_store(settings: Settings) -> None:

@@ -4,17 +4,21 @@ from __future__ import annotations
 import contextlib
 import copy
 import dataclasses
+import io
 import itertools
 import os
 import uuid
 from typing import Any, Callable, Dict, Iterable, List, Optional, Sequence, Tuple, Union
 
-from .. import convert, market
-from ..errors import BudgetExceeded
+from .. import convert, files, market
+from ..errors import BudgetExceeded, Refused
 from ..market import Triples
 from ..operators import Operator, find
+from ..program import Program
+from ..reading import Request
 from ..session import Budget
-from ..wire import MOST_STEPS, MOST_WORKERS, Program
+from ..sources import Sources
+from ..wire import MOST_STEPS, MOST_WORKERS
 from . import cuts, pieces, tasks
 from .cuts import Cut
 from .engines import Engine, Threads
@@ -25,7 +29,7 @@ from .place import Settings, agree
 Op = Union[str, Operator]
 
 
-class Sessions:
+class Sessions(Sources[BlockMatrix]):
     """Several sessions that hold matrices in row blocks. Use it in a `with`, or close it.
 
     `engine` is a number of sessions of this machine, or an engine: `Threads(n)`, `Dask(client)`. `steps` is the budget of each
@@ -124,32 +128,6 @@ class Sessions:
 
     # -- matrices in
 
-    def from_coo(self, rows: Iterable[int], columns: Iterable[int], values: Any = 1, nrows: Optional[int] = None,
-                 ncols: Optional[int] = None, *, dup_op: Optional[Op] = None, name: Optional[str] = None) -> BlockMatrix:
-        """A matrix from rows, columns and values; see `Session.from_coo`. What repeats is folded by `dup_op` at one session."""
-        return self._from(convert.checked(rows, columns, values, nrows, ncols), dup_op, name)
-
-    def from_triples(self, triples: Iterable[Tuple[int, int, int]], nrows: Optional[int] = None, ncols: Optional[int] = None, *,
-                     dup_op: Optional[Op] = None, name: Optional[str] = None) -> BlockMatrix:
-        """A matrix from (row, column, value), held at once; `from_edges` takes them as they come."""
-        return self.from_coo(*convert.columns_of(triples), nrows, ncols, dup_op=dup_op, name=name)
-
-    def from_dense(self, rows: Any, missing: Optional[int] = None, *, name: Optional[str] = None) -> BlockMatrix:
-        """A matrix from a table; see `Session.from_dense`."""
-        return self._from(convert.from_dense(rows, missing), None, name)
-
-    def from_scipy_sparse(self, matrix: Any, *, name: Optional[str] = None) -> BlockMatrix:
-        """A matrix from one of scipy.sparse; see `Session.from_scipy_sparse`."""
-        return self._from(convert.from_scipy(matrix), None, name)
-
-    def from_networkx(self, graph: Any, weight: Optional[str] = 'weight', nodelist: Optional[Sequence[Any]] = None, *,
-                      dup_op: Optional[Op] = None, name: Optional[str] = None) -> BlockMatrix:
-        """The adjacency matrix of a networkx graph; see `Session.from_networkx`."""
-        triples, nodes = convert.from_graph(graph, weight, nodelist, dup_op is not None)
-        matrix = self._from(triples, dup_op, name)
-        matrix.nodes = nodes
-        return matrix
-
     def from_edges(self, edges: Iterable[Any], nrows: int, ncols: int, *, cut: Optional[Sequence[int]] = None,
                    name: Optional[str] = None) -> BlockMatrix:
         """A matrix from a generator of (row, column, value), or of chunks of them: arrays of numpy with these as columns. They come
@@ -159,12 +137,28 @@ class Sessions:
             spool.take(edges)
             return self._spooled(spool, cut, name)
 
-    def mmread(self, source: Any, *, cut: Optional[Sequence[int]] = None, name: Optional[str] = None) -> BlockMatrix:
+    def mmread(self, source: Any, *, values: bool = True, scale: Optional[float] = None, cut: Optional[Sequence[int]] = None,
+               name: Optional[str] = None) -> BlockMatrix:
         """A matrix from a Matrix Market file: a path (also .gz and .bz2), or a file opened in binary. It is read by pieces, and no more
-        than a block is held; it may be larger than one session takes. `array` files, which are small, are read at once. What is
-        refused names the line, but for positions that repeat. In python-graphblas `io.mmread`."""
-        with pieces.spool_of(source) as spool:
+        than a block is held; it may be larger than one session takes. `array` files, which are small, are read at once. `values` and
+        `scale` are as for `Session.mmread`. What is refused names the file and the line, but for positions that repeat. In
+        python-graphblas `io.mmread`."""
+        with pieces.spool_of(source, files.Values(values, scale)) as spool:
             return self._spooled(spool, cut, name)
+
+    def _market(self, file: str, text: bytes, request: Request, dup_op: Optional[Op], name: Optional[str]) -> BlockMatrix:
+        if dup_op is not None:
+            raise ValueError('a Matrix Market file whose positions repeat is read by one session, not by blocks: dup_op=None')
+        try:
+            return self.mmread(io.BytesIO(text), values=request.layout.values, scale=request.layout.scale, name=name)
+        except Refused as fault:
+            raise fault.of_file(file) from None
+
+    def _folded(self, triples: Triples, dup_op: Optional[Op]) -> Triples:
+        if dup_op is None:
+            return triples
+        op = find('binary', dup_op)
+        return convert.unrepeated(triples, lambda many: self._fold(many, op))
 
     def full(self, nrows: int, ncols: int, value: int = 1, *, name: Optional[str] = None) -> BlockMatrix:
         """A matrix with one value everywhere, made at the workers."""
@@ -181,7 +175,7 @@ class Sessions:
         futures = [self.submit(k, cut.label(k), *task(first, end)) for k, (first, end) in enumerate(cut.ranges())]
         return BlockMatrix(self, futures, cut, ncols, name)
 
-    def _cut(self, nrows: int, spool: Optional['pieces.Spooled'], given: Optional[Sequence[int]] = None) -> Cut:
+    def _cut(self, nrows: int, spool: Optional['pieces.Spooled'], given: Union[Cut, Sequence[int], None] = None) -> Cut:
         """Where a new matrix is cut: as the caller says, as the matrix that these sessions cut after, or by entries."""
         if given is not None:
             return cuts.checked(given.bounds if isinstance(given, Cut) else given, nrows)
@@ -190,11 +184,12 @@ class Sessions:
         return cuts.evenly(nrows, self.blocks) if spool is None else cuts.by_entries(spool.counts, self.blocks)
 
     def _from(self, triples: Triples, dup_op: Optional[Op] = None, name: Optional[str] = None) -> BlockMatrix:
-        if dup_op is not None:
-            op = find('binary', dup_op)
-            triples = convert.unrepeated(triples, lambda many: self._fold(many, op))
-        with pieces.Held(triples) as held:
+        with pieces.Held(self._folded(triples, dup_op)) as held:
             return self._spooled(held, None, name)
+
+    def keep(self, entries: Triples) -> BlockMatrix:
+        """A matrix of entries by ascending row and column, which aren't looked at."""
+        return self._from(entries)
 
     def _fold(self, many: Triples, op: Operator) -> Any:
         label = 'values that share a position'
@@ -207,7 +202,9 @@ class Sessions:
         futures = []
         for block, text in enumerate(spool.texts(cut)):
             futures.append(self._put(block, cut.label(block), text))
-        return BlockMatrix(self, futures, cut, spool.ncols, name).wait()
+        made = BlockMatrix(self, futures, cut, spool.ncols, name).wait()
+        made.notes = spool.notes
+        return made
 
     def _put(self, block: int, label: str, text: bytes) -> Any:
         if self.folder is None:

@@ -4,6 +4,9 @@ An engine may run a task again, on any worker, and gets the same.
 """
 from __future__ import annotations
 
+# each task is given the store of its worker, whether it wants it or not
+# pylint: disable=unused-argument
+
 import bisect
 from typing import Any, Callable, Dict, List, Optional, Sequence, Tuple
 
@@ -71,7 +74,7 @@ def identity(store: Store, first: int, end: int, n: int, value: int) -> Piece:
 
 def folded(store: Store, triples: Triples, op: Operator) -> List[int]:
     """The fold of each row of these triples."""
-    return store.session.from_coo(*triples).reduce_rowwise(op).to_coo(arrays=False)[2]
+    return list(store.session.from_coo(*triples).reduce_rowwise(op).to_coo(arrays=False)[2])
 
 
 # -- pieces from pieces
@@ -85,10 +88,11 @@ def job(store: Store, method: str, pieces: Sequence[Piece], mask: Optional[MaskP
     return store.piece(getattr(first, method)(*others, *args, **options))
 
 
-def product_onto(store: Store, sofar: Optional[Piece], a: Piece, b: Piece, ring: Semiring, mask: Optional[MaskPiece]) -> Piece:
+def product_onto(store: Store, sofar: Optional[Piece], a: Piece, b: Piece, way: Tuple[Semiring, bool], mask: Optional[MaskPiece]) -> Piece:
     """The product of a block with one block of B, joined by ADD to what the blocks of B before it gave. Prices and steps are those
     of all of them."""
-    terms = job(store, 'mxm', [a, b], mask, [ring], {})
+    ring, parts = way
+    terms = job(store, 'mxm', [a, b], mask, [ring], {'parts': parts})
     if sofar is None:
         return terms
     joined = job(store, 'ewise_add', [sofar, terms], None, [ring.add], {})
@@ -158,7 +162,7 @@ def column_counts(store: Store, piece: Piece, edges: Sequence[int]) -> List[int]
     columns = market.read(piece.text(), _by_numpy(piece)).columns
     if market.is_array(columns):
         import numpy
-        return numpy.histogram(columns, numpy.array(edges))[0].tolist() if len(columns) else [0] * (len(edges) - 1)
+        return list(numpy.histogram(columns, numpy.array(edges))[0].tolist()) if len(columns) else [0] * (len(edges) - 1)
     out = [0] * (len(edges) - 1)
     for column in columns:
         out[bisect.bisect_right(edges, column) - 1] += 1

@@ -18,14 +18,16 @@ from . import algorithms, operators, pictures, script
 DESCRIPTION = 'Graph algorithms, pictures, operators and sessions of spmat, the job server for sparse integer matrices.'
 EPILOG = """examples:
   python3 -m spmat triangle-count graph.mtx --undirected
+  python3 -m spmat bfs-levels people.csv --source Anna
   python3 -m spmat bfs-levels graph.mtx --source 1 --plot levels.png
   python3 -m spmat pagerank graph.mtx --mtx > ranks.mtx
   python3 -m spmat spy graph.mtx --plot spy.png
   python3 -m spmat types my_operator.asm --kind binary
   python3 -m spmat run session.txt
 
-A graph is a square Matrix Market file (also %s): an entry at row i and column j is an edge from i to j. Vertices count
-from 1, as in the file. `python3 -m spmat COMMAND --help` tells more of each command.
+A graph is a file in Matrix Market format, an edge list, CSV, TSV or DIMACS (also %s), which is seen from what stands in it. An entry
+at row i and column j, or a line `i j`, is an edge from i to j. Vertices have their names in the file; those of a Matrix Market file count
+from 1. `python3 -m spmat COMMAND --help` tells more of each command.
 """ % ', '.join(ENDINGS)
 
 
@@ -41,9 +43,12 @@ def parser() -> argparse.ArgumentParser:
 
 def main(words: Optional[List[str]] = None) -> int:
     """Runs a command, and gives its exit status."""
-    options = parser().parse_args(words)
+    options, rest = parser().parse_known_args(words)
+    if rest:
+        options.parser.error('unrecognized arguments: ' + ' '.join(rest))
     try:
-        return options.run(options) or 0
+        status: int = options.run(options) or 0
+        return status
     except BrokenPipeError:
         # whoever read standard output has gone, as `head` does: nothing more is to be written, also not at the end
         os.dup2(os.open(os.devnull, os.O_WRONLY), sys.stdout.fileno())
@@ -52,8 +57,8 @@ def main(words: Optional[List[str]] = None) -> int:
         print('spmat: interrupted', file=sys.stderr)
         return 1
     except OSError as fault:
-        words = fault.strerror or str(fault)
-        print('spmat: ' + ('%s: %s' % (fault.filename, words) if fault.filename else words), file=sys.stderr)
+        said = fault.strerror or str(fault)
+        print('spmat: ' + ('%s: %s' % (fault.filename, said) if fault.filename else said), file=sys.stderr)
         return 1
     except (SpmatError, ValueError, TypeError, ImportError) as fault:
         print('spmat: %s' % ' '.join(str(fault).split()), file=sys.stderr)

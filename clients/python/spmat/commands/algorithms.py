@@ -1,7 +1,9 @@
-"""A command for each algorithm. Vertices count from 1, as in the file: in options, in results, and where a value is a vertex."""
+"""A command for each algorithm. Vertices have the names of the file: in options, in results, and where a value is a vertex. Those of a
+Matrix Market file count from 1."""
 from __future__ import annotations
 
 import argparse
+import functools
 import inspect
 from typing import Any, Callable, Dict, Iterable, List, NamedTuple, Optional
 
@@ -9,17 +11,20 @@ from .. import algorithms
 from .. import draw as pictures
 from ..algorithms.counts import CLUSTERING_SCALE
 from ..algorithms.ranks import ONE
+from ..algorithms.similarity import SCALE as JACCARD_SCALE
 from ..matrix import Matrix
+from ..results import told
+from ..wire import Progress
 from . import common
 
 BOTH_WAYS, WITHOUT_LOOPS = common.Wanted.BOTH_WAYS, common.Wanted.WITHOUT_LOOPS
-Call = Callable[[Matrix, argparse.Namespace, Optional[common.Progress]], Any]
+Call = Callable[[Matrix, argparse.Namespace, Optional[Progress]], Any]
 
 
 class Algorithm(NamedTuple):
     """A command: what it gives in a few words, its function, what calls it, the options beside those of every graph, what a value
-    is counted in (1 where it is a whole number), whether a value is a vertex, what draws the result, and which graphs
-    it is for."""
+    is counted in (1 where it is a whole number), whether a value is a vertex, what draws the result, which graphs it is for, and whether
+    their values count."""
     gives: str
     function: Callable[..., Any]
     call: Call
@@ -28,6 +33,7 @@ class Algorithm(NamedTuple):
     are_vertices: bool = False
     plot: Optional[str] = None
     wanted: common.Wanted = common.Wanted.ANY
+    values: bool = False
 
 
 def transposed(graph: Matrix, options: argparse.Namespace) -> Optional[Matrix]:
@@ -35,11 +41,19 @@ def transposed(graph: Matrix, options: argparse.Namespace) -> Optional[Matrix]:
     return graph if options.undirected else None
 
 
-def start(graph: Matrix, options: argparse.Namespace) -> int:
-    """The vertex that a search begins with, from 0. ValueError where it is none."""
-    if not 1 <= options.source <= graph.nrows:
-        raise ValueError('no vertex %d: they are 1 to %d' % (options.source, graph.nrows))
-    return options.source - 1
+def start(graph: Matrix, options: argparse.Namespace) -> Any:
+    """The vertex that a search begins with, by its name. ValueError where it is none."""
+    names = graph.notes.rows
+    assert names is not None
+    if options.source is None:
+        if not names:
+            raise ValueError('the graph has no vertex')
+        return names[0]
+    word = options.source
+    for name in (word, int(word) if word.lstrip('-').isdigit() else word):
+        if name in names.places:
+            return name
+    raise ValueError('no vertex %s: they are %s' % (word, told(names)))
 
 
 ALGORITHMS: Dict[str, Algorithm] = {
@@ -59,11 +73,26 @@ ALGORITHMS: Dict[str, Algorithm] = {
         'the least vertex of each one\'s component', algorithms.connected_components,
         lambda g, o, p: algorithms.connected_components(g, transposed(g, o), p), are_vertices=True),
     'sssp': Algorithm('lengths of shortest paths from a vertex', algorithms.sssp, lambda g, o, p: algorithms.sssp(
-        g, start(g, o), transposed(g, o), p), ['source']),
+        g, start(g, o), transposed(g, o), p), ['source'], values=True),
     'all-pairs': Algorithm('lengths of shortest paths between all', algorithms.all_pairs,
-                           lambda g, o, p: algorithms.all_pairs(g, p)),
+                           lambda g, o, p: algorithms.all_pairs(g, p), values=True),
     'transitive-closure': Algorithm('which vertices reach which', algorithms.transitive_closure,
                                     lambda g, o, p: algorithms.transitive_closure(g, p), plot='spy'),
+    'strongly-connected-components': Algorithm(
+        'the least vertex of each one\'s strong component', algorithms.strongly_connected_components,
+        lambda g, o, p: algorithms.strongly_connected_components(g, transposed(g, o), p), are_vertices=True),
+    'topological-levels': Algorithm('levels of a graph without cycles', algorithms.topological_levels,
+                                    lambda g, o, p: algorithms.topological_levels(g, p)),
+    'eccentricity': Algorithm('edges from each vertex to the farthest one', algorithms.eccentricity,
+                              lambda g, o, p: algorithms.eccentricity(g, transposed(g, o), p)),
+    'diameter': Algorithm('edges between the two that are farthest apart', algorithms.diameter,
+                          lambda g, o, p: algorithms.diameter(g, transposed(g, o), progress=p).least),
+    'bipartite-sides': Algorithm('two sides without an edge inside one', algorithms.bipartite_sides,
+                                 lambda g, o, p: algorithms.bipartite_sides(g, transposed(g, o), p)),
+    'common-neighbours': Algorithm('neighbours that two vertices share', algorithms.common_neighbours,
+                                   lambda g, o, p: algorithms.common_neighbours(g, transposed(g, o)), plot='spy'),
+    'jaccard': Algorithm('the share of neighbours that two vertices share', algorithms.jaccard,
+                         lambda g, o, p: algorithms.jaccard(g, transposed(g, o)), scale=JACCARD_SCALE),
     'k-truss': Algorithm('edges that stand in k - 2 triangles or more', algorithms.k_truss,
                          lambda g, o, p: algorithms.k_truss(g, o.k, p), ['k'], plot='spy', wanted=WITHOUT_LOOPS),
     'k-core': Algorithm('vertices with k neighbours or more', algorithms.k_core,
@@ -75,7 +104,7 @@ ALGORITHMS: Dict[str, Algorithm] = {
         lambda g, o, p: algorithms.maximal_independent_set(g, o.seed, p), ['seed'], wanted=BOTH_WAYS),
 }
 OPTIONS: Dict[str, Dict[str, Any]] = {
-    'source': dict(type=int, default=1, metavar='V', help='the vertex to begin with, from 1 (default: 1)'),
+    'source': dict(metavar='V', help='the vertex to begin with, by its name in the file, or its number from 1 (default: the first)'),
     'k': dict(type=int, required=True, metavar='K', help='how dense'),
     'damping': dict(type=float, default=0.85, metavar='D', help='the share that follows edges (default: 0.85)'),
     'tolerance': dict(type=float, default=1e-6, metavar='T', help='how far the ranks may be from the true ones (default: 1e-6)'),
@@ -95,7 +124,7 @@ def add_commands(commands: Any) -> None:
         if algorithm.plot:
             command.add_argument('--plot', metavar='FILE.png', help='a picture of the result; wants matplotlib')
         common.add_session_options(command)
-        command.set_defaults(run=lambda options, chosen=algorithm: run(chosen, options))
+        command.set_defaults(run=functools.partial(run, algorithm), parser=command)
 
 
 def description(algorithm: Algorithm) -> str:
@@ -110,9 +139,10 @@ def epilog(name: str, algorithm: Algorithm) -> str:
     if algorithm.scale > 1:
         printed = 'Printed are fractions; --mtx has whole numbers, in units of 1/%d.' % algorithm.scale
     elif algorithm.are_vertices:
-        printed = 'Values are vertices, from 1.'
+        printed = 'Values are vertices.'
     else:
-        printed = 'Vertices count from 1.'
+        printed = 'Vertices have their names.'
+    printed += ' Vertices of a Matrix Market file count from 1. A tab parts what is printed where a name has blanks.'
     return '%s\n\nexample:\n  python3 -m spmat %s graph.mtx%s' % (printed, name, ' ' + words if words else '')
 
 
@@ -122,8 +152,10 @@ def run(algorithm: Algorithm, options: argparse.Namespace) -> int:
         pictures.check(options.plot)
     common.check_output(options)
     with common.progress_of(options) as progress, common.open_session(options, progress) as session:
-        graph = common.read_graph(session, options, algorithm.wanted)
+        graph = common.read_graph(session, options, common.Needs(algorithm.wanted, algorithm.values))
         result = algorithm.call(graph, options, progress)
+        if isinstance(result, Matrix):
+            result.notes = result.notes._replace(rows=graph.notes.rows, columns=graph.notes.columns if result.ncols > 1 else None)
         if getattr(options, 'plot', None):
             draw(algorithm, graph, result, options)
         lines = lines_of(algorithm, result, options)
@@ -136,16 +168,16 @@ def lines_of(algorithm: Algorithm, result: Any, options: argparse.Namespace) -> 
     if isinstance(result, int):
         return ['%d\n' % result]
     if algorithm.are_vertices:
-        result = result.apply('plus', right=1)
-    if algorithm.scale == 1 or options.mtx:
+        if options.mtx:
+            return common.lines_of(options, result.apply('plus', right=1))
+        return common.lines_of(options, result, result.notes.rows.__getitem__)
+    if algorithm.scale == 1:
         return common.lines_of(options, result)
-    rows, _, values = result.to_coo(arrays=False)
-    return ('%d %.9f\n' % (row + 1, value / algorithm.scale) for row, value in zip(rows, values))
+    return common.lines_of(options, result, lambda value: '%.9f' % (value / algorithm.scale))
 
 
 def draw(algorithm: Algorithm, graph: Matrix, result: Matrix, options: argparse.Namespace) -> None:
     """Draws the result into the file that the options name."""
-    graph.nodes = list(range(1, graph.nrows + 1))
     if algorithm.plot == 'degree_histogram':
         pictures.degree_histogram(graph, options.plot)
     elif algorithm.plot == 'levels':

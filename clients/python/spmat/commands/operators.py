@@ -3,16 +3,16 @@ from __future__ import annotations
 
 import argparse
 import os
-from typing import Any, List
+from typing import Any
 
 from .. import compile as from_c
-from ..operators import KINDS, READY, Operator, asm, code
+from ..operators import KINDS, READY, Operator, asm, code, telling
 from . import common
 
 EPILOG = """OPERATOR is a file of assembly text (.asm), of code in hexadecimal (.hex) or of C (.c), or a ready operator, as
 binary.plus. Each instruction is printed with what the verifier knows before it, for R0 to R10: - nothing is set there, n a number,
 pK the stack's top plus K, m set differently by the ways that lead there. A line that no way leads to says so. Where the verifier
-refuses the operator, the rule, the place and the line are told.
+refuses the operator, what is known up to there is printed, and then the rule, the place and the line.
 
 examples:
   python3 -m spmat types my_operator.asm --kind binary
@@ -28,7 +28,7 @@ def add_commands(commands: Any) -> None:
     command.add_argument('--kind', choices=KINDS, help='which operands a call has (wanted for .asm and .hex)')
     command.add_argument('--function', metavar='NAME', help='which function of a C file with several')
     common.add_session_options(command)
-    command.set_defaults(run=run)
+    command.set_defaults(run=run, parser=command)
 
 
 def read_operator(options: argparse.Namespace) -> Operator:
@@ -42,7 +42,7 @@ def read_operator(options: argparse.Namespace) -> Operator:
     named = ['%s.%s' % (kind, name) for kind in KINDS if name in READY[kind]]
     if named and not os.path.exists(name):
         raise ValueError('no file %s; the ready operator is %s' % (name, ' or '.join(named)))
-    with open(name) as file:
+    with open(name, encoding='utf-8') as file:
         text = file.read()
     if name.endswith('.c'):
         return from_c.c(text, options.function)
@@ -52,22 +52,13 @@ def read_operator(options: argparse.Namespace) -> Operator:
     return code(options.kind, text, title) if name.endswith('.hex') else asm(options.kind, text, title)
 
 
-def table(lines: List[str], types: List[str]) -> List[str]:
-    """Instructions beside what is known before each, in columns."""
-    known = [told.split() for told in types]
-    rows = [[tags[0], line] + (['no way leads here'] if tags[1:] == ['-'] else [{'u': '-'}.get(tag, tag) for tag in tags[1:]])
-            for line, tags in zip(lines, known)]
-    heads = ['slot', 'instruction'] + ['R%d' % number for number in range(11)]
-    widths = [max(len(row[at]) for row in [heads] + [row for row in rows if len(row) == len(heads)]) for at in range(len(heads))]
-    widths[1] = max([widths[1]] + [len(row[1]) for row in rows])
-    return ['  '.join(cell.ljust(width) for cell, width in zip(row, widths)).rstrip() for row in [heads] + rows]
-
-
 def run(options: argparse.Namespace) -> int:
-    """Uploads the operator, and prints it beside what is known."""
+    """Uploads the operator, and prints it beside what is known; of one that is refused up to the instruction that is, and why."""
     operator = read_operator(options)
     with common.open_session(options) as session:
-        lines, types = session.dis(operator).splitlines(), session.types(operator)
-    print('\n'.join(table(lines, types)))
-    print('%s: %d instructions, so a call takes at most %d steps' % (operator.kind, len(lines), len(lines)))
-    return 0
+        check = session.check(operator)
+    if check.refusal is None:
+        print(check)
+        return 0
+    print(''.join(line + '\n' for line in telling.table(check.rows)), end='')
+    raise check.refusal.of_file(options.operator if operator.text is not None and check.refusal.rule.startswith('A') else '')

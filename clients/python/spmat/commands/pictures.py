@@ -21,14 +21,14 @@ def add_commands(commands: Any) -> None:
     common.add_graph_options(command)
     command.add_argument('--plot', metavar='FILE.png', required=True, help='where the picture goes; wants matplotlib')
     common.add_session_options(command)
-    command.set_defaults(run=run)
+    command.set_defaults(run=run, parser=command)
 
 
 def run(options: argparse.Namespace) -> int:
     """Draws the matrix, and says its size."""
     draw.check(options.plot)
     with common.progress_of(options) as progress, common.open_session(options, progress) as session:
-        matrix = common.read_graph(session, options)
+        matrix = common.read_graph(session, options, common.Needs(rectangular=True))
         draw.spy(matrix, options.plot, first=1)
         size = matrix.nrows, matrix.ncols, matrix.nvals
     print('%d rows, %d columns, %d entries' % size)

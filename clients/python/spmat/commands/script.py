@@ -9,12 +9,14 @@ from typing import IO, Any, Iterator, List, NamedTuple, Optional, Tuple
 from .. import files, market
 from ..errors import Refused
 from ..operators import Operator
+from ..reading import Request, format_of, read
 from ..wire import WORDS_WITH_BODY, Reply
 from . import common
 
 EPILOG = """The lines of SCRIPT are the commands of docs/protocol.md, without the lengths of bodies, which are counted here:
 
-  matrix G < graph.mtx                  the file is the body; paths count from the script's folder
+  matrix G < graph.mtx                  the file is the body; paths count from the script's folder. An edge list, CSV, TSV or
+                                        DIMACS file is made into a matrix: whole numbers ascend, other names stand as they come
   asm plus binary <<END                 so are the lines up to END
   mov64 r0, r1
   add64 r0, r2
@@ -44,7 +46,7 @@ def add_commands(commands: Any) -> None:
     command.add_argument('script', metavar='SCRIPT', help='a file of commands, or - for standard input')
     command.add_argument('--keep-going', action='store_true', help='go on behind a refused command')
     common.add_session_options(command)
-    command.set_defaults(run=run)
+    command.set_defaults(run=run, parser=command)
 
 
 def read_script(lines: Iterator[str], folder: str) -> Iterator[Command]:
@@ -81,11 +83,19 @@ def read_file(path: str, number: int, command: str) -> bytes:
     """The bytes of a body's file; a matrix may be packed (.gz, .bz2)."""
     try:
         if command == 'matrix':
-            return files.load(path)
+            return market_text(path, files.load(path))
         with open(path, 'rb') as file:
             return file.read()
     except OSError as fault:
         raise ValueError('line %d: %s: %s' % (number, path, fault.strerror or fault)) from None
+
+
+def market_text(path: str, text: bytes) -> bytes:
+    """A graph's text as the server reads it: an edge list, CSV, TSV or DIMACS file is made into a matrix."""
+    if format_of(text) == 'mtx' or text.lstrip()[:2] == b'%%':
+        return text
+    graph = read(path, text, Request(), False)
+    return market.write(files.mirrored(graph.triples, 'symmetric') if graph.notes.directed is False else graph.triples)
 
 
 def here_document(end: str, number: int, lines: Iterator[Tuple[int, str]]) -> bytes:
@@ -102,7 +112,7 @@ def run(options: argparse.Namespace) -> int:
     """Runs the script; the status is 1 where a command was refused."""
     if options.script == '-':
         return run_lines(sys.stdin, '.', options)
-    with open(options.script) as file:
+    with open(options.script, encoding='utf-8') as file:
         return run_lines(file, os.path.dirname(options.script), options)
 
 
@@ -159,4 +169,3 @@ def tell(command: Command, reply: Reply) -> None:
     else:
         sys.stdout.write(reply.body.decode())
     sys.stdout.flush()
-

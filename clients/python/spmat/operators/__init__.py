@@ -12,6 +12,8 @@ import os
 from dataclasses import dataclass, field
 from typing import Dict, Iterator, List, Optional, Tuple, Union
 
+from .grammar import without_labels
+
 KINDS = ('unary', 'binary', 'index')
 _FOLDER = os.path.dirname(os.path.abspath(__file__))
 _RIGHT = (('mov64 r2, r4', 'bf42000000000000'),)
@@ -35,7 +37,12 @@ class Operator:
             raise ValueError('an operator has assembly text, or code')
 
     def __repr__(self) -> str:
-        return '<%s operator%s>' % (self.kind, ' ' + self.name if self.name else '')
+        first = '' if self.text is None else next((line for _, line in self.slots()), '')
+        return '<%s operator %s>' % (self.kind, self.name or "'%s ..'" % first if self.name or first else 'of %d slots' % (len(self.code or b'') // 8))
+
+    def _repr_html_(self) -> str:
+        from .. import html
+        return html.operator(self)
 
     @property
     def body(self) -> bytes:
@@ -94,7 +101,10 @@ class Semiring:
 
 
 def asm(kind: str, text: str, name: Optional[str] = None) -> Operator:
-    """An operator from assembly text (docs/operators.md). Nothing is looked at before its first use."""
+    """An operator from assembly text (docs/operators.md). A jump may name a label, a word and a colon before an instruction or on a
+    line of its own: `jeq64 r2, 0, end` and `end: exit`. ValueError names the line where a label isn't there. Else nothing is looked at
+    before its first use, or `Session.check`."""
+    text = without_labels(text)
     return Operator(kind, text=text if text.endswith('\n') else text + '\n', name=name)
 
 
@@ -148,7 +158,11 @@ class Ready:
 
 
 class Semirings:
-    """`semiring.min_plus` is Semiring(binary.min, binary.plus): any two ready binary names, joined by `_`."""
+    """`semiring.min_plus` is Semiring(binary.min, binary.plus): any two ready binary names, joined by `_`. `semiring(add, mul)` is one
+    of two binary operators, own ones or by name."""
+
+    def __call__(self, add: Union[str, Operator], mul: Union[str, Operator]) -> Semiring:
+        return Semiring(find('binary', add), find('binary', mul))
 
     def __getitem__(self, name: str) -> Semiring:
         add, _, mul = name.partition('_')
@@ -161,6 +175,9 @@ class Semirings:
             return self[name]
         except KeyError:
             raise AttributeError('no semiring %r: two ready binary names, joined by _, are wanted' % name) from None
+
+    def __dir__(self) -> List[str]:
+        return sorted({*super().__dir__(), *('%s_%s' % (add, mul) for add in binary for mul in binary)})
 
 
 unary, binary, indexunary = Ready('unary'), Ready('binary'), Ready('index')

@@ -3,7 +3,7 @@ use Rattle.std.specs.Prelude.{◌≡◌, ℕ, ◌<◌, List, false, All, length}
 use Rattle.std.specs.List.{AllByRecursion}
 use Rattle.job_plan.specs.Job.{Job}
 use Rattle.race_board.specs.Race.{BoardState, SeatState, IsSeatOf, IsToldEnd, workers_of}
-use Rattle.race_board.specs.Chunks.{CostAtMost, completed_by, recorded_by, times_in}
+use Rattle.race_board.specs.Chunks.{CostAtMost, CostJust, completed_by, recorded_by, times_in}
 use Rattle.job_runner.specs.declared.crew.Ended.{Ended}
 use Rattle.job_runner.specs.declared.gathered.Gathered.{Gathered}
 use Rattle.job_runner.specs.Chunk.{chunk_total, chunk_steps}
@@ -17,10 +17,11 @@ pub record IsEnded (board : BoardState) (jobs : List Job) (e : Ended) : Type 0 w
   pub pieces : AllByRecursion (IsPieceOf jobs) e.worked.pieces.items
   pub stands : StandsAfter jobs e.worked.failed e.seat.worker.stand
 
--- of some workers that have ended: each chunk that they completed has its piece at its place, and no chunk that they recorded took
--- more steps than the chunk has
+-- of some workers that have ended: each chunk that they completed has its piece at its place, and took just its steps; and no chunk
+-- that they recorded took more
 pub record IsGathered (board : BoardState) (jobs : List Job) (g : Gathered) : Type 0 where
   pub own : All (IsSeatOf board) g.seats.items
+  pub just : CostJust (chunk_steps jobs) (completed_by (workers_of g.seats.items))
   pub cost : CostAtMost (chunk_steps jobs) (recorded_by (workers_of g.seats.items))
   pub long : length g.places.items ≡ chunk_total jobs
   pub placed : ArePlaced jobs g.places.items

@@ -37,7 +37,7 @@ struct Dealt {
     whole: bool,
 }
 
-/// A session: it reserves the price of its job, runs it on two workers, and settles the price with the steps that were taken.
+/// A session: it reserves the price of its job, runs it on up to two workers, and settles the price with the steps that were taken.
 fn deal<H: Threads + Wait + Abort>(
     rt: &H,
     alloc: Global,

@@ -3,9 +3,10 @@ ghost use Rattle.std.specs.Prelude.{◌≡◌, ◌≤◌, [], IfOk, All};
 ghost use Rattle.race_board.specs.Race.{IsSeatOf, MayDrawAt, SeatState};
 ghost use Rattle.job_runner.specs.Worked.{prices_of};
 
-use super::{increments, is_incremented, operator, plan_of, put, version};
-use crate::operators::{EXIT, FIRST, MUL, SUB};
+use super::{diagonal, increments, is_incremented, operator, plan_of, put, version};
+use crate::operators::{ADD_ONE, EXIT, FIRST, MUL, SUB};
 use bpf_insn::Kind;
+use bpf_run::Prepared;
 use csr_store::{Builder, Version};
 use job_plan::{Form, Plan};
 use job_runner::{BatchAnswer, BatchFault, Cause, Gate, Open, prices, run_batch, work};
@@ -132,7 +133,31 @@ impl Gate for Counts {
     }
 }
 
-/// Whether the increments of a diagonal run, on so many workers at this gate.
+/// How many instructions the operator of dear increments has. A batch of theirs on two chunks or more is worth several workers.
+const DEAR: u64 = 1000;
+
+/// The operator that adds one, by so many instructions.
+fn dear_increment(alloc: Global) -> Result<Arc<Prepared>, AllocError> {
+    let mut slots = Vec::new(alloc);
+    for _ in 0..DEAR - 2 {
+        slots.push(FIRST)?;
+    }
+    slots.push(ADD_ONE)?;
+    slots.push(EXIT)?;
+    operator(alloc, Kind::Unary, &slots)
+}
+
+/// The plan of one job that adds one to each entry of a diagonal by that operator.
+fn dear_increments(rt: &impl Abort, alloc: Global, rows: u32) -> Result<Plan, AllocError> {
+    let form = Form::Apply {
+        operator: dear_increment(alloc)?,
+        thunk: None,
+        operand: diagonal(alloc, rows)?,
+    };
+    plan_of(rt, alloc, form)
+}
+
+/// Whether the dear increments of a diagonal run, on so many workers at this gate.
 fn runs<H: Threads + Wait + Abort, G: Gate + Sync>(
     rt: &H,
     alloc: Global,
@@ -142,9 +167,12 @@ fn runs<H: Threads + Wait + Abort, G: Gate + Sync>(
 ) -> Result<bool, AllocError>
     requires { (1 ≤ workers) × (workers ≤ 64) }
 {
-    let plan = increments(rt, alloc, rows)?;
+    let plan = dear_increments(rt, alloc, rows)?;
     Ok(match run_batch(rt, alloc, &plan, workers, gate) {
-        Ok(answer) => is_incremented(&answer, u64::from(rows)),
+        Ok(answer) => {
+            answer.spent == u64::from(rows).wrapping_mul(DEAR)
+                && is_incremented(&answer, u64::from(rows), DEAR)
+        }
         Err(_) => false,
     })
 }

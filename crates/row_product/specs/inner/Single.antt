@@ -7,7 +7,6 @@ use Rattle.bpf_run.specs.Calls.{steps_of, calls_on, pairs_with}
 use Rattle.bpf_run.specs.Meaning.{value_of}
 use Rattle.csr_store.specs.Ascending.{Ascends}
 use Rattle.csr_store.specs.Grid.{Cell, limit, row_of}
-use Rattle.csr_store.specs.Run.{Run}
 use Rattle.job_forms.specs.declared.region.Making.{Making}
 use Rattle.row_product.specs.declared.factors.MaskedFactors.{MaskedFactors}
 use Rattle.row_product.specs.inner.Masked.{AreMasked}
@@ -29,11 +28,10 @@ pub record IsBehind (n : ℕ) (row cells : List Cell) : Type 0 where
   pub below : AllByRecursion (λ (c : Cell). c.0 < low) row
   pub ascends : Ascends low n cells
 
--- x times each of these cells is put behind those of the open row, and the steps are those of the calls
-pub record Pushes (f : MaskedFactors) (x : ℕ) (cells : List Cell) (old new : Run) (s : ℕ) : Type 0 where
-  pub rows : new ≡ record old { opened = old.opened ++ multiplied f.mul.now x cells }
-  pub steps : s ≡ steps_of (calls_on f.mul.now (pairs_with x cells))
-  pub little : s ≤ 8192 * length cells
+-- x was multiplied by each of these cells, and the steps of all these calls are charged
+pub record AreCharged (f : MaskedFactors) (x : ℕ) (cells : List Cell) (old new : Making) : Type 0 where
+  pub steps : new.steps ≡ old.steps + steps_of (calls_on f.mul.now (pairs_with x cells))
+  pub little : new.steps ≤ old.steps + 8192 * length cells
 
 -- row i of A is one entry
 pub record IsSole (f : MaskedFactors) (i : ℕ) (c : Cell) : Type 0 where

@@ -12,9 +12,10 @@ returns c =
     let two = c.in_ok-arg-2.ensures.shape c.steps_option.ensures.local ∙ ap₂ with_rule one c.steps_option.ensures.rule in
     let three = c.in_ok-arg-3.ensures.shape c.workers_option.ensures.local ∙ ap₂ with_rule two c.workers_option.ensures.rule in
     let four = c.in_ok-arg-4.ensures.shape c.sessions_option.ensures.local ∙ ap₂ with_rule three c.sessions_option.ensures.rule in
-    let local : (out-Command c.in_ok-arg-4.field-0).has_globals ≡ false = search rules in
-    IfOk-weaker c.arg-5.result _ _
+    let five = c.in_ok-arg-5.ensures.shape c.idle_option.ensures.local ∙ ap₂ with_rule four c.idle_option.ensures.rule in
+    let local : (out-Command c.in_ok-arg-5.field-0).has_globals ≡ false = search rules in
+    IfOk-weaker c.arg-6.result _ _
     (λ command added. (
-      added.shape c.idle_option.ensures.local ∙ ap₂ with_rule four c.idle_option.ensures.rule,
-      rw (added.globals, local, c.idle_option.ensures.local) refl,
-    )) c.arg-5.ensures
+      added.shape c.log_option.ensures.local ∙ ap₂ with_rule five c.log_option.ensures.rule,
+      rw (added.globals, local, c.log_option.ensures.local) refl,
+    )) c.arg-6.ensures

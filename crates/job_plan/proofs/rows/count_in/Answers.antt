@@ -1,5 +1,6 @@
 use Rattle.std.proofs.Common.{arith}
-use Rattle.job_plan.proofs.Rounds.{between, rise, start_at, start_inside}
+use Rattle.csr_store.proofs.Starting.{start_at, start_inside, start_rises}
+use Rattle.job_plan.proofs.Rounds.{between}
 use Rattle.job_plan.proofs.rows.count_in.Goals as goal
 
 pub bounds-starts-range : goal.bounds-starts-range
@@ -17,7 +18,7 @@ overflow_sub-result c =
     let b = c.if-range.false in
     let s = start_at c.args.a.now _ c.args.range.start c.starts-starts.ensures (omega (arith, w, b)) in
     let e = start_at c.args.a.now _ c.args.range.end c.starts-starts.ensures w in
-    let r = rise c.args.a.now c.args.range.start c.args.range.end (omega (arith, b)) in
+    let r = start_rises c.args.a.now c.args.range.start c.args.range.end (omega (arith, b)) in
     omega (arith, s, e, r)
 
 pub returns : goal.returns

@@ -21,3 +21,10 @@ returns c =
     let entries = c.count_in-entries.ensures in
     let filled = c.filled_in.ensures in
     omega (arith, both, entries, filled)
+
+pub returns-then-entries-eq0 : goal.returns-then-entries-eq0
+returns-then-entries-eq0 c =
+    let both = folds_and_firsts c.args.a.now c.args.range.start (c.args.range.end - c.args.range.start) in
+    let entries = c.count_in-entries.ensures in
+    let none = c.if-entries-eq0.true in
+    omega (arith, both, entries, none)

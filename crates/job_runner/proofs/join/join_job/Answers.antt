@@ -1,5 +1,6 @@
 use Rattle.std.proofs.Common.{◌+◌, ◌/◌, length, ap, sym, ◌∙◌, subst, arith}
 use Rattle.std.specs.Arc.{arc_value}
+use Rattle.csr_store.specs.Grid.{IsGrid}
 use Rattle.csr_store.specs.Run.{AreEven, Follow, all_ended, numbered}
 use Rattle.csr_store.specs.Along.{summed}
 use Rattle.job_plan.specs.Meaning.{IsMatrixOf, row_count, steps_of_job}
@@ -55,6 +56,7 @@ returns-clause-result c =
       matrix = subst (λ j. IsMatrixOf j (arc_value c.in_ok-version.version)) c.job-job.ensures.job
           (joined_matrix 0 job c.in_ok-runs.runs.items c.sizes-rows.result.0 c.sizes-rows.result.1 (arc_value c.in_ok-version.version)
           cover runs c.sizes-rows.ensures.rows
-          c.sizes-rows.ensures.columns (c.in_ok-version.ensures.ok ∙ c.in_ok-matrix.ensures));
+          c.sizes-rows.ensures.columns (c.in_ok-version.ensures.ok ∙ c.in_ok-matrix.ensures)
+          (subst IsGrid (sym c.in_ok-version.ensures.ok) c.rows-rows.ensures.is_grid));
       steps = c.in_ok-runs.ensures.sum ∙ count ∙ steps_all 0 job cover ∙ ap steps_of_job c.job-job.ensures.job;
     }

@@ -1,14 +1,16 @@
-use Rattle.std.proofs.Common.{◌≤◌, ◌+◌, ℕ, Some, length, drop, get_or, subst, sym, ap, ◌∙◌, refl, arith}
+use Rattle.std.proofs.Common.{◌≤◌, ◌+◌, ℕ, Some, List, map, length, drop, get_or, subst, sym, ap, ◌∙◌, refl, arith}
 use Rattle.std.proofs.lemmas.List.{drop_more, drop_all}
 use Rattle.csr_store.specs.Mask.{mask_of, passes}
 use Rattle.csr_store.proofs.Along.{Ascends, row_of-ascends}
 use Rattle.job_forms.proofs.Counting.{row_few}
 use Rattle.row_product.specs.inner.Sums.{slot, after}
-use Rattle.row_product.specs.inner.Few.{spread}
+use Rattle.csr_store.specs.Grid.{Cell}
+use Rattle.row_product.specs.inner.Few.{spread, AreListed}
 use Rattle.row_product.proofs.Adding.{Adding, adding_start, adding_skip, adding_step, adding_end}
+use Rattle.row_product.proofs.Listed.{listed_at}
 use Rattle.row_product.proofs.Spreading.{length_spread}
 use Rattle.row_product.proofs.few.add_cells.Goals as goal
-use Rattle.row_product.proofs.few.add_cells.Goals.{then-lets_pass+in_ok-steps, else-lets_pass}
+use Rattle.row_product.proofs.few.add_cells.Goals.{then-lets_pass, else-lets_pass}
 
 pub loop-cell-init : goal.loop-cell-init
 loop-cell-init c =
@@ -21,6 +23,12 @@ loop-cell-init c =
           c.columns-columns.ensures.is_grid));
       few = omega arith;
     }
+
+pub add_at-steps-requires-clause-listed : goal.add_at-steps-requires-clause-listed
+add_at-steps-requires-clause-listed c =
+    listed_at c.args.listed.now c.row-row.result.now c.loop-cell.cell-index (0, 0)
+    (subst (λ (us : List Cell). AreListed c.args.listed.now (map (λ (e : Cell). e.0) us)) (sym c.row-row.ensures) c.requires.listed)
+    c.loop-cell-test.true
 
 pub loop-cell-preserved : goal.loop-cell-preserved
 loop-cell-preserved c =
@@ -40,9 +48,9 @@ loop-cell-preserved c =
     let d = drop_more row k (0, 0) c.loop-cell-test.true in
     let wide : n ≤ length was = let l = length_spread n listed c.loop-cell.sums in omega (arith, l) in
     elim c.if-lets_pass.branch [
-      | then-lets_pass+in_ok-steps v ↦
-          let added = v.in_ok-steps.ensures.added n c.requires.apart in
-          let g = v.in_ok-steps.ensures.few in
+      | then-lets_pass v ↦
+          let added = v.add_at-steps.ensures.added in
+          let g = v.add_at-steps.ensures.few in
           let s = v.steps-is in
           record {
             adding = subst (Adding add mul c.args.x n t first row (spread n listed c.if-lets_pass.sums) more) (sym v.steps-is)
@@ -81,7 +89,7 @@ returns c =
 pub overflow_add-steps : goal.overflow_add-steps
 overflow_add-steps c =
     let f = c.loop-cell.invariant.few in
-    let g = c.in_ok-steps.ensures.few in
+    let g = c.add_at-steps.ensures.few in
     let e = ap length c.row-row.ensures in
     let r = row_few c.args.factors.now.b.now c.args.k c.columns-columns.ensures.is_grid in
     let t = c.loop-cell-test.true in

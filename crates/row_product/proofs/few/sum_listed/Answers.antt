@@ -1,10 +1,11 @@
-use Rattle.std.proofs.Common.{◌<◌, ◌+◌, List, length, drop, get_or, sym, ap, ◌∙◌, arith}
+use Rattle.std.proofs.Common.{◌<◌, ◌+◌, List, length, drop, get_or, subst, sym, ap, ◌∙◌, arith}
 use Rattle.std.proofs.lemmas.List.{drop_more, drop_all}
 use Rattle.csr_store.specs.Grid.{Cell, row_of}
 use Rattle.csr_store.specs.Mask.{mask_of, passes}
 use Rattle.csr_store.proofs.ByRow.{cell_inside}
 use Rattle.job_forms.proofs.Counting.{row_few}
-use Rattle.row_product.specs.inner.Few.{spread}
+use Rattle.row_product.specs.inner.Few.{spread, met, AreListed}
+use Rattle.row_product.proofs.Listed.{met_at}
 use Rattle.row_product.proofs.Gathering.{gathering_start, gathering_step, gathering_end}
 use Rattle.row_product.proofs.Spreading.{length_spread}
 use Rattle.row_product.proofs.few.sum_listed.Goals as goal
@@ -19,8 +20,8 @@ loop-k-init c =
       few = omega arith;
     }
 
-pub add_cells-requires-clause-row : goal.add_cells-requires-clause-row
-add_cells-requires-clause-row c =
+pub add_cells-steps-requires-clause-row : goal.add_cells-steps-requires-clause-row
+add_cells-steps-requires-clause-row c =
     let row = c.row-row.result.now in
     let k = c.loop-k.k in
     let e = c.row-row.ensures in
@@ -31,10 +32,16 @@ add_cells-requires-clause-row c =
     let w = c.requires.row.factors.shapes in
     record { factors = c.requires.row.factors; row = omega (arith, h, s, w) }
 
+pub add_cells-steps-requires-clause-listed : goal.add_cells-steps-requires-clause-listed
+add_cells-steps-requires-clause-listed c =
+    met_at c.args.listed.now c.args.factors.now.b.now c.row-row.result.now c.loop-k.k (0, 0)
+    (subst (λ (us : List Cell). AreListed c.args.listed.now (met c.args.factors.now.b.now us)) (sym c.row-row.ensures) c.requires.listed)
+    c.loop-k-test.true
+
 pub overflow_add-steps : goal.overflow_add-steps
 overflow_add-steps c =
     let i = c.loop-k.invariant.few in
-    let f = c.in_ok-steps.ensures.little in
+    let f = c.add_cells-steps.ensures.little in
     let e = ap length c.row-row.ensures in
     let r = row_few c.args.factors.now.a.now c.args.i c.columns-columns.ensures.is_grid in
     let t = c.loop-k-test.true in
@@ -46,16 +53,16 @@ loop-k-preserved c =
     let row = c.row-row.result.now in
     let k = c.loop-k.k in
     let listed = c.args.listed.now in
-    let e = c.in_ok-steps.ensures in
+    let e = c.add_cells-steps.ensures in
     let f = c.loop-k.invariant.few in
     let g = e.little in
-    let then = spread n listed c.add_cells.new.sums in
+    let then = spread n listed c.add_cells-steps.new.sums in
     record {
       gathering = gathering_step c.args.factors.now.add.now c.args.factors.now.mul.now c.args.factors.now.b.now n (λ j. passes
           (mask_of c.args.factors.now.mask) (c.args.i, j))
           (spread n listed c.args.sums.now) row (spread n listed c.loop-k.sums) (drop k row) c.loop-k.steps (get_or row k (0, 0))
           (drop (k + 1) row) then _ c.loop-k.invariant.gathering (drop_more row k (0, 0) c.loop-k-test.true)
-          (length_spread n listed c.add_cells.new.sums ∙ sym (length_spread n listed c.loop-k.sums)) e.sums e.steps;
+          (length_spread n listed c.add_cells-steps.new.sums ∙ sym (length_spread n listed c.loop-k.sums)) e.sums e.steps;
       few = omega (arith, f, g);
     }
 

@@ -2,7 +2,7 @@ use Rattle.std.proofs.Common.{◌≡◌, ◌<◌, ◌+◌, ◌++◌, List, lengt
 use Rattle.std.proofs.lemmas.List.{take-append-drop, length-append}
 use Rattle.std.specs.List.{AllByRecursion}
 use Rattle.bpf_run.specs.Calls.{calls_on, pairs_with}
-use Rattle.bpf_run.proofs.Charging.{Spends, charges-none, spends-start, spends-step, spends-none, spends-end}
+use Rattle.bpf_run.proofs.Charging.{Spends, charges-none, charges-all, spends-start, spends-step, spends-stop, spends-end}
 use Rattle.csr_store.specs.Grid.{Cell, row_of}
 use Rattle.csr_store.specs.Run.{Run}
 use Rattle.csr_store.proofs.Along.{Ascends, row_of-ascends}
@@ -60,22 +60,42 @@ push_products-requires-clause-behind c =
     subst (λ w. IsBehind w now.opened cs) (sym (ap (λ (u : Run). u.columns) m.run))
     (behind_first n now.opened cs ds (subst (IsBehind n now.opened) parts m.behind))
 
-pub returns-in_err-steps-clause-row : goal.returns-in_err-steps-clause-row
-returns-in_err-steps-clause-row c = record {
-  rows = search rules;
-  steps = search rules;
-  spent = on_err c.from_residual-in_err-steps.result (spends-none _ c.args.making.now.steps _ c.loop-cells.making.steps
-      c.loop-cells.invariant.spends);
-}
+pub returns-in_err-push_products-clause-row : goal.returns-in_err-push_products-clause-row
+returns-in_err-push_products-clause-row c =
+    let mul = c.args.factors.now.mul.now in
+    let x = c.args.x in
+    let cs = c.split_at.result.0.now in
+    let ds = c.split_at.result.1.now in
+    let parts : c.loop-cells.cells.now ≡ cs ++ ds =
+    sym (ap (λ us. us ++ ds) c.split_at.ensures.front
+    ∙ (ap (λ us. take c.min.result c.loop-cells.cells.now ++ us) c.split_at.ensures.back
+    ∙ take-append-drop c.min.result c.loop-cells.cells.now)) in
+    record {
+      rows = search rules;
+      steps = search rules;
+      spent = on_err c.from_residual-in_err-push_products.result (spends-stop _ c.args.making.now.steps _ c.loop-cells.making.steps
+          (calls_on mul (pairs_with x cs)) (calls_on mul (pairs_with x ds)) _ c.loop-cells.invariant.spends
+          (ap (λ us. calls_on mul (pairs_with x us)) parts ∙ calls_by_parts mul x cs ds)
+          (charges-all _ c.loop-cells.making.steps _ c.push_products.ensures.charged.steps));
+    }
 
-pub returns-in_err-steps-clause-little : goal.returns-in_err-steps-clause-little
-returns-in_err-steps-clause-little c =
+pub returns-in_err-push_products-clause-little : goal.returns-in_err-push_products-clause-little
+returns-in_err-push_products-clause-little c =
+    let cs = c.split_at.result.0.now in
+    let ds = c.split_at.result.1.now in
+    let parts : c.loop-cells.cells.now ≡ cs ++ ds =
+    sym (ap (λ us. us ++ ds) c.split_at.ensures.front
+    ∙ (ap (λ us. take c.min.result c.loop-cells.cells.now ++ us) c.split_at.ensures.back
+    ∙ take-append-drop c.min.result c.loop-cells.cells.now)) in
+    let p = ap length parts in
+    let a = length-append cs ds in
+    let n = c.push_products.ensures.charged.little in
     let f = c.loop-cells.invariant.few in
     let r = row_few c.args.factors.now.b.now c.args.k c.columns-columns.ensures.is_grid in
-    omega (arith, f, r)
+    omega (arith, p, a, n, f, r)
 
-pub overflow_add-making : goal.overflow_add-making
-overflow_add-making c =
+pub push_products-requires-clause-room : goal.push_products-requires-clause-room
+push_products-requires-clause-room c =
     let cs = c.split_at.result.0.now in
     let ds = c.split_at.result.1.now in
     let parts : c.loop-cells.cells.now ≡ cs ++ ds =
@@ -85,10 +105,9 @@ overflow_add-making c =
     let p = ap length parts in
     let a = length-append cs ds in
     let f = c.loop-cells.invariant.few in
-    let l = c.in_ok-steps.ensures.pushed.little in
     let r = row_few c.args.factors.now.b.now c.args.k c.columns-columns.ensures.is_grid in
     let m = c.requires.room in
-    omega (arith, p, a, f, l, r, m)
+    omega (arith, p, a, f, r, m)
 
 pub loop-cells-preserved : goal.loop-cells-preserved
 loop-cells-preserved c =
@@ -104,14 +123,13 @@ loop-cells-preserved c =
     let a = length-append cs ds in
     let i = c.loop-cells.invariant in
     let f = i.few in
-    let e = c.in_ok-steps.ensures.pushed in
-    let l = e.little in
+    let l = c.push_products.ensures.charged.little in
     record {
       pushing = pushing_part mul x c.args.making.now.rows (multiplied mul x (row_of c.args.factors.now.b.now c.args.k))
-          c.loop-cells.making.rows c.loop-cells.cells.now cs ds c.push_products.new.rows i.pushing parts e.rows;
+          c.loop-cells.making.rows c.loop-cells.cells.now cs ds c.push_products.new.making.rows i.pushing parts c.in_ok-push_products.ensures.pushed;
       spends = spends-step _ c.args.making.now.steps _ c.loop-cells.making.steps (calls_on mul (pairs_with x cs))
           (calls_on mul (pairs_with x ds)) _ i.spends (ap (λ us. calls_on mul (pairs_with x us)) parts ∙ calls_by_parts mul x cs ds)
-          (ap (λ k. c.loop-cells.making.steps + k) e.steps);
+          c.push_products.ensures.charged.steps;
       few = omega (arith, p, a, f, l);
       sums = c.push_products.ensures.sums ∙ i.sums;
     }

@@ -2,7 +2,7 @@ use Rattle.std.proofs.Common.{◌≡◌, ◌<◌, ◌+◌, ◌++◌, length, sub
 use Rattle.std.proofs.lemmas.List.{length-append}
 use Rattle.std.specs.List.{AllByRecursion}
 use Rattle.bpf_run.specs.Calls.{calls_on, pairs_with}
-use Rattle.bpf_run.proofs.Charging.{Spends, charges-none, spends-start, spends-step, spends-none}
+use Rattle.bpf_run.proofs.Charging.{Spends, charges-none, charges-all, spends-start, spends-step, spends-stop}
 use Rattle.csr_store.specs.Grid.{Cell, row_of}
 use Rattle.csr_store.specs.Run.{Run}
 use Rattle.csr_store.proofs.Along.{Ascends, row_of-ascends}
@@ -73,23 +73,41 @@ push_products-requires-clause-behind c =
     subst (λ w. IsBehind w now.opened cs) (sym (ap (λ (u : Run). u.columns) m.run))
     (behind_first n now.opened cs ds (subst (IsBehind n now.opened) parts m.behind))
 
-pub returns-in_err-steps-clause-row : goal.returns-in_err-steps-clause-row
-returns-in_err-steps-clause-row c = record {
-  rows = search rules;
-  steps = search rules;
-  spent = on_err c.from_residual-in_err-steps.result (spends-none _ c.args.making.now.steps _ c.loop-row.making.steps
-      c.loop-row.invariant.spends);
-}
+pub returns-in_err-push_products-clause-row : goal.returns-in_err-push_products-clause-row
+returns-in_err-push_products-clause-row c =
+    let mul = c.args.factors.now.mul.now in
+    let x = c.args.cell.1 in
+    let t = stores c.args.stored.now in
+    let cs = c.deref.result.now in
+    let ds = taking t c.list_passing-row.result.cells.now in
+    let next = c.list_passing-row.ensures.listed c.args.stored.now c.args.factors.now.b.now.columns c.loop-row.invariant.beside in
+    let parts : taking t c.loop-row.row.cells.now ≡ cs ++ ds = sym (ap (λ us. us ++ ds) c.deref.ensures.value ∙ next.1) in
+    record {
+      rows = search rules;
+      steps = search rules;
+      spent = on_err c.from_residual-in_err-push_products.result (spends-stop _ c.args.making.now.steps _ c.loop-row.making.steps
+          (calls_on mul (pairs_with x cs)) (calls_on mul (pairs_with x ds)) _ c.loop-row.invariant.spends
+          (ap (λ us. calls_on mul (pairs_with x us)) parts ∙ calls_by_parts mul x cs ds)
+          (charges-all _ c.loop-row.making.steps _ c.push_products.ensures.charged.steps));
+    }
 
-pub returns-in_err-steps-clause-little : goal.returns-in_err-steps-clause-little
-returns-in_err-steps-clause-little c =
+pub returns-in_err-push_products-clause-little : goal.returns-in_err-push_products-clause-little
+returns-in_err-push_products-clause-little c =
+    let t = stores c.args.stored.now in
+    let cs = c.deref.result.now in
+    let ds = taking t c.list_passing-row.result.cells.now in
+    let next = c.list_passing-row.ensures.listed c.args.stored.now c.args.factors.now.b.now.columns c.loop-row.invariant.beside in
+    let parts : taking t c.loop-row.row.cells.now ≡ cs ++ ds = sym (ap (λ us. us ++ ds) c.deref.ensures.value ∙ next.1) in
+    let p = ap length parts in
+    let a = length-append cs ds in
+    let n = c.push_products.ensures.charged.little in
     let f = c.loop-row.invariant.few in
     let w = taking_few (stores c.args.stored.now) (row_of c.args.factors.now.b.now c.args.cell.0) in
     let r = row_few c.args.factors.now.b.now c.args.cell.0 c.columns-columns.ensures.is_grid in
-    omega (arith, f, w, r)
+    omega (arith, p, a, n, f, w, r)
 
-pub overflow_add-making : goal.overflow_add-making
-overflow_add-making c =
+pub push_products-requires-clause-room : goal.push_products-requires-clause-room
+push_products-requires-clause-room c =
     let t = stores c.args.stored.now in
     let cs = c.deref.result.now in
     let ds = taking t c.list_passing-row.result.cells.now in
@@ -98,11 +116,10 @@ overflow_add-making c =
     let p = ap length parts in
     let a = length-append cs ds in
     let f = c.loop-row.invariant.few in
-    let l = c.in_ok-steps.ensures.pushed.little in
     let w = taking_few t (row_of c.args.factors.now.b.now c.args.cell.0) in
     let r = row_few c.args.factors.now.b.now c.args.cell.0 c.columns-columns.ensures.is_grid in
     let m = c.requires.push.room in
-    omega (arith, p, a, f, l, w, r, m)
+    omega (arith, p, a, f, w, r, m)
 
 pub loop-row-preserved : goal.loop-row-preserved
 loop-row-preserved c =
@@ -117,15 +134,14 @@ loop-row-preserved c =
     let a = length-append cs ds in
     let i = c.loop-row.invariant in
     let f = i.few in
-    let e = c.in_ok-steps.ensures.pushed in
-    let l = e.little in
+    let l = c.push_products.ensures.charged.little in
     record {
       pushing = pushing_part mul x c.args.making.now.rows (multiplied mul x (taking t
           (row_of c.args.factors.now.b.now c.args.cell.0)))
-          c.loop-row.making.rows (taking t c.loop-row.row.cells.now) cs ds c.push_products.new.rows i.pushing parts e.rows;
+          c.loop-row.making.rows (taking t c.loop-row.row.cells.now) cs ds c.push_products.new.making.rows i.pushing parts c.in_ok-push_products.ensures.pushed;
       spends = spends-step _ c.args.making.now.steps _ c.loop-row.making.steps (calls_on mul (pairs_with x cs))
           (calls_on mul (pairs_with x ds)) _ i.spends (ap (λ us. calls_on mul (pairs_with x us)) parts ∙ calls_by_parts mul x cs ds)
-          (ap (λ k. c.loop-row.making.steps + k) e.steps);
+          c.push_products.ensures.charged.steps;
       few = omega (arith, p, a, f, l);
       beside = next.0;
       sums = c.push_products.ensures.sums ∙ i.sums;

@@ -3,12 +3,6 @@ use Rattle.job_plan.specs.Job.{Job}
 use Rattle.job_plan.proofs.Faults.{few_of_rows, fits, price_by_rounds}
 use Rattle.job_plan.proofs.job.Job.price_of_rows.Goals as goal
 
-pub rounds-requires-clause-few : goal.rounds-requires-clause-few
-rounds-requires-clause-few c =
-    let form = ap (λ (j : Job). j.form) c.self.view_is in
-    let mask = c.mask.ensures in
-    rw (form, mask) (few_of_rows c.args.self.now c.args.range.start c.args.range.end c.requires.passes c.requires.within)
-
 pub overflow_mul-result : goal.overflow_mul-result
 overflow_mul-result c =
     let form = ap (λ (j : Job). j.form) c.self.view_is in

@@ -1,10 +1,10 @@
 use Rattle.std.proofs.Common.{◌<◌, inl, inr, List, sym, subst, arith}
 use Rattle.std.specs.Prelude.{All}
 use Rattle.race_board.specs.Race.{SeatState, IsSeatOf, IsToldEnd, workers_of}
-use Rattle.race_board.specs.Chunks.{CostAtMost, completed_by, recorded_by, times_in}
+use Rattle.race_board.specs.Chunks.{CostAtMost, CostJust, completed_by, recorded_by, times_in}
 use Rattle.race_board.proofs.Elements.{all_snoc}
 use Rattle.job_runner.specs.Chunk.{chunk_steps}
-use Rattle.job_runner.proofs.Gathering.{gathered_cost, gathered_told, completed_or, neither}
+use Rattle.job_runner.proofs.Gathering.{gathered_cost, gathered_just, gathered_told, completed_or, neither}
 use Rattle.job_runner.proofs.gathered.Gathered.add.Goals as goal
 
 pub returns-clause-gathered : goal.returns-clause-gathered
@@ -20,6 +20,8 @@ returns-clause-gathered c =
     let len = c.put.new.places.ok.0 in
     record {
       own = subst (All (IsSeatOf board)) (sym items) (all_snoc (IsSeatOf board) old ended.seat was.own is.own);
+      just = subst (λ (ss : List SeatState). CostJust (chunk_steps jobs) (completed_by (workers_of ss))) (sym items)
+          (gathered_just board jobs old ended is was.just);
       cost = subst (λ (ss : List SeatState). CostAtMost (chunk_steps jobs) (recorded_by (workers_of ss))) (sym items)
           (gathered_cost board jobs old ended is was.cost);
       long = omega (arith, long, len);

@@ -1,4 +1,5 @@
-use Rattle.std.proofs.Common.{◌++◌, length, subst, ap, ◌∙◌, arith}
+use Rattle.std.proofs.Common.{◌+◌, ◌++◌, length, subst, ap, ◌∙◌, arith}
+use Rattle.std.proofs.lemmas.Result.{on_ok_weaker}
 use Rattle.bpf_verify.specs.Accepted.{IsAccepted}
 use Rattle.bpf_run.specs.Calls.{Gathered, pairs_with}
 use Rattle.bpf_run.proofs.Charging.{with_few}
@@ -11,23 +12,39 @@ pub push_words-requires-clause-words : goal.push_words-requires-clause-words
 push_words-requires-clause-words c =
     let cells = c.args.cells.now in
     let mul = c.args.factors.now.mul.now in
-    let vs = c.values.ensures ∙ ap (λ (g : Gathered). g.values) c.make_with-multiplied.ensures.values in
+    let vs = c.values.ensures ∙ ap (λ (g : Gathered). g.values) c.make_with.ensures.values in
     let v = ap length vs in
     let l = length_values mul (pairs_with c.args.x cells) in
     let p = length_pairs c.args.x cells in
     omega (arith, v, l, p)
 
+pub overflow_add-making : goal.overflow_add-making
+overflow_add-making c =
+    let cells = c.args.cells.now in
+    let mul = c.args.factors.now.mul.now in
+    let s = c.make_with.ensures.steps in
+    let r = c.requires.room in
+    let f = with_few mul c.args.x cells (subst IsAccepted c.operator.ensures c.program-mul.ensures.accepted) c.requires.factors.mul
+    in
+    omega (arith, s, f, r)
+
 pub returns-clause-pushed : goal.returns-clause-pushed
 returns-clause-pushed c =
     let cells = c.args.cells.now in
     let mul = c.args.factors.now.mul.now in
-    let vs = c.values.ensures ∙ ap (λ (g : Gathered). g.values) c.make_with-multiplied.ensures.values in
-    let s = c.make_with-multiplied.ensures.steps in
+    let from = c.args.making.now.rows in
+    let vs = c.values.ensures ∙ ap (λ (g : Gathered). g.values) c.make_with.ensures.values in
+    on_ok_weaker c.push_words.result (λ e. e ∙ ap (λ us. record from { opened = from.opened ++ us })
+    (ap (with_words cells) vs ∙ words_by_terms mul c.args.x cells)) c.push_words.ensures
+
+pub returns-clause-charged : goal.returns-clause-charged
+returns-clause-charged c =
+    let cells = c.args.cells.now in
+    let mul = c.args.factors.now.mul.now in
+    let s = c.make_with.ensures.steps in
     let f = with_few mul c.args.x cells (subst IsAccepted c.operator.ensures c.program-mul.ensures.accepted) c.requires.factors.mul
     in
     record {
-      rows = c.in_ok-push_words.ensures ∙ ap (λ us. record c.args.rows.now { opened = c.args.rows.now.opened ++ us })
-          (ap (with_words cells) vs ∙ words_by_terms mul c.args.x cells);
-      steps = s;
+      steps = ap (λ n. c.args.making.now.steps + n) s;
       little = omega (arith, s, f);
     }

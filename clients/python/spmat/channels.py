@@ -1,0 +1,222 @@
+"""The bytes of a session: a child process, or a connection to a server."""
+from __future__ import annotations
+
+# a channel is open as long as its session, and each is asked alike
+# pylint: disable=consider-using-with,unused-argument
+
+import os
+import select
+import socket
+import subprocess
+import tempfile
+from typing import TYPE_CHECKING, NamedTuple, Optional, Sequence, Union
+
+from .replies import PIECE
+
+if TYPE_CHECKING:
+    import ssl
+
+SECONDS_TO_QUIT = 5.0
+# Waits until its input ends, which is when nobody holds the other end any more, and then ends a process.
+WATCHER = 'read -r _; kill -9 "$0"'
+
+
+def _readable(file: int, seconds: Optional[float] = None) -> bool:
+    """Waits until something can be read, so many seconds at most."""
+    poll = select.poll()
+    poll.register(file, select.POLLIN)
+    return bool(poll.poll(None if seconds is None else 1000 * seconds))
+
+
+class Watcher:
+    """Ends a process when this one ends, however it does: where it is killed amid a batch, nothing else would end the other before the
+    batch does. A shell waits for the end of a pipe that this process holds. (A signal upon the parent's death, Linux' PR_SET_PDEATHSIG,
+    comes when the thread ends that started the child.) Where there is no shell nobody watches."""
+
+    def __init__(self, process: int) -> None:
+        self._shell: Optional['subprocess.Popen[bytes]'] = None
+        reading, self._held = os.pipe()
+        try:
+            self._shell = subprocess.Popen(['/bin/sh', '-c', WATCHER, str(process)], stdin=reading, stdout=subprocess.DEVNULL,
+                                           stderr=subprocess.DEVNULL, start_new_session=True)
+        except OSError:
+            pass
+        finally:
+            os.close(reading)
+
+    def stop(self) -> None:
+        """Watches no more. Before the process that is watched has been waited for, as its number may be another's then."""
+        if self._shell is not None:
+            self._shell.kill()
+            self._shell.wait()
+            self._shell = None
+            os.close(self._held)
+
+
+class Child:
+    """The bytes of a process `spmat run`. It has a process group of its own, so a Ctrl-C at a terminal doesn't reach it."""
+
+    def __init__(self, words: Sequence[str]) -> None:
+        self._owner = os.getpid()
+        self._said = tempfile.TemporaryFile()
+        try:
+            self.process = subprocess.Popen(list(words), stdin=subprocess.PIPE, stdout=subprocess.PIPE, stderr=self._said,
+                                            bufsize=PIECE, start_new_session=True)
+        except BaseException:
+            self._said.close()
+            raise
+        assert self.process.stdout is not None
+        self._output = self.process.stdout.fileno()
+        self._watcher = Watcher(self.process.pid)
+
+    def wait(self) -> None:
+        """Waits until `receive` has something."""
+        _readable(self._output)
+
+    def receive(self) -> bytes:
+        """What came; nothing at the end."""
+        return os.read(self._output, PIECE)
+
+    def write(self, piece: Union[bytes, memoryview]) -> None:
+        assert self.process.stdin is not None
+        self.process.stdin.write(piece)
+        self.process.stdin.flush()
+
+    def fault(self, answered: bool) -> str:
+        """Why there is no reply: the status, and the words on standard error."""
+        try:
+            status = self.process.wait(SECONDS_TO_QUIT)
+        except subprocess.TimeoutExpired:
+            return 'the program closed its output'
+        self._said.seek(0)
+        said = self._said.read().decode('utf-8', 'replace').strip()
+        return 'the program ended with status %d%s' % (status, ': ' + said if said else '')
+
+    def close(self, kill: bool = False) -> None:
+        """Ends the process and waits for it. In a process that was forked off nothing is ended."""
+        mine = os.getpid() == self._owner
+        if mine:
+            self._watcher.stop()
+        if kill and mine:
+            self.process.kill()
+        assert self.process.stdin is not None and self.process.stdout is not None
+        for close in (self.process.stdin.close, self.process.stdout.close, self._said.close):
+            try:
+                close()
+            except OSError:
+                pass
+        if mine:
+            try:
+                self.process.wait(SECONDS_TO_QUIT)
+            except subprocess.TimeoutExpired:
+                self.process.kill()
+                self.process.wait()
+
+
+class Address(NamedTuple):
+    """Where a server listens: a host and a port, with what speaks TLS where something in front of the server does; or a socket
+    file, where the host has a slash, which has neither."""
+    host: str
+    port: int
+    tls: Optional[ssl.SSLContext] = None
+
+    def __str__(self) -> str:
+        return self.host if self.is_file() else '%s, port %d' % (self.host, self.port)
+
+    def is_file(self) -> bool:
+        return '/' in self.host
+
+    def connected(self, timeout: Optional[float]) -> socket.socket:
+        """A connection. ValueError where this is no address, OSError where nobody listens there, or lets nobody in."""
+        if self.is_file():
+            if self.tls is not None:
+                raise ValueError('tls= is for a host and a port, and %s is a socket file' % self.host)
+            return self._to_file(timeout)
+        if not 1 <= self.port <= 65535:
+            raise ValueError('a port is 1 to 65535, not %d' % self.port)
+        try:
+            made = socket.create_connection((self.host, self.port), timeout)
+        except OSError as fault:
+            raise _placed(fault, self, '') from None
+        made.setsockopt(socket.IPPROTO_TCP, socket.TCP_NODELAY, 1)
+        return made if self.tls is None else self._secured(made, self.tls)
+
+    def _to_file(self, timeout: Optional[float]) -> socket.socket:
+        made = socket.socket(socket.AF_UNIX)
+        try:
+            made.settimeout(timeout)
+            made.connect(self.host)
+        except BaseException as fault:
+            made.close()
+            if isinstance(fault, OSError):
+                raise _placed(fault, self, '') from None
+            raise
+        return made
+
+    def _secured(self, made: socket.socket, tls: ssl.SSLContext) -> socket.socket:
+        try:
+            return tls.wrap_socket(made, server_hostname=self.host)
+        except BaseException as fault:
+            made.close()
+            if isinstance(fault, OSError):
+                raise _placed(fault, self, 'TLS was refused: ') from None
+            raise
+
+
+class Socket:
+    """The bytes of a connection to a server, or to what stands in front of it."""
+
+    def __init__(self, address: Address, timeout: Optional[float] = None) -> None:
+        self._has_tls = address.tls is not None
+        self._socket = address.connected(timeout)
+        self._timeout = timeout
+
+    def wait(self) -> None:
+        """Waits until `receive` has something. socket.timeout where that takes too long."""
+        if getattr(self._socket, 'pending', int)():
+            return                                 # TLS has taken it in already
+        if not _readable(self._socket.fileno(), self._timeout):
+            raise socket.timeout('timed out')
+
+    def receive(self) -> bytes:
+        """What came; nothing at the end."""
+        return self._socket.recv(PIECE)
+
+    def write(self, piece: Union[bytes, memoryview]) -> None:
+        self._socket.sendall(piece)
+
+    def fault(self, answered: bool) -> str:
+        """Why there is no reply, as far as a client can know."""
+        if answered:
+            return ('the server closed the connection: it has ended, or it ended this session (--idle, or a limit of what stands in '
+                    'front)')
+        if self._has_tls:
+            return ('TLS was refused: the other side closed the connection before a first answer. It wants a certificate that it '
+                    'knows (tls.load_cert_chain), or has no place left')
+        return ('the server closed the connection before a first answer: it has no place left, ended at its start, or what stands '
+                'in front refused this client (where it speaks TLS, give tls=)')
+
+    def close(self, kill: bool = False) -> None:
+        """Closes the connection; unless `kill`, once the server has: it gives the session's seat to others before."""
+        if not kill:
+            try:
+                self._socket.settimeout(SECONDS_TO_QUIT)
+                self._socket.shutdown(socket.SHUT_WR)
+                for _ in range(64):
+                    if not self._socket.recv(PIECE):
+                        break
+            except OSError:
+                pass
+        try:
+            self._socket.close()
+        except OSError:
+            pass
+
+
+Channel = Union[Child, Socket]
+
+
+def _placed(fault: OSError, address: Address, what: str) -> OSError:
+    """The same fault, with the address and what was refused in its words."""
+    words = 'no connection to %s: %s%s' % (address, what, fault.strerror or fault)
+    return type(fault)(words) if fault.errno is None else type(fault)(fault.errno, words)

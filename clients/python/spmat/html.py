@@ -1,0 +1,148 @@
+"""What a notebook shows of matrices, operators, budgets and runs: HTML without scripts, which `_repr_html_` gives.
+
+A matrix that waits is not run for it. Up to 50,000 entries come to the client; of more the server is asked for the corner and counts the
+raster (4 jobs, 4 runs), and where the budget refuses that, the sizes alone are shown.
+"""
+from __future__ import annotations
+
+import html
+import math
+from typing import TYPE_CHECKING, Any, Dict, List, NamedTuple, Optional, Sequence, Tuple
+
+from .errors import SpmatError
+
+if TYPE_CHECKING:
+    from .jobs import Budget, JobResult
+    from .matrix import Matrix
+    from .operators import Operator
+    from .operators.telling import Check
+
+CORNER, CELLS, SIDE = 8, 48, 144                   # rows and columns of the corner, cells of the raster, pixels of its side
+FEW = 50_000
+CELL = 'text-align:right;padding:1px 6px;border:1px solid #ddd'
+HEAD = 'text-align:right;padding:1px 6px;color:#5a6672;font-weight:normal;border:1px solid #ddd'
+Cells = Dict[Tuple[int, int], int]
+
+
+class Shown(NamedTuple):
+    """The values of the corner, and how many entries each cell of the raster has."""
+    corner: Cells
+    raster: Cells
+
+
+def text_of(thing: Any) -> str:
+    """Anything as text in HTML."""
+    return html.escape(str(thing))
+
+
+def table(heads: Sequence[Any], rows: Sequence[Sequence[Any]]) -> str:
+    """A table; the first cell of each row is its name."""
+    top = ''.join('<th style="%s">%s</th>' % (HEAD, text_of(head)) for head in heads)
+    body = ''.join('<tr><th style="%s">%s</th>%s</tr>' % (HEAD, text_of(row[0]), ''.join(
+        '<td style="%s">%s</td>' % (CELL, text_of(cell)) for cell in row[1:])) for row in rows)
+    return '<table style="border-collapse:collapse;font-size:90%%;font-family:monospace"><tr>%s</tr>%s</table>' % (top, body)
+
+
+def matrix(shown: 'Matrix') -> str:
+    """A matrix: its sizes and entries, what is known of it, a corner with values, and where its entries are."""
+    about = ['%s &times; %s' % tuple(format(side, ',') for side in shown.shape)]
+    if shown.waits:
+        return _headed(about + ['queued: what needs it runs it'], '')
+    try:
+        about.append('%s entries' % format(shown.nvals, ','))
+    except SpmatError as fault:
+        return _headed(about + [text_of(fault)], '')
+    about += ['undirected'] if shown.directed is False else ['directed'] if shown.directed else []
+    about += ['named'] if shown.row_nodes is not None or shown.column_nodes is not None else []
+    try:
+        found = _few(shown) if shown.nvals <= FEW else _many(shown)
+    except SpmatError as fault:
+        return _headed(about, '<div>%s</div>' % text_of(fault))
+    return _headed(about, '<div style="display:flex;gap:16px;align-items:flex-start">%s%s</div>' % (
+        _corner(shown, found.corner), _raster(shown.shape, found.raster)))
+
+
+def _headed(about: List[str], rest: str) -> str:
+    return '<div><div style="margin-bottom:4px"><b>Matrix</b> %s</div>%s</div>' % (', '.join(about), rest)
+
+
+def _few(shown: 'Matrix') -> Shown:
+    corner: Cells = {}
+    raster: Cells = {}
+    for i, j, value in shown.to_triples():
+        if i < CORNER and j < CORNER:
+            corner[i, j] = value
+        cell = _cell(i, shown.nrows), _cell(j, shown.ncols)
+        raster[cell] = raster.get(cell, 0) + 1
+    return Shown(corner, raster)
+
+
+def _cell(at: int, count: int) -> int:
+    return at if count <= CELLS else at * CELLS // count
+
+
+def _many(shown: 'Matrix') -> Shown:
+    part: Any = shown[:min(CORNER, shown.nrows), :min(CORNER, shown.ncols)]
+    session, (nrows, ncols) = shown.session, shown.shape
+    rows = session.from_coo([_cell(i, nrows) for i in range(nrows)], range(nrows), 1, min(CELLS, nrows), nrows)
+    columns = session.from_coo(range(ncols), [_cell(j, ncols) for j in range(ncols)], 1, ncols, min(CELLS, ncols))
+    return Shown(part.to_dict(), rows.mxm(shown.apply('one'), 'plus_second').mxm(columns, 'plus_first').to_dict())
+
+
+def _corner(shown: 'Matrix', corner: Cells) -> str:
+    rows, columns = (range(min(CORNER, side)) for side in shown.shape)
+    first: Sequence[Any] = shown.row_nodes or range(shown.nrows)
+    second: Sequence[Any] = shown.column_nodes or range(shown.ncols)
+    more = ['..'] if shown.ncols > CORNER else []
+    body: List[List[Any]] = [[first[i], *(corner.get((i, j), '') for j in columns), *more] for i in rows]
+    body += [['..', *('..' for _ in columns), *more]] if shown.nrows > CORNER else []
+    return table(['', *(second[j] for j in columns), *more], body)
+
+
+def _raster(shape: Tuple[int, int], raster: Cells) -> str:
+    """A square for each cell that has entries, the darker the more, by the logarithm of their number."""
+    rows, columns = (max(1, min(CELLS, side)) for side in shape)
+    size = SIDE / max(rows, columns)
+    most = math.log(max(raster.values(), default=1) + 1)
+    squares = ''.join('<rect x="%.2f" y="%.2f" width="%.2f" height="%.2f" fill-opacity="%.2f"/>' % (
+        j * size, i * size, size, size, .3 + .7 * math.log(count + 1) / most) for (i, j), count in sorted(raster.items()))
+    return ('<svg width="%d" height="%d" style="border:1px solid #ddd;background:#fff" role="img" aria-label="where the entries are">'
+            '<g fill="#1f4e79">%s</g></svg>' % (math.ceil(columns * size), math.ceil(rows * size), squares))
+
+
+def operator(op: 'Operator') -> str:
+    """An operator that no server was asked about: its kind, name and text."""
+    text = op.text if op.text is not None else (op.code or b'').hex(' ', 8)
+    return '<div><b>%s operator</b> %s<pre style="margin:4px 0">%s</pre></div>' % (text_of(op.kind), text_of(op.name or ''),
+                                                                                text_of(text.strip('\n')))
+
+
+def check(found: 'Check') -> str:
+    """An operator beside what the verifier knows before each instruction; the one that is refused last."""
+    heads = ['slot', 'instruction'] + ['R%d' % number for number in range(11)]
+    rows = [row if len(row) == len(heads) else [*row[:2], 'no way leads here', *[''] * 10] for row in found.rows]
+    said = 'at most %d steps a call' % found.instructions if found.refusal is None else text_of(found.refusal)
+    colour = '#1f4e79' if found.accepted else '#b5651d'
+    return '<div><b>%s operator</b> %s <span style="color:%s">%s</span>%s<div style="color:%s">%s</div></div>' % (
+        text_of(found.operator.kind), text_of(found.operator.name or ''), colour, 'accepted' if found.accepted else 'refused',
+        table(heads, rows) if rows else '', colour, said)
+
+
+def budget(told: 'Budget') -> str:
+    """A budget, with a bar of what is spent and reserved."""
+    whole = max(1, sum(told))
+    bar = ''.join('<span style="display:inline-block;height:8px;width:%.1fpx;background:%s"></span>' % (240 * part / whole, colour)
+                  for part, colour in ((told.spent, '#1f4e79'), (told.reserved, '#b5651d'), (told.left, '#c9d3dd')))
+    return '<div><b>Budget</b> %s left, %s reserved, %s spent<div>%s</div></div>' % (
+        *(format(number, ',') for number in (told.left, told.reserved, told.spent)), bar)
+
+
+def runs(jobs: 'Sequence[JobResult]') -> str:
+    """The jobs of a run: of each its result, its price and its steps."""
+    rows = [[at, job.form, _size(job.matrix), format(job.price, ','), format(job.steps, ',')] for at, job in enumerate(jobs, 1)]
+    total = format(sum(job.steps for job in jobs), ',')
+    return '<div><b>Run</b> of %d jobs, %s steps%s</div>' % (len(jobs), total, table(['', 'form', 'result', 'price', 'steps'], rows))
+
+
+def _size(made: Optional['Matrix']) -> str:
+    return 'held by nobody' if made is None else '%dx%d, %s entries' % (*made.shape, format(made.nvals, ','))

@@ -1,0 +1,90 @@
+"""What is too large for one job: how large it is, what the limit is, and products by parts.
+
+A product may make 16,777,216 multiplications (J7), and a job be priced at 4,294,967,296 steps at most (J8). Both are known before it
+runs. A product that is too large is made by halves of the rows of its left operand, their halves, and so on.
+"""
+from __future__ import annotations
+
+import contextlib
+from typing import TYPE_CHECKING, Callable, List, Optional, Sequence
+
+from .errors import Refused, SpmatError, TooLarge
+from .operators import Operator
+
+if TYPE_CHECKING:
+    from .matrix import Matrix
+
+MOST_TERMS = 16_777_216
+MOST_PRICE = 4_294_967_296
+BY_PARTS = {'product': 'mxm(.., parts=True) makes it by parts of the rows', 'apply': '', 'select': '', 'reduce': '',
+            'union': '', 'both': ''}
+SMALLER = 'select() some rows with "rowle" and "rowgt", and do them one after the other; spmat.blocks does so over several sessions'
+
+
+def explained(fault: Refused, form: str, ops: Sequence[Operator], operands: Sequence['Matrix'], mask: Optional['Matrix'] = None) -> Refused:
+    """A refusal of a job that is too large, with its size, the limit, and the way out. A product is counted by a few small jobs; where
+    these are refused too, the number is left out."""
+    if fault.rule not in ('J7', 'J8') or fault.detail:
+        return fault
+    calls: Optional[int] = None
+    with contextlib.suppress(SpmatError, ValueError):
+        calls = calls_of(form, operands, mask)
+    out = type(fault)(fault.rule, fault.numbers, form, '', _words(fault.rule, form, ops, operands, calls))
+    return out
+
+
+def calls_of(form: str, operands: Sequence['Matrix'], mask: Optional['Matrix']) -> int:
+    """Of a product its multiplications, in the rows of which a mask stores something; of a union the entries of both operands, of
+    another form the entries of the first, which it looks at."""
+    first = operands[0]
+    if form == 'product':
+        rows = None if mask is None else mask.reduce_rowwise('first').S
+        return first.apply('one').mxv(operands[1].apply('one').reduce_rowwise('plus'), 'plus_times', mask=rows).reduce_scalar() or 0
+    return first.nvals + operands[1].nvals if form == 'union' else first.nvals
+
+
+def _words(rule: str, form: str, ops: Sequence[Operator], operands: Sequence['Matrix'], calls: Optional[int]) -> str:
+    way = BY_PARTS.get(form) or SMALLER
+    if rule == 'J7':
+        what = 'multiplications' if form == 'product' else 'entries of both together'
+        number = '' if calls is None else '%s %s, and ' % (format(calls, ','), what)
+        return '%s%s is the most of a job%s: %s' % (number, format(MOST_TERMS, ','), '' if number else ' (%s)' % what, way)
+    length = sum(operands[0].session.length_of(op) for op in ops)
+    reckoned = '' if calls is None else 'up to %s calls of %d instructions, which are %s steps, and ' % (
+        format(calls, ','), length, format(calls * length, ','))
+    return '%s%s is the most of a job: a shorter operator is cheaper, and %s' % (reckoned, format(MOST_PRICE, ','), way)
+
+
+Half = Callable[['Matrix'], 'Matrix']
+
+
+def in_parts(first: 'Matrix', job: Half) -> 'Matrix':
+    """What a job gives, which makes each row of its result of the same row of `first`; where that is too large, by halves of the rows,
+    joined by a union. TooLarge where one row is too dear, or the whole result has more entries than a matrix may have."""
+    try:
+        return job(first)
+    except TooLarge as fault:
+        if fault.rule not in ('J7', 'J8') or first.nrows < 2:
+            raise
+    return _joined(_halves(first, job, 0, first.nrows))
+
+
+def _halves(first: 'Matrix', job: Half, start: int, end: int) -> List['Matrix']:
+    middle = (start + end) // 2
+    parts: List['Matrix'] = []
+    for rows, low, high in ((first.select('rowle', middle - 1), start, middle), (first.select('rowgt', middle - 1), middle, end)):
+        try:
+            parts.append(job(rows))
+        except TooLarge as fault:
+            if fault.rule not in ('J7', 'J8') or high - low <= 1:
+                raise
+            parts.extend(_halves(rows, job, low, high))
+    return parts
+
+
+def _joined(parts: List['Matrix']) -> 'Matrix':
+    """Results of different rows as one, by pairs, so that each entry is copied as seldom as may be."""
+    while len(parts) > 1:
+        pairs = [parts[at].ewise_add(parts[at + 1], 'first') for at in range(0, len(parts) - 1, 2)]
+        parts = pairs + (parts[-1:] if len(parts) % 2 else [])
+    return parts[0]

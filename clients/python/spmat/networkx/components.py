@@ -1,0 +1,198 @@
+"""Components, weak and strong, trees, and what follows from them."""
+from __future__ import annotations
+
+from typing import Any, Dict, Iterator, List, Set, Tuple
+
+from networkx import NetworkXError
+
+from .. import algorithms, market
+from ..matrix import Matrix
+from .degrees import degree, need_nodes
+from .graphs import SpmatGraph
+from .serving import DIRECTED, UNDIRECTED, serves
+from .sessions import session
+
+
+def labels(G: SpmatGraph) -> List[int]:
+    """The least index of each one's component, edges leading both ways; kept with the graph."""
+    return G.kept('labels', lambda: G.dense(algorithms.connected_components(G.A, G.both, check=False)))
+
+
+def strong_labels(G: SpmatGraph) -> List[int]:
+    """The least index of each one's strong component; kept with the graph."""
+    return G.kept('strong labels', lambda: G.dense(algorithms.strongly_connected_components(G.A, G.AT, check=False)))
+
+
+def parts(G: SpmatGraph, found: List[int]) -> List[Set[Any]]:
+    """Sets of nodes by their labels, in the order of their first nodes."""
+    if len(found) > market.FEW // 16 and market.find_numpy() is not None:
+        return _by_sorting(G, found)
+    out: Dict[int, Set[Any]] = {}
+    for node, label in zip(G.nodes, found):
+        out.setdefault(label, set()).add(node)
+    return list(out.values())
+
+
+def _by_sorting(G: SpmatGraph, found: List[int]) -> List[Set[Any]]:
+    """The same by numpy: labels are the first nodes', so they are in order."""
+    import numpy
+    labels = numpy.array(found, numpy.int64)
+    order = labels.argsort(kind='stable')
+    ends = numpy.flatnonzero(numpy.diff(labels[order], append=-1)) + 1
+    at, nodes, out, start = order.tolist(), G.nodes, [], 0
+    for end in ends.tolist():
+        out.append(set(map(nodes.__getitem__, at[start:end])))
+        start = end
+    return out
+
+
+def connected(G: SpmatGraph) -> bool:
+    return not any(labels(G))                      # all of them are node 0's
+
+
+@serves(UNDIRECTED)
+def connected_components(G: SpmatGraph) -> Iterator[Set[Any]]:
+    return iter(parts(G, labels(G)))
+
+
+@serves(UNDIRECTED)
+def number_connected_components(G: SpmatGraph) -> int:
+    return len(set(labels(G)))
+
+
+@serves(UNDIRECTED)
+def is_connected(G: SpmatGraph) -> bool:
+    need_nodes(G)
+    return connected(G)
+
+
+@serves(UNDIRECTED)
+def node_connected_component(G: SpmatGraph, n: Any) -> Set[Any]:
+    found = labels(G)
+    mine = found[G.index[n]]
+    return {node for node, label in zip(G.nodes, found) if label == mine}
+
+
+@serves(DIRECTED)
+def weakly_connected_components(G: SpmatGraph) -> Iterator[Set[Any]]:
+    return iter(parts(G, labels(G)))
+
+
+@serves(DIRECTED)
+def number_weakly_connected_components(G: SpmatGraph) -> int:
+    return len(set(labels(G)))
+
+
+@serves(DIRECTED)
+def is_weakly_connected(G: SpmatGraph) -> bool:
+    need_nodes(G)
+    return connected(G)
+
+
+# -- strong
+
+def condensed(G: SpmatGraph) -> Tuple[List[Set[Any]], Matrix]:
+    """The strong components in the order of their first nodes, and which of them has an edge to which."""
+    found = strong_labels(G)
+    number: Dict[int, int] = {}
+    at = [number.setdefault(label, len(number)) for label in found]
+    count, many = len(G), len(number)
+    rows = list(range(count))
+    inside = session().from_coo(rows, at, 1, count, many)
+    out = session().from_coo(at, rows, 1, many, count)
+    between = algorithms.common.product(algorithms.common.product(out, G.A, 'any_pair'), inside, 'any_pair')
+    return parts(G, found), between.select('offdiag')
+
+
+@serves(DIRECTED)
+def strongly_connected_components(G: SpmatGraph) -> Iterator[Set[Any]]:
+    found, between = condensed(G)
+    level: List[int] = algorithms.topological_levels(between).to_list()
+    return iter([found[at] for at in sorted(range(len(found)), key=level.__getitem__, reverse=True)])
+
+
+@serves(DIRECTED)
+def number_strongly_connected_components(G: SpmatGraph) -> int:
+    return len(set(strong_labels(G)))
+
+
+@serves(DIRECTED)
+def is_strongly_connected(G: SpmatGraph) -> bool:
+    need_nodes(G)
+    return all_reached(G)
+
+
+def all_reached(G: SpmatGraph) -> bool:
+    """Whether a path leads from each node to each."""
+    if not G.is_directed():
+        return connected(G)
+    there = algorithms.bfs_levels(G.A, 0, check=False)
+    return there.nvals == len(G) and algorithms.bfs_levels(G.AT, 0, check=False).nvals == len(G)
+
+
+@serves(DIRECTED)
+def is_semiconnected(G: SpmatGraph) -> bool:
+    need_nodes(G)
+    found, between = condensed(G)
+    longest = algorithms.topological_levels(between).reduce_scalar('max') or 0
+    return longest == len(found) - 1               # a path by way of all components
+
+
+@serves(DIRECTED)
+def attracting_components(G: SpmatGraph) -> Iterator[Set[Any]]:
+    found, between = condensed(G)
+    leaves = set(between.reduce_rowwise('first').to_coo(arrays=False)[0])
+    return iter([part for at, part in enumerate(found) if at not in leaves])
+
+
+# -- trees
+
+@serves()
+def is_tree(G: SpmatGraph) -> bool:
+    need_nodes(G, 'G has no nodes.')
+    return G.number_of_edges() == len(G) - 1 and connected(G)
+
+
+@serves()
+def is_forest(G: SpmatGraph) -> bool:
+    need_nodes(G, 'G has no nodes.')
+    return G.number_of_edges() < len(G) and G.number_of_edges() == len(G) - len(set(labels(G)))
+
+
+@serves(DIRECTED)
+def is_arborescence(G: SpmatGraph) -> bool:
+    return is_tree(G) and max(degree(G, back=True)) <= 1
+
+
+@serves(DIRECTED)
+def is_branching(G: SpmatGraph) -> bool:
+    return is_forest(G) and max(degree(G, back=True)) <= 1
+
+
+def colours(G: SpmatGraph) -> Dict[Any, int]:
+    """networkx' two colours: 1 for the first node of each component that has an edge out; 0 for a node without edges."""
+    if G.loops:
+        raise NetworkXError('Graph is not bipartite.')
+    try:
+        side = G.dense(algorithms.bipartite_sides(G.A, G.AT, check=False))
+    except ValueError:
+        raise NetworkXError('Graph is not bipartite.') from None
+    first: Dict[int, int] = {}
+    for at, (label, out) in enumerate(zip(labels(G), G.at.lengths)):
+        if out and label not in first:
+            first[label] = side[at]
+    return {node: 1 - (one ^ first[label]) if label in first else 0 for node, one, label in zip(G.nodes, side, labels(G))}
+
+
+@serves()
+def color(G: SpmatGraph) -> Dict[Any, int]:
+    return colours(G)
+
+
+@serves()
+def is_bipartite(G: SpmatGraph) -> bool:
+    try:
+        colours(G)
+        return True
+    except NetworkXError:
+        return False

@@ -1,0 +1,238 @@
+"""Lengths of paths from one node or some: by edges, and by weights."""
+from __future__ import annotations
+
+# networkx calls these by the names of its own arguments, served or not
+# pylint: disable=unused-argument
+
+import bisect
+import math
+from typing import Any, Dict, Iterator, List, Optional, Sequence, Set
+
+import networkx as nx
+from networkx import NetworkXNoPath, NodeNotFound
+
+from .. import algorithms, market
+from ..algorithms.common import NotSettled, loops, settle
+from ..matrix import Matrix
+from .components import labels
+from .degrees import need_node
+from .graphs import SpmatGraph
+from .serving import SIGNED, UNDIRECTED, serves
+
+NEGATIVE = 'Negative cycle detected.'
+Lengths = Dict[Any, Any]
+
+
+def need(G: SpmatGraph, node: Any, said: str = 'Node %s not found in graph') -> None:
+    if node not in G:
+        raise NodeNotFound(said % (node,))
+
+
+def nearest_first(G: SpmatGraph, column: Matrix) -> Lengths:
+    """A column as {node: value} by ascending values."""
+    if column.nvals > market.FEW // 16 and market.find_numpy() is not None:
+        rows, _, values = column.to_coo(arrays=True)
+        order = values.argsort(kind='stable')
+        return dict(zip(map(G.nodes.__getitem__, rows[order].tolist()), values[order].tolist()))
+    rows, _, values = column.to_coo(arrays=False)
+    places = sorted(range(len(rows)), key=values.__getitem__)
+    return {G.nodes[rows[at]]: values[at] for at in places}
+
+
+def level_column(G: SpmatGraph, sources: Sequence[Any], cutoff: Any = None, back: bool = False, target: Any = None) -> Matrix:
+    """How many edges lead to each node from the nearest of some, or from it where `back` is set, as far as the cutoff, or until the
+    target's is known."""
+    depth = None if cutoff is None or math.isinf(cutoff) else max(0, math.ceil(cutoff))
+    at = [G.index[source] for source in sources]
+    until = None if target is None else G.index[target]
+    return algorithms.bfs_levels(G.AT if back else G.A, at, G.both, depth=depth, target=until, check=False)
+
+
+def levels(G: SpmatGraph, sources: Sequence[Any], cutoff: Any = None, back: bool = False) -> Lengths:
+    return nearest_first(G, level_column(G, sources, cutoff, back))
+
+
+def _check_weights(G: SpmatGraph, weight: Any, signed: bool) -> None:
+    if weight is not None and not signed and G.values(weight).least < 0:
+        raise NotImplementedError('weights below 0, of which networkx says what it likes')
+
+
+def length_to(G: SpmatGraph, source: Any, target: Any, weight: Any, signed: bool = False) -> Optional[Any]:
+    """The length of the shortest path between two nodes, None where no path leads."""
+    _check_weights(G, weight, signed)
+    column = level_column(G, [source], target=target) if weight is None else _shortest(G, [source], weight, False, target)
+    rows, _, values = column.to_coo(arrays=False)
+    at, place = G.index[target], bisect.bisect_left(rows, G.index[target])
+    if place == len(rows) or rows[place] != at:
+        return None
+    return float(values[place]) if weight is not None and G.values(weight).floats else values[place]
+
+
+def lengths(G: SpmatGraph, sources: Sequence[Any], weight: Any, back: bool = False, signed: bool = False,
+            cutoff: Any = None) -> Lengths:
+    """{node: the length of the shortest path} from some nodes, nearest first. NetworkXUnbounded for a negative cycle."""
+    if weight is None:
+        whole = cutoff if cutoff is None or math.isinf(cutoff) else math.floor(cutoff)
+        return levels(G, sources, whole, back)
+    _check_weights(G, weight, signed)
+    values = G.values(weight)
+    found = nearest_first(G, _shortest(G, sources, weight, back))
+    if cutoff is not None:
+        found = {node: far for node, far in found.items() if far <= cutoff or node in sources}
+    return floats(found) if values.floats else found
+
+
+def floats(found: Lengths) -> Lengths:
+    return dict(zip(found, map(float, found.values())))
+
+
+def _shortest(G: SpmatGraph, sources: Sequence[Any], weight: Any, back: bool, target: Any = None) -> Matrix:
+    try:
+        if len(sources) == 1:
+            until = None if target is None else G.index[target]
+            return algorithms.sssp(G.matrix(weight, back=back), G.index[sources[0]], G.both, target=until)
+        near = G.matrix(weight, back=not back).ewise_add(loops(G.A, 0), 'min')
+        return settle(lambda far: near.mxv(far, 'min_plus'), G.spots(sources, 0), most=len(G))
+    except (NotSettled, ValueError):
+        raise nx.NetworkXUnbounded(NEGATIVE) from None
+
+
+# -- by edges
+
+@serves()
+def single_source_shortest_path_length(G: SpmatGraph, source: Any, cutoff: Any = None) -> Lengths:
+    need(G, source, 'Source %s is not in G')
+    return levels(G, [source], cutoff)
+
+
+@serves()
+def single_target_shortest_path_length(G: SpmatGraph, target: Any, cutoff: Any = None) -> Lengths:
+    need(G, target, 'Target %s is not in G')
+    return levels(G, [target], cutoff, back=True)
+
+
+def _others(G: SpmatGraph, source: Any, back: bool) -> Set[Any]:
+    need_node(G, source)
+    rows = level_column(G, [source], back=back).to_coo(arrays=False)[0]
+    found = set(map(G.nodes.__getitem__, rows))
+    found.discard(source)
+    return found
+
+
+@serves()
+def descendants(G: SpmatGraph, source: Any) -> Set[Any]:
+    return _others(G, source, False)
+
+
+@serves()
+def ancestors(G: SpmatGraph, source: Any) -> Set[Any]:
+    return _others(G, source, True)
+
+
+@serves()
+def bfs_layers(G: SpmatGraph, sources: Any) -> Iterator[List[Any]]:
+    sources = [sources] if sources in G else list(sources)
+    for source in sources:
+        need_node(G, source)
+    layers: Dict[int, List[Any]] = {}
+    for node, level in (levels(G, sources) if sources else {}).items():
+        layers.setdefault(level, []).append(node)
+    return iter(list(layers.values()))
+
+
+@serves()
+def descendants_at_distance(G: SpmatGraph, source: Any, distance: int) -> Set[Any]:
+    need_node(G, source)
+    if distance < 0 or distance != int(distance):
+        return set()
+    found = level_column(G, [source], distance).select('valueeq', int(distance))
+    return set(G.by_node(found))
+
+
+@serves()
+def has_path(G: SpmatGraph, source: Any, target: Any) -> bool:
+    for node in (source, target):
+        need(G, node, 'Node %s is not in G')
+    if not G.is_directed():
+        return labels(G)[G.index[source]] == labels(G)[G.index[target]]
+    return length_to(G, source, target, None) is not None
+
+
+@serves(UNDIRECTED)
+def efficiency(G: SpmatGraph, u: Any, v: Any) -> float:
+    for node in (u, v):
+        need(G, node, 'Node %s is not in G')
+    far: Optional[int] = length_to(G, u, v, None)
+    return 0 if far is None else 1 / far
+
+
+# -- by weights
+
+@serves()
+def single_source_dijkstra_path_length(G: SpmatGraph, source: Any, cutoff: Any = None, weight: Any = 'weight') -> Lengths:
+    need(G, source)
+    return lengths(G, [source], weight, cutoff=cutoff)
+
+
+@serves()
+def multi_source_dijkstra_path_length(G: SpmatGraph, sources: Any, cutoff: Any = None, weight: Any = 'weight') -> Lengths:
+    if not sources:
+        raise ValueError('sources must not be empty')
+    for source in sources:
+        need(G, source)
+    return lengths(G, list(sources), weight, cutoff=cutoff)
+
+
+@serves(SIGNED)
+def single_source_bellman_ford_path_length(G: SpmatGraph, source: Any, weight: Any = 'weight') -> Lengths:
+    need(G, source, 'Source %s not in G')
+    return lengths(G, [source], weight, signed=True)
+
+
+@serves()
+def dijkstra_path_length(G: SpmatGraph, source: Any, target: Any, weight: Any = 'weight') -> Any:
+    need(G, source)
+    if source == target:
+        return 0
+    far = length_to(G, source, target, weight) if target in G else None
+    if far is None:
+        raise NetworkXNoPath('Node %s not reachable from %s' % (target, source))
+    return far
+
+
+@serves(SIGNED)
+def bellman_ford_path_length(G: SpmatGraph, source: Any, target: Any, weight: Any = 'weight') -> Any:
+    need(G, source, 'Source %s not in G')
+    if source == target:
+        return 0
+    far = length_to(G, source, target, weight, signed=True) if target in G else None
+    if far is None:
+        raise NetworkXNoPath('node %s not reachable from %s' % (target, source))
+    return far
+
+
+@serves(SIGNED)
+def negative_edge_cycle(G: SpmatGraph, weight: Any = 'weight', heuristic: bool = True) -> bool:
+    if not G.entries or weight is None or G.values(weight).least >= 0:
+        return False
+    near = G.matrix(weight, back=True).ewise_add(loops(G.A, 0), 'min')
+    try:
+        settle(lambda far: near.mxv(far, 'min_plus'), G.full(0), most=len(G))
+    except NotSettled:
+        return True
+    return False
+
+
+def check_method(method: str) -> None:
+    if method not in ('dijkstra', 'bellman-ford'):
+        raise ValueError('method not supported: %s' % method)
+
+
+def from_one(G: SpmatGraph, source: Any, target: Any, weight: Any, signed: bool) -> Any:
+    """`shortest_path_length` where a source or a target is given."""
+    if source is None or target is None:
+        return lengths(G, [target if source is None else source], weight, source is None, signed)
+    far = length_to(G, source, target, weight, signed)
+    if far is None:
+        raise NetworkXNoPath('No path between %s and %s.' % (source, target))
+    return far

@@ -1,0 +1,136 @@
+"""What is known of a matrix beside its entries: the names of its rows and columns, whether it is undirected, whether it has weights.
+
+Sessions note it of what they read, and each job hands on what stays true of its result. It is kept by the client alone: the server
+knows numbers.
+"""
+from __future__ import annotations
+
+import numbers
+from typing import Any, Dict, FrozenSet, Iterable, List, NamedTuple, Optional
+
+from .operators import READY, Operator
+
+# Binary operators for which the order of operands doesn't matter: a product of a symmetric matrix with itself stays symmetric.
+COMMUTE: FrozenSet[str] = frozenset((
+    'absdiff', 'band', 'bor', 'bxnor', 'bxor', 'eq', 'iseq', 'isne', 'land', 'lor', 'lxnor', 'lxor', 'max', 'min', 'ne', 'oneb', 'pair',
+    'plus', 'times', 'zero'))
+# Index operators that look at the value alone, and with a thunk of 0 these two: what they select of a symmetric matrix is one.
+BY_VALUE: FrozenSet[str] = frozenset(('nonzero', 'thunk', 'valueeq', 'valuege', 'valuegt', 'valuele', 'valuelt', 'valuene'))
+BY_DIAGONAL: FrozenSet[str] = frozenset(('diag', 'offdiag'))
+
+
+class Nodes(List[Any]):
+    """Names by index, and the index of a name: a list, in which no name stands twice. Nothing changes one."""
+
+    def __init__(self, names: Iterable[Any]) -> None:
+        super().__init__(names)
+        self._places: Optional[Dict[Any, int]] = None
+        self._numbered: Optional[bool] = None
+
+    @property
+    def places(self) -> Dict[Any, int]:
+        """The index of each name."""
+        if self._places is None:
+            self._places = {name: at for at, name in enumerate(self)}
+        return self._places
+
+    @property
+    def numbered(self) -> bool:
+        """Whether some name is a number, so that a number isn't taken for an index."""
+        if self._numbered is None:
+            self._numbered = any(isinstance(name, numbers.Number) for name in self)
+        return self._numbered
+
+    def at(self, name: Any) -> int:
+        """The index of a name. KeyError where there is none."""
+        try:
+            return self.places[name]
+        except TypeError:                          # what has no hash is no name
+            raise KeyError(name) from None
+
+
+class Notes(NamedTuple):
+    """The names of the rows and of the columns, where they have any; whether an entry (i, j) may stand without one of (j, i), or
+    with one of another value; and whether the values are weights that the caller gave. None: not known."""
+    rows: Optional[Nodes] = None
+    columns: Optional[Nodes] = None
+    directed: Optional[bool] = None
+    weighted: Optional[bool] = None
+
+    def names(self, axis: int) -> Optional[Nodes]:
+        """The names of the rows, with an axis of 1 those of the columns."""
+        return self.columns if axis else self.rows
+
+
+NOTHING = Notes()
+
+
+def _same(a: Optional[Nodes], b: Optional[Nodes]) -> Optional[Nodes]:
+    """The names of what two matrices make together, position by position: none where they have different ones."""
+    if a is None or b is None:
+        return a if b is None else b
+    return a if a is b or list.__eq__(a, b) is True else None
+
+
+def _even(*both: Notes) -> Optional[bool]:
+    """What is known of directions, where what two symmetric matrices make is symmetric."""
+    return False if all(one.directed is False for one in both) else None
+
+
+def of_applied(first: Notes, op: Operator, even: bool) -> Notes:
+    """What is known of the result of `apply`; `even` says that the operator doesn't look at rows and columns."""
+    same = _is_ready(op, frozenset(('identity',)))
+    return first._replace(directed=_even(first) if even else None, weighted=first.weighted if same else None)
+
+
+def of_selected(first: Notes, op: Operator, thunk: int) -> Notes:
+    """What is known of the result of `select`: values stay."""
+    even = _is_ready(op, BY_VALUE) or (thunk == 0 and _is_ready(op, BY_DIAGONAL))
+    return first._replace(directed=_even(first) if even else None)
+
+
+def of_pair(first: Notes, second: Notes) -> Notes:
+    """What is known of a union or an intersection."""
+    return Notes(_same(first.rows, second.rows), _same(first.columns, second.columns), _even(first, second))
+
+
+def of_product(first: Notes, second: Notes, mul: Operator, same: bool) -> Notes:
+    """What is known of a product; `same` says that both operands are one matrix."""
+    return Notes(first.rows, second.columns, _even(first) if same and _is_ready(mul, COMMUTE) else None)
+
+
+def of_rows(first: Notes) -> Notes:
+    """What is known of a column that has a row for each row."""
+    return Notes(first.rows)
+
+
+def masked(result: Notes, mask: Notes) -> Notes:
+    """What is known of a result that is cut to the structure of a mask."""
+    return Notes(_same(result.rows, mask.rows) or result.rows, _same(result.columns, mask.columns) or result.columns,
+                 _even(result, mask), result.weighted)
+
+
+def turned(first: Notes) -> Notes:
+    """What is known of the transpose."""
+    return first._replace(rows=first.columns, columns=first.rows)
+
+
+def of_both_sides(first: Notes, nrows: int, ncols: int) -> Notes:
+    """What is known of the square matrix of a bipartite graph: its names are those of the rows and of the columns, or where some are
+    the same, or there are none, ('row', name) and ('column', name)."""
+    rows = first.rows if first.rows is not None else Nodes(range(nrows))
+    columns = first.columns if first.columns is not None else Nodes(range(ncols))
+    apart = rows.places.keys().isdisjoint(columns.places)
+    names = Nodes([*rows, *columns] if apart else [*(('row', name) for name in rows), *(('column', name) for name in columns)])
+    return Notes(names, names, False, first.weighted)
+
+
+def on_diagonal(first: Notes) -> Notes:
+    """What is known of the square matrix with a column's, or a row's, entries on its diagonal."""
+    names = first.rows if first.rows is not None else first.columns
+    return Notes(names, names, False)
+
+
+def _is_ready(op: Operator, names: FrozenSet[str]) -> bool:
+    """Whether this is the ready operator of one of the names, whatever it is called."""
+    return op.name in names and op.name in READY[op.kind] and READY[op.kind][op.name] == op

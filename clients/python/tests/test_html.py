@@ -1,0 +1,120 @@
+"""What a notebook shows of matrices, operators, budgets and runs."""
+import html.parser
+import unittest
+
+import support
+import spmat
+from spmat import html as shown
+
+
+class Parser(html.parser.HTMLParser):
+    """Sees that each tag is closed in turn, and keeps the words and the tags."""
+
+    def __init__(self, text):
+        super().__init__()
+        self.open, self.tags, self.words = [], [], []
+        self.feed(text)
+        assert not self.open, self.open
+
+    def handle_starttag(self, tag, attributes):
+        self.tags.append(tag)
+        if tag != 'rect':
+            self.open.append(tag)
+
+    def handle_startendtag(self, tag, attributes):
+        self.tags.append(tag)
+
+    def handle_endtag(self, tag):
+        assert self.open.pop() == tag, tag
+
+    def handle_data(self, data):
+        self.words.append(data)
+
+
+class Html(unittest.TestCase):
+    @classmethod
+    def setUpClass(cls):
+        cls.s = spmat.Session()
+
+    @classmethod
+    def tearDownClass(cls):
+        cls.s.close()
+
+    def seen(self, thing):
+        parser = Parser(thing._repr_html_())
+        return ' '.join(parser.words), parser.tags
+
+    def test_matrices(self):
+        G = self.s.from_edgelist([('a<b', 'c', 5), ('c', 'a<b', 7)], directed=True)
+        words, tags = self.seen(G)
+        self.assertIn('Matrix  2 × 2, 2 entries, directed, named', words)
+        self.assertIn('a<b', words)
+        self.assertEqual((tags.count('rect'), tags.count('td')), (2, 4))
+        wide = self.s.from_coo([0, 99], [5, 299], [-1, 2], 100, 300)
+        words, tags = self.seen(wide)
+        self.assertIn('100 × 300, 2 entries', words)
+        self.assertEqual(tags.count('rect'), 2)
+        self.assertIn('-1', words)
+        self.assertEqual(self.seen(self.s.from_coo([], [], [], 0, 0))[1].count('rect'), 0)
+
+    def test_nothing_is_run_for_it(self):
+        A = self.s.full(3, 3)
+        before = self.s.runs
+        words, _ = self.seen(A.apply('ainv'))
+        self.assertIn('queued', words)
+        self.assertEqual(self.s.runs, before)
+
+    def test_large_ones(self):
+        """Of many entries the server counts the raster; what the client counts of few is the same."""
+        A = self.s.from_triples([(i, 7 * i % 90, i) for i in range(90)] + [(89, 3, 4)], 90, 90)
+        few = shown._few(A)
+        many = shown._many(A)
+        self.assertEqual(few, many)
+        self.assertEqual(sum(few.raster.values()), 91)
+        before, shown.FEW = shown.FEW, 10
+        try:
+            self.assertEqual(self.seen(A)[1].count('rect'), len(few.raster))
+            with spmat.Session(steps=0) as poor:
+                words, tags = self.seen(poor.full(9, 9))
+                self.assertIn('81 entries', words)
+                self.assertIn('S8', words)
+                self.assertNotIn('rect', tags)
+        finally:
+            shown.FEW = before
+
+    def test_lost_ones(self):
+        with spmat.Session() as s:
+            A = s.full(1, 1)
+        self.assertIn('the session has ended', self.seen(A)[0])
+
+    def test_operators_budgets_and_runs(self):
+        op = spmat.asm('unary', 'mov64 r0, r1 ; <x>\nexit')
+        self.assertIn('unary operator', self.seen(op)[0])
+        self.assertIn('mov64 r0, r1 ; <x>', self.seen(op)[0])
+        self.assertIn('bf10000000000000', self.seen(spmat.code('unary', 'bf10000000000000' '9500000000000000'))[0])
+        words, tags = self.seen(self.s.check(op))
+        self.assertIn('accepted', words)
+        self.assertEqual(tags.count('tr'), 3)
+        words, _ = self.seen(self.s.check(spmat.asm('binary', 'mov64 r0, r7\nexit')))
+        self.assertIn('refused', words)
+        self.assertIn('r7 is unset', words)
+        self.assertIn(' left, ', self.seen(self.s.budget())[0])
+        self.s.run()
+        A = self.s.full(2, 2)
+        B = A.apply('ainv', name='B')
+        A.apply('abs')
+        words, tags = self.seen(self.s.run())
+        self.assertIn('of 2 jobs', words)
+        self.assertIn('2x2, 4 entries', words)
+        self.assertEqual((B.nvals, tags.count('tr')), (4, 3))
+
+    @support.needs('matplotlib', 'numpy')
+    def test_pictures(self):
+        from spmat import draw
+        A = self.s.from_triples([(0, 1, 1), (1, 0, 1)])
+        for figure in (draw.spy(A), draw.degree_histogram(A), draw.levels(A, spmat.algorithms.bfs_levels(A, 0))):
+            self.assertEqual(figure._repr_png_()[:8], b'\x89PNG\r\n\x1a\n')
+
+
+if __name__ == '__main__':
+    unittest.main()

@@ -1,0 +1,359 @@
+"""spmat as a backend of networkx: what is converted and kept, what is left to networkx, sessions. Skipped where networkx is older than
+3.2, which has no backends. The functions themselves are compared by tests/networkx/compare."""
+import copy
+import os
+import pickle
+import subprocess
+import sys
+import unittest
+import warnings
+from unittest import mock
+
+import support
+import spmat
+
+try:
+    import networkx
+    from networkx.utils.backends import backends
+    FOUND = 'spmat' in backends
+    from spmat.networkx import graph, sessions
+    from spmat.networkx.conversion import convert_to_nx
+    from spmat.networkx.dispatch import Backend
+    from spmat.networkx.info import DEFAULTS, SERVED, info
+except ImportError:
+    FOUND = False
+
+CLIENT = os.path.dirname(os.path.dirname(os.path.abspath(spmat.__file__)))
+
+
+def settings(**values):
+    """`nx.config.backends.spmat` with other values for a while; a session of its own before and after."""
+    return networkx.config.backends.spmat(**values)
+
+
+@unittest.skipUnless(FOUND, 'no networkx 3.2 or above that finds the backend')
+class Case(unittest.TestCase):
+    def setUp(self):
+        caught = warnings.catch_warnings()
+        caught.__enter__()
+        self.addCleanup(caught.__exit__, None, None, None)
+        warnings.simplefilter('ignore')
+
+    @classmethod
+    def tearDownClass(cls):
+        if FOUND:
+            sessions.close()
+
+
+def labelled(kind):
+    """A graph with labels, loops, attributes of all three kinds, and parallel edges where it may have them."""
+    made = kind(name='all')
+    made.add_node('alone', size=3)
+    made.add_node('a', size=1)
+    made.add_edge('a', 'b', weight=2, colour='red')
+    made.add_edge('b', ('c', 1), weight=5)
+    made.add_edge('b', 'b', length=7)
+    made.add_edge('b', 'a', weight=1)
+    made.add_edge(('c', 1), 'a')
+    return made
+
+
+class Conversion(Case):
+    def test_back_again(self):
+        """A graph that was converted comes back with its kind, order, labels, loops, parallel edges and attributes."""
+        for kind in (networkx.Graph, networkx.DiGraph, networkx.MultiGraph, networkx.MultiDiGraph):
+            with self.subTest(kind=kind.__name__):
+                made = labelled(kind)
+                back = convert_to_nx(graph(made))
+                self.assertIs(type(back), kind)
+                self.assertEqual(list(back.nodes(data=True)), list(made.nodes(data=True)))
+                self.assertEqual({u: dict(near) for u, near in back.adj.items()}, {u: dict(near) for u, near in made.adj.items()})
+                self.assertEqual(list(back.edges), list(made.copy().edges))
+                self.assertEqual(back.graph, made.graph)
+                back.add_edge('a', 'b', weight=100)
+                self.assertNotEqual(back.number_of_edges() and back['a']['b'], made['a']['b'])
+
+    def test_what_networkx_asks(self):
+        for kind in (networkx.Graph, networkx.DiGraph, networkx.MultiGraph, networkx.MultiDiGraph):
+            made = labelled(kind)
+            held = graph(made)
+            self.assertEqual((len(held), list(held), held.number_of_edges(), held.order()),
+                             (len(made), list(made), made.number_of_edges(), made.order()))
+            self.assertEqual((held.is_directed(), held.is_multigraph()), (made.is_directed(), made.is_multigraph()))
+            self.assertIn('a', held)
+            self.assertNotIn([], held)
+            self.assertEqual(list(held.nbunch_iter(['b', 'a', 'none'])), ['b', 'a'])
+
+    def test_lists_without_numpy(self):
+        made = labelled(networkx.MultiDiGraph)
+        with mock.patch('spmat.market.find_numpy', lambda: None):
+            held = graph(made)
+            self.assertIsInstance(held.at.rows, list)
+            back = convert_to_nx(held)
+        self.assertEqual(back.adj, made.adj)
+        self.assertEqual(held.matrix().to_triples(), graph(labelled(networkx.MultiDiGraph)).matrix().to_triples())
+
+    def test_views(self):
+        """A view of a multigraph says that nodes have more neighbours than it gives."""
+        made = networkx.MultiGraph([(0, 1), (0, 1), (0, 2), (1, 2), (2, 3), (0, 0)])
+        view = networkx.subgraph_view(made, filter_edge=lambda u, v, key: key == 0 and {u, v} != {0, 2})
+        held = graph(view)
+        self.assertEqual(held.matrix().to_triples(), [(0, 0, 1), (0, 1, 1), (1, 0, 1), (1, 2, 1), (2, 1, 1), (2, 3, 1), (3, 2, 1)])
+        self.assertEqual(held.number_of_edges(), view.number_of_edges())
+        self.assertEqual(list(networkx.connected_components(held)), list(networkx.connected_components(view)))
+
+    def test_plain_numbers(self):
+        """No answer holds a number of numpy, which networkx' own tests refuse."""
+        made, found = networkx.gnm_random_graph(40, 90, seed=1), []
+        networkx.set_edge_attributes(made, 2, 'weight')
+        for name in ('triangles', 'clustering', 'core_number', 'closeness_centrality', 'degree_centrality', 'pagerank',
+                     'floyd_warshall', 'generalized_degree', 'harmonic_centrality', 'average_neighbor_degree'):
+            answer = getattr(networkx, name)(made, backend='spmat')
+            while isinstance(answer, dict):
+                self.assertLessEqual(set(map(type, answer)), {int})
+                answer = next(iter(answer.values()))
+            found.append(type(answer))
+        self.assertLessEqual(set(found), {int, float})
+
+    def test_matrix(self):
+        """The matrices of a graph, for operators of one's own."""
+        made = networkx.MultiDiGraph([(0, 1, {'w': 4}), (0, 1, {'w': 3}), (1, 2, {'w': 9})])
+        held = graph(made)
+        self.assertEqual(held.matrix().to_triples(), [(0, 1, 1), (1, 2, 1)])
+        self.assertEqual(held.matrix('w').to_triples(), [(0, 1, 3), (1, 2, 9)])
+        self.assertEqual(held.matrix('w', fold='plus').to_triples(), [(0, 1, 7), (1, 2, 9)])
+        self.assertEqual(held.matrix('w', fold='max', back=True).to_triples(), [(1, 0, 4), (2, 1, 9)])
+        self.assertEqual(held.many().to_triples(), [(0, 1, 2), (1, 2, 1)])
+        self.assertIs(held.matrix(), held.matrix())
+
+    def test_graphs_come_back_with_attributes(self):
+        """Functions that give a part of the graph keep what it holds."""
+        made = networkx.relabel_nodes(networkx.complete_graph(4), 'abcd'.__getitem__)
+        made.graph['name'] = 'four'
+        made.add_edge('a', 'tail', weight=3)
+        networkx.set_node_attributes(made, 5, 'size')
+        for function, args in ((networkx.k_core, (2,)), (networkx.k_truss, (3,)), (networkx.k_shell, (1,)),
+                               (networkx.transitive_closure, ())):
+            got, want = (function(made, *args, backend=which) for which in ('spmat', 'networkx'))
+            self.assertEqual((type(got), got.graph, got._node, got._adj), (type(want), want.graph, want._node, want._adj))
+
+    def test_once(self):
+        """Ten calls convert a graph once, whatever attributes they ask for, until it is changed."""
+        made = networkx.gnm_random_graph(30, 60, seed=1)
+        networkx.set_edge_attributes(made, 3, 'far')
+        with mock.patch('spmat.networkx.reading.positions', wraps=sys.modules['spmat.networkx.reading'].positions) as read:
+            for _ in range(3):
+                networkx.triangles(made, backend='spmat')
+                networkx.single_source_dijkstra_path_length(made, 0, weight='far', backend='spmat')
+                networkx.k_core(made, 2, backend='spmat')
+            networkx.single_source_dijkstra_path_length(made, 0, weight=None, backend='spmat')
+            self.assertEqual(read.call_count, 1)
+            made.add_edge(0, 'new', far=5)
+            self.assertEqual(networkx.single_source_dijkstra_path_length(made, 'new', weight='far', backend='spmat')[0], 5)
+            self.assertEqual(read.call_count, 2)
+
+    def test_late_weights(self):
+        """A graph that was converted with all attributes answers for weights later on."""
+        made = networkx.path_graph(3)
+        networkx.set_edge_attributes(made, {(0, 1): 4, (1, 2): 2.0}, 'w')
+        held = graph(made)
+        found = networkx.single_source_dijkstra_path_length(held, 0, weight='w')
+        self.assertEqual(found, {0: 0, 1: 4, 2: 6})
+        self.assertIs(type(found[2]), float)       # one of the weights was
+        self.assertEqual(networkx.single_source_dijkstra_path_length(held, 0, weight='none'), {0: 0, 1: 1, 2: 2})
+
+    def test_pickle_and_copies(self):
+        """G can be pickled and copied after a call, and so can what is on the server."""
+        made = labelled(networkx.Graph)
+        want = networkx.clustering(made, backend='spmat')
+        for other in (pickle.loads(pickle.dumps(made)), copy.deepcopy(made), copy.copy(made)):
+            self.assertEqual(other.adj, made.adj)
+            self.assertEqual(networkx.clustering(other, backend='spmat'), want)
+        held = graph(made)
+        held.matrix()
+        other = pickle.loads(pickle.dumps(held))
+        self.assertEqual(networkx.clustering(other), want)
+        self.assertEqual(convert_to_nx(other).adj, made.adj)
+
+
+class Left(Case):
+    """What is left to networkx, and the reason."""
+
+    def reason(self, name, *args, **kwargs):
+        return Backend.can_run(name, args, kwargs)
+
+    def test_reasons(self):
+        path, digraph = networkx.path_graph(4), networkx.DiGraph([(0, 1)])
+        half = networkx.Graph([(0, 1, {'weight': 1.5})])
+        below = networkx.DiGraph([(0, 1, {'weight': -1})])
+        hidden = networkx.Graph([(0, 1, {'weight': None})])
+        large = networkx.Graph([(0, 1, {'weight': 1 << 60})])
+        for words, name, args, kwargs in (
+                ('is a function', 'single_source_dijkstra_path_length', (path, 0), {'weight': lambda u, v, d: 1}),
+                ('1.5', 'single_source_dijkstra_path_length', (half, 0), {}),
+                ('below 0', 'single_source_dijkstra_path_length', (below, 0), {}),
+                ('whole number', 'dijkstra_path_length', (hidden, 0, 1), {}),
+                ('64 bits', 'dijkstra_path_length', (large, 0, 1), {}),
+                ('cube roots', 'clustering', (path,), {'weight': 'weight'}),
+                ('directed', 'triangles', (digraph,), {}),
+                ('undirected', 'in_degree_centrality', (path,), {}),
+                ('multigraphs', 'core_number', (networkx.MultiGraph(path),), {}),
+                ('given', 'eccentricity', (path,), {'sp': {}}),
+                ('no graph', 'triangles', ({},), {})):
+            with self.subTest(name=name, words=words):
+                self.assertIn(words, str(self.reason(name, *args, **kwargs)))
+        self.assertIs(self.reason('single_source_bellman_ford_path_length', below, 0), True)
+        self.assertIs(self.reason('single_source_dijkstra_path_length', half, 0, weight=None), True)
+        self.assertIs(self.reason('triangles', path), True)
+        self.assertIs(self.reason('triangles'), True)          # networkx says better what is missing
+
+    def test_networkx_does_it(self):
+        """With a priority, a call that is left is done by networkx; with backend= it is refused."""
+        half = networkx.Graph([(0, 1, {'weight': 1.5})])
+        with networkx.config(backend_priority=['spmat']), settings(least_edges=0):
+            self.assertEqual(networkx.single_source_dijkstra_path_length(half, 0), {0: 0, 1: 1.5})
+        with self.assertRaisesRegex(NotImplementedError, 'spmat'):
+            networkx.single_source_dijkstra_path_length(half, 0, backend='spmat')
+
+    def test_floyd_warshall_of_a_negative_cycle(self):
+        """networkx gives what its rounds leave; so it does it."""
+        with self.assertRaisesRegex(NotImplementedError, 'floyd_warshall'):
+            networkx.floyd_warshall(networkx.Graph([(0, 1, {'weight': -2})]), backend='spmat')
+        path = networkx.DiGraph([(0, 1, {'weight': -2}), (1, 2, {'weight': 1})])
+        self.assertEqual(networkx.floyd_warshall(path, backend='spmat'), networkx.floyd_warshall(path, backend='networkx'))
+
+    def test_subclass_with_another_adjacency(self):
+        class Anti(networkx.Graph):
+            def __getitem__(self, node):
+                return {other: {} for other in set(self._adj) - set(self._adj[node]) - {node}}
+        self.assertIn('adjacency', str(self.reason('is_connected', Anti(networkx.path_graph(3)))))
+
+    def test_should_run(self):
+        small = networkx.path_graph(4)
+        self.assertIn('3 edges', str(Backend.should_run('triangles', (small,), {})))
+        self.assertIs(Backend.should_run('triangles', (graph(small),), {}), True)
+        with settings(least_edges=3):
+            self.assertIs(Backend.should_run('triangles', (small,), {}), True)
+        self.assertIn('at hand', str(Backend.should_run('is_tree', (small,), {})))
+        self.assertTrue(all(pays.again <= pays.first for pays in SERVED.values()))
+        made = networkx.gnm_random_graph(1000, 1500, seed=1)
+        self.assertIn('edges', str(Backend.should_run('triangles', (made,), {})))
+        networkx.number_of_selfloops(made, backend='spmat')    # it is on the server from now on
+        self.assertIs(Backend.should_run('triangles', (made,), {}), True)
+
+    def test_no_program(self):
+        path = networkx.path_graph(3)
+        with settings(program='/no/such/program'), networkx.config(backend_priority=['spmat']):
+            self.assertIn('no program', str(self.reason('triangles', path)))
+            self.assertEqual(networkx.triangles(path), {0: 0, 1: 0, 2: 0})
+
+    def test_too_large(self):
+        """What the server has no room for is networkx' work, and a budget's end is nobody's."""
+        path = networkx.path_graph(30)
+        for fault, raised in ((spmat.errors.refusal('J7'), NotImplementedError), (spmat.errors.refusal('memory'), NotImplementedError),
+                              (spmat.errors.refusal('S8', (5, 3)), spmat.BudgetExceeded)):
+            with mock.patch('spmat.algorithms.triangles', side_effect=fault):
+                with self.assertRaises(raised):
+                    networkx.triangles(path, backend='spmat')
+
+    def test_names(self):
+        """Each function that is named is served, is one of networkx', and has its line in the docstring."""
+        registered = networkx.utils.backends._registered_algorithms
+        self.assertLessEqual(set(SERVED), set(registered))
+        self.assertEqual(set(SERVED), {name for name in registered if hasattr(Backend, name)})
+        self.assertIn('spmat', networkx.triangles.__doc__)
+        self.assertEqual(set(info()['default_config']), set(DEFAULTS))
+        self.assertEqual({name: getattr(networkx.config.backends.spmat, name) for name in DEFAULTS}, DEFAULTS)
+
+
+class Sessions(Case):
+    def setUp(self):
+        super().setUp()
+        sessions.close()
+
+    def test_one(self):
+        first = sessions.session()
+        networkx.triangles(networkx.path_graph(4), backend='spmat')
+        self.assertIs(sessions.session(), first)
+
+    def test_settings(self):
+        """Each change of the settings is another session; its budget is what they say."""
+        with settings(steps=12345, workers=2):
+            held = sessions.session()
+            self.assertEqual(held.budget().left, 12345)
+        self.assertIsNot(sessions.session(), held)
+        self.assertIsNotNone(held.connection.ended)
+
+    def test_budget(self):
+        """A budget that is used up isn't networkx' work: a notebook that is not to hang doesn't."""
+        many = networkx.complete_graph(12)
+        with settings(steps=40), self.assertRaises(spmat.BudgetExceeded):
+            networkx.triangles(many, backend='spmat')
+
+    def test_dead_child(self):
+        """Where the program dies, between calls or amid one, another is started."""
+        ring = networkx.cycle_graph(5)
+        held = graph(ring)
+        want = networkx.triangles(held)
+        sessions.session().connection._channel.process.kill()
+        sessions.session().connection._channel.process.wait()
+        self.assertEqual(networkx.triangles(held), want)
+        sessions.session().connection._channel.process.kill()
+        self.assertEqual(networkx.triangles(held), want)
+
+    @unittest.skipUnless(hasattr(os, 'fork'), 'no fork')
+    def test_fork(self):
+        """A process that is forked off has a session of its own, and the parent's goes on."""
+        held = graph(networkx.complete_graph(4))
+        networkx.triangles(held)
+        first = sessions.session()
+        child = os.fork()
+        if child == 0:
+            try:
+                good = networkx.triangles(held)[0] == 3 and sessions.session() is not first
+                sessions.close()
+            finally:
+                os._exit(0 if good else 1)
+        self.assertEqual(os.waitpid(child, 0)[1], 0)
+        self.assertIs(sessions.session(), first)
+        self.assertEqual(networkx.triangles(held)[0], 3)
+
+    def test_server(self):
+        """`connect` is a server's address."""
+        with support.Relay() as relay, settings(connect='127.0.0.1:%d' % relay.port):
+            self.assertEqual(networkx.triangles(networkx.complete_graph(3), backend='spmat'), {0: 1, 1: 1, 2: 1})
+            sessions.close()
+
+
+class Imports(Case):
+    def run_python(self, code):
+        env = {**os.environ, 'PYTHONPATH': os.pathsep.join([CLIENT, *sys.path])}
+        return subprocess.run([sys.executable, '-c', code], env=env, stdout=subprocess.PIPE, stderr=subprocess.PIPE, text=True)
+
+    def test_nothing_before_it_is_asked(self):
+        """networkx' import brings what names the functions, and nothing else of spmat."""
+        ran = self.run_python('import sys, networkx; print(sorted(name for name in sys.modules if name.startswith("spmat")))')
+        self.assertEqual(ran.stdout, "['spmat', 'spmat.networkx', 'spmat.networkx.info']\n", ran.stderr)
+
+    def test_quiet_end(self):
+        """A process that ends with a session open says nothing."""
+        ran = self.run_python('import networkx as nx; print(nx.triangles(nx.complete_graph(3), backend="spmat"))')
+        self.assertEqual((ran.stdout, ran.stderr, ran.returncode), ('{0: 1, 1: 1, 2: 1}\n', '', 0))
+
+    def test_entry_points(self):
+        """What a PYTHONPATH finds is what an installation has."""
+        wanted = {}
+        with open(os.path.join(CLIENT, 'spmat.dist-info', 'entry_points.txt')) as file:
+            for line in file:
+                if line.startswith('['):
+                    group = line.strip()[1:-1]
+                elif '=' in line:
+                    wanted[group] = tuple(part.strip() for part in line.split('='))
+        with open(os.path.join(CLIENT, 'pyproject.toml')) as file:
+            text = file.read()
+        for group, (name, place) in wanted.items():
+            self.assertIn('[project.entry-points."%s"]\n%s = "%s"\n' % (group, name, place), text)
+
+
+if __name__ == '__main__':
+    unittest.main()

@@ -1,0 +1,89 @@
+"""Which program a session starts, and the command `spmat` of a wheel that carries one."""
+import os
+import shutil
+import subprocess
+import sys
+import tempfile
+import unittest
+from unittest import mock
+
+import support
+import spmat
+from spmat import program
+
+TELL = '#!/bin/sh\necho "$0 $*"\n'
+
+
+class Order(unittest.TestCase):
+    """`program=`, SPMAT, the package's own, the PATH."""
+
+    def setUp(self):
+        folder = tempfile.TemporaryDirectory(prefix='spmat-')
+        self.addCleanup(folder.cleanup)
+        self.folder = folder.name
+        for name in ('own', 'spmat'):
+            with open(os.path.join(self.folder, name), 'w', encoding='ascii') as file:
+                file.write(TELL)
+            os.chmod(os.path.join(self.folder, name), 0o755)
+
+    def words(self, given=None, own=None, **variables):
+        environment = {'PATH': os.path.dirname(shutil.which('sh')), **variables}
+        with mock.patch.dict(os.environ, environment, clear=True), mock.patch.object(program, 'carried', lambda: own):
+            return program.program_words(given)
+
+    def test_each_comes_before_those_behind_it(self):
+        own, found = os.path.join(self.folder, 'own'), os.path.join(self.folder, 'spmat')
+        self.assertEqual(self.words('given', own, SPMAT='told', PATH=self.folder), ['given'])
+        self.assertEqual(self.words(None, own, SPMAT='told', PATH=self.folder), ['told'])
+        self.assertEqual(self.words(None, own, PATH=self.folder), [own])
+        self.assertEqual(self.words(None, None, PATH=self.folder), [found])
+
+    def test_none(self):
+        with self.assertRaises(FileNotFoundError) as said:
+            self.words()
+        self.assertIn('this package carries none', str(said.exception))
+
+    def test_words_in_one_text(self):
+        self.assertEqual(self.words('ssh -T "a b" spmat'), ['ssh', '-T', 'a b', 'spmat'])
+        self.assertEqual(self.words(['ssh', 'x y']), ['ssh', 'x y'])
+
+    def test_a_checkout_carries_none(self):
+        self.assertIsNone(program.carried())
+
+
+class Carried(unittest.TestCase):
+    """A copy of the package with a program in it, as a wheel has it."""
+
+    def setUp(self):
+        folder = tempfile.TemporaryDirectory(prefix='spmat-')
+        self.addCleanup(folder.cleanup)
+        self.folder = folder.name
+        shutil.copytree(os.path.dirname(spmat.__file__), os.path.join(self.folder, 'spmat'))
+        os.mkdir(os.path.join(self.folder, 'spmat', 'carried'))
+        self.own = os.path.join(self.folder, 'spmat', 'carried', 'spmat')
+        with open(self.own, 'w', encoding='ascii') as file:
+            file.write(TELL)
+
+    def ran(self, text):
+        environment = {'PYTHONPATH': self.folder, 'PATH': os.path.dirname(shutil.which('sh'))}
+        return subprocess.run([sys.executable, '-c', text, 'run', '--steps', '5'], cwd=self.folder, env=environment,
+                              stdout=subprocess.PIPE, stderr=subprocess.PIPE, text=True, check=False)
+
+    def test_it_is_found(self):
+        os.chmod(self.own, 0o755)
+        said = self.ran('from spmat.program import program_words as w; print(w())')
+        self.assertEqual(said.stdout.strip(), str([os.path.realpath(self.own)]).replace(os.path.realpath(self.folder), self.folder))
+
+    def test_the_command_becomes_it(self):
+        os.chmod(self.own, 0o755)
+        said = self.ran('from spmat.program import main; main()')
+        self.assertEqual(said.stdout, '%s run --steps 5\n' % self.own)
+
+    def test_what_cannot_be_started_is_none(self):
+        os.chmod(self.own, 0o644)
+        said = self.ran('from spmat.program import main; main()')
+        self.assertEqual((said.returncode, said.stderr), (1, 'spmat: this package carries no program\n'))
+
+
+if __name__ == '__main__':
+    unittest.main()

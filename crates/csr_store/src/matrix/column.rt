@@ -1,0 +1,57 @@
+//! Words of a matrix of one column, by their rows.
+ghost use Rattle.std.specs.Prelude.{◌≡◌, ◌<◌, ◌≤◌, None, Some, length, slice_range, if◌then◌else◌};
+ghost use Rattle.std.specs.FinMap as fin;
+ghost use Rattle.csr_store.specs.inner.Column.{first_word};
+
+use super::{Cell, Matrix};
+use crate::cells::{Cells, HEIGHT};
+
+impl Matrix {
+    /// The word at row `k` of a matrix of one column, and whether there is one. Where there is none it is any word, so that a
+    /// caller may go on with it before the answer is known. Of rows that all have a word no start is read: of a whole column, or of
+    /// the 256 rows of a run.
+    #[inline(always)]
+    pub fn word_in_column(&self, k: u64) -> (u64, bool)
+        requires column { self.now.columns ≡ 1 }
+        requires row { k < self.now.rows }
+        ensures { fin.get self.now.cells (k, 0) ≡ (if result.1 then Some result.0 else None) }
+    {
+        let starts = self.starts.list();
+        match &self.cells {
+            Cells::Whole(cells) => {
+                if cells.len() as u64 == self.rows {
+                    return (cells[k as usize].1, true);
+                }
+                let from = starts[k as usize];
+                let to = starts[k as usize + 1];
+                first_between(cells, from as usize, to as usize)
+            }
+            Cells::Runs(runs) => {
+                let run = k / HEIGHT;
+                let cells = &runs[run as usize];
+                if cells.len() as u64 == HEIGHT {
+                    return (cells[(k % HEIGHT) as usize].1, true);
+                }
+                let before = starts[(run * HEIGHT) as usize];
+                let from = starts[k as usize] - before;
+                let to = starts[k as usize + 1] - before;
+                first_between(cells, from as usize, to as usize)
+            }
+        }
+    }
+}
+
+/// The word of the first of the cells between two places, and whether there is one. Where there is none it is the word of some
+/// cell: no jump waits for the places.
+#[inline(always)]
+fn first_between(cells: &[Cell], from: usize, to: usize) -> (u64, bool)
+    requires order { from ≤ to }
+    requires within { to ≤ length cells.now }
+    ensures { first_word (slice_range cells.now from to) ≡ (if result.1 then Some result.0 else None) }
+{
+    if cells.is_empty() {
+        return (0, false);
+    }
+    let place = from.min(cells.len() - 1);
+    (cells[place].1, from < to)
+}

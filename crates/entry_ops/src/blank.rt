@@ -1,0 +1,71 @@
+//! Regions in which nothing is made, since an operand or the mask has no entry in their rows. That is seen from where rows start, and
+//! no row is looked at: each is just ended.
+ghost use Rattle.std.specs.Prelude.{◌≡◌, ◌≤◌, ◌-◌, ◌++◌, ◌∷◌, [], IfSome, IsTrue, OnOk};
+ghost use Rattle.csr_store.specs.Along.{along};
+ghost use Rattle.csr_store.specs.Mask.{mask_of};
+ghost use Rattle.job_forms.specs.Region.{IsMade};
+ghost use Rattle.entry_ops.specs.inner.Blank.{AreBlank, AreShut};
+
+use csr_store::{Matrix, Rows};
+use job_forms::{Made, Region};
+use std::alloc::{AllocError, Global};
+use std::ops::Range;
+
+/// Whether an operand has no entry in the rows of a region.
+pub fn is_blank(a: &Matrix, region: &Region<'_>) -> bool
+    requires { region.now.range.end ≤ a.now.rows }
+    ensures { IsTrue result → AreBlank a.now region.now.range.start (region.now.range.end - region.now.range.start) }
+{
+    a.is_blank(region.range.start..region.range.end)
+}
+
+/// Whether a mask stores nothing in the rows of a region.
+pub fn is_shut(region: &Region<'_>) -> bool
+    requires { IfSome region.now.mask (λ m. region.now.range.end ≤ m.now.rows) }
+    ensures { IsTrue result → AreShut (mask_of region.now.mask) region.now.range.start
+        (region.now.range.end - region.now.range.start) }
+{
+    match region.mask {
+        Some(mask) => mask.is_blank(region.range.start..region.range.end),
+        None => false,
+    }
+}
+
+/// The rows of a region without an entry, and no call.
+pub fn blank_region(alloc: Global, columns: u64, range: Range<u64>) -> Made
+    requires { range.start ≤ range.end }
+    ensures { IsMade (record {
+      first = range.start;
+      columns = columns;
+      ended = along (λ i. [] ∷ []) range.start (range.end - range.start);
+      opened = [];
+    }) [] result }
+{
+    let steps = 0;
+    let mut rows = Rows::begin(alloc, range.start, columns);
+    match end_rows(range, &mut rows) {
+        Ok(()) => Made {
+            result: Ok(rows),
+            steps,
+        },
+        Err(error) => Made {
+            result: Err(error),
+            steps,
+        },
+    }
+}
+
+/// Ends the rows of a range, all without an entry.
+fn end_rows(range: Range<u64>, rows: &mut Rows) -> Result<(), AllocError>
+    requires range { range.start ≤ range.end }
+    requires none_open { rows.old.opened ≡ [] }
+    ensures { OnOk result (rows.new ≡ record rows.old {
+      ended = rows.old.ended ++ along (λ i. [] ∷ []) range.start (range.end - range.start);
+    }) }
+{
+    rows.reserve_rows((range.end - range.start) as usize)?;
+    for _i in range.start..range.end {
+        rows.end_row()?;
+    }
+    Ok(())
+}

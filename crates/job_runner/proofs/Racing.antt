@@ -1,0 +1,75 @@
+-- The race of a batch that came to its end is whole, and its rows are those of the results.
+use Rattle.std.proofs.Common.{◌≡◌, ◌<◌, ℕ, List, [], ◌∷◌, map, length, false, refl, sym, ap, ◌∙◌, subst, arith}
+use Rattle.std.specs.Prelude.{All}
+use Rattle.std.specs.FinMap.{get}
+use Rattle.csr_store.specs.Along.{along, cell_at, row_by, summed}
+use Rattle.csr_store.specs.Grid.{Grid, IsInside, row_of}
+use Rattle.csr_store.specs.Run.{Row, Run}
+use Rattle.csr_store.proofs.Along.{along-same, row_by-row_of}
+use Rattle.race_board.specs.Race.{Worker, BoardState, IsToldEnd, IsFinished, total_of, times_completed, one_if_below, steps_of, workers_of}
+use Rattle.race_board.specs.Chunks.{AreEachOnce, completed_by, recorded_by, steps_in}
+use Rattle.race_board.proofs.Chunks.{closed_completed, completed_steps, recorded_completed, recorded_steps}
+use Rattle.race_board.proofs.Finishing.{all_told, told_finished}
+use Rattle.job_plan.specs.Chunks.{Cover}
+use Rattle.job_plan.specs.Job.{Job}
+use Rattle.job_plan.specs.Meaning.{IsMatrixOf, row_count, column_count, rows_in, value_at}
+use Rattle.job_runner.specs.declared.gathered.Gathered.{Gathered}
+use Rattle.job_runner.specs.Batch.{Result, AreResultsOf, total_steps}
+use Rattle.job_runner.specs.Chunk.{chunk_total, chunks_in, chunk_steps, run_in_job}
+use Rattle.job_runner.specs.Whole.{IsWhole, IsRaced, all_rows, rows_of_chunks, whole}
+use Rattle.job_runner.specs.Worked.{prices_of}
+use Rattle.job_runner.specs.inner.Crew.{IsGathered}
+use Rattle.job_runner.proofs.Costs.{all_listed}
+use Rattle.job_runner.proofs.Gathering.{below_summed}
+use Rattle.job_runner.proofs.Joined.{ended_all, flat-ones, total_of_jobs}
+
+-- where all workers are here and none failed
+pub gathered_whole : (board : BoardState) (jobs : List Job) (g : Gathered) → IsGathered board jobs g
+    → (IsFinished board (workers_of g.seats.items) → All IsToldEnd (workers_of g.seats.items)
+    → (c : ℕ) → total_of (times_completed c) (workers_of g.seats.items) ≡ one_if_below c (length board.prices))
+    → board.prices ≡ prices_of jobs → 0 < length g.seats.items → length g.seats.items ≡ board.workers → g.failed ≡ false
+    → IsWhole jobs (workers_of g.seats.items)
+gathered_whole board jobs g h completed prices some all failed =
+    let told = h.told failed in
+    let ended = all_told g.seats.items told in
+    let done = completed (told_finished board g.seats.items some all told) ended in
+    record {
+      once = subst (λ n. AreEachOnce n (completed_by (workers_of g.seats.items))) (all_listed jobs board.prices prices)
+          (closed_completed (length board.prices) (workers_of g.seats.items) done);
+      steps = h.just;
+      ended = ended;
+    }
+
+-- the steps that its workers recorded are those of all jobs
+pub whole_spent : ((k : ℕ) (job : Job) → Cover k job) → (jobs : List Job) (workers : List Worker) → IsWhole jobs workers
+    → total_of steps_of workers ≡ total_steps jobs
+whole_spent cover jobs workers w =
+    sym (recorded_steps workers) ∙ ap steps_in (recorded_completed workers w.ended)
+    ∙ completed_steps (chunk_steps jobs) (chunk_total jobs) (completed_by workers) w.once w.steps
+    ∙ below_summed (chunk_steps jobs) (chunk_total jobs) ∙ total_of_jobs cover jobs
+
+-- the rows of a job's matrix are those of its chunks
+rows_of_matrix : (job : Job) (g : Grid) → IsMatrixOf job g → all_rows g ≡ rows_in job 0 (row_count job)
+rows_of_matrix job g m =
+    ap (λ n. along (λ i. row_of g i ∷ []) 0 n) m.rows
+    ∙ along-same (λ i. row_of g i ∷ []) (λ i. row_by (column_count job) (λ j. value_at job (i, j)) ∷ []) 0 (row_count job)
+    (λ i l u. ap (λ (row : Row). row ∷ []) (row i (let r = m.rows in omega (arith, u, r))))
+  where
+    row : (i : ℕ) → i < g.rows → row_of g i ≡ row_by (column_count job) (λ j. value_at job (i, j))
+    row i l =
+        sym (row_by-row_of g i m.grid) ∙ ap (λ n. row_by n (λ j. get g.cells (i, j))) m.columns
+        ∙ along-same (λ j. cell_at j (get g.cells (i, j))) (λ j. cell_at j (value_at job (i, j))) 0 (column_count job)
+        (λ j a b. ap (cell_at j) (m.values (i, j) (l, (let c = m.columns in omega (arith, b, c)))))
+
+rows_of_job : (k : ℕ) (job : Job) → Cover k job → rows_of_chunks job ≡ rows_in job 0 (row_count job)
+rows_of_job k job c = sym (flat-ones (λ (r : Run). r.ended) (run_in_job job) 0 (chunks_in job)) ∙ ended_all k job c
+
+pub whole_rows : ((k : ℕ) (job : Job) → Cover k job) → (jobs : List Job) (results : List Result) → AreResultsOf jobs results
+    → map (λ (r : Result). all_rows r.matrix) results ≡ whole jobs
+whole_rows cover [] [] h = refl
+whole_rows cover [] (r ∷ rs) h = absurd h
+whole_rows cover (job ∷ jobs) [] h = absurd h
+whole_rows cover (job ∷ jobs) (r ∷ rs) h =
+    ap (λ (rows : List Row). rows ∷ map (λ (x : Result). all_rows x.matrix) rs)
+    (rows_of_matrix job r.matrix h.0.matrix ∙ sym (rows_of_job 0 job (cover 0 job)))
+    ∙ ap (λ (rest : List (List Row)). rows_of_chunks job ∷ rest) (whole_rows cover jobs rs h.1)

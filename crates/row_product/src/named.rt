@@ -1,0 +1,114 @@
+//! Words of a column that the cells of a row of A name, each multiplied: the terms of a row of a product of one column.
+ghost use Rattle.std.specs.Prelude.{◌≡◌, ◌≤◌, ◌<◌, ◌++◌, ◌∷◌, [], length, vec_capacity, if◌then◌else◌};
+ghost use Rattle.bpf_insn.specs.declared.operands.Kind.TheVariants as kinds;
+ghost use Rattle.bpf_insn.specs.declared.operands.Operands.TheVariants.{Binary};
+ghost use Rattle.bpf_verify.specs.Accepted.{Accepted};
+ghost use Rattle.bpf_run.specs.Fold.{terms_of};
+ghost use Rattle.bpf_run.specs.Known.{Computes};
+ghost use Rattle.row_product.specs.inner.Column.{AreNamed, AreGathered, MayMultiply, AreMultiplied, HasRoom};
+
+use bpf_insn::Kind;
+use bpf_run::{Calls, Function, Loop, Outcome, Prepared, call_by};
+use csr_store::Matrix;
+
+/// Up to 64 cells of a row of A, and the column whose words they name.
+#[derive(Drop)]
+pub(crate) struct Named<'c> {
+    pub(crate) cells: &'c [(u64, u64)],
+    pub(crate) b: &'c Matrix,
+}
+
+/// Lists the terms of cells, each at column 0, by an operator that computes a function. Answers the steps. A term is listed before it
+/// is known whether there is a word for it, and taken back where there is none: which cells name a word can't be foretold.
+#[inline(always)]
+fn multiply<F: Function>(
+    mul: &Prepared,
+    cells: &[(u64, u64)],
+    b: &Matrix,
+    terms: &mut Vec<(u64, u64)>,
+) -> u64
+    requires computes { Computes mul.now F.meaning F.price }
+    requires may { MayMultiply mul.now b.now cells.now }
+    requires room { HasRoom terms.old }
+    ensures multiplied { AreMultiplied mul.now b.now cells.now terms.new.items result }
+    ensures room { HasRoom terms.new }
+{
+    terms.clear();
+    let mut steps = 0;
+    for (k, x) in cells {
+        let (word, stands) = b.word_in_column(*k);
+        steps += list_if(terms, call_by::<F>(mul, *x, word), stands);
+    }
+    steps
+}
+
+/// Lists what a call came to at column 0, and takes it back unless it stands. Answers the steps of the call, if it stands.
+#[inline(always)]
+fn list_if(terms: &mut Vec<(u64, u64)>, called: Outcome, stands: bool) -> u64
+    requires room { length terms.old.items < vec_capacity terms.old }
+    ensures listed { terms.new.items
+        ≡ (if stands then terms.old.items ++ (0, called.value) ∷ [] else terms.old.items) }
+    ensures room { vec_capacity terms.old ≤ vec_capacity terms.new }
+    ensures steps { result ≡ (if stands then called.steps else 0) }
+{
+    terms.push_reserved((0, called.value));
+    if stands {
+        return called.steps;
+    }
+    let _ = terms.take_last();
+    0
+}
+
+impl<'c> Loop for Named<'c> {
+    type State = Vec<(u64, u64)>;
+
+    ghost may_run = { λ n mul terms. MayMultiply mul n.b.now n.cells.now × HasRoom terms };
+
+    ghost gives = { λ n mul old terms steps. AreMultiplied mul n.b.now n.cells.now terms.items steps × HasRoom terms };
+
+    #[inline(never)]
+    fn run<F: Function>(&self, mul: &Prepared, terms: &mut Vec<(u64, u64)>) -> u64 {
+        multiply::<F>(mul, self.cells, self.b, terms)
+    }
+}
+
+/// Gathers the words of cells with those of B that they meet, in place of what was gathered.
+pub(crate) fn gather(cells: &[(u64, u64)], b: &Matrix, calls: &mut Calls)
+    requires named { AreNamed b.now cells.now }
+    requires few { length cells.now ≤ 64 }
+    ensures kind { calls.new.kind ≡ kinds.Binary }
+    ensures gathered { (mul : Accepted) → AreGathered mul b.now cells.now calls.new.operands }
+{
+    calls.begin(Kind::Binary);
+    for (k, x) in cells {
+        let (word, stands) = b.word_in_column(*k);
+        gather_if(calls, *x, word, stands);
+    }
+}
+
+/// Gathers a pair of words, if it stands.
+#[inline(always)]
+fn gather_if(calls: &mut Calls, x: u64, word: u64, stands: bool)
+    requires room { length calls.old.operands < 64 }
+    requires kind { calls.old.kind ≡ kinds.Binary }
+    ensures gathered { calls.new.operands
+        ≡ (if stands then calls.old.operands ++ Binary x word ∷ [] else calls.old.operands) }
+    ensures kind { calls.new.kind ≡ kinds.Binary }
+{
+    if stands {
+        calls.gather_pair(x, word);
+    }
+}
+
+/// Lists terms, each at column 0.
+pub(crate) fn list_terms(values: &[u64], terms: &mut Vec<(u64, u64)>)
+    requires few { length values.now ≤ 64 }
+    requires room { HasRoom terms.old }
+    ensures listed { terms_of terms.new.items ≡ values.now }
+    ensures room { HasRoom terms.new }
+{
+    terms.clear();
+    for value in values {
+        terms.push_reserved((0, *value));
+    }
+}

@@ -1,0 +1,185 @@
+//! Rows of a product of one column: the terms of a row are one list, which is folded. There is nothing to put in order.
+ghost use Rattle.std.specs.Prelude.{◌≡◌, ◌<◌, ◌≤◌, ◌^◌, true, [], length, IfOk, IfSome, OnOk};
+ghost use Rattle.bpf_insn.specs.declared.operands.Kind.TheVariants as kinds;
+ghost use Rattle.bpf_run.specs.Calls.{steps_of};
+ghost use Rattle.bpf_run.specs.Fold.{terms_of, fold_from, fold_calls_from};
+ghost use Rattle.csr_store.specs.Along.{cell_at};
+ghost use Rattle.csr_store.specs.Grid.{limit};
+ghost use Rattle.csr_store.specs.Mask.{mask_of, passes};
+ghost use Rattle.row_product.specs.inner.Column.{AreNamed, MayMultiply, AreMultiplied, AddsListed, IsSummed, HasRoom};
+ghost use Rattle.row_product.specs.inner.Masked.{AreMasked, IsNext, AddsRow, IsCharged};
+ghost use Rattle.row_product.specs.inner.Sums.{fold_on_calls};
+
+use crate::factors::MaskedFactors;
+use crate::named::{Named, gather, list_terms};
+use crate::room::Room;
+use bpf_run::{Calls, MOST_CALLS, Outcome, Prepared, fold, run_known};
+use csr_store::{Matrix, Rows};
+use job_forms::Making;
+use std::alloc::{AllocError, Global};
+
+/// The terms of up to 64 cells of a row of A, and the calls that make them where the operator isn't known by its program.
+#[derive(Drop)]
+pub(crate) struct Summing {
+    pub(crate) terms: Vec<(u64, u64)>,
+    calls: Calls,
+}
+
+/// What the terms of a row come to, if there are any, and the steps.
+#[derive(Drop)]
+pub(crate) struct Summed {
+    pub(crate) sum: Option<u64>,
+    pub(crate) steps: u64,
+}
+
+/// Whether a mask lets the one position of a row pass, or there is none.
+#[inline(always)]
+fn lets_pass(mask: Option<&Matrix>, i: u64) -> bool
+    requires row { IfSome mask (λ m. i < m.now.rows) }
+    requires column { IfSome mask (λ m. m.now.columns ≡ 1) }
+    ensures { result ≡ passes (mask_of mask.entry) (i, 0) }
+{
+    match mask {
+        Some(mask) => mask.word_in_column(i).1,
+        None => true,
+    }
+}
+
+/// Folds the words of further terms into a word.
+#[inline(always)]
+fn fold_terms(add: &Prepared, so_far: u64, terms: &[(u64, u64)]) -> Outcome
+    requires add { add.now.kind ≡ kinds.Binary }
+    requires room { steps_of (fold_calls_from add.now so_far (terms_of terms.now)) < 2 ^ 64 }
+    ensures value { result.value ≡ fold_from add.now so_far (terms_of terms.now) }
+    ensures steps { result.steps ≡ steps_of (fold_calls_from add.now so_far (terms_of terms.now)) }
+{
+    match terms.split_first() {
+        Some((next, others)) => fold(add, so_far, next.1, others),
+        None => Outcome {
+            value: so_far,
+            steps: 0,
+        },
+    }
+}
+
+/// Folds the words of further terms into a sum, or begins it by the first. Answers the steps.
+fn add_terms(add: &Prepared, terms: &[(u64, u64)], sum: &mut Option<u64>) -> u64
+    requires add { add.now.kind ≡ kinds.Binary }
+    requires room { steps_of (fold_on_calls add.now sum.old (terms_of terms.now)) < 2 ^ 64 }
+    ensures { AddsListed add.now (terms_of terms.now) sum.old sum.new result }
+{
+    let (so_far, further) = match *sum {
+        Some(so_far) => (so_far, terms),
+        None => match terms.split_first() {
+            Some((first, others)) => (first.1, others),
+            None => return 0,
+        },
+    };
+    let folded = fold_terms(add, so_far, further);
+    *sum = Some(folded.value);
+    folded.steps
+}
+
+impl Summing {
+    /// Of no row yet.
+    pub(crate) fn new(alloc: Global) -> Result<Self, AllocError>
+        ensures { IfOk result (λ s. HasRoom s.terms) }
+    {
+        Ok(Summing {
+            terms: Vec::with_capacity(alloc, MOST_CALLS)?,
+            calls: Calls::new(alloc)?,
+        })
+    }
+
+    /// Lists the terms of up to 64 cells of a row of A. Answers the steps.
+    fn multiply(&mut self, mul: &Prepared, cells: &[(u64, u64)], b: &Matrix) -> u64
+        requires mul { mul.now.kind ≡ kinds.Binary }
+        requires may { MayMultiply mul.now b.now cells.now }
+        requires room { HasRoom self.old.terms }
+        ensures multiplied { AreMultiplied mul.now b.now cells.now self.new.terms.items result }
+        ensures room { HasRoom self.new.terms }
+    {
+        if let Some(steps) = run_known(&Named { cells, b }, mul, &mut self.terms) {
+            return steps;
+        }
+        gather(cells, b, &mut self.calls);
+        let steps = self.calls.make(mul);
+        list_terms(self.calls.values(), &mut self.terms);
+        steps
+    }
+
+    /// Sums the terms of cells of a row of A.
+    fn sum_cells(&mut self, factors: &MaskedFactors, row: &[(u64, u64)]) -> Summed
+        requires factors { AreMasked factors.now }
+        requires named { AreNamed factors.now.b.now row.now }
+        requires few { length row.now ≤ limit }
+        requires room { HasRoom self.old.terms }
+        ensures summed { IsSummed factors.now row.now result.sum result.steps }
+        ensures room { HasRoom self.new.terms }
+    {
+        let _add = factors.add.operator().program();
+        let _mul = factors.mul.operator().program();
+        let mut sum = None;
+        let mut steps = 0;
+        let mut cells = row;
+        while !cells.is_empty() {
+            let (now, rest) = cells.split_at(cells.len().min(MOST_CALLS));
+            let multiplied = self.multiply(factors.mul, now, factors.b);
+            steps += multiplied + add_terms(factors.add, &self.terms, &mut sum);
+            cells = rest;
+        }
+        Summed { sum, steps }
+    }
+
+    /// Adds row `i` of the product, where its one position passes. All its calls are made, and charged, before memory may be wanting.
+    fn fill_open(
+        &mut self,
+        factors: &MaskedFactors,
+        i: u64,
+        making: &mut Making,
+    ) -> Result<(), AllocError>
+        requires next { IsNext factors.now i making.old }
+        requires column { factors.now.b.now.columns ≡ 1 }
+        requires open { passes (mask_of factors.now.mask) (i, 0) ≡ true }
+        requires room { HasRoom self.old.terms }
+        ensures row { AddsRow factors.now i making.old making.new result }
+        ensures charged { IsCharged factors.now i making.old making.new }
+        ensures room { HasRoom self.new.terms }
+    {
+        let _columns = factors.a.columns();
+        let summed = self.sum_cells(factors, factors.a.row(i));
+        making.steps += summed.steps;
+        put_sum(summed.sum, &mut making.rows)?;
+        making.rows.end_row()
+    }
+}
+
+/// Puts the sum of a row's one column, if there is one, into the open row.
+#[inline(always)]
+fn put_sum(sum: Option<u64>, rows: &mut Rows) -> Result<(), AllocError>
+    requires column { rows.old.columns ≡ 1 }
+    requires none_open { rows.old.opened ≡ [] }
+    ensures { OnOk result (rows.new ≡ record rows.old { opened = cell_at 0 sum }) }
+{
+    match sum {
+        Some(sum) => rows.push(0, sum),
+        None => Ok(()),
+    }
+}
+
+impl Room for Summing {
+    ghost is_ready = { λ columns s. (columns ≡ 1) × HasRoom s.terms };
+
+    /// Work linear in the words of A's row. Of a row that doesn't pass the mask nothing is read.
+    fn fill_row(
+        &mut self,
+        factors: &MaskedFactors,
+        i: u64,
+        making: &mut Making,
+    ) -> Result<(), AllocError> {
+        if !lets_pass(factors.mask, i) {
+            return making.rows.end_row();
+        }
+        self.fill_open(factors, i, making)
+    }
+}

@@ -1,0 +1,11 @@
+-- What contracts see of the room of a session (this project's own).
+use Rattle.std.specs.Prelude.{ℕ}
+
+-- how many reads the session may make, and on how many workers each of its batches runs
+pub record RoomState : Type 0 where
+  pub reads : ℕ
+  pub workers : ℕ
+
+-- the room of a session that may make as many reads as any, 2^32
+abbrev pub full_room : ℕ → RoomState
+full_room workers = record { reads = 4294967296; workers = workers }

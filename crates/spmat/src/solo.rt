@@ -1,0 +1,114 @@
+//! One session on two devices, within a purse of its own.
+ghost use Rattle.std.specs.Prelude.{◌≡◌, ◌≤◌, ◌<◌, ◌^◌, [], IfOk};
+ghost use Rattle.step_purse.specs.Passes.{IsPassOf};
+ghost use Rattle.step_purse.specs.Histories.{newcomer};
+ghost use Rattle.step_purse.specs.Shares.{whole};
+ghost use Rattle.session.specs.Rooms.{full_room};
+ghost use Rattle.spmat.specs.inner.Running.{Ran};
+
+use listener::{End, FromRead, Room, ServeFault, Sink, Source, ToWrite, serve_pass};
+use std::alloc::{AllocError, Global};
+use std::io::{Read, Write};
+use std::marker::Brand;
+use std::sync::Wait;
+use std::sync::ledger::{Blank, Ledger};
+use std::thread::Threads;
+use step_purse::{Pass, Purse};
+
+/// What a session works with: a purse, its one pass, and the room.
+#[derive(Drop)]
+struct Prepared {
+    purse: Purse,
+    pass: Pass,
+    room: Room,
+}
+
+/// A purse of so many steps, and the room of a session each of whose batches runs on so many workers.
+fn prepare(alloc: Global, steps: u64, workers: u64) -> Result<Prepared, AllocError>
+    requires steps { steps ≤ 2 ^ 62 }
+    requires some { 1 ≤ workers }
+    requires few { workers ≤ 64 }
+    ensures own { IfOk result (λ p. IsPassOf p.purse p.pass) }
+    ensures allowance { IfOk result (λ p. p.purse.allowance ≡ steps) }
+    ensures unused { IfOk result (λ p. p.pass.known ≡ newcomer [] whole) }
+    ensures room { IfOk result (λ p. p.room ≡ full_room workers) }
+{
+    let (purse, pass) = Purse::open(alloc, steps)?;
+    let room = Room::new(alloc, workers)?;
+    Ok(Prepared { purse, pass, room })
+}
+
+/// Serves one session on these devices, within a purse of so many steps, of which nobody else has a pass. Each batch runs on so
+/// many workers.
+///
+/// # Errors
+///
+/// There was no memory for the purse or the room, and then nothing was read or written; a device failed; or more than
+/// 4,294,967,296 reads were needed.
+pub fn run<I: Source, O: Sink, H: Threads + Wait + AllocGlobal>(
+    rt: &H,
+    source: &mut I,
+    sink: &mut O,
+    steps: u64,
+    workers: u64,
+) -> Result<End, ServeFault>
+    requires steps { steps ≤ 2 ^ 62 }
+    requires some { 1 ≤ workers }
+    requires few { workers ≤ 64 }
+    ensures { Ran steps (record { source = I.state source.old; sink = O.state sink.old })
+        (record { source = I.state source.new; sink = O.state sink.new }) result }
+{
+    let Ok(prepared) = prepare(rt.alloc(), steps, workers) else {
+        return Err(ServeFault::Memory);
+    };
+    let Prepared { purse, pass, room } = prepared;
+    let served = serve_pass(rt, room, source, sink, &purse, pass);
+    served.outcome
+}
+
+/// As `run`, over a reader and a writer whose calls are counted by ledgers of the caller's.
+fn run_counted<
+    R: Read + Drop,
+    W: Write + Drop,
+    H: Threads + Wait + AllocGlobal,
+    A: Ledger,
+    B: Ledger,
+    C: Ledger,
+    D: Ledger,
+>(
+    rt: &H,
+    reader: R,
+    writer: W,
+    steps: u64,
+    workers: u64,
+    blanks: (Blank, Blank, Blank, Blank),
+) -> Result<End, ServeFault>
+    requires steps { steps ≤ 2 ^ 62 }
+    requires some { 1 ≤ workers }
+    requires few { workers ≤ 64 }
+    requires reads { (blanks.0.name ≡ A.name) × (blanks.0.parts ≡ A.parts) × (0 < blanks.0.parts) }
+    requires failed_reads { (blanks.1.name ≡ B.name) × (blanks.1.parts ≡ B.parts) × (0 < blanks.1.parts) }
+    requires writes { (blanks.2.name ≡ C.name) × (blanks.2.parts ≡ C.parts) × (0 < blanks.2.parts) }
+    requires failed_writes { (blanks.3.name ≡ D.name) × (blanks.3.parts ≡ D.parts) × (0 < blanks.3.parts) }
+{
+    let (reads, failed_reads, writes, failed_writes) = blanks;
+    let mut source = FromRead::<R, A, B>::new(reader, reads, failed_reads);
+    let mut sink = ToWrite::<W, C, D>::new(writer, writes, failed_writes);
+    run(rt, &mut source, &mut sink, steps, workers)
+}
+
+/// As `run`, over a reader and a writer, which end with the session.
+pub fn run_over<R: Read + Drop, W: Write + Drop, H: Threads + Wait + AllocGlobal>(
+    rt: &H,
+    reader: R,
+    writer: W,
+    steps: u64,
+    workers: u64,
+) -> Result<End, ServeFault>
+    requires steps { steps ≤ 2 ^ 62 }
+    requires some { 1 ≤ workers }
+    requires few { workers ≤ 64 }
+{
+    let blanks = (Blank::new(1), Blank::new(1), Blank::new(1), Blank::new(1));
+    run_counted::<R, W, H, Brand, Brand, Brand, Brand>(rt, reader, writer, steps, workers, blanks)
+}

@@ -1,0 +1,41 @@
+"""The manual pages written by hand say what the programs take."""
+import re
+import subprocess
+from typing import Set
+
+from tests.packaging.pages import text_of
+from tests.packaging.rooms import SECONDS, Room, program
+
+OPTION = r'--[a-z]+'
+
+
+def helped(*words: str) -> Set[str]:
+    """The options that `--help` tells of."""
+    said = subprocess.run([program()] + list(words) + ['--help'], stdout=subprocess.PIPE, stderr=subprocess.STDOUT, text=True,
+                          timeout=SECONDS, check=False)
+    return set(re.findall(OPTION, said.stdout))
+
+
+def plain(page: str) -> str:
+    """A page of the manual without what troff makes of it."""
+    return text_of('packaging/man/' + page).replace('\\-', '-').replace('\\~', ' ')
+
+
+class Manual(Room):
+    def test_options(self) -> None:
+        section = plain('spmat.1').split('.SH OPTIONS')[1].split('.SH')[0]
+        described = set(re.findall(r'^\.BI? (%s)' % OPTION, section, re.M))
+        self.assertEqual(described, helped() | helped('run') | helped('serve'))
+
+    def test_synopsis(self) -> None:
+        synopsis = plain('spmat.1').split('.SH SYNOPSIS')[1].split('.SH')[0].split('.br\n')
+        for part in synopsis[:2]:
+            command = re.search(r'\.B spmat (\w+)', part)
+            assert command is not None
+            self.assertEqual(set(re.findall(OPTION, part)), helped(command.group(1)) - {'--help'})
+
+    def test_statuses(self) -> None:
+        """Those of docs/protocol.md."""
+        section = plain('spmat.1').split('.SH EXIT STATUS')[1].split('.SH')[0]
+        table = text_of('docs/protocol.md').split('| Status | When |')[1].split('\n\n')[0]
+        self.assertEqual(re.findall(r'^\.B (\d+)$', section, re.M), re.findall(r'^\| (\d+) \|', table, re.M))

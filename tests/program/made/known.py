@@ -1,0 +1,80 @@
+"""Folds and products by operators that the program knows by their code, and by operators that nearly are one: another register, another order, another
+width, one more instruction, a jump over two. Values and steps are those of the plain server in Python (reference)."""
+import os
+import subprocess
+import sys
+from typing import Callable, Dict, Iterator
+
+from tests.lib.commands import TOP, assembly_command, matrix_command, matrix_text, run_words
+from tests.lib.runs import Wrong, run_session
+from tests.program.made.sizes import many_entries
+
+REFERENCE = os.path.join(TOP, 'reference', '__main__.py')
+OPERATIONS = ('add', 'sub', 'mul', 'div', 'mod', 'sdiv', 'smod', 'or', 'and', 'xor', 'lsh', 'rsh', 'arsh', 'mov')
+CONDITIONS = ('eq', 'ne', 'gt', 'ge', 'lt', 'le', 'set', 'sgt', 'sge', 'slt', 'sle')
+
+
+def operators() -> Iterator[str]:
+    """Assembly texts of binary operators, each in the spellings that are known and in some that are not."""
+    for first, other in (('r1', 'r2'), ('r2', 'r1')):
+        move = 'mov64 r0, %s\n' % first
+        yield move + 'exit\n'
+        yield 'mov32 r0, %s\nexit\n' % first
+        for name in OPERATIONS:
+            yield move + '%s64 r0, %s\nexit\n' % (name, other)
+            yield move + '%s32 r0, %s\nexit\n' % (name, other)
+            yield move + '%s64 r0, %s\nexit\n' % (name, first)
+            yield move + '%s64 r0, 3\nexit\n' % name
+            yield move + '%s64 r0, %s\nadd64 r0, 1\nexit\n' % (name, other)
+            yield 'mov64 r3, %s\n%s64 r3, %s\nmov64 r0, r3\nexit\n' % (first, name, other)
+        for name in CONDITIONS:
+            for left, right in ((first, other), (other, first), ('r0', other), (other, 'r0'), (first, first)):
+                yield move + 'j%s64 %s, %s, 1\nmov64 r0, %s\nexit\n' % (name, left, right, other)
+                yield move + 'j%s32 %s, %s, 1\nmov64 r0, %s\nexit\n' % (name, left, right, other)
+            yield move + 'j%s64 %s, %s, 1\nmov64 r0, 7\nexit\n' % (name, first, other)
+            yield move + 'j%s64 %s, %s, 2\nmov64 r0, %s\nadd64 r0, 1\nexit\n' % (name, first, other, other)
+
+
+def folds_by_known_operators(program: str) -> None:
+    """Each operator reduces rows of no entry, of one, and of up to thirty, with values of both signs and all lengths."""
+    entries = [entry for entry in many_entries(300, 30) if entry[1] <= entry[0] * 3] + [(12, 1, 5), (13, 1, -1), (13, 2, 0)]
+    given = matrix_command('A', matrix_text(14, 30, entries))
+    assemblies = 0
+    for text in operators():
+        given += assembly_command('f', text.encode(), 'binary') + b'reduce R f A\nrun\nshow R\n'
+        assemblies += 1
+    run_as_reference(program, given, b'ok run 1 ', assemblies)
+
+
+def products_by_known_operators(program: str) -> None:
+    """Each operator adds, multiplies, and does both under a mask and where terms are few beside the columns. The first factor has rows of
+    no entry, of one, and of up to six; the second a row of no entry, and one of more entries than are called together."""
+    factor = [(2, 3, -7), (3, 1, 5), (3, 4, 1 << 40), (4, 3, 0), (4, 5, -1), (4, 6, 3)] + [(5, k, k * k - 9) for k in range(1, 7)]
+    second = [(k, j, value) for k, j, value in many_entries(40, 10) if j % 4 != k % 4] + [(6, j, j - 35) for j in range(1, 71)]
+    wide = [(k, j * 9973 + k * (k % 2), value) for k, j, value in many_entries(18, 3)]
+    mask = [(i, j, 1) for i in (2, 4, 5) for j in range(i, 71, 3)]
+    given = assembly_command('plus', b'mov64 r0, r1\nadd64 r0, r2\nexit\n', 'binary')
+    given += assembly_command('times', b'mov64 r0, r1\nmul64 r0, r2\nexit\n', 'binary')
+    for name, rows, columns, entries in (('A', 5, 6, factor), ('B', 6, 70, second), ('W', 6, 100000, wide), ('K', 5, 70, mask)):
+        given += matrix_command(name, matrix_text(rows, columns, entries))
+    assemblies = 0
+    for text in operators():
+        given += assembly_command('f', text.encode(), 'binary')
+        given += b'product P f times A B\nproduct Q plus f A B\nproduct R f f A B mask K\nproduct S f f A W\nrun\n'
+        given += b'show P\nshow Q\nshow R\nshow S\n'
+        assemblies += 1
+    run_as_reference(program, given, b'ok run 4 ', assemblies)
+
+
+def run_as_reference(program: str, given: bytes, ran: bytes, times: int) -> None:
+    """The program replies to a session what the reference does, which ran so many times."""
+    done = subprocess.run([sys.executable, REFERENCE] + run_words(), input=given, stdout=subprocess.PIPE, check=True)
+    if done.stdout.count(ran) != times:
+        raise Wrong('the reference ran %d of %d operators' % (done.stdout.count(ran), times))
+    run_session(program, run_words(), given, done.stdout)
+
+
+KNOWN_CASES: Dict[str, Callable[[str], None]] = {
+    'folds-by-known-operators': folds_by_known_operators,
+    'products-by-known-operators': products_by_known_operators,
+}

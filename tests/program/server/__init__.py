@@ -1,0 +1,1 @@
+"""What tests/program/served does to `spmat serve`, over the loopback."""

@@ -1,0 +1,202 @@
+"""What tools/release makes of the built program: the same bytes from two folders, and what they hold; and that it can be installed."""
+import glob
+import hashlib
+import json
+import lzma
+import os
+import re
+import shutil
+import subprocess
+import sys
+import tarfile
+import tempfile
+import unittest
+import zipfile
+from typing import Dict, List
+
+from tests.releases.copies import PROGRAM, TOP, Copy, needs_git
+
+WHOLE = False                                      # the Debian packages too, and every Python of this machine
+SECONDS = 600
+FIRST_SESSION = re.compile(r'A first session in Python:\n\n((?:    .*\n)+)\nprints\n\n((?:    .*\n)+)')
+
+
+def sum_of(data: bytes) -> str:
+    return hashlib.sha256(data).hexdigest()
+
+
+def pythons() -> List[str]:
+    """The Pythons of this machine that the client is for; this one alone unless all are asked for."""
+    found = [sys.executable]
+    if WHOLE:
+        found = sorted(glob.glob(os.path.expanduser('~/.pyenv/versions/*/bin/python3'))) + ['/usr/bin/python3']
+    asked = 'import sys, venv; sys.exit(sys.version_info < (3, 9))'
+    return [python for python in found
+            if os.path.exists(python) and subprocess.run([python, '-c', asked], stderr=subprocess.DEVNULL, check=False).returncode == 0]
+
+
+def first_session() -> List[str]:
+    """The README's first session, and what it prints."""
+    with open(os.path.join(TOP, 'README.md'), encoding='utf-8') as file:
+        found = FIRST_SESSION.search(file.read())
+    assert found is not None
+    return [re.sub('^    ', '', text, flags=re.M) for text in found.groups()]
+
+
+@needs_git
+class Made(unittest.TestCase):
+    """Both releases are made once, for all tests."""
+    kinds: List[str]
+    rooms: List['tempfile.TemporaryDirectory[str]'] = []
+    made: List[Dict[str, bytes]] = []
+    folder: str
+
+    @classmethod
+    def setUpClass(cls) -> None:
+        program = os.path.abspath(os.environ.get('SPMAT') or os.path.join(TOP, PROGRAM))
+        if not os.access(program, os.X_OK):
+            raise unittest.SkipTest('no program %s' % program)
+        if shutil.which('rt') is None:
+            raise unittest.SkipTest('no rt')
+        cls.kinds = cls.parts()
+        cls.rooms = [tempfile.TemporaryDirectory(prefix=prefix) for prefix in ('spmat-one-', 'spmat-the-other-folder-')]
+        cls.made = []
+        first = None
+        for room in cls.rooms:
+            copy = first = Copy(os.path.join(room.name, 'tree'), first)
+            os.makedirs(os.path.dirname(copy.path(PROGRAM)), exist_ok=True)
+            shutil.copy(program, copy.path(PROGRAM))
+            copy.pass_gate()
+            cls.folder = os.path.join(room.name, 'made')
+            told = copy.release('--to', cls.folder, '--only', *cls.kinds)
+            if told.returncode:
+                raise AssertionError(told.stdout)
+            cls.made.append({name: cls.bytes_of(os.path.join(cls.folder, name)) for name in sorted(os.listdir(cls.folder))})
+
+    @classmethod
+    def tearDownClass(cls) -> None:
+        for room in cls.rooms:
+            room.cleanup()
+
+    @staticmethod
+    def bytes_of(path: str) -> bytes:
+        with open(path, 'rb') as file:
+            return file.read()
+
+    @staticmethod
+    def parts() -> List[str]:
+        """What can be made here."""
+        asked = {'debian': 'from tools.releasing import debian; debian.check_tools()',
+                 'wheels': 'from tools.releasing import wheels; wheels.builder()',
+                 'archive': 'import shutil, sys; sys.exit(shutil.which("lowdown") is None)', 'bill': ''}
+        if not WHOLE:
+            del asked['debian']
+        return [part for part, text in asked.items()
+                if subprocess.run([sys.executable, '-c', text], cwd=TOP, stderr=subprocess.DEVNULL, check=False).returncode == 0]
+
+    def wants(self, part: str) -> None:
+        if part not in self.kinds:
+            self.skipTest('nothing here makes %s' % part if WHOLE or part != 'debian' else 'tests/release --all makes packages')
+
+    def one(self, form: str) -> bytes:
+        (name,) = (name for name in self.made[0] if re.fullmatch(form, name))
+        return self.made[0][name]
+
+    def program(self) -> bytes:
+        return self.bytes_of(os.path.join(self.rooms[0].name, 'tree', PROGRAM))
+
+    def test_the_same_bytes_from_two_folders(self) -> None:
+        for name in sorted(set(self.made[0]) | set(self.made[1])):
+            with self.subTest(name=name):
+                self.assertEqual(sum_of(self.made[0].get(name, b'')), sum_of(self.made[1].get(name, b'')))
+
+    def test_sums(self) -> None:
+        lines = self.one('SHA256SUMS').decode().splitlines()
+        self.assertEqual({name: total for total, name in (line.split('  ') for line in lines)},
+                         {name: sum_of(data) for name, data in self.made[0].items() if name != 'SHA256SUMS'})
+
+    def test_the_bill(self) -> None:
+        told = json.loads(self.one(r'spmat-[\d.]+\.cdx\.json'))
+        self.assertEqual((told['bomFormat'], told['specVersion']), ('CycloneDX', '1.5'))
+        self.assertEqual(told['metadata']['component']['hashes'][0]['content'], sum_of(self.program()))
+        known = [part['bom-ref'] for part in told['components']] + ['release']
+        self.assertEqual(len(known), len(set(known)))
+        links = {link['ref']: link['dependsOn'] for link in told['dependencies']}
+        self.assertEqual(sorted(links), sorted(known))
+        self.assertEqual({name for names in links.values() for name in names} - set(known), set())
+        reached, left = set(), ['release']
+        while left:
+            reached.add(left[-1])
+            left.extend(name for name in links[left.pop()] if name not in reached)
+        self.assertEqual(reached, set(known))
+        for name in ('clap', 'strsim', 'hex', 'itoa', 'thiserror', 'crossbeam_utils', 'bpf_verify', 'glibc'):
+            self.assertIn(name, known)
+
+    def test_the_archive(self) -> None:
+        self.wants('archive')
+        path = os.path.join(self.folder, next(name for name in self.made[0] if name.endswith('.tar.xz')))
+        with lzma.open(path) as data, tarfile.open(fileobj=data) as held:
+            names = {member.name.partition('/')[2]: member for member in held}
+            program = held.extractfile(names['bin/spmat'])
+            assert program is not None
+            self.assertEqual(sum_of(program.read()), sum_of(self.program()))
+        self.assertEqual(names['bin/spmat'].mode, 0o755)
+        for name in ('share/man/man1/spmat.1', 'share/man/man7/spmat-server.7', 'lib/systemd/system/spmat@.service',
+                     'share/doc/spmat/THIRD-PARTY.md', 'share/doc/spmat/docs/protocol.md', 'bin/spmat-health'):
+            self.assertIn(name, names)
+
+    def test_the_wheels(self) -> None:
+        self.wants('wheels')
+        for name in self.made[0]:
+            if not name.endswith('.whl'):
+                continue
+            with zipfile.ZipFile(os.path.join(self.folder, name)) as held:
+                self.assertIsNone(held.testzip())
+                carried = 'spmat/carried/spmat'
+                self.assertEqual(carried in held.namelist(), 'manylinux_2_34_x86_64' in name)
+                if carried in held.namelist():
+                    self.assertEqual(sum_of(held.read(carried)), sum_of(self.program()))
+                    self.assertEqual(held.getinfo(carried).external_attr >> 16 & 0o777, 0o755)
+                listed = held.read(next(entry for entry in held.namelist() if entry.endswith('/RECORD'))).decode().splitlines()
+                self.assertEqual(sorted(line.split(',')[0] for line in listed), sorted(held.namelist()))
+
+    def test_a_fresh_environment(self) -> None:
+        """`pip install` of the wheel, and then the README's first session, with nothing else."""
+        self.wants('wheels')
+        for python in pythons():
+            with self.subTest(python=python), tempfile.TemporaryDirectory(prefix='spmat-venv-') as room:
+                self.use_in_fresh(python, room)
+
+    def use_in_fresh(self, python: str, room: str) -> None:
+        """Installs the wheel for a Python, and uses what it brings."""
+        text, printed = first_session()
+        self.ran(room, [python, '-m', 'venv', 'env'])
+        self.ran(room, ['env/bin/pip', 'install', '-q', '--no-index', '--disable-pip-version-check', '--find-links', self.folder, 'spmat'])
+        self.assertEqual(self.ran(room, ['env/bin/python', '-c', text]), printed)
+        with open(os.path.join(TOP, 'VERSION'), encoding='ascii') as file:
+            self.assertEqual(self.ran(room, ['env/bin/python', '-c', 'import spmat; print(spmat.__version__)']), file.read())
+        self.assertEqual(self.ran(room, ['env/bin/spmat', 'run', '--steps', '5', '--workers', '1'], 'budget\n'), 'ok budget 5 0 0\n')
+
+    def ran(self, room: str, words: List[str], given: str = '') -> str:
+        """What a command prints in an environment with nothing in it; it says nothing on standard error."""
+        told = subprocess.run(words, cwd=room, env={'PATH': '/usr/bin:/bin', 'HOME': room}, input=given, stdout=subprocess.PIPE,
+                              stderr=subprocess.PIPE, text=True, timeout=SECONDS, check=False)
+        self.assertEqual((told.returncode, told.stderr), (0, ''), words)
+        return told.stdout
+
+    def test_the_packages(self) -> None:
+        self.wants('debian')
+        names = [name for name in self.made[0] if name.endswith('.deb')]
+        self.assertEqual([re.sub(r'_[\d.]+_', '_', name) for name in names], ['python3-spmat_all.deb', 'spmat_amd64.deb'])
+        with tempfile.TemporaryDirectory(prefix='spmat-deb-') as room:
+            for name in names:
+                subprocess.run(['dpkg-deb', '-x', os.path.join(self.folder, name), room], check=True)
+            self.assertEqual(sum_of(self.bytes_of(os.path.join(room, 'usr/bin/spmat'))), sum_of(self.program()))
+            for path in ('usr/share/man/man1/spmat.1.gz', 'usr/share/man/man7/spmat-protocol.7.gz', 'usr/share/man/man7/spmat-operators.7.gz',
+                         'usr/share/man/man7/spmat-server.7.gz', 'usr/bin/spmat-health', 'etc/default/spmat', 'usr/lib/sysusers.d/spmat.conf',
+                         'usr/lib/python3/dist-packages/spmat/VERSION', 'usr/share/doc/spmat/copyright',
+                         'usr/share/doc/spmat/CHANGELOG.md'):
+                self.assertTrue(os.path.exists(os.path.join(room, path)), path)
+            units = {os.path.basename(path) for path in glob.glob(os.path.join(room, '*/systemd/system/*')) +
+                     glob.glob(os.path.join(room, 'usr/lib/systemd/system/*'))}
+            self.assertEqual(units, {'spmat.service', 'spmat@.service', 'spmat.socket'})

@@ -1,0 +1,96 @@
+"""What stands against a release: `faults` of a tree that is being worked on, and what beside that has to hold for a release."""
+import os
+import re
+import subprocess
+from typing import Dict, List, Optional
+
+from tools.releasing import gate, parts, tree
+
+# Where the version stands beside VERSION, as nothing reads it there: each with a form for it.
+PROGRAMS = 'crates/command_line/src/version.rt'
+CLIENT = 'clients/python/spmat/VERSION'             # a copy: the gate's prover refuses a tree with links
+PLACES = {'CHANGELOG.md': r'^## (\d[^ \n]*)', PROGRAMS: r'^pub const VERSION: &str = "(.+)";$', CLIENT: r'^(.+)$'}
+# Names of files of a release, in the documents.
+RELEASED = r'\bspmat[_-](\d+(?:\.\d+)+)[_-]'
+DOCUMENTS = ('README.md', 'docs/server.md', 'clients/python/README.md')
+# Where the toolchain that proves is named.
+PROVED = ('README.md', 'CHANGELOG.md', 'docs/proved.md')
+
+
+def places() -> Dict[str, str]:
+    """The version that each place tells which doesn't read VERSION."""
+    found = {}
+    for path, form in PLACES.items():
+        match = re.search(form, tree.text_of(path), re.M) if os.path.exists(tree.path_of(path)) else None
+        if match:
+            found[path] = match.group(1)
+    for path in DOCUMENTS:
+        found.update(('%s (%s)' % (path, told), told) for told in re.findall(RELEASED, tree.text_of(path)))
+    return found
+
+
+def version_faults() -> List[str]:
+    """Places that tell another version than VERSION does."""
+    version = tree.version()
+    out = ['VERSION is %s, and %s says %s' % (version, path, other) for path, other in sorted(places().items()) if other != version]
+    if not re.fullmatch(r'\d+\.\d+\.\d+', version):
+        out.append('VERSION is three numbers with points between them, not %r' % version)
+    if 'CHANGELOG.md' not in places():
+        out.append('CHANGELOG.md has no heading with a version')
+    if CLIENT not in places():
+        out.append('%s has no version' % CLIENT)
+    return out
+
+
+def toolchains() -> Dict[str, str]:
+    """The toolchains that the documents name, kits and logics, each with the places where."""
+    found: Dict[str, List[str]] = {}
+    for path in PROVED:
+        for kind, name in re.findall(r'(rattle-kit-|logic )`?(\w+)', tree.text_of(path)):
+            if kind == 'rattle-kit-' or re.fullmatch('[0-9a-f]{16}', name):
+                found.setdefault(kind + name, []).append(path)
+    return {name: ', '.join(sorted(set(where))) for name, where in sorted(found.items())}
+
+
+def toolchain_faults() -> List[str]:
+    """Documents that name no toolchain, or not all the same one."""
+    told = toolchains()
+    if len(told) == 2 and all(any(path in where for where in told.values()) for path in PROVED):
+        return []
+    return ['the documents don\'t name one toolchain and its logic each: ' + '; '.join('%s in %s' % pair for pair in told.items())]
+
+
+def other_toolchain() -> Optional[str]:
+    """How the toolchain of this machine differs from the one that the documents name, None where it doesn't."""
+    here = tree.toolchain()
+    if here is None:
+        return 'there is no toolchain here (rt)'
+    if set(toolchains()) == {here.kit, 'logic ' + here.logic}:
+        return None
+    return 'the toolchain here is %s, logic %s, and the documents name %s' % (here.kit, here.logic, ', '.join(toolchains()))
+
+
+def source_faults() -> List[str]:
+    """Data of others that doesn't say where it comes from."""
+    return [] if 'Zachary' in tree.text_of('docs/karate.mtx') else ['docs/karate.mtx doesn\'t name its source']
+
+
+def faults() -> List[str]:
+    """What stands against a release of this tree, whatever was changed in it since its last commit, and before any gate has passed."""
+    return version_faults() + toolchain_faults() + parts.faults() + source_faults()
+
+
+def program_faults() -> List[str]:
+    """A program that tells another version, or that runs on another kind of machine."""
+    path = tree.path_of(tree.PROGRAM)
+    if not os.path.exists(path) or PROGRAMS not in places():
+        return []
+    told = subprocess.run([path, '--version'], stdout=subprocess.PIPE, stderr=subprocess.DEVNULL, check=False).stdout
+    return [] if told == b'spmat %s\n' % tree.version().encode() else ['the program says of its version: %r' % told]
+
+
+def release_faults() -> List[str]:
+    """What stands against a release, all of it."""
+    out = ['the tree is not clean: ' + line for line in tree.changed()[:10]]
+    other = other_toolchain()
+    return out + faults() + ([other] if other else []) + gate.faults() + program_faults()

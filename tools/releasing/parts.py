@@ -1,0 +1,71 @@
+"""The libraries of others that are compiled into the program, with their licences. THIRD-PARTY.md has the notices."""
+import os
+import re
+from typing import Dict, List, NamedTuple
+
+from tools.releasing import tree
+
+NOTICES = 'THIRD-PARTY.md'
+
+
+class Part(NamedTuple):
+    """A library that the toolchain has as a port: its name there, the original and its version, its licence, and the notice's file."""
+    name: str
+    original: str
+    licence: str
+    notice: str
+
+
+EITHER = 'MIT OR Apache-2.0'
+PARTS = [
+    Part('clap', 'clap_builder 4.6.7, clap_lex 1.1.1', EITHER, 'LICENSE-MIT'),
+    Part('crossbeam_utils', 'crossbeam-utils 0.8.23', EITHER, 'LICENSE-MIT'),
+    Part('hex', 'hex 0.4.3', EITHER, 'LICENSE-MIT'),
+    Part('itoa', 'itoa 1.0.18', EITHER, 'LICENSE'),
+    Part('strsim', 'strsim 0.11.1', 'MIT', 'LICENSE'),
+    Part('thiserror', 'thiserror 2.0.21', EITHER, 'LICENSE'),
+]
+# Libraries of the toolchain's own, beside core and std: they are no ports, and have no licence file.
+OWN = ('atomic_table', 'libc', 'os')
+# What a library of the toolchain stands on, beside its standard library, and crates.txt doesn't name.
+BELOW = {'clap': ['strsim']}
+
+
+def crates() -> List[str]:
+    """The crates of the repository that are in the program: those without tests, in order."""
+    return sorted(name for name in graph() if not name.endswith('_tests'))
+
+
+def graph() -> Dict[str, List[str]]:
+    """What each crate of crates.txt names."""
+    lines = [line.split(':') for line in tree.text_of('crates.txt').splitlines() if ':' in line and not line.startswith('#')]
+    return {head.split()[0]: names.split() for head, names in lines}
+
+
+def named() -> List[str]:
+    """The libraries of the toolchain that the crates of the program name, and those below them."""
+    own = graph()
+    found = {name for crate in crates() for name in own[crate] if name not in own}
+    return sorted(found | {below for name in found for below in BELOW.get(name, [])})
+
+
+def faults() -> List[str]:
+    """What is missing in the list of parts or in the notices."""
+    out = []
+    listed, found = [part.name for part in PARTS], [name for name in named() if name not in OWN]
+    if found != listed:
+        out.append('the program has the libraries %s, and tools/releasing/parts.py lists %s' % (', '.join(found), ', '.join(listed)))
+    notices, kit = tree.text_of(NOTICES), tree.kit_folder()
+    for part in PARTS:
+        if not re.search(r'^#+ .*\b%s\b' % part.name, notices, re.M):
+            out.append('%s has no heading for %s' % (NOTICES, part.name))
+        path = os.path.join(kit, 'rattle', part.name, part.notice) if kit else None
+        if path and os.path.exists(path) and quoted(path) not in notices:
+            out.append('%s doesn\'t have the notice of %s as the toolchain has it' % (NOTICES, part.name))
+    return out
+
+
+def quoted(path: str) -> str:
+    """The text of a licence as the notices have it: indented, as it is otherwise."""
+    with open(path, encoding='utf-8') as file:
+        return ''.join(('    ' + line).rstrip() + '\n' for line in file.read().strip().split('\n'))

@@ -1,0 +1,88 @@
+"""The repository as a release sees it: its version, its commit, its files, and the toolchain of this machine."""
+import hashlib
+import os
+import re
+import shutil
+import subprocess
+from typing import List, NamedTuple, Optional
+
+TOP = os.path.dirname(os.path.dirname(os.path.dirname(os.path.abspath(__file__))))
+CLIENT = 'clients/python/'
+# What of it isn't installed: tests, and what makes a checkout look installed.
+LEFT_OUT = tuple(CLIENT + folder for folder in ('tests/', 'benchmarks/', 'spmat.dist-info/'))
+PROGRAM = os.path.join('crates', 'spmat', 'out', 'spmat')
+
+
+class Toolchain(NamedTuple):
+    """The name of a toolchain, and that of its logic, as `rt version` and the documents tell them."""
+    kit: str
+    logic: str
+
+
+def path_of(name: str) -> str:
+    """The path of a file of the repository."""
+    return os.path.join(TOP, name)
+
+
+def text_of(name: str) -> str:
+    """The text of a file of the repository."""
+    with open(path_of(name), encoding='utf-8') as file:
+        return file.read()
+
+
+def bytes_of(path: str) -> bytes:
+    with open(path, 'rb') as file:
+        return file.read()
+
+
+def sum_of(path: str) -> str:
+    """The SHA-256 of a file."""
+    return hashlib.sha256(bytes_of(path)).hexdigest()
+
+
+def told(*words: str) -> str:
+    """What a command prints, run at the top."""
+    return subprocess.run(words, cwd=TOP, stdout=subprocess.PIPE, check=True, text=True).stdout.strip()
+
+
+def version() -> str:
+    """The version, as the file VERSION has it."""
+    return text_of('VERSION').strip()
+
+
+def commit() -> str:
+    return told('git', 'rev-parse', 'HEAD')
+
+
+def commit_time() -> int:
+    """When the commit was made, in seconds since 1970: the time that everything in a release bears."""
+    return int(told('git', 'log', '-1', '--format=%ct'))
+
+
+def changed() -> List[str]:
+    """What differs from the commit: a line each for files that were changed, and for files that git doesn't know."""
+    return told('git', 'status', '--porcelain').splitlines()
+
+
+def files() -> List[str]:
+    """The files of the commit, in order."""
+    return sorted(told('git', 'ls-files', '-z').strip('\0').split('\0'))
+
+
+def is_client(name: str) -> bool:
+    """Whether a file belongs to what is installed of the Python client."""
+    return name.startswith(CLIENT) and not name.startswith(LEFT_OUT)
+
+
+def toolchain() -> Optional[Toolchain]:
+    """The toolchain of this machine, None where it has none."""
+    if shutil.which('rt') is None:
+        return None
+    found = re.match(r'(\S+) logic (\S+)', told('rt', 'version'))
+    return Toolchain(*found.groups()) if found else None
+
+
+def kit_folder() -> Optional[str]:
+    """Where the toolchain of this machine lies."""
+    found = shutil.which('rt')
+    return os.path.dirname(os.path.dirname(os.path.realpath(found))) if found else None
