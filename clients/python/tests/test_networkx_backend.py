@@ -295,8 +295,9 @@ class Sessions(Case):
         ring = networkx.cycle_graph(5)
         held = graph(ring)
         want = networkx.triangles(held)
-        sessions.session().connection._channel.process.kill()
-        sessions.session().connection._channel.process.wait()
+        process = sessions.session().connection._channel.process
+        process.kill()
+        process.wait()
         self.assertEqual(networkx.triangles(held), want)
         sessions.session().connection._channel.process.kill()
         self.assertEqual(networkx.triangles(held), want)
