@@ -94,9 +94,9 @@ class Algorithms(unittest.TestCase):
 
     def test_trusses_and_cores(self):
         def look(graph, near, G, _):
-            for k in (3, 4, 5, 7):
+            for k in (2, 3, 4, 5, 7):
                 self.assertEqual(algorithms.k_truss(G, k).to_dict(), graphs.truss(near, k))
-            for k in (1, 2, 3, 4, 6):
+            for k in (0, 1, 2, 3, 4, 6):
                 self.assertEqual(algorithms.k_core(G, k).to_dict(), {(i, 0): many for i, many in graphs.core(near, k).items()})
         self.each(graphs.UNDIRECTED, look)
 
@@ -164,7 +164,7 @@ class Algorithms(unittest.TestCase):
                     function(G, 0, target=source if source is not None else 7)
             with self.assertRaisesRegex(ValueError, 'transpose'):
                 function(G, 0, wide)
-        for call in (lambda: algorithms.k_truss(G, 2), lambda: algorithms.k_core(G, 0), lambda: algorithms.pagerank(G, damping=1),
+        for call in (lambda: algorithms.k_truss(G, 1), lambda: algorithms.k_core(G, -1), lambda: algorithms.pagerank(G, damping=1),
                      lambda: algorithms.pagerank(G, tolerance=0), lambda: algorithms.pagerank(G, scale=1 << 53),
                      lambda: algorithms.clustering(G, 0)):
             with self.assertRaises(ValueError):

@@ -99,10 +99,10 @@ class Networkx(unittest.TestCase):
 
     def test_trusses_and_cores(self):
         def look(g, G, _):
-            for k in (3, 4, 5):
+            for k in (2, 3, 4, 5):
                 want = networkx.k_truss(g, k).edges()
                 self.assertEqual(set(algorithms.k_truss(G, k).to_dict()), {pair for i, j in want for pair in ((i, j), (j, i))})
-            for k in (1, 2, 3, 4):
+            for k in (0, 1, 2, 3, 4):
                 core = networkx.k_core(g, k)
                 self.assertEqual(algorithms.k_core(G, k).to_dict(), {(i, 0): d for i, d in core.degree()})
         self.each(look, directed=False)

@@ -85,21 +85,23 @@ class Peeling(Generic[M]):
 
 def k_core(G: M, k: int, progress: Progress = None, *, check: bool = True) -> M:
     """The vertices of the largest part of an undirected graph without loops in which each has at least k neighbours, as a column;
-    the value is the number of them.
+    the value is the number of them. With k = 0 these are all vertices.
 
     `progress('round', i, 0)` is called after each round. In each those fall that have too few neighbours left, and push that along
     their edges: no other vertex is looked at.
 
     Runs: 1 a round, and 2; 2 more a round in which many fall. Steps: up to 5 an edge; 4 a vertex and round in which many fall.
     GraphBLAS: `vxm` over plus and first of those that fell. LAGraph: `LAGraph_KCore`. networkx: `k_core`. Raises ValueError
-    where k is below 1, and where the graph has loops or an edge leads one way alone (3 jobs, 4 runs, 18 steps an edge and 5 a
+    where k is below 0, and where the graph has loops or an edge leads one way alone (3 jobs, 4 runs, 18 steps an edge and 5 a
     vertex, once; `check=False` leaves it out).
     """
     order(G)
-    if k < 1:
-        raise ValueError('a k-core has k of 1 or above')
+    if k < 0:
+        raise ValueError('a k-core has k of 0 or above')
     check_undirected(G, check)
     peeling = Peeling(G, progress)
+    if k == 0:
+        return beside(G, peeling.left.column(G, None))
     peeling.peel(k)
     at = peeling.rest()
     return beside(G, Columns(G, G).put(Vector(at, peeling.left.of(at))))
