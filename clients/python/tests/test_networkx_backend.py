@@ -133,9 +133,39 @@ class Conversion(Case):
         made.add_edge('a', 'tail', weight=3)
         networkx.set_node_attributes(made, 5, 'size')
         for function, args in ((networkx.k_core, (2,)), (networkx.k_truss, (3,)), (networkx.k_shell, (1,)),
-                               (networkx.transitive_closure, ())):
+                               (networkx.transitive_closure, ()), (networkx.ego_graph, ('tail', 2)),
+                               (networkx.minimum_spanning_tree, ()), (networkx.maximum_spanning_tree, ())):
             got, want = (function(made, *args, backend=which) for which in ('spmat', 'networkx'))
             self.assertEqual((type(got), got.graph, got._node, got._adj), (type(want), want.graph, want._node, want._adj))
+
+    def test_spanning_edges(self):
+        """Of edges of one weight those that Kruskal's algorithm takes, in its order, with the graph's own attributes."""
+        made = networkx.relabel_nodes(networkx.gnm_random_graph(40, 200, seed=3), lambda node: 'v%d' % (node * 7 % 40))
+        made.add_edge('v1', 'v1', weight=-9)
+        for at, (u, v) in enumerate(made.edges()):
+            if at % 5:
+                made[u][v]['weight'] = at * 11 % 4 - 1
+        for function in (networkx.minimum_spanning_edges, networkx.maximum_spanning_edges):
+            got, want = (list(function(made, backend=which)) for which in ('spmat', 'networkx'))
+            self.assertEqual(got, want)
+            self.assertTrue(all(one[2] is other[2] for one, other in zip(got, want)))
+            got, want = (list(function(made, data=False, weight=None, backend=which)) for which in ('spmat', 'networkx'))
+            self.assertEqual(got, want)
+        with self.assertRaises(NotImplementedError):
+            networkx.minimum_spanning_edges(made, algorithm='prim', backend='spmat')
+
+    def test_betweenness(self):
+        """As near as networkx' tests want it, or left to networkx."""
+        for made in (networkx.gnm_random_graph(40, 100, seed=2), networkx.gnm_random_graph(40, 140, seed=2, directed=True)):
+            for normalized in (True, False):
+                got, want = (networkx.betweenness_centrality(made, normalized=normalized, backend=which)
+                             for which in ('spmat', 'networkx'))
+                self.assertEqual(list(got), list(want))
+                self.assertLess(max(abs(got[node] - want[node]) for node in want), 1e-7)
+        many = networkx.path_graph(100)
+        for args in ({'normalized': False}, {'k': 3, 'seed': 1}, {'endpoints': True}, {'weight': 'weight'}):
+            with self.assertRaises(NotImplementedError):
+                networkx.betweenness_centrality(many, backend='spmat', **args)
 
     def test_once(self):
         """Ten calls convert a graph once, whatever attributes they ask for, until it is changed."""

@@ -30,10 +30,11 @@ LITTLE = Pays(NEVER, NEVER)
 
 SERVED: Dict[str, Pays] = {name: pays for pays, names in ((MUCH, '''
     all_pairs_bellman_ford_path_length all_pairs_dijkstra_path_length all_pairs_shortest_path_length average_clustering
-    average_shortest_path_length center closeness_centrality clustering common_neighbor_centrality diameter eccentricity floyd_warshall
+    average_shortest_path_length betweenness_centrality center closeness_centrality clustering common_neighbor_centrality diameter eccentricity floyd_warshall
     generalized_degree global_efficiency harmonic_centrality k_truss number_of_walks periphery power radius square_clustering
     transitive_closure transitive_closure_dag transitive_reduction transitivity triangles wiener_index'''), (ROUNDS, '''
-    core_number k_core k_corona k_crust k_shell maximal_independent_set negative_edge_cycle onion_layers pagerank
+    core_number k_core k_corona k_crust k_shell maximal_independent_set maximum_spanning_edges maximum_spanning_tree
+    minimum_spanning_edges minimum_spanning_tree negative_edge_cycle onion_layers pagerank
     single_source_bellman_ford_path_length bellman_ford_path_length attracting_components average_neighbor_degree is_semiconnected
     number_strongly_connected_components strongly_connected_components'''), (WALK, '''
     ancestors bfs_layers color connected_components dag_longest_path_length degree_centrality descendants has_cycle
@@ -41,7 +42,7 @@ SERVED: Dict[str, Pays] = {name: pays for pays, names in ((MUCH, '''
     multi_source_dijkstra_path_length node_connected_component number_connected_components number_weakly_connected_components
     out_degree_centrality overall_reciprocity reciprocity s_metric shortest_path_length single_source_dijkstra_path_length
     single_source_shortest_path_length single_target_shortest_path_length weakly_connected_components'''), (LITTLE, '''
-    descendants_at_distance dijkstra_path_length efficiency has_path is_arborescence is_bipartite is_branching is_dominating_set
+    descendants_at_distance dijkstra_path_length efficiency ego_graph has_path is_arborescence is_bipartite is_branching is_dominating_set
     is_forest is_k_regular is_regular is_tournament is_tree isolates jaccard_coefficient node_boundary number_of_isolates
     number_of_selfloops preferential_attachment''')) for name in names.split()}
 """Each function, and when it pays."""

@@ -1,4 +1,4 @@
-"""PageRank."""
+"""PageRank and betweenness."""
 from __future__ import annotations
 
 # networkx calls these by the names of its own arguments, served or not
@@ -53,3 +53,33 @@ def pagerank(G: SpmatGraph, alpha: float = 0.85, personalization: Any = None, ma
     except ValueError as fault:                    # a damping of more digits, or a tolerance that whole numbers don't keep
         raise NotImplementedError(str(fault)) from fault
     return {node: value / ONE for node, value in zip(G, G.dense(found))}
+
+
+PATHS = 1 << 30                                    # units of a path in which betweenness is counted
+ROUNDING = 1e-9                                    # what is lost for each source besides
+DIGITS = 1e-7                                      # how near to networkx' a number is, as networkx' tests want it
+
+
+def _other_paths(arguments: Mapping[str, Any]) -> Optional[str]:
+    if arguments['k'] is not None:
+        return 'some sources, which networkx weighs otherwise from version to version'
+    if arguments['weight'] is not None or arguments['endpoints']:
+        return 'paths by weights, and their ends'
+    if not arguments['normalized'] and len(arguments['G']) * (ROUNDING + 1 / PATHS) > DIGITS:
+        return 'sums over so many nodes, which whole numbers keep to fewer digits'
+    return None
+
+
+@serves(Terms(unless=_other_paths))
+def betweenness_centrality(G: SpmatGraph, k: Any = None, normalized: bool = True, weight: Any = None, endpoints: bool = False,
+                           seed: Any = None) -> Dict[Any, float]:
+    count = len(G)
+    if count < 3:
+        return dict.fromkeys(G, 0.0)
+    try:
+        found = algorithms.betweenness(G.simple, range(count), ROUNDING, PATHS)
+    except ValueError as fault:                    # more shortest paths than whole numbers tell apart
+        raise NotImplementedError(str(fault)) from fault
+    ways = 1 if G.is_directed() else 2             # each two nodes were counted in both orders
+    share = 1 / ((count - 1) * (count - 2)) if normalized else 1 / ways
+    return {node: many / PATHS * share for node, many in zip(G, G.dense(found))}

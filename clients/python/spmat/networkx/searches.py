@@ -2,11 +2,11 @@
 from __future__ import annotations
 
 # networkx calls these by the names of its own arguments, served or not
-# pylint: disable=unused-argument
+# pylint: disable=missing-function-docstring,unused-argument
 
 import bisect
 import math
-from typing import Any, Dict, Iterator, List, Optional, Sequence, Set
+from typing import Any, Dict, Iterable, Iterator, List, Mapping, Optional, Sequence, Set
 
 import networkx as nx
 from networkx import NetworkXNoPath, NodeNotFound
@@ -15,9 +15,10 @@ from .. import algorithms, market
 from ..algorithms.common import NotSettled, loops, settle
 from ..matrix import Matrix
 from .components import labels
+from .conversion import copied
 from .degrees import need_node
 from .graphs import SpmatGraph
-from .serving import SIGNED, UNDIRECTED, serves
+from .serving import SIGNED, Terms, UNDIRECTED, serves
 
 NEGATIVE = 'Negative cycle detected.'
 Lengths = Dict[Any, Any]
@@ -39,13 +40,16 @@ def nearest_first(G: SpmatGraph, column: Matrix) -> Lengths:
     return {G.nodes[rows[at]]: values[at] for at in places}
 
 
+def _depth(cutoff: Any) -> Optional[int]:
+    return None if cutoff is None or math.isinf(cutoff) else max(0, math.ceil(cutoff))
+
+
 def level_column(G: SpmatGraph, sources: Sequence[Any], cutoff: Any = None, back: bool = False, target: Any = None) -> Matrix:
     """How many edges lead to each node from the nearest of some, or from it where `back` is set, as far as the cutoff, or until the
     target's is known."""
-    depth = None if cutoff is None or math.isinf(cutoff) else max(0, math.ceil(cutoff))
     at = [G.index[source] for source in sources]
     until = None if target is None else G.index[target]
-    return algorithms.bfs_levels(G.AT if back else G.A, at, G.both, depth=depth, target=until, check=False)
+    return algorithms.bfs_levels(G.AT if back else G.A, at, G.both, depth=_depth(cutoff), target=until, check=False)
 
 
 def levels(G: SpmatGraph, sources: Sequence[Any], cutoff: Any = None, back: bool = False) -> Lengths:
@@ -147,6 +151,28 @@ def descendants_at_distance(G: SpmatGraph, source: Any, distance: int) -> Set[An
         return set()
     found = level_column(G, [source], distance).select('valueeq', int(distance))
     return set(G.by_node(found))
+
+
+def _both_ways(arguments: Mapping[str, Any]) -> Optional[str]:
+    if arguments['undirected'] and arguments['distance'] is not None and arguments['G'].is_directed():
+        return 'weights of a directed graph that is taken as undirected'
+    return None
+
+
+@serves(Terms(unless=_both_ways))
+def ego_graph(G: SpmatGraph, n: Any, radius: Any = 1, center: bool = True, undirected: bool = False, distance: Any = None) -> Any:
+    if distance is not None:
+        need(G, n)
+        near: Iterable[Any] = lengths(G, [n], distance, cutoff=radius)
+    else:
+        need(G, n, 'Source %s is not in G')
+        both = undirected and G.is_directed()
+        found = algorithms.bfs_levels(G.around, G.index[n], depth=_depth(radius), check=False) if both else level_column(G, [n], radius)
+        near = G.by_node(found)
+    part = copied(G, set(near))
+    if not center:
+        part.remove_node(n)
+    return part
 
 
 @serves()
