@@ -1,11 +1,13 @@
 #!/usr/bin/env python3
-"""networkx.py EDGES [--limit SECONDS] [--seconds SECONDS] [FUNCTION..]: the clock of networkx' functions with and without the backend.
+"""networkx.py EDGES [--limit SECONDS] [--seconds SECONDS] [--page FILE] [FUNCTION..]: the clock of networkx' functions with and
+without the backend, of all that are served, or of those that are named.
 
 A random graph of EDGES edges between EDGES / 10 nodes with skewed degrees, whole weights from 1 to 9; of functions of directed graphs
 the same edges, each one way; of those without cycles from the lower node to the higher. Prints a table in Markdown: networkx, the
-backend with the conversion (first) and for a graph that is on the server (again, no answer kept), how often networkx' time that is,
-and igraph's from its own graph, where it is installed. A call is ended after `--limit` seconds, and stands as `> limit`; after
-`--seconds` in all (95) what is left isn't timed. Where both ended the answers are compared, and a difference is status 1.
+backend with the conversion (first) and for a graph that is on the server (again, no answer kept), igraph from its own graph, where it
+is installed, and how often networkx' time the second is. The least of several calls counts. A call is ended after `--limit` seconds
+(5), and stands as `>5`; after `--seconds` in all (900) what is left isn't timed. Where both ended the answers are compared, and a
+difference is status 1. With `--page` the times are written into that page's table, too, in the column of this size.
 """
 import argparse
 import os
@@ -27,6 +29,9 @@ except ImportError:
 
 TIMED_AGAIN = 0.2                                   # seconds: what is faster is timed several times, and the least counts
 MOST_TIMES = 5
+MISSING = '-'
+MOST_PAIRED = 2000                                  # nodes up to which answers with a number for each pair are asked for
+HEAD = '| Seconds |'                                # of the table in a page
 
 
 class OutOfTime(Exception):
@@ -53,74 +58,86 @@ class Graphs:
         self._made = {}
 
     def graph(self, kind):
+        """A 'graph'; its greatest component, 'joined'; a 'digraph', a 'dag', and one of two 'sides', of its edges."""
+        if kind not in self._made and kind == 'joined':
+            graph = self.graph('graph')
+            most = max(nx.connected_components(graph, backend='networkx'), key=len)
+            self._made[kind] = graph if len(most) == len(graph) else graph.subgraph(sorted(most)).copy()
         if kind not in self._made:
             rng = random.Random(2)
-            made = nx.Graph() if kind == 'graph' else nx.DiGraph()
+            made = nx.Graph() if kind in ('graph', 'sides') else nx.DiGraph()
             made.add_nodes_from(range(self.count))
             for i, j in self.pairs:
-                turned = kind == 'digraph' and rng.random() < 0.5
-                made.add_edge(*((j, i) if turned else (i, j)), weight=rng.randint(1, 9))
+                turned, weight = kind == 'digraph' and rng.random() < 0.5, rng.randint(1, 9)
+                if kind != 'sides' or (i + j) % 2:
+                    made.add_edge(*((j, i) if turned else (i, j)), weight=weight)
             self._made[kind] = made
         return self._made[kind]
 
-    def igraph(self):
-        if 'igraph' not in self._made:
-            self._made['igraph'] = igraph.Graph(self.count, self.pairs)
-        return self._made['igraph']
+    def igraph(self, kind):
+        """The same in igraph."""
+        if ('igraph', kind) not in self._made:
+            graph = self.graph(kind)
+            places = {node: at for at, node in enumerate(graph)}
+            edges = [(places[u], places[v]) for u, v in graph.edges()]
+            self._made['igraph', kind] = igraph.Graph(len(graph), edges, edge_attrs={
+                'weight': [weight for _, _, weight in graph.edges(data='weight')]}, directed=graph.is_directed())
+        return self._made['igraph', kind]
+
+
+PAIRED = ('all_pairs_', 'floyd_warshall', 'number_of_walks', 'power', 'transitive_')   # whose answers have a number for each pair
+DIRECTED = set('''attracting_components in_degree_centrality is_arborescence is_branching is_semiconnected is_strongly_connected
+    is_tournament is_weakly_connected negative_edge_cycle number_strongly_connected_components number_weakly_connected_components
+    out_degree_centrality overall_reciprocity reciprocity strongly_connected_components transitive_closure
+    weakly_connected_components'''.split())
+ACYCLIC = {'dag_longest_path_length', 'has_cycle', 'is_directed_acyclic_graph', 'transitive_closure_dag', 'transitive_reduction'}
+JOINED = {'average_shortest_path_length', 'center', 'diameter', 'eccentricity', 'periphery', 'radius', 'wiener_index'}
+PEERS = {
+    'betweenness_centrality': lambda g, _: g.betweenness(), 'closeness_centrality': lambda g, _: g.closeness(),
+    'clustering': lambda g, _: g.transitivity_local_undirected(mode='zero'), 'average_clustering': lambda g, _:
+    g.transitivity_avglocal_undirected(mode='zero'), 'transitivity': lambda g, _: g.transitivity_undirected(),
+    'connected_components': lambda g, _: g.connected_components().membership, 'core_number': lambda g, _: g.coreness(),
+    'degree_centrality': lambda g, _: g.degree(), 'diameter': lambda g, _: g.diameter(), 'eccentricity': lambda g, _: g.eccentricity(),
+    'harmonic_centrality': lambda g, _: g.harmonic_centrality(), 'is_bipartite': lambda g, _: g.is_bipartite(),
+    'is_connected': lambda g, _: g.is_connected(), 'is_tree': lambda g, _: g.is_tree(),
+    'minimum_spanning_tree': lambda g, _: g.spanning_tree(weights='weight'), 'pagerank': lambda g, _: g.pagerank(),
+    'radius': lambda g, _: g.radius(), 'average_shortest_path_length': lambda g, _: g.average_path_length(),
+    'single_source_shortest_path_length': lambda g, middle: g.distances(middle)[0],
+    'single_source_dijkstra_path_length': lambda g, middle: g.distances(middle, weights='weight')[0],
+}
+
+
+def arguments(name, middle, far, count):
+    """What a function is called with besides the graph."""
+    ends, some = [(k, count - 1 - k) for k in range(min(1000, count // 2))], list(range(0, count, 7))
+    one, two = {'source': middle}, {'source': middle, 'target': far}
+    return {
+        'ancestors': one, 'bellman_ford_path_length': two, 'bfs_layers': {'sources': [middle]}, 'common_neighbor_centrality':
+        {'ebunch': ends, 'alpha': 1}, 'descendants': one, 'descendants_at_distance': {**one, 'distance': 2}, 'dijkstra_path_length': two,
+        'efficiency': {'u': middle, 'v': far}, 'ego_graph': {'n': far, 'radius': 2}, 'has_path': two, 'is_dominating_set':
+        {'nbunch': some}, 'is_k_regular': {'k': 3}, 'jaccard_coefficient': {'ebunch': ends}, 'k_core': {'k': 5}, 'k_corona': {'k': 5},
+        'k_crust': {'k': 12}, 'k_shell': {'k': 12}, 'k_truss': {'k': 4}, 'maximal_independent_set': {'seed': 1},
+        'multi_source_dijkstra_path_length': {'sources': some[:9]}, 'node_boundary': {'nbunch1': some}, 'node_connected_component':
+        {'n': middle}, 'number_of_walks': {'walk_length': 3}, 'pagerank': {'weight': None}, 'power': {'k': 2},
+        'preferential_attachment': {'ebunch': ends}, 'shortest_path_length': one, 'single_source_bellman_ford_path_length': one,
+        'single_source_dijkstra_path_length': one, 'single_source_shortest_path_length': one,
+        'single_target_shortest_path_length': {'target': middle},
+    }.get(name, {})
 
 
 def functions(graphs):
-    """What is timed: function, kind of graph, arguments, and igraph's call where it has one."""
+    """What is timed: each function that is served, with a kind of graph and arguments; some with directed graphs, too."""
+    from spmat.networkx.info import SERVED
     middle = max(range(3), key=lambda node: sum(node in pair for pair in graphs.pairs[:1000]))
-    far, ends = graphs.count - 1, [(k, graphs.count - 1 - k) for k in range(min(1000, graphs.count // 2))]
-    some = list(range(0, graphs.count, 7))
-    whole, weighted = {}, {'weight': 'weight'}
-    return [
-        ('triangles', 'graph', whole, None),
-        ('clustering', 'graph', whole, lambda g: g.transitivity_local_undirected(mode='zero')),
-        ('transitivity', 'graph', whole, lambda g: g.transitivity_undirected()),
-        ('average_clustering', 'graph', whole, None),
-        ('generalized_degree', 'graph', whole, None),
-        ('k_truss', 'graph', {'k': 4}, None),
-        ('core_number', 'graph', whole, lambda g: g.coreness()),
-        ('k_core', 'graph', {'k': 5}, None),
-        ('onion_layers', 'graph', whole, None),
-        ('pagerank', 'graph', {'weight': None}, lambda g: g.pagerank()),
-        ('pagerank', 'digraph', weighted, None),
-        ('connected_components', 'graph', whole, lambda g: g.connected_components().membership),
-        ('is_connected', 'graph', whole, lambda g: g.is_connected()),
-        ('strongly_connected_components', 'digraph', whole, None),
-        ('weakly_connected_components', 'digraph', whole, None),
-        ('single_source_shortest_path_length', 'graph', {'source': middle}, lambda g: g.distances(middle)[0]),
-        ('single_source_shortest_path_length', 'digraph', {'source': middle}, None),
-        ('bfs_layers', 'graph', {'sources': [middle]}, None),
-        ('descendants', 'digraph', {'source': middle}, None),
-        ('has_path', 'graph', {'source': middle, 'target': far}, None),
-        ('single_source_dijkstra_path_length', 'graph', {'source': middle}, None),
-        ('single_source_bellman_ford_path_length', 'digraph', {'source': middle}, None),
-        ('dijkstra_path_length', 'graph', {'source': middle, 'target': far}, None),
-        ('closeness_centrality', 'graph', whole, lambda g: g.closeness()),
-        ('harmonic_centrality', 'graph', whole, lambda g: g.harmonic_centrality()),
-        ('global_efficiency', 'graph', whole, None),
-        ('average_clustering', 'digraph', whole, None),
-        ('maximal_independent_set', 'graph', {'seed': 1}, None),
-        ('is_bipartite', 'graph', whole, lambda g: g.is_bipartite()),
-        ('is_directed_acyclic_graph', 'dag', whole, None),
-        ('dag_longest_path_length', 'dag', whole, None),
-        ('degree_centrality', 'graph', whole, lambda g: g.degree()),
-        ('in_degree_centrality', 'digraph', whole, None),
-        ('average_neighbor_degree', 'graph', whole, None),
-        ('s_metric', 'graph', whole, None),
-        ('overall_reciprocity', 'digraph', whole, None),
-        ('jaccard_coefficient', 'graph', {'ebunch': ends}, None),
-        ('is_dominating_set', 'graph', {'nbunch': some}, None),
-        ('node_boundary', 'graph', {'nbunch1': some}, None),
-        ('is_forest', 'graph', whole, lambda g: None),
-        ('square_clustering', 'graph', whole, None),
-        ('transitive_closure', 'digraph', whole, None),
-        ('all_pairs_shortest_path_length', 'graph', whole, None),
-        ('eccentricity', 'graph', whole, lambda g: g.eccentricity()),
-    ]
+    found = []
+    for name in sorted(SERVED):
+        kind = ('digraph' if name in DIRECTED else 'dag' if name in ACYCLIC else 'joined' if name in JOINED else
+                'sides' if name == 'color' else 'graph')
+        given = arguments(name, middle, graphs.count - 1, graphs.count)
+        found.append((name, kind, given))
+        if name in ('average_clustering', 'pagerank', 'single_source_shortest_path_length', 'single_source_bellman_ford_path_length'):
+            found.append((name, 'digraph', {**given, 'weight': 'weight'} if name == 'pagerank' else given))
+    return found
 
 
 def whole_answer(answer):
@@ -154,7 +171,7 @@ def seconds(work, limit, before=lambda: None):
 
 
 def told(took, limit):
-    return '> %g' % limit if took is None else '%.2g' % took if took < 0.1 else '%.2f' % took
+    return '>%g' % limit if took is None else '%.1g' % took if took < 0.001 else '%.2g' % took if took < 9.5 else '%.0f' % took
 
 
 def plain(answer):
@@ -169,6 +186,8 @@ def plain(answer):
 def equal(name, one, other):
     if name == 'maximal_independent_set':
         return True                                 # which one is by chance
+    if name == 'betweenness_centrality':
+        return all(abs(one[v] - other[v]) < 1e-7 for v in other)
     if name == 'pagerank':
         return sum(abs(one[v] - other[v]) for v in other) < 1e-5 * len(other)
     if name == 'bfs_layers':
@@ -180,11 +199,12 @@ def equal(name, one, other):
 
 
 class Table:
+    """The times of one size."""
+
     def __init__(self, edges, limit, whole):
         from spmat.networkx.dispatch import Backend
         self.backend, self.limit, self.end = Backend, limit, time.perf_counter() + whole
-        self.graphs, self.held, self.wrong, self.edges = Graphs(edges), {}, [], edges
-        self.timed_first = edges <= 200_000
+        self.graphs, self.held, self.wrong, self.edges, self.cells = Graphs(edges), {}, [], edges, {}
 
     def on_server(self, kind):
         if kind not in self.held:
@@ -216,51 +236,91 @@ class Table:
             took, _ = seconds(lambda: session().from_networkx(graph, weight=weight), limit)
             print('| Session.from_networkx, weight=%r | %s |' % (weight, told(took, limit)), flush=True)
 
-    def row(self, name, kind, kwargs, peer):
-        function, graph = getattr(nx, name, None) or getattr(nx.bipartite, name), self.graphs.graph(kind)
-        held = self.on_server(kind)
-        first = None
-        if self.timed_first:
-            first, _ = seconds(lambda: function(graph, backend='spmat', **kwargs), self.limit)
-        seconds(lambda: function(held, **kwargs), self.limit)
-        again, got = seconds(lambda: function(held, **kwargs), self.limit, lambda: held._answers.clear())
-        theirs, wanted = seconds(lambda: function(graph, backend='networkx', **kwargs), self.limit)
-        other = seconds(lambda: peer(self.graphs.igraph()), self.limit)[0] if peer and igraph else None
+    def networkx(self, work):
+        """networkx' seconds and answer; MISSING where it wants a newer scipy."""
+        try:
+            return seconds(work, self.limit)
+        except (AttributeError, ImportError):
+            return MISSING, None
+
+    def row(self, name, kind, kwargs):
+        """The seconds of networkx, of the backend with the conversion and again, and of igraph."""
+        function, graph = public(name), self.graphs.graph(kind)
+        held, peer = self.on_server(kind), PEERS.get(name) if igraph else None
+        first, _ = seconds(lambda: function(graph, backend='spmat', **kwargs), self.limit)
+        warm, _ = seconds(lambda: function(held, **kwargs), self.limit)
+        again, got = (None, None) if warm is None else seconds(lambda: function(held, **kwargs), self.limit, held._answers.clear)
+        theirs, wanted = self.networkx(lambda: function(graph, backend='networkx', **kwargs))
         if got is not None and wanted is not None and not equal(name, got, wanted):
             self.wrong.append(name)
+        other = MISSING
+        if peer:
+            made, middle = self.graphs.igraph(kind), kwargs.get('source')
+            other = told(seconds(lambda: peer(made, middle), self.limit)[0], self.limit)
+        if theirs == MISSING:
+            return [MISSING, told(first, self.limit), told(again, self.limit), other, '']
         ratio = '' if again is None else '%.2g' % (theirs / again) if theirs else '> %.2g' % (self.limit / again)
-        print('| `%s`%s | %s | %s | %s | %s | %s |' % (
-            name, '' if kind == 'graph' else ', a ' + kind, told(theirs, self.limit), told(first, self.limit) if self.timed_first
-            else '', told(again, self.limit), ratio, told(other, self.limit) if peer and igraph else ''), flush=True)
+        return [told(took, self.limit) for took in (theirs, first, again)] + [other, ratio]
 
     def print(self, names):
-        self.conversion()
-        print('\n| %d edges: function | networkx | spmat, first call | again | networkx / again | igraph |\n|---|---|---|---|---|---|'
-              % self.edges)
-        for name, kind, kwargs, peer in functions(self.graphs):
+        """All rows; `cells` has them by function."""
+        if not names:
+            self.conversion()
+        print('\n| %d edges: function | networkx | spmat, first call | again | igraph | networkx / again |' % self.edges)
+        print('|---|---|---|---|---|---|')
+        for name, kind, kwargs in functions(self.graphs):
             if names and name not in names:
                 continue
-            if time.perf_counter() > self.end:
-                print('| `%s`%s | not timed |' % (name, '' if kind == 'graph' else ', a ' + kind))
-                continue
-            try:
-                self.row(name, kind, kwargs, peer)
-            except (NotImplementedError, nx.NetworkXError) as fault:
-                print('| `%s`%s | %s: %.60s |' % (name, '' if kind == 'graph' else ', a ' + kind, type(fault).__name__, fault))
+            label = '`%s`%s' % (name, ', directed' if kind == 'digraph' and name not in DIRECTED else '')
+            if self.graphs.count > MOST_PAIRED and name.startswith(PAIRED):
+                found = ['an answer for each pair']
+            elif time.perf_counter() > self.end:
+                found = ['not timed']
+            else:
+                try:
+                    found = self.row(name, kind, kwargs)
+                except (NotImplementedError, nx.NetworkXException) as fault:
+                    found = ['%s: %.60s' % (type(fault).__name__, fault)]
+            print('| %s | %s |' % (label, ' | '.join(found)), flush=True)
+            self.cells[label] = ' / '.join(found[:4]) if len(found) > 1 else MISSING
         print('answers that differ: %s' % (self.wrong or 'none'))
+
+
+def public(name):
+    """The function that users call."""
+    return next(getattr(place, name) for place in (nx, nx.bipartite, nx.tournament, nx.algorithms.dag) if hasattr(place, name))
+
+
+def put(page, edges, cells):
+    """Writes the times of one size into the table of a page whose head has that number of edges."""
+    with open(page, encoding='utf-8') as file:
+        lines = file.read().split('\n')
+    start = next(at for at, line in enumerate(lines) if line.startswith(HEAD))
+    end = next(at for at in range(start, len(lines)) if not lines[at].startswith('|'))
+    head = [cell.strip() for cell in lines[start].split('|')[1:-1]]
+    column = head.index('{:,} edges'.format(edges))
+    rows = {row[0]: row for row in ([cell.strip() for cell in line.split('|')[1:-1]] for line in lines[start + 2:end])}
+    for name, cell in cells.items():
+        rows.setdefault(name, [name] + [MISSING] * (len(head) - 1))[column] = cell
+    lines[start + 2:end] = ['| %s |' % ' | '.join(rows[name]) for name in sorted(rows)]
+    with open(page, 'w', encoding='utf-8') as file:
+        file.write('\n'.join(lines))
 
 
 def main():
     warnings.simplefilter('ignore')
     parser = argparse.ArgumentParser(description=__doc__, formatter_class=argparse.RawDescriptionHelpFormatter)
     parser.add_argument('edges', type=int)
-    parser.add_argument('--limit', type=float, default=2.0)
-    parser.add_argument('--seconds', type=float, default=95.0)
+    parser.add_argument('--limit', type=float, default=5.0)
+    parser.add_argument('--seconds', type=float, default=900.0)
+    parser.add_argument('--page')
     parser.add_argument('names', nargs='*', metavar='FUNCTION')
-    given = parser.parse_args()
+    given = parser.parse_intermixed_args()
     nx.config.cache_converted_graphs = False
     table = Table(given.edges, given.limit, given.seconds)
     table.print(set(given.names))
+    if given.page:
+        put(given.page, given.edges, table.cells)
     sys.exit(1 if table.wrong else 0)
 
 
