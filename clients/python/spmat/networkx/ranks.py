@@ -55,8 +55,8 @@ def pagerank(G: SpmatGraph, alpha: float = 0.85, personalization: Any = None, ma
     return {node: value / ONE for node, value in zip(G, G.dense(found))}
 
 
-PATHS = 1 << 30                                    # units of a path in which betweenness is counted
-ROUNDING = 1e-9                                    # what is lost for each source besides
+PATHS = 1 << 30                                    # units of a path in which betweenness is counted, where the nodes leave room
+ROUNDING = 1e-9                                    # what each source adds to the error besides, as a share of all nodes
 DIGITS = 1e-7                                      # how near to networkx' a number is, as networkx' tests want it
 
 
@@ -76,10 +76,11 @@ def betweenness_centrality(G: SpmatGraph, k: Any = None, normalized: bool = True
     count = len(G)
     if count < 3:
         return dict.fromkeys(G, 0.0)
+    unit = min(PATHS, (1 << 61) // count ** 2)
     try:
-        found = algorithms.betweenness(G.simple, range(count), ROUNDING, PATHS)
+        found = algorithms.betweenness(G.simple, range(count), ROUNDING * count if normalized else ROUNDING, unit)
     except ValueError as fault:                    # more shortest paths than whole numbers tell apart
         raise NotImplementedError(str(fault)) from fault
     ways = 1 if G.is_directed() else 2             # each two nodes were counted in both orders
     share = 1 / ((count - 1) * (count - 2)) if normalized else 1 / ways
-    return {node: many / PATHS * share for node, many in zip(G, G.dense(found))}
+    return {node: many / unit * share for node, many in zip(G, G.dense(found))}
