@@ -7,9 +7,14 @@ off. Only the main thread gets signals, so only there anything is done.
 from __future__ import annotations
 
 import contextlib
-import signal
 import threading
+from signal import SIGINT
 from typing import Any, Callable, Iterator, Optional
+
+try:                                               # the same without enums, which would take a third of what a job costs here
+    import _signal as signal  # type: ignore[import]
+except ImportError:
+    import signal
 
 Handler = Callable[[int, Any], Any]
 
@@ -25,20 +30,20 @@ class Guard:
     def __enter__(self) -> None:
         self._depth += 1
         if self._depth == 1 and threading.current_thread() is threading.main_thread():
-            before = signal.getsignal(signal.SIGINT)
+            before = signal.getsignal(SIGINT)
             if callable(before):
                 self._before, self._held, self._lets = before, False, False
-                signal.signal(signal.SIGINT, self._came)
+                signal.signal(SIGINT, self._came)
 
     def __exit__(self, kind: Any, *_: Any) -> None:
         self._depth -= 1
         before = self._before
         if self._depth == 0 and before is not None:
-            signal.signal(signal.SIGINT, before)
+            signal.signal(SIGINT, before)
             self._before = None
             if self._held and kind is None:
                 self._held = False
-                before(signal.SIGINT, None)
+                before(SIGINT, None)
 
     @contextlib.contextmanager
     def waiting(self) -> Iterator[None]:
@@ -49,7 +54,7 @@ class Guard:
         self._lets = True
         try:
             if self._held:
-                self._came(signal.SIGINT, None)
+                self._came(SIGINT, None)
             yield
         finally:
             self._lets = False

@@ -88,6 +88,10 @@ class Matrix(Signs):
     def check_usable(self) -> None:
         """Raises Closed where the session has ended, and NotMade where the run of this matrix was refused."""
         self.session.connection.check_open()
+        self.check_made()
+
+    def check_made(self) -> None:
+        """Raises NotMade where the run of this matrix was refused."""
         if self._lost is not None:
             raise NotMade('this matrix was never made: its run was refused (%s)' % self._lost) from self._lost
 

@@ -4,7 +4,7 @@ from __future__ import annotations
 import collections
 import re
 import weakref
-from typing import Any, Deque, Dict, Iterator, Optional, Set
+from typing import Any, Deque, Dict, Iterator, Optional, Set, Tuple
 
 SMALL = 65_536                                     # a dead matrix of more rows and entries than this is overwritten
 _NAME = re.compile('[A-Za-z0-9_]{1,32}')
@@ -23,6 +23,7 @@ class Names:
         self._free: Deque[str] = collections.deque()
         self._given: Set[str] = set()                     # wished by the caller, and held
         self._sizes: Dict[str, int] = {}                  # rows and entries of what a name stands for
+        self._held: Dict[int, Tuple['weakref.ref[Any]', str]] = {}     # by the reference's id
         self._count = 0
 
     def take(self, wished: Optional[str] = None) -> str:
@@ -44,7 +45,11 @@ class Names:
 
     def hold(self, matrix: Any, name: str) -> None:
         """Gives the name back when the matrix is collected."""
-        weakref.finalize(matrix, self.dropped.append, name).atexit = False
+        reference = weakref.ref(matrix, self._collected)
+        self._held[id(reference)] = reference, name
+
+    def _collected(self, reference: 'weakref.ref[Any]') -> None:
+        self.dropped.append(self._held.pop(id(reference))[1])
 
     def drop(self, name: str) -> None:
         """Takes a name back that no matrix has: once the job that binds it is done, it is used again."""

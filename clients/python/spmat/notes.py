@@ -79,33 +79,43 @@ def _even(*both: Notes) -> Optional[bool]:
 
 def of_applied(first: Notes, op: Operator, even: bool) -> Notes:
     """What is known of the result of `apply`; `even` says that the operator doesn't look at rows and columns."""
+    if first is NOTHING:
+        return NOTHING
     same = _is_ready(op, frozenset(('identity',)))
     return first._replace(directed=_even(first) if even else None, weighted=first.weighted if same else None)
 
 
 def of_selected(first: Notes, op: Operator, thunk: int) -> Notes:
     """What is known of the result of `select`: values stay."""
+    if first is NOTHING:
+        return NOTHING
     even = _is_ready(op, BY_VALUE) or (thunk == 0 and _is_ready(op, BY_DIAGONAL))
     return first._replace(directed=_even(first) if even else None)
 
 
 def of_pair(first: Notes, second: Notes) -> Notes:
     """What is known of a union or an intersection."""
+    if first is NOTHING and second is NOTHING:
+        return NOTHING
     return Notes(_same(first.rows, second.rows), _same(first.columns, second.columns), _even(first, second))
 
 
 def of_product(first: Notes, second: Notes, mul: Operator, same: bool) -> Notes:
     """What is known of a product; `same` says that both operands are one matrix."""
+    if first is NOTHING and second is NOTHING:
+        return NOTHING
     return Notes(first.rows, second.columns, _even(first) if same and _is_ready(mul, COMMUTE) else None)
 
 
 def of_rows(first: Notes) -> Notes:
     """What is known of a column that has a row for each row."""
-    return Notes(first.rows)
+    return NOTHING if first is NOTHING else Notes(first.rows)
 
 
 def masked(result: Notes, mask: Notes) -> Notes:
     """What is known of a result that is cut to the structure of a mask."""
+    if result is NOTHING and mask is NOTHING:
+        return NOTHING
     return Notes(_same(result.rows, mask.rows) or result.rows, _same(result.columns, mask.columns) or result.columns,
                  _even(result, mask), result.weighted)
 

@@ -12,6 +12,7 @@ from .errors import Closed
 PIECE = 1 << 20
 LONGEST_LINE = 1 << 16
 WITH_LINES, WITH_BYTES = ('run', 'dis', 'types'), 'show'
+WITH_MORE = (*WITH_LINES, WITH_BYTES)
 
 
 class Reply(NamedTuple):
@@ -34,7 +35,7 @@ class Incoming:
     def next(self) -> 'Raw':
         """The next reply, once it is there whole. Closed where it can't come any more, or is none."""
         first = self._first_line()
-        if first.words[:1] != ['ok'] or len(first.words) < 2 or first.words[1] not in (*WITH_LINES, WITH_BYTES):
+        if first.words[:1] != ['ok'] or len(first.words) < 2 or first.words[1] not in WITH_MORE:
             return self._taken(first, first.end)
         try:
             size = int(first.words[2])
@@ -78,10 +79,10 @@ class Incoming:
         self.received += len(self._bytes) - before
 
     def _taken(self, first: '_First', end: int) -> 'Raw':
-        rest = bytes(memoryview(self._bytes)[first.end:end])
+        rest = bytes(memoryview(self._bytes)[first.end:end]) if end > first.end else b''
         del self._bytes[:end]
         self._lines_seen = self._looked = 0
-        return Raw(' '.join(first.words), rest)
+        return Raw(first.words, rest)
 
 
 class _First(NamedTuple):
@@ -90,13 +91,18 @@ class _First(NamedTuple):
 
 
 class Raw(NamedTuple):
-    """A reply as it came: its first line, and all behind it."""
-    first: str
+    """A reply as it came: the words of its first line, and all behind it."""
+    words: List[str]
     rest: bytes
+
+    @property
+    def first(self) -> str:
+        """The first line."""
+        return ' '.join(self.words)
 
     def reply(self) -> Optional[Reply]:
         """An `ok` reply in its parts, None for another."""
-        words = self.first.split()
+        words = self.words
         if words[:1] != ['ok']:
             return None
         if words[1:2] == [WITH_BYTES]:

@@ -1,10 +1,9 @@
 """Sessions: matrices in, jobs, the queue, the budget."""
 from __future__ import annotations
 
-import contextlib
 import itertools
 import re
-from typing import TYPE_CHECKING, Any, Callable, Dict, Iterator, List, NamedTuple, Optional, Sequence, Tuple, Union
+from typing import TYPE_CHECKING, Any, Callable, Dict, List, NamedTuple, Optional, Sequence, Tuple, Union
 
 from . import convert, files, market
 from .errors import OperatorRefused, Refused, TextRefused, refusal
@@ -18,7 +17,7 @@ from .outbox import Later, Outbox
 from .program import Program
 from .reading import Layout, Request, name_of
 from .sources import DupOp, Sources
-from .wire import MOST_STEPS, Address, Connection, Progress, Reply, Sent
+from .wire import MOST_STEPS, Address, Connection, Progress, Reply, Sent, Turn
 
 if TYPE_CHECKING:
     import ssl
@@ -72,7 +71,7 @@ class Session(Sources[Matrix]):
     def _begin(self, connection: Connection, shared: bool) -> None:
         self.connection = connection
         self.jobs = 0
-        self._lock = connection.lock
+        self._turns = Turn(connection)
         self._names = Names()
         self._outbox = Outbox(connection)
         self._queue = Queue(self._outbox, self._names, shared)
@@ -110,20 +109,9 @@ class Session(Sources[Matrix]):
 
     # -- one command
 
-    @contextlib.contextmanager
-    def _turn(self) -> Iterator[None]:
-        """One thread at a time. What comes between a command and the note of it ends the session; Ctrl-C is put off until the note is
-        made, or the reply is awaited."""
-        with self._lock, self.connection.guard:
-            self.connection.check_open()
-            try:
-                yield
-            except Exception:
-                raise
-            except BaseException as fault:
-                if not self.connection.owes:
-                    self.connection.end('amid its work came ' + type(fault).__name__, kill=True)
-                raise
+    def _turn(self) -> Turn:
+        """One thread at a time, and no Ctrl-C amid."""
+        return self._turns
 
     def _sweep(self) -> None:
         """Overwrites large matrices that nobody holds, as no command forgets one."""
@@ -364,7 +352,7 @@ class Session(Sources[Matrix]):
             for matrix in needed:
                 if matrix.session is not self:
                     raise ValueError('a matrix of another session')
-                matrix.check_usable()
+                matrix.check_made()
             sent = [self._operators.get(op) or self._uploaded(op) for op in ops]
             words = [op.name for op in sent] + [matrix.key for matrix in operands] + ([str(thunk)] if thunk is not None else [])
             words += ['mask', mask.key] if mask is not None else []

@@ -10,9 +10,10 @@ from __future__ import annotations
 
 import os
 import socket
+import sys
 import threading
 import weakref
-from typing import Callable, List, NamedTuple, Optional, Sequence, Tuple, Union
+from typing import Any, Callable, List, NamedTuple, Optional, Sequence, Tuple, Type, Union
 
 from .channels import Address, Child, Socket
 from .convert import whole
@@ -255,6 +256,39 @@ class Connection:
         if refused.rule in ENDS or (refused.rule == 'S2' and len(words) != WORDS_WITH_BODY.get(words[0], len(words))):
             self.end('it was answered `%s`' % reply)
         return refused
+
+
+class Turn:
+    """The turn of one thread, in a `with`, in which commands are made and what they do is noted. What comes between a command and the
+    note of it ends the session; Ctrl-C is put off until the note is made, or the reply is awaited. Closed where the session has ended."""
+
+    def __init__(self, connection: Connection) -> None:
+        self._connection = connection
+
+    def __enter__(self) -> None:
+        connection = self._connection
+        connection.lock.acquire()                  # pylint: disable=consider-using-with  # __exit__ releases it
+        try:
+            connection.guard.__enter__()           # pylint: disable=unnecessary-dunder-call
+            try:
+                connection.check_open()
+            except BaseException:
+                connection.guard.__exit__(*sys.exc_info())
+                raise
+        except BaseException:
+            connection.lock.release()
+            raise
+
+    def __exit__(self, kind: Optional[Type[BaseException]], fault: Optional[BaseException], trace: Any) -> None:
+        connection = self._connection
+        try:
+            if kind is not None and not issubclass(kind, Exception) and not connection.owes:
+                connection.end('amid its work came ' + kind.__name__, kill=True)
+        finally:
+            try:
+                connection.guard.__exit__(kind, fault, trace)
+            finally:
+                connection.lock.release()
 
 
 class _Owed(NamedTuple):
