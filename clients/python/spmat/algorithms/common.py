@@ -4,7 +4,9 @@ from __future__ import annotations
 from typing import Any, Callable, List, Optional
 
 from ..errors import TooLarge
+from ..market import Triples
 from ..operators import asm
+from .facts import found
 from .graph import GraphMatrix, M, Ring
 
 Progress = Optional[Callable[[str, int, int], None]]
@@ -54,23 +56,20 @@ def beside(graph: GraphMatrix, result: M) -> M:
 
 
 def column(like: M, value: int) -> M:
-    """A column of one value, with a row for each vertex of a graph."""
-    return like.session.full(like.nrows, 1, value)
-
-
-def spot(like: M, row: int, value: int) -> M:
-    """A column of one entry."""
-    return like.session.from_coo([row], [0], [value], like.nrows, 1)
+    """A column of one value, with a row for each vertex of a graph. It is kept with the graph."""
+    made: M = found(like, 'column of %d' % value, lambda: like.session.full(like.nrows, 1, value))
+    return made
 
 
 def nothing(like: M) -> M:
     """A column without entries."""
-    return like.session.from_coo([], [], [], like.nrows, 1)
+    return like.session.keep(Triples([], [], [], like.nrows, 1))
 
 
 def loops(like: M, value: int) -> M:
-    """A loop of one value at each vertex: a diagonal matrix."""
-    return like.session.identity(like.nrows, value)
+    """A loop of one value at each vertex: a diagonal matrix. It is kept with the graph."""
+    made: M = found(like, 'loops of %d' % value, lambda: like.session.identity(like.nrows, value))
+    return made
 
 
 def tell(progress: Progress, word: str, number: int, of: int = 0) -> None:
