@@ -1,4 +1,5 @@
 """Each algorithm beside plain Python, on graphs of one part and of several, directed and undirected."""
+import random
 import unittest
 
 import graphs
@@ -54,6 +55,23 @@ class Algorithms(unittest.TestCase):
             self.assertEqual(algorithms.all_pairs(G).to_dict(),
                              {(i, j): length for i, lengths in enumerate(want) for j, length in lengths.items()})
         self.each(graphs.ALL, look)
+
+    def test_lengths_of_all_sizes(self):
+        """Lengths of 0, of few bits and of many; few edges, so that the client goes on, and many, so that jobs do."""
+        chance = random.Random(5)
+        for count, each, least, most in ((60, 1, 0, 1), (400, 2, 1, 255), (300, 8, 1, 255), (300, 6, 0, 3), (200, 3, 7, 1 << 40),
+                                         (1500, 4, 1, 9000), (90, 30, 1, 1)):
+            places = {(chance.randrange(count), chance.randrange(count)) for _ in range(count * each)}
+            edges = {place: chance.randint(least, most) for place in sorted(places)}
+            graph = graphs.Graph('by chance', count, edges, True)
+            want, W = graphs.shortest(edges, graph.near(), 0), graph.matrix(self.session)
+            self.assertEqual(algorithms.sssp(W, 0).to_dict(), {(i, 0): x for i, x in want.items()}, (count, each, most))
+            self.assertTrue(algorithms.sssp(W, 0, check=False).isequal(algorithms.sssp(W, 0)))
+            cutoff = sorted(want.values())[len(want) // 2]
+            self.assertEqual(algorithms.sssp(W, 0, cutoff=cutoff, check=False).to_dict(),
+                             {(i, 0): x for i, x in want.items() if x <= cutoff})
+            target = max(want, key=want.__getitem__)
+            self.assertEqual(algorithms.sssp(W, 0, target=target, check=False).to_dict()[target, 0], want[target])
 
     def test_lengths_below_zero(self):
         """Shifting each edge by a potential makes lengths below 0, and shifts each path by that of its ends alone."""

@@ -78,7 +78,7 @@ class Costs(unittest.TestCase):
                     (algorithms.bfs_levels, (0, G), lambda k: 4 * m + 4 * n * levels),
                     (algorithms.bfs_parents, (0, G), lambda k: 6 * m + 7 * n * levels),
                     (algorithms.connected_components, (G,), lambda k: (6 * m + 13 * n) * (k + 1)),
-                    (algorithms.sssp, (0, G), lambda k: (7 * m + 10 * n) * k),
+                    (algorithms.sssp, (0, G), lambda k: (7 * m + 20 * n) * k),
                     (algorithms.k_truss, (3,), lambda k: 30 * t + (30 * t + 10 * m) * k),
                     (algorithms.k_core, (2,), lambda k: 10 * m + 4 * n * k),
                     (algorithms.core_numbers, (), lambda k: 10 * m + 4 * n * k),
@@ -93,11 +93,12 @@ class Costs(unittest.TestCase):
 
     @support.needs('numpy')
     def test_no_more_steps_than_by_columns(self):
-        """On a skewed and on a uniform graph of 256 vertices no search takes more steps than it took when all vertices were walked
-        along in each level or round, by products with columns."""
+        """On a skewed graph of 256 vertices no search takes more steps than it took when all vertices were walked along in each level
+        or round, by products with columns; on a uniform one no more than when all that changed were pushed at once."""
         sys.path.append(os.path.join(support.TOP, 'bench'))
         from algorithms import edges_of
-        before = {'kron': {'bfs_levels': 3922, 'bfs_parents': 4368, 'connected_components': 88518, 'sssp': 119460, 'k_core': 48782}}
+        before = {'kron': {'bfs_levels': 3922, 'bfs_parents': 4368, 'connected_components': 88518, 'sssp': 119460, 'k_core': 48782},
+                  'urand': {'bfs_levels': 5326, 'bfs_parents': 6126, 'connected_components': 63182, 'sssp': 108095, 'k_core': 39632}}
         for kind, steps in before.items():
             edges = edges_of(kind, 8)
             places = list(zip(edges.i.tolist(), edges.j.tolist()))
@@ -170,14 +171,38 @@ class Costs(unittest.TestCase):
             self.assertIn('Runs: %d' % runs, function.__doc__)
 
     def test_shortest_paths(self):
-        """1 a round, and 4; 3 more a round with a large front."""
+        """1 a round, and 4; 4 more a round with a large front, 9 where a band ends with it."""
         path = graphs.undirected('path', 90, [(i, i + 1) for i in range(89)]).matrix(self.session)
         told, runs = self.counted(algorithms.sssp, path, 0)
         self.assertLessEqual(runs, len(told) + 4)
         self.assertLessEqual(len(told), 90)
         self.assertEqual(self.counted(algorithms.sssp, path, 0)[1], len(told))
         told, runs = self.counted(algorithms.sssp, self.G, 0)
-        self.assertLessEqual(runs, 4 * len(told) + 4)
+        self.assertLessEqual(runs, 9 * len(told) + 4)
+
+    def test_bands(self):
+        """On a grid the nearest vertices are taken first: a third of the steps that it takes to push all that changed at once, and
+        half as many rounds again."""
+        side, chance = 100, random.Random(8)
+        at = [(i * side + j, i * side + j + step) for i in range(side) for j in range(side) for step in (1, side)
+              if (j if step == 1 else i) < side - 1]
+        edges = {pair: chance.randint(1, 255) for pair in at}
+        edges.update({(b, a): length for (a, b), length in list(edges.items())})
+        near = graphs.Graph('grid', side * side, edges, False).near()
+        known, changed, pushed, rounds = {0: 0}, {0}, 0, 0
+        while changed:
+            pushed, rounds, reached = pushed + sum(len(near[i]) for i in changed), rounds + 1, {}
+            for i in changed:
+                for j in near[i]:
+                    reached[j] = min(reached.get(j, known[i] + edges[i, j]), known[i] + edges[i, j])
+            changed = {j for j, length in reached.items() if j not in known or length < known[j]}
+            known.update({j: reached[j] for j in changed})
+        W = self.session.from_triples([(i, j, length) for (i, j), length in edges.items()], side * side, side * side)
+        facts.extremes(W)
+        told = []
+        self.assertLess(3 * self.spent(algorithms.sssp, W, 0, None, lambda *now: told.append(now)), 4 * pushed)
+        self.assertLess(2 * len(told), 3 * rounds)
+        self.assertEqual(algorithms.sssp(W, 0).to_dict(), {(i, 0): length for i, length in known.items()})
 
     def test_components_of_long_paths(self):
         """4 a round, and no more rounds than the logarithm of the number of vertices, in whatever order they stand."""

@@ -1,15 +1,15 @@
 """Shortest paths from one vertex."""
 from __future__ import annotations
 
-from typing import Any, Generic, List, NamedTuple, Optional, Tuple
+from typing import Any, Generic, List, NamedTuple, Optional, Tuple, cast
 
 from .. import market
 from ..operators import Semiring, asm, binary
 from .common import Progress, beside, order, tell
 from .facts import extremes
-from .graph import M, Numbers
+from .graph import GraphMatrix, M, Numbers
 from .lines import Lines, Tally, Vector
-from .traversal import lines_of
+from .traversal import joined, lines_of
 
 CYCLE = 'a cycle of negative length: paths along it have no least length'
 WRAPS = 'a path is longer than 2^63 - 1, and its length would wrap: divide the values (check=False takes them as they come)'
@@ -41,25 +41,29 @@ mov64 r0, r1
 exit
 '''))
 BY_JOBS = 8                                        # a front is large where its edges are an eighth of the vertices
+WIDE = 8                                           # a band is as wide as so many edges of the greatest length, by the mean degree
 BACK = 8                                           # rounds with a small front before the client takes over again
 
 
 class Bounds(NamedTuple):
-    """What a search may use: how long paths may be, the target, and whether no edge is negative."""
+    """What a search may use: how long paths may be, the target, whether no edge is negative, and how wide the band of lengths is
+    whose vertices are taken at a time (0: all)."""
     cutoff: Optional[int]
     target: Optional[int]
     ascending: bool
+    width: int
 
 
 class Lengths(Generic[M]):
-    """The lengths that are known, and the vertices whose length changed last. They are kept by the client, or for large fronts by
-    jobs."""
+    """The lengths that are known, and the vertices whose length changed and that weren't taken since. They are kept by the client, or
+    for large fronts by jobs. Those within the band are the front; the others wait as `far`, where a vertex may stand several times."""
 
     def __init__(self, lines: Lines[M], source: int, bounds: Bounds) -> None:
         self.lines, self.bounds = lines, bounds
         self.known = Tally(lines.count, UNREACHED)
         self.known.put([source], [0])
         self.front = Vector([source], [0])
+        self.end, self.far = bounds.width, cast(List[Numbers], [])
         self.longest = 0
 
     def limit(self) -> int:
@@ -75,15 +79,34 @@ class Lengths(Generic[M]):
         front = self.lines.put(self.front)
         told.round(self.longest, self.lines, front)
         got = self.lines.get(self.lines.step(front, SHORTEST))
-        self.front = _shorter(self.known, got, self.limit())
-        self.known.put(self.front.at, self.front.values)
+        changed = _shorter(self.known, got, self.limit())
+        self.known.put(changed.at, changed.values)
+        self.front, later = _parted(changed, self.end) if self.bounds.width else (changed, [])
+        if len(later):
+            self.far.append(later)
+        if not len(self.front.at) and self.far:
+            self.take(self.waiting())
         self.longest = _longest(self.front.values)
+
+    def waiting(self) -> Vector:
+        """The vertices that wait behind the band, with their lengths. Those that came into it since were taken in it."""
+        at = joined(self.far).at
+        return _kept(Vector(at, self.known.of(at)), self.end, self.limit())
+
+    def take(self, waiting: Vector) -> None:
+        """The next band: from the least length on of vertices that wait."""
+        self.front, self.far = waiting, []
+        if self.bounds.width and len(waiting.at):
+            least = waiting.values.min() if market.is_array(waiting.values) else min(waiting.values)
+            self.end = int(least) + self.bounds.width
+            self.front, later = _parted(waiting, self.end)
+            self.far = [later] if len(later) else []
 
     def rounds_by_jobs(self, told: 'Told') -> None:
         """Rounds with known lengths in the session, until none changes or fronts have become small."""
-        lines = self.lines
-        known = lines.put(_reached(self.known))
-        front, small = lines.put(self.front), 0
+        lines, small = self.lines, 0
+        known, front = lines.put(_reached(self.known)), lines.put(self.front)
+        far = lines.put(self.waiting() if self.far else Vector([], []))
         while front.nvals and small < BACK:
             told.round(self.longest, lines, front)
             reached = lines.step(front, SHORTEST)
@@ -94,10 +117,26 @@ class Lengths(Generic[M]):
             self.longest += told.heaviest
             if self.longest + told.heaviest >= MOST:
                 self.longest = _longest(lines.get(front).values)
+            if self.bounds.width:
+                front, later = front.select('valuelt', self.end), front.select('valuege', self.end)
+                far = far.ewise_add(later, 'second')
+                front, far = (front, far) if front.nvals else self.next_band(known, far)
             small = 0 if is_large(front.nvals, lines) else small + 1
-        everything = lines.get(known)
-        self.known.put(everything.at, everything.values)
-        self.front = lines.get(front)
+        self._fetch(known, front, far)
+
+    def next_band(self, known: M, far: M) -> Tuple[M, M]:
+        """As `take`, by jobs: the front and what waits behind it."""
+        waiting = far.ewise_mult(known, 'second').select('valuege', self.end)
+        self.end = (waiting.reduce_scalar('min') or 0) + self.bounds.width
+        return waiting.select('valuelt', self.end), waiting.select('valuege', self.end)
+
+    def _fetch(self, known: M, front: M, far: M) -> None:
+        """The client takes over what jobs kept."""
+        lengths, near, behind = self.lines.get(known), self.lines.get(front), self.lines.get(far).at
+        self.known.put(lengths.at, lengths.values)
+        self.front, self.far = near, [behind] if len(behind) else []
+        if not len(near.at) and self.far:
+            self.take(self.waiting())
 
 
 class Told:
@@ -140,6 +179,26 @@ def _shorter(known: Tally, got: Vector, limit: int) -> Vector:
     return Vector([i for i, _ in kept], [x for _, x in kept])
 
 
+def _kept(vector: Vector, least: int, most: int) -> Vector:
+    """Those of a length between two."""
+    if market.is_array(vector.at):
+        keep = (vector.values >= least) & (vector.values <= most)
+        return Vector(vector.at[keep], vector.values[keep])
+    kept = [(i, x) for i, x in zip(vector.at, vector.values) if least <= x <= most]
+    return Vector([i for i, _ in kept], [x for _, x in kept])
+
+
+def _parted(vector: Vector, end: int) -> Tuple[Vector, Numbers]:
+    """Those of a length below the end, and the vertices of the others."""
+    if market.is_array(vector.at):
+        near = vector.values < end
+        return Vector(vector.at[near], vector.values[near]), vector.at[~near]
+    kept = [(i, x) for i, x in zip(vector.at, vector.values) if x < end]
+    if len(kept) == len(vector.at):
+        return vector, []
+    return Vector([i for i, _ in kept], [x for _, x in kept]), [i for i, x in zip(vector.at, vector.values) if x >= end]
+
+
 def _reached(known: Tally) -> Vector:
     """The lengths that are known, of all vertices that were reached."""
     if market.find_numpy() is not None:
@@ -148,6 +207,14 @@ def _reached(known: Tally) -> Vector:
         return Vector(at, known.view()[at])
     places = [i for i, length in enumerate(known.numbers) if length != UNREACHED]
     return Vector(places, [known.numbers[i] for i in places])
+
+
+def _width(W: GraphMatrix, least: int, most: int) -> int:
+    """How wide a band is: so many times the greatest length of an edge as edges leave eight vertices, or less. 0 where an edge is
+    negative, or a path could be too long."""
+    if least < 0 or most * W.nrows >= MOST:
+        return 0
+    return max(1, WIDE * most * W.nrows // max(1, W.nvals))
 
 
 def sssp(W: M, source: Any, WT: Optional[M] = None, progress: Progress = None, *, cutoff: Optional[int] = None,
@@ -159,20 +226,22 @@ def sssp(W: M, source: Any, WT: Optional[M] = None, progress: Progress = None, *
     ends as soon as it is known: others may be missing, or too long, then. `WT` is the transpose; it serves blocks alone, where it is
     made without it. `progress('round', k, 0)` is called after each round.
 
-    Each round lengthens the paths to those vertices whose length changed in the last one, by one edge. The lengths are kept by the
-    client; while many vertices change at a time, by jobs.
+    Each round lengthens the paths to vertices whose length changed, by one edge; where no edge is negative the nearest first, a band of
+    lengths at a time (delta-stepping). The lengths are kept by the client; while many vertices change at a time, by jobs.
 
-    Runs: 1 a round, and 4; 3 more a round with a large front. There are as many rounds as edges in the longest of the shortest
-    paths, and 1. Steps: up to 7 an edge that leaves a vertex whose length changed, a round; 10 a vertex it leads to where the front is
-    large; 8 an edge and 4 a vertex, once, for the least and the greatest value, which are kept with the matrix. GraphBLAS: `vxm` over min and plus
-    (Bellman and Ford). LAGraph: `LAGr_SingleSourceShortestPath`. networkx: `single_source_bellman_ford_path_length`. Raises ValueError
+    Runs: 1 a round, and 4; 4 more a round with a large front, 9 where a band ends with it. There are as many rounds as edges in the
+    longest of the shortest paths, and 1; with bands some more, but no more than vertices. Steps: up to 7 an edge that leaves a vertex
+    whose length changed, a round; 20 a vertex it leads to where the front is large; 8 an edge and 4 a vertex, once, for the least and
+    the greatest value, which are kept with the matrix. GraphBLAS: `vxm` over min and plus (Bellman and Ford; Meyer and Sanders).
+    LAGraph: `LAGr_SingleSourceShortestPath`. networkx: `single_source_bellman_ford_path_length`. Raises ValueError
     where the source is no vertex, or reaches a cycle of negative length, and where lengths could wrap (with `check=False` they are
     taken to stay below 2^63), and in blocks where WT isn't the transpose.
     """
     count = order(W, WT)
     source, target = W.index(source), None if target is None else W.index(target)
     least, most = extremes(W) if check or cutoff is not None or target is not None else (-1, 0)
-    lengths = Lengths(lines_of(W, WT, check, values=True), source, Bounds(cutoff, target, least >= 0))
+    bounds = Bounds(cutoff, target, least >= 0, _width(W, least, most))
+    lengths = Lengths(lines_of(W, WT, check, values=True), source, bounds)
     told = Told(progress, count, max(abs(least), abs(most)) if check else 0)
     while len(lengths.front.at):
         if is_large(len(lengths.front.at), lengths.lines):

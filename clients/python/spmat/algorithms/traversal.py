@@ -36,19 +36,21 @@ class Unseen(Generic[M]):
         """The vertices that weren't seen."""
         now = self._held if self._held is not None else self._lines.ones()
         if self._since:
-            marks = self._last if self._last is not None else self._lines.put(_joined(self._since))
+            marks = self._last if self._last is not None else self._lines.put(joined(self._since))
             now = now.ewise_add(marks, 'zero').select('nonzero')
         self._held, self._since, self._last = now, [], None
         return now
 
 
-def _joined(parts: List[Numbers]) -> Vector:
-    """Vertices of several parts, ascending, with ones."""
+def joined(parts: List[Numbers]) -> Vector:
+    """Vertices of several parts, each once, ascending, with ones. Lists where they are few."""
     if any(market.is_array(part) for part in parts):
         import numpy
-        at = numpy.sort(numpy.concatenate([numpy.asarray(part, numpy.int64) for part in parts]))
-        return Vector(at, at * 0 + 1)
-    seen = sorted(i for part in parts for i in part)
+        at = numpy.unique(numpy.concatenate([numpy.asarray(part, numpy.int64) for part in parts]))
+        if len(at) >= FEW:
+            return Vector(at, at * 0 + 1)
+        parts = [at.tolist()]
+    seen = sorted({i for part in parts for i in part})
     return Vector(seen, [1] * len(seen))
 
 
