@@ -1,7 +1,7 @@
 """What a notebook shows of matrices, operators, budgets and runs: HTML without scripts, which `_repr_html_` gives.
 
 A matrix that waits is not run for it. Up to 50,000 entries come to the client; of more the server is asked for the corner and counts the
-raster (4 jobs, 4 runs), and where the budget refuses that, the sizes alone are shown.
+raster (3 jobs, 2 runs), and where the budget refuses that, the sizes alone are shown. Matrices in row blocks are in `blocks.showing`.
 """
 from __future__ import annotations
 
@@ -16,6 +16,7 @@ if TYPE_CHECKING:
     from .matrix import Matrix
     from .operators import Operator
     from .operators.telling import Check
+    from .results import Held
 
 CORNER, CELLS, SIDE = 8, 48, 144                   # rows and columns of the corner, cells of the raster, pixels of its side
 FEW = 50_000
@@ -45,67 +46,94 @@ def table(heads: Sequence[Any], rows: Sequence[Sequence[Any]]) -> str:
 
 def matrix(shown: 'Matrix') -> str:
     """A matrix: its sizes and entries, what is known of it, a corner with values, and where its entries are."""
-    about = ['%s &times; %s' % tuple(format(side, ',') for side in shown.shape)]
+    about = [sizes(shown)]
     if shown.waits:
-        return _headed(about + ['queued: what needs it runs it'], '')
+        return headed('Matrix', about + ['queued: what needs it runs it'], '')
     try:
         about.append('%s entries' % format(shown.nvals, ','))
     except SpmatError as fault:
-        return _headed(about + [text_of(fault)], '')
-    about += ['undirected'] if shown.directed is False else ['directed'] if shown.directed else []
-    about += ['named'] if shown.row_nodes is not None or shown.column_nodes is not None else []
+        return headed('Matrix', about + [text_of(fault)], '')
+    about += known(shown)
     try:
-        found = _few(shown) if shown.nvals <= FEW else _many(shown)
+        found = few(shown) if shown.nvals <= FEW else many(shown)
     except SpmatError as fault:
-        return _headed(about, '<div>%s</div>' % text_of(fault))
-    return _headed(about, '<div style="display:flex;gap:16px;align-items:flex-start">%s%s</div>' % (
-        _corner(shown, found.corner), _raster(shown.shape, found.raster)))
+        return headed('Matrix', about, '<div>%s</div>' % text_of(fault))
+    return headed('Matrix', about, beside(corner(shown, found.corner), raster(shown.shape, found.raster)))
 
 
-def _headed(about: List[str], rest: str) -> str:
-    return '<div><div style="margin-bottom:4px"><b>Matrix</b> %s</div>%s</div>' % (', '.join(about), rest)
+def sizes(shown: 'Held') -> str:
+    """Rows and columns."""
+    return '%s &times; %s' % tuple(format(side, ',') for side in shown.shape)
 
 
-def _few(shown: 'Matrix') -> Shown:
-    corner: Cells = {}
-    raster: Cells = {}
+def known(shown: 'Held') -> List[str]:
+    """What is known of a matrix beside its entries."""
+    told = ['undirected'] if shown.directed is False else ['directed'] if shown.directed else []
+    return told + (['named'] if shown.row_nodes is not None or shown.column_nodes is not None else [])
+
+
+def headed(kind: str, about: Sequence[str], rest: str) -> str:
+    """A line about a matrix, and what stands below it."""
+    return '<div><div style="margin-bottom:4px"><b>%s</b> %s</div>%s</div>' % (kind, ', '.join(about), rest)
+
+
+def beside(*parts: str) -> str:
+    """Parts side by side."""
+    return '<div style="display:flex;gap:16px;align-items:flex-start">%s</div>' % ''.join(parts)
+
+
+def few(shown: 'Held') -> Shown:
+    """What is shown of a matrix of few entries, all of which come to the client."""
+    near: Cells = {}
+    counts: Cells = {}
     for i, j, value in shown.to_triples():
         if i < CORNER and j < CORNER:
-            corner[i, j] = value
+            near[i, j] = value
         cell = _cell(i, shown.nrows), _cell(j, shown.ncols)
-        raster[cell] = raster.get(cell, 0) + 1
-    return Shown(corner, raster)
+        counts[cell] = counts.get(cell, 0) + 1
+    return Shown(near, counts)
 
 
 def _cell(at: int, count: int) -> int:
     return at if count <= CELLS else at * CELLS // count
 
 
-def _many(shown: 'Matrix') -> Shown:
-    part: Any = shown[:min(CORNER, shown.nrows), :min(CORNER, shown.ncols)]
+def many(shown: 'Matrix') -> Shown:
+    """What is shown of a matrix of many entries: by one job the corner, by two the raster."""
     session, (nrows, ncols) = shown.session, shown.shape
     rows = session.from_coo([_cell(i, nrows) for i in range(nrows)], range(nrows), 1, min(CELLS, nrows), nrows)
     columns = session.from_coo(range(ncols), [_cell(j, ncols) for j in range(ncols)], 1, ncols, min(CELLS, ncols))
-    return Shown(part.to_dict(), rows.mxm(shown.apply('one'), 'plus_second').mxm(columns, 'plus_first').to_dict())
+    near, counts = first_cells(shown), rows.mxm(shown, 'plus_pair').mxm(columns, 'plus_first')
+    return Shown(near.to_dict(), counts.to_dict())
 
 
-def _corner(shown: 'Matrix', corner: Cells) -> str:
+def first_cells(shown: 'Matrix') -> 'Matrix':
+    """The job that gives the corner's entries: a product of ones with the first rows, under a mask of the first columns. It makes a call
+    for each entry of the corner alone."""
+    session, height, width = shown.session, min(CORNER, shown.nrows), min(CORNER, shown.ncols)
+    first = session.from_coo(range(height), range(height), 1, height, shown.nrows)
+    where = session.from_coo([i for i in range(height) for _ in range(width)], [*range(width)] * height, 1, height, shown.ncols)
+    return first.mxm(shown, 'any_second', mask=where.S)
+
+
+def corner(shown: 'Held', near: Cells) -> str:
+    """The first rows and columns with their values and names."""
     rows, columns = (range(min(CORNER, side)) for side in shown.shape)
     first: Sequence[Any] = shown.row_nodes or range(shown.nrows)
     second: Sequence[Any] = shown.column_nodes or range(shown.ncols)
     more = ['..'] if shown.ncols > CORNER else []
-    body: List[List[Any]] = [[first[i], *(corner.get((i, j), '') for j in columns), *more] for i in rows]
+    body: List[List[Any]] = [[first[i], *(near.get((i, j), '') for j in columns), *more] for i in rows]
     body += [['..', *('..' for _ in columns), *more]] if shown.nrows > CORNER else []
     return table(['', *(second[j] for j in columns), *more], body)
 
 
-def _raster(shape: Tuple[int, int], raster: Cells) -> str:
+def raster(shape: Tuple[int, int], counts: Cells) -> str:
     """A square for each cell that has entries, the darker the more, by the logarithm of their number."""
     rows, columns = (max(1, min(CELLS, side)) for side in shape)
     size = SIDE / max(rows, columns)
-    most = math.log(max(raster.values(), default=1) + 1)
+    most = math.log(max(counts.values(), default=1) + 1)
     squares = ''.join('<rect x="%.2f" y="%.2f" width="%.2f" height="%.2f" fill-opacity="%.2f"/>' % (
-        j * size, i * size, size, size, .3 + .7 * math.log(count + 1) / most) for (i, j), count in sorted(raster.items()))
+        j * size, i * size, size, size, .3 + .7 * math.log(count + 1) / most) for (i, j), count in sorted(counts.items()))
     return ('<svg width="%d" height="%d" style="border:1px solid #ddd;background:#fff" role="img" aria-label="where the entries are">'
             '<g fill="#1f4e79">%s</g></svg>' % (math.ceil(columns * size), math.ceil(rows * size), squares))
 

@@ -1,10 +1,12 @@
 """What a notebook shows of matrices, operators, budgets and runs."""
 import html.parser
+import threading
 import unittest
+from unittest import mock
 
 import support
 import spmat
-from spmat import html as shown
+from spmat import blocks, html as shown
 
 
 class Parser(html.parser.HTMLParser):
@@ -67,20 +69,62 @@ class Html(unittest.TestCase):
     def test_large_ones(self):
         """Of many entries the server counts the raster; what the client counts of few is the same."""
         A = self.s.from_triples([(i, 7 * i % 90, i) for i in range(90)] + [(89, 3, 4)], 90, 90)
-        few = shown._few(A)
-        many = shown._many(A)
+        few = shown.few(A)
+        many = shown.many(A)
         self.assertEqual(few, many)
         self.assertEqual(sum(few.raster.values()), 91)
-        before, shown.FEW = shown.FEW, 10
-        try:
+        with mock.patch.object(shown, 'FEW', 10), spmat.Session(steps=0) as poor:
             self.assertEqual(self.seen(A)[1].count('rect'), len(few.raster))
-            with spmat.Session(steps=0) as poor:
-                words, tags = self.seen(poor.full(9, 9))
-                self.assertIn('81 entries', words)
-                self.assertIn('S8', words)
+            words, tags = self.seen(poor.full(9, 9))
+            self.assertIn('81 entries', words)
+            self.assertIn('S8', words)
+            self.assertNotIn('rect', tags)
+
+    def test_jobs_of_large_ones(self):
+        """Three jobs in two runs, and of the corner's entries alone a call each."""
+        with spmat.Session() as s, mock.patch.object(shown, 'FEW', 10):
+            A, before = s.full(30, 40).wait(), s.runs
+            A._repr_html_()
+            self.assertEqual(s.runs - before, 2)
+            spent = s.budget().spent
+            self.assertEqual(shown.first_cells(A).to_triples(), [(i, j, 1) for i in range(8) for j in range(8)])
+            self.assertLessEqual(s.budget().spent - spent, 3 * 64)
+
+    def test_row_blocks(self):
+        with blocks.Sessions(3) as s:
+            G = s.from_edgelist([('a<b', 'c', 5), ('c', 'a<b', 7), ('c', 'd', 9)], directed=True)
+            G.wait()
+            words, tags = self.seen(G)
+            self.assertIn('BlockMatrix  3 × 3, 3 entries, 3 blocks, directed, named', words)
+            self.assertIn('a<b', words)
+            self.assertIn('rows entries 0 0 to 0 1 1 none 0 2 1 to 2 2 ', words)
+            self.assertEqual(tags.count('rect'), 3)
+            self.assertEqual(s.budget().spent, 0)
+            wide = s.from_triples([(i, 7 * i % 90, i) for i in range(90)] + [(89, 3, 4)], 90, 90)
+            near = self.seen(wide)[0]
+            with mock.patch.object(shown, 'FEW', 10):
+                words, tags = self.seen(wide)
+                self.assertIn('91 entries', words)
                 self.assertNotIn('rect', tags)
-        finally:
-            shown.FEW = before
+                self.assertEqual(words.split('rows entries')[1], near.split('rows entries')[1])
+            self.assertEqual([told.spent > 0 for told in s.budgets().values()], [True, False, False])
+
+    def test_row_blocks_that_wait_or_fail(self):
+        with blocks.Sessions(2, steps=20) as s, mock.patch.object(shown, 'FEW', 10):
+            A, go = s.full(9, 9).wait(), threading.Event()
+            s.engine._pools[0].submit(go.wait, 60)
+            B = A.apply('ainv')
+            try:
+                self.assertIn('being made', self.seen(B)[0])
+            finally:
+                go.set()
+            with self.assertRaises(spmat.BudgetExceeded):
+                B.wait()
+            self.assertIn('S8', self.seen(B)[0])
+            words, tags = self.seen(A)
+            self.assertIn('81 entries', words)
+            self.assertIn('S8', words)
+            self.assertNotIn('td', tags)
 
     def test_lost_ones(self):
         with spmat.Session() as s:

@@ -12,7 +12,7 @@ from ..indexing import Signs, picked
 from ..mask import Mask, as_mask
 from ..matrix import Op, Ring, _of_kind, applied
 from ..operators import binary, find_semiring, indexunary
-from . import cuts, moves, products, tasks
+from . import cuts, moves, products, showing, tasks
 from .cuts import Cut
 from .place import Counts
 
@@ -56,6 +56,9 @@ class BlockMatrix(Signs):
 
     def __repr__(self) -> str:
         return '<BlockMatrix %s %dx%d, %d blocks>' % (self.name, *self.shape, self.cut.blocks)
+
+    def _repr_html_(self) -> str:
+        return showing.matrix(self)
 
     # -- what it is
 
@@ -112,6 +115,11 @@ class BlockMatrix(Signs):
     def waits(self) -> bool:
         """Whether it isn't known yet that all blocks are made."""
         return self._counts is None
+
+    @property
+    def made(self) -> bool:
+        """Whether all blocks are made, or have failed, as far as the engine has told. It waits for nothing."""
+        return self._counts is not None or all(future.done() for future in self.futures)
 
     # -- jobs at each block
 

@@ -10,7 +10,7 @@ from __future__ import annotations
 import bisect
 from typing import Any, Callable, Dict, List, Optional, Sequence, Tuple
 
-from .. import convert, market
+from .. import convert, html, market
 from ..errors import NotMade
 from ..market import Triples
 from ..mask import Mask
@@ -167,6 +167,11 @@ def column_counts(store: Store, piece: Piece, edges: Sequence[int]) -> List[int]
     for column in columns:
         out[bisect.bisect_right(edges, column) - 1] += 1
     return out
+
+
+def first_cells(store: Store, piece: Piece) -> List[Tuple[int, int, int]]:
+    """What a block has in the corner that a notebook shows."""
+    return html.first_cells(store.matrix(piece)).to_triples()
 
 
 def scalar(store: Store, piece: Piece, op: Operator) -> Folded:
