@@ -1,4 +1,4 @@
-"""What the tests share: the program, TCP between a client and it, and a server whose replies a test writes."""
+"""What the tests share: the program, a session, TCP between a client and it, and a server whose replies a test writes."""
 import contextlib
 import importlib.util
 import os
@@ -7,6 +7,8 @@ import socket
 import subprocess
 import threading
 import unittest
+
+import spmat
 
 TOP = os.path.normpath(os.path.join(os.path.dirname(os.path.abspath(__file__)), '..', '..', '..'))
 BANNER = '%%MatrixMarket matrix coordinate integer general\n'
@@ -27,6 +29,18 @@ def needs(*modules):
     """Skips a test where a module isn't there, and says which."""
     missing = [module for module in modules if importlib.util.find_spec(module) is None]
     return unittest.skipIf(missing, 'no module ' + ', '.join(missing))
+
+
+class InSession(unittest.TestCase):
+    """Tests that share a session: `s`, or `session` where a test has several things of one letter."""
+
+    @classmethod
+    def setUpClass(cls):
+        cls.s = cls.session = spmat.Session()
+
+    @classmethod
+    def tearDownClass(cls):
+        cls.s.close()
 
 
 class Listener:

@@ -2,20 +2,12 @@
 import random
 import unittest
 
-from support import needs
+from support import InSession, needs
 import spmat
 
 
 @needs('networkx')
-class Networkx(unittest.TestCase):
-    @classmethod
-    def setUpClass(cls):
-        cls.s = spmat.Session()
-
-    @classmethod
-    def tearDownClass(cls):
-        cls.s.close()
-
+class Networkx(InSession):
     def test_graphs(self):
         import networkx
         G = networkx.Graph([('a', 'b'), ('b', 'c'), ('c', 'c')])

@@ -8,15 +8,7 @@ import spmat
 from spmat import algorithms
 
 
-class Algorithms(unittest.TestCase):
-    @classmethod
-    def setUpClass(cls):
-        cls.session = spmat.Session(program=support.program())
-
-    @classmethod
-    def tearDownClass(cls):
-        cls.session.close()
-
+class Algorithms(support.InSession):
     def each(self, some, look):
         """Looks at each graph, by its name: at its neighbours, its matrix, and itself as its transpose where it is undirected."""
         for graph in some:

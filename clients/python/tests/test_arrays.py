@@ -5,23 +5,13 @@ import random
 import time
 import unittest
 
-from support import needs
+from support import InSession, needs
 import spmat
 from spmat import market
 
 
-class Case(unittest.TestCase):
-    @classmethod
-    def setUpClass(cls):
-        cls.s = spmat.Session()
-
-    @classmethod
-    def tearDownClass(cls):
-        cls.s.close()
-
-
 @needs('numpy')
-class Numpy(Case):
+class Numpy(InSession):
     def test_there_and_back(self):
         import numpy
         r = numpy.random.default_rng(1)
@@ -143,7 +133,7 @@ class Numpy(Case):
 
 
 @needs('numpy', 'scipy')
-class Scipy(Case):
+class Scipy(InSession):
     def test_there_and_back(self):
         import numpy
         import scipy.sparse

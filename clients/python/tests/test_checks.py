@@ -14,15 +14,7 @@ LOOPS_DO_NOT_COUNT = ('triangle_count', 'maximal_independent_set', 'label_propag
 MORE = {'k_core': (1,), 'k_truss': (3,)}
 
 
-class Checks(unittest.TestCase):
-    @classmethod
-    def setUpClass(cls):
-        cls.session = spmat.Session(program=support.program())
-
-    @classmethod
-    def tearDownClass(cls):
-        cls.session.close()
-
+class Checks(support.InSession):
     def graph(self, *edges, count=4):
         return self.session.from_triples([(i, j, 1 + i + j) for i, j in edges], count, count)
 

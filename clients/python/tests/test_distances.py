@@ -9,15 +9,7 @@ from spmat import algorithms
 from spmat.algorithms import distances, pairs
 
 
-class Distances(unittest.TestCase):
-    @classmethod
-    def setUpClass(cls):
-        cls.session = spmat.Session(program=support.program())
-
-    @classmethod
-    def tearDownClass(cls):
-        cls.session.close()
-
+class Distances(support.InSession):
     def each(self, look):
         """Looks at each graph: at its distances, its matrix, and its transpose where it has one of its own."""
         for graph in graphs.ALL:

@@ -16,15 +16,7 @@ def text_of(head, *lines):
     return ('%%MatrixMarket matrix ' + head + '\n' + ''.join(line + '\n' for line in lines)).encode()
 
 
-class Files(unittest.TestCase):
-    @classmethod
-    def setUpClass(cls):
-        cls.s = spmat.Session()
-
-    @classmethod
-    def tearDownClass(cls):
-        cls.s.close()
-
+class Files(support.InSession):
     def read(self, text, **how):
         return self.s.mmread(io.BytesIO(text), **how)
 

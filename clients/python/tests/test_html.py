@@ -33,15 +33,7 @@ class Parser(html.parser.HTMLParser):
         self.words.append(data)
 
 
-class Html(unittest.TestCase):
-    @classmethod
-    def setUpClass(cls):
-        cls.s = spmat.Session()
-
-    @classmethod
-    def tearDownClass(cls):
-        cls.s.close()
-
+class Html(support.InSession):
     def seen(self, thing):
         parser = Parser(thing._repr_html_())
         return ' '.join(parser.words), parser.tags

@@ -34,15 +34,7 @@ def _graphs():
 
 
 @support.needs('networkx')
-class Networkx(unittest.TestCase):
-    @classmethod
-    def setUpClass(cls):
-        cls.session = spmat.Session(program=support.program())
-
-    @classmethod
-    def tearDownClass(cls):
-        cls.session.close()
-
+class Networkx(support.InSession):
     def each(self, look, directed=True):
         """Looks at each graph: at it, its matrix, and the matrix as its own transpose where it is undirected."""
         for name, graph in _graphs():

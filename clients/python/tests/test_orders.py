@@ -3,26 +3,12 @@ import unittest
 from unittest import mock
 
 import graphs
-import support
 import spmat
 from spmat import algorithms
 from spmat.algorithms.orders import Pile
 
 
-class Orders(unittest.TestCase):
-    @classmethod
-    def setUpClass(cls):
-        cls.session = spmat.Session(program=support.program())
-
-    @classmethod
-    def tearDownClass(cls):
-        cls.session.close()
-
-    def each(self, some, look):
-        for graph in some:
-            with self.subTest(graph=graph.name):
-                look(graph, graph.near(), graph.matrix(self.session))
-
+class Orders(graphs.OnGraphs):
     def test_strongly_connected_components(self):
         def look(graph, near, G):
             reach = [set(graphs.levels(near, i)) for i in range(graph.count)]

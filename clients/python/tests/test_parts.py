@@ -71,20 +71,7 @@ def lightest(edges, count):
     return weight, many
 
 
-class Parts(unittest.TestCase):
-    @classmethod
-    def setUpClass(cls):
-        cls.session = spmat.Session(program=support.program())
-
-    @classmethod
-    def tearDownClass(cls):
-        cls.session.close()
-
-    def each(self, some, look):
-        for graph in some:
-            with self.subTest(graph=graph.name):
-                look(graph, graph.near(), graph.matrix(self.session))
-
+class Parts(graphs.OnGraphs):
     def test_core_numbers(self):
         def look(graph, near, G):
             want = core_numbers(near)

@@ -21,15 +21,7 @@ def data(name):
     return os.path.join(DATA, name)
 
 
-class Case(unittest.TestCase):
-    @classmethod
-    def setUpClass(cls):
-        cls.s = spmat.Session()
-
-    @classmethod
-    def tearDownClass(cls):
-        cls.s.close()
-
+class Case(support.InSession):
     def read(self, text, **how):
         return self.s.read_graph(io.BytesIO(text.encode() if isinstance(text, str) else text), **how)
 

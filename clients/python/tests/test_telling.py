@@ -5,7 +5,7 @@ import os
 import random
 import unittest
 
-import support  # noqa: F401 (finds the program)
+import support
 import spmat
 from spmat import blocks, limits
 from spmat.errors import refusal
@@ -31,15 +31,7 @@ exit
 '''
 
 
-class Case(unittest.TestCase):
-    @classmethod
-    def setUpClass(cls):
-        cls.s = spmat.Session()
-
-    @classmethod
-    def tearDownClass(cls):
-        cls.s.close()
-
+class Case(support.InSession):
     def refusal(self, kind, text):
         with self.assertRaises(spmat.OperatorRefused) as said:
             self.s.types(spmat.asm(kind, text))
