@@ -50,8 +50,8 @@ class Settings:
 
 
 def version_of(program: Optional[Program] = None) -> Tuple[str, str]:
-    """What tells a version here: that of this package, and the SHA-256 of the program's file. The program has no command that says
-    its version; its file says more, since two builds of one source may differ as well. Where the program is started by several words
+    """What tells a version here: that of this package, and the SHA-256 of the program's file, which says more than the
+    version that the program tells, since two builds of one source may differ as well. Where the program is started by several words
     (a shell, a wrapper), each word that is a file counts, and each other word as it stands. FileNotFoundError where the first is
     none."""
     from .. import __version__
