@@ -1,6 +1,8 @@
 """The queue of a session: jobs that wait, how many steps and entries they can have, and what runs settle."""
 from __future__ import annotations
 
+# pylint: disable=protected-access  # a session and its matrices keep one another's books
+
 import collections
 import copy
 import weakref
@@ -57,16 +59,16 @@ class Most(NamedTuple):
 
 def most_of(form: str, length: int, operands: Sequence[Matrix], mask: Optional[Matrix], shape: Tuple[int, int]) -> Most:
     """What a job with operators of so many instructions can come to, by what is known of its operands' entries."""
-    a = operands[0].most
-    under = mask.most if mask is not None else MOST_SIDE
+    a = operands[0]._most
+    under = mask._most if mask is not None else MOST_SIDE
     room = min(under, shape[0] * shape[1])
     if form == 'product':
-        terms = min(a * operands[1].ncols, operands[0].nrows * operands[1].most)
+        terms = min(a * operands[1].ncols, operands[0].nrows * operands[1]._most)
         return Most(terms, terms * length, min(terms, room))
     if form == 'union':
-        b = operands[1].most
+        b = operands[1]._most
         return Most(a + b, min(a, b, under) * length, min(a + b, room))
-    calls = min(a, operands[1].most, under) if form == 'both' else a if form == 'reduce' else min(a, under)
+    calls = min(a, operands[1]._most, under) if form == 'both' else a if form == 'reduce' else min(a, under)
     return Most(0, calls * length, min(calls, room))
 
 
@@ -84,14 +86,14 @@ class Job:
         """The result, which the caller holds."""
         self.matrix = weakref.ref(matrix)
         if self.cause is not None:
-            matrix.lose(self.cause)
+            matrix._lose(self.cause)
 
     def lose(self, cause: BaseException) -> None:
         """The result is never made."""
         self.cause = self.cause or without_frames(cause)
         matrix = self.matrix()
         if matrix is not None:
-            matrix.lose(self.cause)
+            matrix._lose(self.cause)
 
 
 class Queue:
@@ -121,7 +123,7 @@ class Queue:
 
     def has(self, matrices: Iterable[Matrix]) -> bool:
         """Whether one of these is a result that no run stands behind yet."""
-        return bool(self._waiting) and any(matrix.key in self._waiting for matrix in matrices)
+        return bool(self._waiting) and any(matrix._key in self._waiting for matrix in matrices)
 
     @property
     def is_long(self) -> bool:
@@ -173,7 +175,7 @@ class Queue:
             job.lose(self._outbox.refused)
         matrix = job.matrix()
         if matrix is not None:
-            matrix.priced(job.price)
+            matrix._priced(job.price)
 
     def _unqueued(self, job: Job, cause: BaseException) -> None:
         job.refused = True
@@ -201,7 +203,7 @@ class Queue:
             self._names.bound(job.name, nrows, entries)
             matrix = job.matrix()
             if matrix is not None and job.cause is None:
-                matrix.settle(entries, steps)
+                matrix._settle(entries, steps)
             self._results.append(JobResult(matrix, job.form, job.price, steps))
         self._done(jobs)
 

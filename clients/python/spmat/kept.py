@@ -1,6 +1,8 @@
 """Matrices that the client has the entries of, which are sent when a job first wants them."""
 from __future__ import annotations
 
+# pylint: disable=protected-access  # a session and its matrices keep one another's books
+
 from typing import TYPE_CHECKING, Any, Dict, List, Optional, Tuple
 
 from . import market
@@ -20,15 +22,15 @@ class Kept(Matrix):
         super().__init__(session, '', entries.nrows, entries.ncols, len(entries.rows), name='of the client')
 
     @property
-    def key(self) -> str:
+    def _key(self) -> str:
         """The name that the server has it under: it is sent where it wasn't."""
         if not self._sent:
-            self._sent = self.session.send(self, self._entries)
-            self.session.hold(self)
+            self._sent = self.session._send(self, self._entries)
+            self.session._hold(self)
         return self._sent
 
-    @key.setter
-    def key(self, key: str) -> None:
+    @_key.setter
+    def _key(self, key: str) -> None:
         self._sent = key
 
     def to_text(self) -> bytes:

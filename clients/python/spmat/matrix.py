@@ -37,9 +37,9 @@ class Matrix(Signs):
 
     def __init__(self, session: 'Session', key: str, nrows: int, ncols: int, nvals: Optional[int], name: Optional[str] = None,
                  price: Optional[int] = None) -> None:
-        self.session, self.key, self.name = session, key, name or key
+        self.session, self._key, self.name = session, key, name or key
         self.nrows, self.ncols, self._price = nrows, ncols, price
-        self.most = market.MOST_SIDE if nvals is None else nvals       # entries, at most
+        self._most = market.MOST_SIDE if nvals is None else nvals       # entries, at most
         self.steps: Optional[int] = None
         self.notes = notes.NOTHING
         self._nvals = nvals
@@ -47,7 +47,7 @@ class Matrix(Signs):
         self._transposed: Optional['weakref.ref[Matrix]'] = None
         self.kept: Dict[str, Any] = {}                     # what algorithms found out about it
         if key:
-            session.hold(self)
+            session._hold(self)
 
     def __reduce__(self) -> Any:
         raise TypeError('a matrix belongs to its session, and can not be pickled: pickle to_text() or to_coo()')
@@ -77,29 +77,29 @@ class Matrix(Signs):
 
     def wait(self) -> 'Matrix':
         """This matrix, once it is there: runs the queue where it waits. In python-graphblas `wait`, and `new` of an expression."""
-        self.check_usable()
+        self._check_usable()
         if self.waits:
             self.session.run()
-            self.check_usable()
+            self._check_usable()
         return self
 
     new = wait
 
-    def check_usable(self) -> None:
+    def _check_usable(self) -> None:
         """Raises Closed where the session has ended, and NotMade where the run of this matrix was refused."""
         self.session.connection.check_open()
-        self.check_made()
+        self._check_made()
 
-    def check_made(self) -> None:
+    def _check_made(self) -> None:
         """Raises NotMade where the run of this matrix was refused."""
         if self._lost is not None:
             raise NotMade('this matrix was never made: its run was refused (%s)' % self._lost) from self._lost
 
-    def settle(self, nvals: int, steps: int) -> None:
+    def _settle(self, nvals: int, steps: int) -> None:
         """The session's word that the job ran."""
-        self._nvals, self.most, self.steps = nvals, nvals, steps
+        self._nvals, self._most, self.steps = nvals, nvals, steps
 
-    def priced(self, price: int) -> None:
+    def _priced(self, price: int) -> None:
         """The session's word of the most steps that the job can take."""
         self._price = price
 
@@ -107,10 +107,10 @@ class Matrix(Signs):
     def price(self) -> Optional[int]:
         """Of a job's result the most steps that the job could take; None of another matrix. A job that waits to be sent is sent."""
         if self._price is None and self.waits:
-            self.session.flush()
+            self.session._flush()
         return self._price
 
-    def lose(self, cause: BaseException) -> None:
+    def _lose(self, cause: BaseException) -> None:
         """The session's word that the run was refused."""
         self._lost = cause
 
@@ -209,7 +209,7 @@ class Matrix(Signs):
             _check_mask(where, job.shape)
         cut = where.matrix._structure(where.value) if where is not None and not where.complement else None
         inner = None if where is not None and where.complement else name
-        made = self.session.submit(job.form, job.ops, job.operands, job.shape, job.thunk, cut, inner)
+        made = self.session._submit(job.form, job.ops, job.operands, job.shape, job.thunk, cut, inner)
         made.notes = job.told if cut is None else notes.masked(job.told, cut.notes)
         return made.without(~where, name=name) if where is not None and where.complement else made
 
@@ -323,7 +323,7 @@ class Matrix(Signs):
     def to_text(self) -> bytes:
         """The canonical Matrix Market text: coordinate integer general, entries by ascending row and column. Runs the queue where
         this matrix waits, as all else does that tells what it holds."""
-        return self.session.text_of(self)
+        return self.session._text_of(self)
 
 
 class _Job(NamedTuple):

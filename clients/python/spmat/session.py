@@ -1,6 +1,8 @@
 """Sessions: matrices in, jobs, the queue, the budget."""
 from __future__ import annotations
 
+# pylint: disable=protected-access  # a session and its matrices keep one another's books
+
 import itertools
 import re
 from typing import TYPE_CHECKING, Any, Callable, Dict, List, NamedTuple, Optional, Sequence, Tuple, Union
@@ -135,7 +137,7 @@ class Session(Sources[Matrix]):
             self.connection.tell('jobs', many, many)
         return reply
 
-    def flush(self) -> None:
+    def _flush(self) -> None:
         """Sends the jobs that wait to be sent, so that their prices are known. No run but those that stand behind them."""
         with self._turn():
             self._exchange()
@@ -165,11 +167,11 @@ class Session(Sources[Matrix]):
         wants them."""
         return Kept(self, entries)
 
-    def send(self, kept: Kept, entries: Triples) -> str:
+    def _send(self, kept: Kept, entries: Triples) -> str:
         """Sends the entries of a matrix that is kept, with the next command; its name."""
         with self._turn():
             key, text = self._names.take(), market.write(entries)
-            self._outbox.put(Later(Sent('matrix ' + key, text), lambda _: None, kept.lose))
+            self._outbox.put(Later(Sent('matrix ' + key, text), lambda _: None, kept._lose))
             self._names.bound(key, entries.nrows, len(entries.rows))
             if self._outbox.is_full:
                 self._exchange()
@@ -250,27 +252,27 @@ class Session(Sources[Matrix]):
 
     # -- matrices out
 
-    def text_of(self, matrix: Matrix) -> bytes:
+    def _text_of(self, matrix: Matrix) -> bytes:
         """The canonical text of a matrix; see `Matrix.to_text`."""
         with self._turn():
-            matrix.check_usable()
+            matrix._check_usable()
             if matrix.waits:
                 self._queue.run_later()
             try:
-                body = self._command('show ' + matrix.key).body
+                body = self._command('show ' + matrix._key).body
             except Refused as refused:
                 raise self._outbox.refused or refused
             if self._outbox.refused is not None:
                 raise self._outbox.refused
             return body
 
-    def hold(self, matrix: Matrix) -> None:
+    def _hold(self, matrix: Matrix) -> None:
         """Takes the matrix's name back when it is collected."""
-        self._names.hold(matrix, matrix.key)
+        self._names.hold(matrix, matrix._key)
 
     # -- operators
 
-    def upload(self, op: Operator) -> str:
+    def _upload(self, op: Operator) -> str:
         """The name of an operator in this session. It is uploaded at its first use; what the server refuses is OperatorRefused."""
         if not isinstance(op, Operator):
             raise TypeError('an operator is wanted, such as spmat.binary.plus, not %r' % (op,))
@@ -289,7 +291,7 @@ class Session(Sources[Matrix]):
             self._operators[op] = Uploaded(name, int(reply.words[-1]))
         return self._operators[op]
 
-    def length_of(self, op: Operator) -> int:
+    def _length_of(self, op: Operator) -> int:
         """The number of an operator's instructions, the most steps that a call takes."""
         with self._turn():
             return self._uploaded(op).instructions
@@ -304,13 +306,13 @@ class Session(Sources[Matrix]):
     def dis(self, op: Operator) -> str:
         """An operator as assembly text, a line for each instruction, however it was made."""
         with self._turn():
-            return ''.join(line + '\n' for line in self._command('dis ' + self.upload(op)).lines)
+            return ''.join(line + '\n' for line in self._command('dis ' + self._upload(op)).lines)
 
     def types(self, op: Operator) -> List[str]:
         """What the verifier knows before each instruction, a line each: its slot, and for R0 to R10 `u` (unset on some path), `n`
         (a number), `p` with a distance (a place in the stack), `m` (set differently); or its slot and `-` where no path leads."""
         with self._turn():
-            return self._command('types ' + self.upload(op)).lines
+            return self._command('types ' + self._upload(op)).lines
 
     def check(self, op: Operator) -> telling.Check:
         """What the verifier says of an operator: whether it is accepted, the instructions with what R0 to R10 hold before each, and
@@ -338,7 +340,7 @@ class Session(Sources[Matrix]):
                 raise self._outbox.refused
             return self._queue.results()
 
-    def submit(self, form: str, ops: Sequence[Operator], operands: Sequence[Matrix], shape: Tuple[int, int],
+    def _submit(self, form: str, ops: Sequence[Operator], operands: Sequence[Matrix], shape: Tuple[int, int],
                thunk: Optional[int] = None, mask: Optional[Matrix] = None, name: Optional[str] = None) -> Matrix:
         """Queues a job of one of the protocol's forms with a structural mask; the matrix methods use it. A job takes the versions
         that its names have when it is submitted, so an operand or mask that waits makes the queue run first. So does a full
@@ -352,16 +354,16 @@ class Session(Sources[Matrix]):
             for matrix in needed:
                 if matrix.session is not self:
                     raise ValueError('a matrix of another session')
-                matrix.check_made()
+                matrix._check_made()
             sent = [self._operators.get(op) or self._uploaded(op) for op in ops]
-            words = [op.name for op in sent] + [matrix.key for matrix in operands] + ([str(thunk)] if thunk is not None else [])
-            words += ['mask', mask.key] if mask is not None else []
+            words = [op.name for op in sent] + [matrix._key for matrix in operands] + ([str(thunk)] if thunk is not None else [])
+            words += ['mask', mask._key] if mask is not None else []
             if len(self._queue) >= QUEUE or self._queue.has(needed):
                 self._queue.run_later()
             most = most_of(form, sum(op.instructions for op in sent), operands, mask, shape)
             job = self._handed_in(form, words, most, name)
             result = Matrix(self, job.name, shape[0], shape[1], None, name=name, price=job.price)
-            result.most = most.entries
+            result._most = most.entries
             job.bind(result)
             self.jobs += 1
             return result

@@ -164,7 +164,7 @@ class Values(unittest.TestCase):
             os.symlink(os.path.abspath(support.program()), os.path.join(folder, 'spmat'))
             path = {**os.environ, 'PATH': folder + os.pathsep + os.environ['PATH']}
             done = subprocess.run(['sh', '-c', send + script], cwd=folder, env=path, stdout=subprocess.PIPE,
-                                  universal_newlines=True)
+                                  universal_newlines=True, timeout=100)
             self.assertEqual(done.stdout, shown)
         source = 'int64_t gap(int64_t x, int64_t y) { return x > y ? x - y : 0; }'
         self.assertEqual(self.session.dis(spmat.c(source)).strip(), shown.split('\n', 2)[2].strip())
@@ -194,7 +194,7 @@ class Values(unittest.TestCase):
         self.assertEqual(op, same)
         copied = pickle.loads(pickle.dumps(op))
         self.assertEqual((op, op.name), (copied, copied.name))
-        self.assertEqual(self.session.upload(op), self.session.upload(copied))
+        self.assertEqual(self.session._upload(op), self.session._upload(copied))
 
 
 REFUSED = [

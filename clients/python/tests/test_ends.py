@@ -235,7 +235,7 @@ class Interrupts(unittest.TestCase):
                 self.assertEqual([job.steps for job in done], [2] * len(jobs))
                 self.assertEqual(len(jobs), 3 if command == 'apply' else 2)
                 self.assertEqual((B.nvals, C.steps, A.to_coo(arrays=False)[2]), (1, 2, [5]))
-                self.assertNotIn(C.key, [name for name in jobs if name != C.key])
+                self.assertNotIn(C._key, [name for name in jobs if name != C._key])
 
     def test_amid_sending(self):
         """Put off until the command stands; what is sent whole is answered."""
