@@ -58,7 +58,7 @@ def _quit(port: int, compiler: 'subprocess.Popen[bytes]') -> None:
     end = time.monotonic() + SECONDS_TO_LISTEN
     while compiler.poll() is None:
         try:
-            with socket.create_connection((LOOPBACK, port)) as connection:
+            with socket.create_connection((LOOPBACK, port), SECONDS_TO_LISTEN) as connection:
                 connection.sendall(b'quit\n')
                 connection.recv(64)
             return

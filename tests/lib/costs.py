@@ -7,7 +7,7 @@ from typing import List, NamedTuple
 
 from tests.lib.commands import run_words
 from tests.lib.replies import Replies
-from tests.lib.runs import Wrong, bounded
+from tests.lib.runs import SECONDS, Wrong, bounded
 
 PIECE = 1 << 20
 LAST = b'ok budget '
@@ -25,7 +25,7 @@ def replies_until_last(child: subprocess.Popen) -> List[bytes]:
     def more() -> bytes:
         piece = child.stdout.read1(PIECE)
         if not piece:
-            raise Wrong('the program ended, status %d' % child.wait())
+            raise Wrong('the program ended, status %d' % child.wait(SECONDS))
         return piece
 
     replies, refusals = Replies(more), []
@@ -45,7 +45,7 @@ def cost_of(program: str, session: bytes, workers: int = 1) -> Cost:
         feeder = threading.Thread(target=give, args=(child, session), daemon=True)
         feeder.start()
         refusals = replies_until_last(child)
-        feeder.join()
+        feeder.join(SECONDS)
         # not by its resource usage, which counts what the Python that started it had before
         with open('/proc/%d/status' % child.pid) as status:
             peak = int(re.search(r'VmHWM:\s+(\d+) kB', status.read()).group(1)) << 10

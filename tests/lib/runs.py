@@ -1,9 +1,10 @@
 """Runs a session of a program, and compares what it wrote and how it ended with what is wanted."""
+import contextlib
 import os
 import resource
 import subprocess
 import threading
-from typing import Iterable, List
+from typing import Any, Iterable, Iterator, List
 
 # of a program that asks for far more than a case needs, so that it takes no machine down
 MOST_ADDRESS_SPACE = 8 << 30
@@ -11,6 +12,7 @@ MOST_ADDRESS_SPACE = 8 << 30
 CHECKED = 'SPMAT_CHECKED'
 # for a session; run-time checks take some ten times as long
 SECONDS = 1200 if os.environ.get(CHECKED) else 120
+LONGEST = 5 * SECONDS                              # for one that is too large to be held
 
 
 class Wrong(Exception):
@@ -41,6 +43,24 @@ def bounded() -> None:
     resource.setrlimit(resource.RLIMIT_AS, (MOST_ADDRESS_SPACE, MOST_ADDRESS_SPACE))
 
 
+@contextlib.contextmanager
+def started(words: List[str], seconds: float = SECONDS, **settings: Any) -> 'Iterator[subprocess.Popen[bytes]]':
+    """A program that is killed where it takes so long, or what looks at it fails. So nobody reads from it or waits for it without an end."""
+    child = subprocess.Popen(words, **settings)
+    timer = threading.Timer(seconds, child.kill)
+    timer.daemon = True
+    timer.start()
+    try:
+        with child:
+            try:
+                yield child
+            except BaseException:
+                child.kill()
+                raise
+    finally:
+        timer.cancel()
+
+
 def run_session(program, words, data, want, status=0):
     """One session, from its input to its output and exit status."""
     done = subprocess.run([program] + words, input=data, stdout=subprocess.PIPE, stderr=subprocess.PIPE, timeout=SECONDS,
@@ -64,19 +84,16 @@ def feed(child: subprocess.Popen, given: Iterable[bytes]) -> None:
 
 def run_streamed(program: str, words: List[str], given: Iterable[bytes], wanted: Iterable[bytes], status: int = 0) -> None:
     """One session whose input and output are too large to be held whole: both are made piece by piece while it runs."""
-    with subprocess.Popen([program] + words, stdin=subprocess.PIPE, stdout=subprocess.PIPE, stderr=subprocess.PIPE,
-                          preexec_fn=bounded) as child:
+    with started([program] + words, LONGEST, stdin=subprocess.PIPE, stdout=subprocess.PIPE, stderr=subprocess.PIPE,
+                 preexec_fn=bounded) as child:
         feeder = threading.Thread(target=feed, args=(child, given), daemon=True)
         feeder.start()
-        try:
-            at = 0
-            for want in wanted:
-                got = child.stdout.read(len(want))
-                if got != want:
-                    raise Wrong('from byte %d of the output: %s' % (at, difference(want, got)))
-                at += len(want)
-            expect('behind the output', b'', child.stdout.read())
-            expect('status', status, child.wait(SECONDS))
-            feeder.join()
-        finally:
-            child.kill()
+        at = 0
+        for want in wanted:
+            got = child.stdout.read(len(want))
+            if got != want:
+                raise Wrong('from byte %d of the output: %s' % (at, difference(want, got)))
+            at += len(want)
+        expect('behind the output', b'', child.stdout.read())
+        expect('status', status, child.wait(SECONDS))
+        feeder.join(SECONDS)

@@ -70,6 +70,7 @@ class Health(Room):
         with socket.create_server(('127.0.0.1', 0)) as other:
             port = other.getsockname()[1]
             child = subprocess.Popen([HEALTH, str(port)], stdout=subprocess.PIPE, text=True)
+            other.settimeout(SECONDS)
             with other.accept()[0] as connection:
                 connection.sendall(b'HTTP/1.1 400 Bad Request\r\n')
             self.assertEqual(child.communicate(timeout=SECONDS), ('%d: no answer\n' % port, None))

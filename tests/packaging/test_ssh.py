@@ -26,7 +26,8 @@ class Sshd(Room):
 
     def start_sshd(self, line: str) -> None:
         for name in ('host', 'key', 'probe'):
-            subprocess.run(['ssh-keygen', '-q', '-t', 'ed25519', '-N', '', '-f', self.file(name)], check=True)
+            subprocess.run(['ssh-keygen', '-q', '-t', 'ed25519', '-N', '', '-f', self.file(name)], stdin=subprocess.DEVNULL, check=True,
+                           timeout=SECONDS)
         self.write('authorized_keys', line.replace('ssh-ed25519 AAAA...', self.public('key')) + self.public('probe') + '\n')
         if os.getuid() == 0 and not os.path.isdir(PRIVATE):
             os.mkdir(PRIVATE, 0o755)

@@ -26,7 +26,7 @@ class Stunnel(Room):
         self.served = self.serve()
         for name in (SERVER, 'anna', 'boris'):
             subprocess.run([os.path.join(TOP, 'packaging', 'stunnel', 'certificate'), name], cwd=self.folder, check=True,
-                           stderr=subprocess.DEVNULL)
+                           stdin=subprocess.DEVNULL, stderr=subprocess.DEVNULL, timeout=SECONDS)
         shutil.copy(self.file(SERVER + '.pem'), self.file('server.pem'))
         shutil.copy(self.file(SERVER + '.crt'), self.file('server.crt'))
         shutil.copy(self.file('anna.crt'), self.file('clients.crt'))
@@ -88,7 +88,7 @@ class Stunnel(Room):
                                 'connect = HOST:7172': 'connect = %s:%d' % (SERVER, self.port)}, here)
         with spmat.Session.connect(port=here, timeout=SECONDS) as s:
             self.assertEqual(s.from_triples([(0, 0, 41)]).apply('plus', right=1).to_list(), [42])
-        said = converse(socket.create_connection(('127.0.0.1', here)), FIRST_SESSION)
+        said = converse(socket.create_connection(('127.0.0.1', here), SECONDS), FIRST_SESSION)
         self.assertTrue(said.endswith(LAST_REPLIES), said)
 
     def test_a_long_batch_is_no_silence(self) -> None:

@@ -105,11 +105,11 @@ class Calls(Room):
             words[words.index(option) + 1] = value
         child = self.start('serve', self.traced(words), lambda: 'listening' in self.log('serve'))
         for _ in range(2):
-            self.assertTrue(converse(socket.create_connection(('127.0.0.1', port)), FIRST_SESSION).endswith(LAST_REPLIES))
+            self.assertTrue(converse(socket.create_connection(('127.0.0.1', port), SECONDS), FIRST_SESSION).endswith(LAST_REPLIES))
         with spmat.Session.connect(port=port, timeout=SECONDS) as s:
             A = s.full(2000, 2)
             self.assertEqual(A.apply('ainv').reduce_scalar(), -4000)
-            silent = socket.create_connection(('127.0.0.1', port))
+            silent = socket.create_connection(('127.0.0.1', port), SECONDS)
         with silent:
             self.assertEqual(child.wait(SECONDS), 0)
         self.assertEqual(self.calls('spmat.service'), set())

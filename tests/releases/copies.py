@@ -16,6 +16,7 @@ TELLS = '#!/bin/sh\necho "spmat %s"\n'
 # What a release doesn't look at, and what it does look at in there.
 LEFT_OUT = ('bench/', 'crates/', 'reference/', 'tests/')
 LOOKED_AT = ('crates/command_line/src/version.rt', 'crates/spmat/stdin', 'crates/spmat/stdout')
+SECONDS = 600                                      # of whatever is run
 RT = '#!/bin/sh\necho "%s"\n'
 
 
@@ -76,7 +77,7 @@ class Copy:
 
     def release(self, *words: str) -> 'subprocess.CompletedProcess[str]':
         return subprocess.run([self.path('tools/release')] + list(words), cwd=self.top, env=self.environment, stdout=subprocess.PIPE,
-                              stderr=subprocess.STDOUT, text=True, check=False)
+                              stderr=subprocess.STDOUT, text=True, check=False, timeout=SECONDS)
 
     def pass_gate(self) -> None:
         """What tools/test does of a release, with the proofs left out."""

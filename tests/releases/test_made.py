@@ -14,10 +14,9 @@ import unittest
 import zipfile
 from typing import Dict, List
 
-from tests.releases.copies import PROGRAM, TOP, Copy, needs_git
+from tests.releases.copies import PROGRAM, SECONDS, TOP, Copy, needs_git
 
 WHOLE = False                                      # the Debian packages too, and every Python of this machine
-SECONDS = 600
 FIRST_SESSION = re.compile(r'A first session in Python:\n\n((?:    .*\n)+)\nprints\n\n((?:    .*\n)+)')
 
 

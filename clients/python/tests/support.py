@@ -1,5 +1,6 @@
 """What the tests share: the program, a session, TCP between a client and it, and a server whose replies a test writes."""
 import contextlib
+import faulthandler
 import importlib.util
 import os
 import shutil
@@ -23,6 +24,19 @@ def program():
 
 
 os.environ['SPMAT'] = program()
+
+
+LONGEST = 900                                      # seconds of a test, on a busy machine and by the program with run-time checks
+
+
+def _watched(test, result=None, run=unittest.TestCase.run):
+    """Runs a test. One that hangs ends all, and tells by names and lines where each thread stands."""
+    faulthandler.dump_traceback_later(LONGEST, exit=True)
+    return run(test, result)
+
+
+faulthandler.dump_traceback_later(LONGEST, exit=True)      # also while a class is set up
+unittest.TestCase.run = _watched
 
 
 def needs(*modules):

@@ -64,7 +64,7 @@ class Files(unittest.TestCase):
         with FileRelay(self.path, seats=1):
             said = subprocess.run([sys.executable, '-m', 'spmat', 'triangle-count', graph, '--connect', self.path],
                                   env={**os.environ, 'PYTHONPATH': os.path.join(support.TOP, 'clients', 'python')},
-                                  stdout=subprocess.PIPE, stderr=subprocess.PIPE, text=True, check=False)
+                                  stdout=subprocess.PIPE, stderr=subprocess.PIPE, text=True, check=False, timeout=100)
         self.assertIn('left', said.stderr)                 # the relay's budget is too small: so it was asked
         self.assertEqual(said.stdout, '')
 

@@ -53,7 +53,7 @@ class Page(unittest.TestCase):
         command, said = self.blocks('.')[:2]
         self.assertTrue(command.startswith('PYTHONPATH='))
         begun = time.process_time() + sum(os.times()[2:4])
-        done = subprocess.run(['sh', '-c', command], cwd=support.TOP, stdout=subprocess.PIPE, check=True)
+        done = subprocess.run(['sh', '-c', command], cwd=support.TOP, stdout=subprocess.PIPE, check=True, timeout=100)
         self.assertEqual(done.stdout.decode(), said)
         self.assertLess(time.process_time() + sum(os.times()[2:4]) - begun, 10)
 

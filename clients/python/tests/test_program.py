@@ -67,7 +67,7 @@ class Carried(unittest.TestCase):
     def ran(self, text):
         environment = {'PYTHONPATH': self.folder, 'PATH': os.path.dirname(shutil.which('sh'))}
         return subprocess.run([sys.executable, '-c', text, 'run', '--steps', '5'], cwd=self.folder, env=environment,
-                              stdout=subprocess.PIPE, stderr=subprocess.PIPE, text=True, check=False)
+                              stdout=subprocess.PIPE, stderr=subprocess.PIPE, text=True, check=False, timeout=100)
 
     def test_it_is_found(self):
         os.chmod(self.own, 0o755)

@@ -6,7 +6,7 @@ import sys
 from typing import Callable, Dict, Iterator
 
 from tests.lib.commands import TOP, assembly_command, matrix_command, matrix_text, run_words
-from tests.lib.runs import Wrong, run_session
+from tests.lib.runs import SECONDS, Wrong, run_session
 from tests.program.made.sizes import many_entries
 
 REFERENCE = os.path.join(TOP, 'reference', '__main__.py')
@@ -68,7 +68,7 @@ def products_by_known_operators(program: str) -> None:
 
 def run_as_reference(program: str, given: bytes, ran: bytes, times: int) -> None:
     """The program replies to a session what the reference does, which ran so many times."""
-    done = subprocess.run([sys.executable, REFERENCE] + run_words(), input=given, stdout=subprocess.PIPE, check=True)
+    done = subprocess.run([sys.executable, REFERENCE] + run_words(), input=given, stdout=subprocess.PIPE, check=True, timeout=SECONDS)
     if done.stdout.count(ran) != times:
         raise Wrong('the reference ran %d of %d operators' % (done.stdout.count(ran), times))
     run_session(program, run_words(), given, done.stdout)

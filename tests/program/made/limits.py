@@ -12,7 +12,7 @@ from typing import Callable, Dict, Iterator, List, Set
 from tests.lib.commands import (BANNER, EXIT, RESULT_IS_OPERAND, add, assembly_command, instruction, matrix_command, matrix_text,
                                 operator_command, run_words, show_reply, wide_load)
 from tests.lib.limits import CHUNK_ROWS, MOST_SIDE, MOST_SLOTS, MOST_WORKERS
-from tests.lib.runs import Wrong, expect, run_session, run_streamed
+from tests.lib.runs import Wrong, expect, run_session, run_streamed, started
 
 FEW = 1000
 SIDE = 1 << 12
@@ -275,7 +275,7 @@ def threads_seen(program: str, height: int, jobs: int, workers: int) -> int:
     full, seen = Full(height, 40, lambda column: 0), set()
     input_ = b''.join(full.command(b'A')) + operator_command('f', code)
     input_ += b''.join(b'apply B%d f A\n' % number for number in range(jobs)) + b'run\n'
-    with subprocess.Popen([program] + run_words(workers=workers), stdin=subprocess.PIPE, stdout=subprocess.PIPE) as child:
+    with started([program] + run_words(workers=workers), stdin=subprocess.PIPE, stdout=subprocess.PIPE) as child:
         watch = threading.Thread(target=threads_of, args=(child, seen))
         watch.start()
         said = child.communicate(input_)[0]

@@ -7,7 +7,7 @@ import time
 from typing import Callable, Dict, List
 
 from tests.lib.commands import TOP, matrix_command, matrix_text, run_words
-from tests.lib.runs import SECONDS, Wrong, expect
+from tests.lib.runs import SECONDS, Wrong, expect, started
 
 TIME_IS_OVER = ': the time that --idle gives is over\n'
 LITTLE_TIME = 0.3
@@ -45,8 +45,8 @@ def expect_idle_end(child: 'subprocess.Popen[bytes]', words: str, least: float, 
 def idle_ends_a_silent_pipe(program: str) -> None:
     """With `--idle 1` a client that holds a pipe and sends nothing, or half a body, is ended after a second."""
     for sent, reply in ((b'', b''), (b'budget\nmatrix A 100\n%', b'ok budget 4611686018427387904 0 0\n')):
-        with subprocess.Popen([program] + waiting(1), stdin=subprocess.PIPE, stdout=subprocess.PIPE, stderr=subprocess.PIPE,
-                              bufsize=0) as child:
+        with started([program] + waiting(1), stdin=subprocess.PIPE, stdout=subprocess.PIPE, stderr=subprocess.PIPE,
+                     bufsize=0) as child:
             began = time.monotonic()
             child.stdin.write(sent)
             expect_idle_end(child, 'spmat: read failed', 0.9, began)
@@ -56,7 +56,7 @@ def idle_ends_a_silent_pipe(program: str) -> None:
 def idle_ends_a_silent_socket(program: str) -> None:
     """The same where both streams are one socket, as systemd gives it."""
     ours, theirs = socket.socketpair()
-    with ours, subprocess.Popen([program] + waiting(1), stdin=theirs, stdout=theirs, stderr=subprocess.PIPE) as child:
+    with ours, started([program] + waiting(1), stdin=theirs, stdout=theirs, stderr=subprocess.PIPE) as child:
         theirs.close()
         began = time.monotonic()
         ours.sendall(b'budget\n')
@@ -68,8 +68,8 @@ def idle_ends_a_silent_socket(program: str) -> None:
 def idle_spares_those_who_send(program: str) -> None:
     """With `--idle 1` a client that sends a byte each half second, for longer than that, has its replies; so has one whose input is a
     file, which never waits."""
-    with subprocess.Popen([program] + waiting(1), stdin=subprocess.PIPE, stdout=subprocess.PIPE, stderr=subprocess.PIPE,
-                          bufsize=0) as child:
+    with started([program] + waiting(1), stdin=subprocess.PIPE, stdout=subprocess.PIPE, stderr=subprocess.PIPE,
+                 bufsize=0) as child:
         for byte in b'quit\n':
             child.stdin.write(bytes([byte]))
             time.sleep(0.4)
@@ -87,8 +87,8 @@ def idle_ends_whoever_takes_nothing(program: str) -> None:
     text = matrix_text(side, 1, [(row, 1, row) for row in range(1, side + 1)])
     data = matrix_command('A', text) + b'show A\n' * 4
     for takes in (False, True):
-        with subprocess.Popen([program] + waiting(1), stdin=subprocess.PIPE, stdout=subprocess.PIPE, stderr=subprocess.PIPE,
-                              bufsize=0) as child:
+        with started([program] + waiting(1), stdin=subprocess.PIPE, stdout=subprocess.PIPE, stderr=subprocess.PIPE,
+                     bufsize=0) as child:
             began = time.monotonic()
             child.stdin.write(data)
             child.stdin.close()
@@ -107,7 +107,7 @@ def idle_ends_whoever_takes_nothing(program: str) -> None:
 
 def without_idle_silence_is_no_end(program: str) -> None:
     """Without the option a silent client keeps its session."""
-    with subprocess.Popen([program] + run_words(), stdin=subprocess.PIPE, stdout=subprocess.PIPE, bufsize=0) as child:
+    with started([program] + run_words(), stdin=subprocess.PIPE, stdout=subprocess.PIPE, bufsize=0) as child:
         time.sleep(1.5)
         expect('whether it runs', None, child.poll())
         expect('whether it says something', [], select.select([child.stdout], [], [], 0)[0])

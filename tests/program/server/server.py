@@ -57,7 +57,7 @@ class Server:
             if line:
                 break
             # someone else took the port in between
-            self.child.wait()
+            self.child.wait(SECONDS)
         if line != b'listening %d\n' % self.port:
             self.close()
             raise Wrong('expected listening %d, got %.60r and %.60r' % (self.port, line, self.child.stderr.read()))
