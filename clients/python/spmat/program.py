@@ -18,6 +18,13 @@ def carried() -> Optional[str]:
     return path if os.access(path, os.X_OK) else None
 
 
+def _plain() -> str:
+    """What else there is in a checkout, in words."""
+    top = os.path.dirname(os.path.dirname(os.path.dirname(os.path.dirname(os.path.abspath(__file__)))))
+    path = os.path.join(top, 'reference', '__main__.py')
+    return '. For small graphs the plain server of this checkout does: SPMAT=' + path if os.path.exists(path) else ''
+
+
 def program_words(program: Optional[Program] = None) -> List[str]:
     """The words that start the program: those given, the variable SPMAT, the program that this package carries, or `spmat` on the
     PATH, in this order. Words in one text are split as a shell does, unless the whole text is a file. FileNotFoundError where
@@ -25,7 +32,8 @@ def program_words(program: Optional[Program] = None) -> List[str]:
     found = program or os.environ.get('SPMAT') or carried() or shutil.which('spmat')
     if not found:
         raise FileNotFoundError('no program `spmat`: this package carries none (a wheel for Linux on x86_64 does; this is %s on %s). '
-                                'Give program=, set the variable SPMAT, or put it on the PATH' % (platform.system(), platform.machine()))
+                                'Give program=, set the variable SPMAT, or put it on the PATH%s'
+                                % (platform.system(), platform.machine(), _plain()))
     if not isinstance(found, str):
         return [os.fspath(word) for word in found]
     return [found] if os.path.exists(found) else shlex.split(found)

@@ -172,6 +172,10 @@ class Commands(unittest.TestCase):
         self.assertEqual(self.run_words('nothing').returncode, 2)
         self.assertEqual(self.run_words('k-core', 'graph.mtx').returncode, 2)
 
+    def test_version(self):
+        with open(os.path.join(support.TOP, 'VERSION'), encoding='ascii') as file:
+            self.assertEqual(self.printed('--version'), 'spmat %s, the client\n' % file.read().strip())
+
     def test_help_has_examples(self):
         self.assertIn('python3 -m spmat triangle-count', self.printed('--help'))
         for command in ('degrees', 'bfs-levels', 'k-truss', 'spy', 'types', 'run'):

@@ -57,7 +57,7 @@ class Words(unittest.TestCase):
             call()
         self.assertEqual(said.exception.rule, rule)
         self.assertIn(rule, str(said.exception))
-        self.assertIn(said.exception.sentence, str(said.exception))
+        self.assertIn(said.exception.said or said.exception.sentence, str(said.exception))
         return said.exception
 
     def test_operators(self):

@@ -1,5 +1,6 @@
 """Which program a session starts, and the command `spmat` of a wheel that carries one."""
 import os
+import re
 import shutil
 import subprocess
 import sys
@@ -83,6 +84,18 @@ class Carried(unittest.TestCase):
         os.chmod(self.own, 0o644)
         said = self.ran('from spmat.program import main; main()')
         self.assertEqual((said.returncode, said.stderr), (1, 'spmat: this package carries no program\n'))
+
+    def test_none_at_all(self):
+        """What to do is told; in a checkout also where the plain server is, and it starts."""
+        os.chmod(self.own, 0o644)
+        open_one = 'import spmat; spmat.Session()'
+        said = self.ran(open_one).stderr
+        self.assertIn('set the variable SPMAT, or put it on the PATH\n', said)
+        environment = {'PYTHONPATH': os.path.join(support.TOP, 'clients', 'python'), 'PATH': os.path.dirname(shutil.which('sh'))}
+        said = subprocess.run([sys.executable, '-c', open_one], env=environment, stderr=subprocess.PIPE, text=True, timeout=100).stderr
+        plain = re.search(r'the plain server of this checkout does: SPMAT=(.*)', said).group(1)
+        with spmat.Session(program=[sys.executable, plain]) as s:
+            self.assertEqual(s.full(2, 2).nvals, 4)
 
 
 if __name__ == '__main__':

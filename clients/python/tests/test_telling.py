@@ -131,7 +131,8 @@ class Lines(Case):
                 ('mov64 r0, r1 // x\nexit', 'A3', 1, 'comments begin with ; or #'), ('mov64 r0, 0x1f\nexit', 'A3', 1, 'numbers are decimal: 31'),
                 ('mov64 r0, r1\njeq64 r1, 0, end\nexit', 'A3', 2, 'a label is a line `end:`'), ('mov64 r0 r1\nexit', 'A3', 1, 'commas part'),
                 ('mov64 r0, r11\nexit', 'A4', 1, 'registers are r0 to r10'), ('mov64 r0, 2147483648\nexit', 'A5', 1, '`wide rD, NUMBER`'),
-                ('; nothing\n', 'A6', 2, 'there is no instruction at all'), ('mov64 r0, r1\n' * 4097, 'A6', 4097, 'more than 4096 slots'),
+                ('; nothing\n', 'A6', 2, 'A6: no instruction at all, line 2'),
+                ('mov64 r0, r1\n' * 4097, 'A6', 4097, 'A6: more than 4,096 slots, line 4097'),
                 ('mov64 r0, r1 ; ' + 1100 * 'x' + '\nexit', 'A1', 1, 'on lines of its own')):
             fault = self.refusal('unary', text)
             self.assertEqual((fault.rule, fault.at), (rule, at), text[:40])

@@ -11,6 +11,7 @@ import os
 import sys
 from typing import List, Optional
 
+from .. import __version__
 from ..errors import SpmatError
 from ..files import ENDINGS
 from . import algorithms, operators, pictures, script
@@ -35,6 +36,7 @@ def parser() -> argparse.ArgumentParser:
     """The grammar of the words."""
     made = argparse.ArgumentParser(prog='python3 -m spmat', description=DESCRIPTION, epilog=EPILOG,
                                    formatter_class=argparse.RawDescriptionHelpFormatter)
+    made.add_argument('--version', action='version', version='spmat %s, the client' % __version__, help="tell the client's version")
     commands = made.add_subparsers(dest='command', metavar='COMMAND', required=True)
     for module in (algorithms, pictures, operators, script):
         module.add_commands(commands)

@@ -8,7 +8,6 @@ from typing import List, Optional
 from ..errors import OperatorRefused
 from . import Operator, flow, grammar
 
-MOST_SLOTS = 4096
 COMMENTS = 'comments begin with ; or #'
 
 
@@ -77,6 +76,11 @@ def _steps(operator: Operator) -> List[flow.Step]:
     return flow.steps_of_code(operator.code or b'')
 
 
+def _one_of_two(text: str) -> str:
+    """Which of the two faults of rule A6 a text has."""
+    return 'more than 4,096 slots' if any(map(grammar.bare, text.split('\n'))) else 'no instruction at all'
+
+
 def mended(operator: Operator, refused: OperatorRefused) -> OperatorRefused:
     """A refusal with what can be told of this operator: the line, the register and the way of V11 and V12, and how to mend a line."""
     if refused.at is None or refused.detail:
@@ -88,7 +92,8 @@ def mended(operator: Operator, refused: OperatorRefused) -> OperatorRefused:
         number = next((line.number for line in grammar.lines_of(operator.text) if line.slot == refused.at), None)
     if refused.rule.startswith('A') and operator.text is not None:
         detail = how_to_mend(operator.text, refused.rule, refused.at)
-    out = refused.on_line(number, detail)
+    said = _one_of_two(operator.text) if refused.rule == 'A6' and operator.text is not None else ''
+    out = refused.of_file(said=said).on_line(number, detail)
     assert isinstance(out, OperatorRefused)
     return out
 
@@ -141,8 +146,8 @@ def how_to_mend(text: str, rule: str, at: int) -> str:
     if rule == 'A5':
         return 'to mend it: offsets are -32768 to 32767, other numbers -2147483648 to 2147483647; `wide rD, NUMBER` takes 64 bits'
     if rule == 'A6':
-        return ('there is no instruction at all: `exit` ends each operator, with its value in r0' if not any(map(grammar.bare, lines)) else
-                'there are more than %d slots, where a `wide` takes two' % MOST_SLOTS)
+        return 'an instruction is a slot, and a `wide` takes two' if any(map(grammar.bare, lines)) else \
+            'to mend it: `exit` ends each operator, with its value in r0'
     return 'to mend it: put the comment on lines of its own' if rule == 'A1' else ''
 
 
