@@ -11,11 +11,18 @@ from tests.program.made.sizes import many_entries
 
 REFERENCE = os.path.join(TOP, 'reference', '__main__.py')
 OPERATIONS = ('add', 'sub', 'mul', 'div', 'mod', 'sdiv', 'smod', 'or', 'and', 'xor', 'lsh', 'rsh', 'arsh', 'mov')
+# Operations with a number that are known, and numbers whose sign is extended, or whose width is at its end.
+CHANGES = ('add', 'sub', 'mul', 'and', 'or', 'xor')
+NUMBERS = (0, 1, -7, -2147483648, 2147483647)
 CONDITIONS = ('eq', 'ne', 'gt', 'ge', 'lt', 'le', 'set', 'sgt', 'sge', 'slt', 'sle')
 
 
 def operators() -> Iterator[str]:
     """Assembly texts of binary operators, each in the spellings that are known and in some that are not."""
+    for number in NUMBERS:
+        yield 'mov64 r0, %d\nexit\n' % number
+        yield 'mov32 r0, %d\nexit\n' % number
+        yield 'mov64 r0, 9\nmov64 r0, %d\nexit\n' % number
     for first, other in (('r1', 'r2'), ('r2', 'r1')):
         move = 'mov64 r0, %s\n' % first
         yield move + 'exit\n'
@@ -27,6 +34,11 @@ def operators() -> Iterator[str]:
             yield move + '%s64 r0, 3\nexit\n' % name
             yield move + '%s64 r0, %s\nadd64 r0, 1\nexit\n' % (name, other)
             yield 'mov64 r3, %s\n%s64 r3, %s\nmov64 r0, r3\nexit\n' % (first, name, other)
+        for name in CHANGES:
+            for number in NUMBERS:
+                yield move + '%s64 r0, %d\nexit\n' % (name, number)
+            yield move + '%s32 r0, -7\nexit\n' % name
+            yield move + '%s64 %s, 3\nexit\n' % (name, first)
         for name in CONDITIONS:
             for left, right in ((first, other), (other, first), ('r0', other), (other, 'r0'), (first, first)):
                 yield move + 'j%s64 %s, %s, 1\nmov64 r0, %s\nexit\n' % (name, left, right, other)
