@@ -1,5 +1,5 @@
 -- What is listed along positions: joined from its parts, and along the cells of rows that ascend.
-use Rattle.std.proofs.Common.{◌≡◌, ◌≤◌, ◌<◌, ◌+◌, ◌-◌, ℕ, zero, suc, true, false, cond, List, [], ◌∷◌, ◌++◌, length, get_or, Option, None, Some, refl, sym, ap, ◌∙◌, append_assoc, append-nil, arith, nat_eq, eq-eqb, inl, inr}
+use Rattle.std.proofs.Common.{◌≡◌, ◌≤◌, ◌<◌, ◌+◌, ◌-◌, ℕ, zero, suc, true, false, cond, List, [], ◌∷◌, ◌++◌, length, get_or, replicate, Option, None, Some, refl, sym, ap, ◌∙◌, append_assoc, append-nil, arith, nat_eq, eq-eqb, inl, inr}
 use Rattle.std.proofs.lemmas.Bool.{ne_eqb}
 use Rattle.std.proofs.lemmas.Bool.Decides.{eqb_tells, nat_tests}
 use Rattle.std.specs.Ordering.{nat_cmp, is_lt}
@@ -51,6 +51,11 @@ module _ {T : Type 0} where
   pub along-none : (g : ℕ → List T) (from n : ℕ) → ((j : ℕ) → g j ≡ []) → along g from n ≡ []
   along-none g from zero e = refl
   along-none g from (suc n) e = ap (λ xs. xs ++ along g (suc from) n) (e from) ∙ along-none g (suc from) n e
+
+  -- one thing at each
+  pub along-replicate : (x : T) (from n : ℕ) → replicate n x ≡ along (λ i. x ∷ []) from n
+  along-replicate x from zero = refl
+  along-replicate x from (suc n) = ap (λ xs. x ∷ xs) (along-replicate x (suc from) n)
 
   -- the first position that has something comes first
   pub along-first : (g h : ℕ → List T) (from n c : ℕ) → from ≤ c → c < from + n → ((j : ℕ) → j < c → g j ≡ []) → ((j : ℕ)

@@ -24,3 +24,4 @@ pub mod Keeping
 pub mod InRuns
 pub mod Copied
 pub mod Column
+pub mod BlankEnds

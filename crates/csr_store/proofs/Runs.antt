@@ -1,5 +1,5 @@
 -- Runs of rows, by where each row ends.
-use Rattle.std.proofs.Common.{◌≡◌, ◌≤◌, ◌<◌, ◌+◌, ◌-◌, ◌^◌, ℕ, suc, true, List, [], ◌∷◌, ◌++◌, length, take, drop, refl, sym, ap, ◌∙◌, arith, length-append, length-drop}
+use Rattle.std.proofs.Common.{◌≡◌, ◌≤◌, ◌<◌, ◌+◌, ◌-◌, ◌^◌, ℕ, zero, suc, true, List, [], ◌∷◌, ◌++◌, length, take, drop, replicate, refl, sym, ap, ◌∙◌, subst, arith, length-append, length-drop, append_assoc, append-nil}
 use Rattle.std.specs.List.{AllByRecursion}
 use Rattle.std.specs.FinMap.{is_sorted}
 use Rattle.std.specs.FinMap.Entries.{below_all}
@@ -116,3 +116,30 @@ pub run_end : (first columns : ℕ) (ends more : List ℕ) (cells : Row) (n : �
 run_end first columns ends more cells n r h l m e =
     let k : AreEnds 0 ends n = rw l h.ends_rise in
     ap (λ q. run first columns q cells) m ∙ (rw (ended_more 0 ends cells n k (omega arith), open_more 0 ends cells n k (omega arith)) refl ∙ ap with_end e)
+
+-- ---- many rows without a cell
+
+pub rows_blank : (columns n : ℕ) (ends : List ℕ) (cells : Row) (m : ℕ) → AreRows columns ends cells → m ≡ length cells → AreRows columns (ends ++ replicate n m) cells
+rows_blank columns zero ends cells m h e = subst (λ (es : List ℕ). AreRows columns es cells) (sym (append-nil ends)) h
+rows_blank columns (suc n) ends cells m h e =
+    subst (λ (es : List ℕ). AreRows columns es cells) (append_assoc ends (m ∷ []) (replicate n m))
+    (rows_blank columns n (ends ++ m ∷ []) cells m (rows_more columns ends cells m h e) e)
+
+abbrev pub with_blank : ℕ → Run → Run
+with_blank n r = record r { ended = r.ended ++ replicate n [] }
+
+run_blanks : (first columns n : ℕ) (ends : List ℕ) (cells : Row) (m : ℕ) (r : Run) → AreRows columns ends cells → m ≡ length cells → r.opened ≡ []
+    → run first columns ends cells ≡ r → run first columns (ends ++ replicate n m) cells ≡ with_blank n r
+run_blanks first columns zero ends cells m r h l o e =
+    ap (λ (es : List ℕ). run first columns es cells) (append-nil ends) ∙ (e ∙ ap (λ (rs : List Row). record r { ended = rs }) (sym (append-nil r.ended)))
+run_blanks first columns (suc n) ends cells m r h l o e =
+    ap (λ (es : List ℕ). run first columns es cells) (sym (append_assoc ends (m ∷ []) (replicate n m)))
+    ∙ (run_blanks first columns n (ends ++ m ∷ []) cells m (with_end r) (rows_more columns ends cells m h l) l refl (run_end first columns ends (ends ++ m ∷ []) cells m r h l refl e)
+    ∙ (ap (λ (os : Row). record r { ended = (r.ended ++ os ∷ []) ++ replicate n []; opened = [] }) o
+    ∙ (ap (λ (os : Row). record r { ended = (r.ended ++ [] ∷ []) ++ replicate n []; opened = os }) (sym o)
+    ∙ ap (λ (rs : List Row). record r { ended = rs }) (append_assoc r.ended ([] ∷ []) (replicate n [])))))
+
+pub run_blank : (first columns n : ℕ) (ends more : List ℕ) (cells : Row) (m : ℕ) (r : Run) → AreRows columns ends cells → m ≡ length cells → r.opened ≡ []
+    → more ≡ ends ++ replicate n m → run first columns ends cells ≡ r → run first columns more cells ≡ with_blank n r
+run_blank first columns n ends more cells m r h l o k e =
+    ap (λ (es : List ℕ). run first columns es cells) k ∙ run_blanks first columns n ends cells m r h l o e

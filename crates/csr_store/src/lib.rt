@@ -14,13 +14,14 @@
 //!
 //! Read `specs/Grid.antt` and `specs/Refusal.antt` first, then `error`, `builder`, `matrix`, `rows` and
 //! `stack`; below them `cells` (one list of cells, or many), `starts` (where rows start, in a list that
-//! matrices may share), `filler` (rows filled in ascending order), `merge` (two lists of entries as one
+//! matrices may share), `ends` (where the rows of a run end), `filler` (rows filled in ascending order), `merge` (two lists of entries as one
 //! matrix), `kept` (cells of which some are kept) and `row` (parts of a list of cells, and searches in a
 //! row), over `specs/ByRows.antt`.
 #![tactic(auto)]
 
 pub mod builder;
 mod cells;
+mod ends;
 mod entry_list;
 pub mod error;
 mod filler;

@@ -1,5 +1,5 @@
 //! Runs of rows.
-ghost use Rattle.std.specs.Prelude.{◌≡◌, ◌<◌, ◌≤◌, ◌+◌, ◌-◌, ◌^◌, ◌++◌, ◌∷◌, [], length, map, IfOk, OnOk, OnErr};
+ghost use Rattle.std.specs.Prelude.{◌≡◌, ◌<◌, ◌≤◌, ◌+◌, ◌-◌, ◌++◌, ◌∷◌, [], length, replicate, IfOk, OnOk, OnErr};
 ghost use Rattle.std.specs.List.{AllByRecursion};
 ghost use Rattle.csr_store.specs.Grid.{Cell, limit, row_of};
 ghost use Rattle.csr_store.specs.Added.{kept_rows};
@@ -9,6 +9,7 @@ ghost use Rattle.csr_store.specs.Valued.{entries_in, entries_of, with_value, all
 ghost use Rattle.csr_store.specs.inner.Cells.{Stacks, joined};
 ghost use Rattle.csr_store.specs.inner.Run.{AreClosed, AreRows, IsRow, ended_rows, open_row};
 
+use crate::ends::RowEnds;
 use crate::kept::{add_rows_where, room_for};
 use crate::matrix::{Cell, Matrix};
 use crate::row::{append, put_values};
@@ -21,7 +22,7 @@ use std::ops::Range;
 pub struct Rows {
     first: u64,
     columns: u64,
-    ends: Vec<u64>,
+    ends: RowEnds,
     cells: Vec<Cell>,
 }
 
@@ -36,11 +37,11 @@ impl Model for Rows {
     ghost view = { λ r. record {
       first = r.first;
       columns = r.columns;
-      ended = ended_rows 0 r.ends.items r.cells.items;
-      opened = open_row 0 r.ends.items r.cells.items;
+      ended = ended_rows 0 r.ends r.cells.items;
+      opened = open_row 0 r.ends r.cells.items;
     } };
 
-    ghost invariant = { λ r. AreRows r.columns r.ends.items r.cells.items };
+    ghost invariant = { λ r. AreRows r.columns r.ends r.cells.items };
 }
 
 impl Rows {
@@ -57,7 +58,7 @@ impl Rows {
         Rows {
             first,
             columns,
-            ends,
+            ends: RowEnds::of(ends),
             cells,
         }
     }
@@ -69,7 +70,7 @@ impl Rows {
         Rows {
             first,
             columns,
-            ends: Vec::new(alloc),
+            ends: RowEnds::none(alloc),
             cells: Vec::new(alloc),
         }
     }
@@ -99,7 +100,7 @@ impl Rows {
         Ok(Rows {
             first,
             columns: a.columns(),
-            ends,
+            ends: RowEnds::of(ends),
             cells,
         })
     }
@@ -181,6 +182,17 @@ impl Rows {
         Ok(())
     }
 
+    /// Ends so many rows without an entry. In front of all entries that takes no memory, and no time for a row. On a refusal
+    /// the run is as before.
+    pub fn end_blank(&mut self, count: u64) -> Result<(), AllocError>
+        requires none_open { self.old.opened ≡ [] }
+        ensures ended { OnOk result (self.new ≡ record self.old { ended = self.old.ended ++ replicate count [] }) }
+        ensures kept { OnErr result (self.new ≡ self.old) }
+    {
+        self.ends.push_alike(count, self.cells.len() as u64)?;
+        Ok(())
+    }
+
     /// The number of the first row.
     pub fn first(&self) -> u64
         ensures { result ≡ self.now.first }
@@ -192,7 +204,7 @@ impl Rows {
     pub fn len(&self) -> u64
         ensures { result ≡ length self.now.ended }
     {
-        self.ends.len() as u64
+        self.ends.len()
     }
 
     /// How many entries the run has, with those of its open row.
@@ -228,7 +240,7 @@ impl Rows {
         ensures rows { AllByRecursion (λ r. IsRow self.columns r) self.ended }
     {
         let count = self.cells.len() as u64;
-        push_ends(starts, &self.ends, entries)?;
+        self.ends.add_to(starts, entries)?;
         lists.push(self.cells)?;
         Ok(entries + count)
     }
@@ -246,51 +258,8 @@ impl Rows {
             ≡ ended_rows 0 (ends_of starts.old.items) cells.old.items ++ self.now.ended) }
         ensures rows { AllByRecursion (λ r. IsRow self.now.columns r) self.now.ended }
     {
-        push_ends(starts, &self.ends, cells.len() as u64)?;
+        self.ends.add_to(starts, cells.len() as u64)?;
         append(cells, &self.cells)?;
         Ok(())
     }
-}
-
-/// So many ends are added at once.
-const BLOCK: usize = 16;
-
-/// Adds ends, counted from `base` on.
-fn push_ends(starts: &mut Vec<u64>, ends: &[u64], base: u64) -> Result<(), AllocError>
-    requires { AllByRecursion (λ e. base + e < 2 ^ 64) ends.now }
-    ensures { OnOk result (starts.new.items ≡ starts.old.items ++ map (λ e. base + e) ends.now) }
-{
-    let mut rest = ends;
-    while rest.len() >= BLOCK {
-        let (block, others) = rest.split_at(BLOCK);
-        starts.extend_from_slice(&block_ahead(block, base))?;
-        rest = others;
-    }
-    push_each(starts, rest, base)
-}
-
-/// The same, one end after the other.
-#[inline(always)]
-fn push_each(starts: &mut Vec<u64>, ends: &[u64], base: u64) -> Result<(), AllocError>
-    requires { AllByRecursion (λ e. base + e < 2 ^ 64) ends.now }
-    ensures { OnOk result (starts.new.items ≡ starts.old.items ++ map (λ e. base + e) ends.now) }
-{
-    for end in ends {
-        starts.push(base + *end)?;
-    }
-    Ok(())
-}
-
-/// The same of a block.
-#[inline(always)]
-fn block_ahead(ends: &[u64], base: u64) -> [u64; BLOCK]
-    requires block { length ends.now ≡ 16 }
-    requires base { AllByRecursion (λ e. base + e < 2 ^ 64) ends.now }
-    ensures { result ≡ map (λ e. base + e) ends.now }
-{
-    let mut ahead = [0; BLOCK];
-    for place in 0..BLOCK {
-        ahead[place] = base + ends[place];
-    }
-    ahead
 }

@@ -11,12 +11,12 @@ index_mut-requires c = let l = entry_inside _ _ c.args.entry _ _ _ c.self.invari
 pub invariant_of-self : goal.invariant_of-self
 invariant_of-self c =
     let l = entry_inside _ _ c.args.entry _ _ _ c.self.invariant c.self.view_is c.requires in
-    subst (λ (cs : Row). AreRows c.self.inside.columns c.self.inside.ends.items cs)
+    subst (λ (cs : Row). AreRows c.self.inside.columns c.self.inside.ends cs)
     (sym (set_is_valued c.args.entry _ c.args.value c.self.inside.cells.items c.index_mut.result.now l (ap (λ (x : Cell). x.0) c.index_mut.ensures.value)))
-    (rows_with_value c.self.inside.columns c.args.entry c.args.value c.self.inside.ends.items c.self.inside.cells.items c.ranges.value.fits c.self.invariant)
+    (rows_with_value c.self.inside.columns c.args.entry c.args.value c.self.inside.ends c.self.inside.cells.items c.ranges.value.fits c.self.invariant)
 
 pub returns : goal.returns
 returns c =
     let l = entry_inside _ _ c.args.entry _ _ _ c.self.invariant c.self.view_is c.requires in
-    run_with_value c.self.inside.first c.self.inside.columns c.args.entry c.args.value c.self.inside.ends.items c.self.inside.cells.items _ _ c.self.invariant
+    run_with_value c.self.inside.first c.self.inside.columns c.args.entry c.args.value c.self.inside.ends c.self.inside.cells.items _ _ c.self.invariant
     (set_is_valued c.args.entry _ c.args.value c.self.inside.cells.items c.index_mut.result.now l (ap (λ (x : Cell). x.0) c.index_mut.ensures.value)) c.self.view_is

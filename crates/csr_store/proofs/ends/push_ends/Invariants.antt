@@ -1,6 +1,6 @@
 use Rattle.std.proofs.Common.{◌≡◌, ◌<◌, ◌+◌, ◌^◌, ◌++◌, length, map}
 use Rattle.std.specs.List.{AllByRecursion}
-use Rattle.csr_store.proofs.rows.push_ends.Given as goal
+use Rattle.csr_store.proofs.ends.push_ends.Given as goal
 
 abbrev pub invariant-loop-rest : goal.invariant-loop-rest
 invariant-loop-rest l = (l.starts.items ++ map (λ e. l.base + e) l.rest ≡ l.fn.starts.items ++ map (λ e. l.base + e) l.ends)

@@ -1,6 +1,6 @@
 use Rattle.std.proofs.Common.{◌+◌, ◌<◌, ◌^◌}
 use Rattle.csr_store.proofs.Blocks.{block_joined}
-use Rattle.csr_store.proofs.rows.push_ends.Goals as goal
+use Rattle.csr_store.proofs.ends.push_ends.Goals as goal
 
 pub loop-rest-preserved : goal.loop-rest-preserved
 loop-rest-preserved c = block_joined (λ e. c.args.base + e) (λ e. c.args.base + e < 2 ^ 64) 16 c.loop-rest.starts.items c.loop-rest.rest.now _

@@ -1,0 +1,143 @@
+//! Where the rows of a run end among its cells: rows in front of all cells are only counted.
+ghost use Rattle.std.specs.Prelude.{◌≡◌, ◌<◌, ◌≤◌, ◌+◌, ◌^◌, ◌++◌, ◌∷◌, [], length, map, replicate, OnOk, OnErr};
+ghost use Rattle.std.specs.List.{AllByRecursion};
+
+use std::alloc::{AllocError, Global};
+use std::marker::Model;
+
+/// So many rows in front are counted at most. More than a matrix has are listed.
+const MOST: u64 = 16_777_216;
+
+/// Where rows end, one after the other. A contract sees the list.
+#[derive(Drop)]
+pub(crate) struct RowEnds {
+    /// How many rows in front end at 0. They take no memory.
+    blank: u64,
+    /// Where the others end.
+    listed: Vec<u64>,
+}
+
+impl Model for RowEnds {
+    ghost use Rattle.std.specs.Prelude.{ℕ, List, ◌≤◌, ◌++◌, replicate};
+    ghost use Rattle.std.specs.Coded.{coded_list, coded_ℕ};
+    ghost use Rattle.csr_store.specs.Grid.{limit};
+
+    ghost Value = { List ℕ };
+
+    ghost coded = { coded_list coded_ℕ };
+
+    ghost view = { λ e. replicate e.blank 0 ++ e.listed.items };
+
+    ghost invariant = { λ e. e.blank ≤ limit };
+}
+
+impl RowEnds {
+    /// Of a list.
+    pub(crate) fn of(listed: Vec<u64>) -> Self
+        ensures { result ≡ listed.items }
+    {
+        RowEnds { blank: 0, listed }
+    }
+
+    /// No row. Takes no memory.
+    pub(crate) fn none(alloc: Global) -> Self
+        ensures { result ≡ [] }
+    {
+        RowEnds {
+            blank: 0,
+            listed: Vec::new(alloc),
+        }
+    }
+
+    /// How many rows there are.
+    pub(crate) fn len(&self) -> u64
+        ensures { result ≡ length self.now }
+    {
+        self.blank + self.listed.len() as u64
+    }
+
+    /// Makes room for so many rows more.
+    pub(crate) fn reserve(&mut self, rows: usize) -> Result<(), AllocError>
+        ensures { self.new ≡ self.old }
+    {
+        self.listed.reserve(rows)
+    }
+
+    /// Puts the end of a row behind the others.
+    #[inline(always)]
+    pub(crate) fn push(&mut self, end: u64) -> Result<(), AllocError>
+        ensures ended { OnOk result (self.new ≡ self.old ++ end ∷ []) }
+        ensures kept { OnErr result (self.new ≡ self.old) }
+    {
+        self.listed.push(end)?;
+        Ok(())
+    }
+
+    /// Puts the one end of so many rows behind the others. In front of all cells that takes no memory, and no time for a row.
+    pub(crate) fn push_alike(&mut self, count: u64, end: u64) -> Result<(), AllocError>
+        ensures ended { OnOk result (self.new ≡ self.old ++ replicate count end) }
+        ensures kept { OnErr result (self.new ≡ self.old) }
+    {
+        if end == 0 && self.listed.is_empty() && count <= MOST - self.blank {
+            self.blank += count;
+            return Ok(());
+        }
+        match self.listed.len().checked_add(count as usize) {
+            Some(len) => self.listed.resize(len, end),
+            None => Err(AllocError),
+        }
+    }
+
+    /// Adds these ends to a list, each counted from `base` on.
+    pub(crate) fn add_to(&self, starts: &mut Vec<u64>, base: u64) -> Result<(), AllocError>
+        requires { AllByRecursion (λ e. base + e < 2 ^ 64) self.now }
+        ensures { OnOk result (starts.new.items ≡ starts.old.items ++ map (λ e. base + e) self.now) }
+    {
+        let len = starts.len() + self.blank as usize;
+        starts.resize(len, base)?;
+        push_ends(starts, &self.listed, base)
+    }
+}
+
+/// So many ends are added at once.
+const BLOCK: usize = 16;
+
+/// Adds ends, counted from `base` on.
+fn push_ends(starts: &mut Vec<u64>, ends: &[u64], base: u64) -> Result<(), AllocError>
+    requires { AllByRecursion (λ e. base + e < 2 ^ 64) ends.now }
+    ensures { OnOk result (starts.new.items ≡ starts.old.items ++ map (λ e. base + e) ends.now) }
+{
+    let mut rest = ends;
+    while rest.len() >= BLOCK {
+        let (block, others) = rest.split_at(BLOCK);
+        starts.extend_from_slice(&block_ahead(block, base))?;
+        rest = others;
+    }
+    push_each(starts, rest, base)
+}
+
+/// The same, one end after the other.
+#[inline(always)]
+fn push_each(starts: &mut Vec<u64>, ends: &[u64], base: u64) -> Result<(), AllocError>
+    requires { AllByRecursion (λ e. base + e < 2 ^ 64) ends.now }
+    ensures { OnOk result (starts.new.items ≡ starts.old.items ++ map (λ e. base + e) ends.now) }
+{
+    for end in ends {
+        starts.push(base + *end)?;
+    }
+    Ok(())
+}
+
+/// The same of a block.
+#[inline(always)]
+fn block_ahead(ends: &[u64], base: u64) -> [u64; BLOCK]
+    requires block { length ends.now ≡ 16 }
+    requires base { AllByRecursion (λ e. base + e < 2 ^ 64) ends.now }
+    ensures { result ≡ map (λ e. base + e) ends.now }
+{
+    let mut ahead = [0; BLOCK];
+    for place in 0..BLOCK {
+        ahead[place] = base + ends[place];
+    }
+    ahead
+}
