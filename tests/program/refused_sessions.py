@@ -15,8 +15,8 @@ DEAR = b'mov64 r0, r1\njeq64 r0, 41, 697\n' + b'add64 r0, 1\n' * 697 + b'exit\n'
 # A chunk of rows with more cells than the room that is taken at once. A call of each form has a cost of its own, and so a run's steps
 # tell its form. The first two take no room behind their calls: apply without a mask, and a fold by a short operator.
 CHARGED = 'charged forms'
-CHARGED_ROWS, CHARGED_COLUMNS, ROOM_AT_ONCE = 256, 257, 65536
-COSTS = {'copied': 2, 'folded': 4, 'apply': 3, 'union': 5, 'both': 7, 'select': 9, 'reduce': 11}
+CHARGED_ROWS, CHARGED_COLUMNS, ROOM_AT_ONCE, CALLS_AT_ONCE = 256, 257, 65536, 64
+COSTS = {'copied': 2, 'folded': 4, 'apply': 3, 'union': 5, 'both': 7, 'select': 9, 'sifted': 13, 'reduce': 11}
 JOBS_OF_FORMS = {
     'copied': b'apply P f A\n',
     'folded': b'reduce P f A\n',
@@ -24,6 +24,7 @@ JOBS_OF_FORMS = {
     'union': b'union P f A A mask A\n',
     'both': b'both P f A A mask A\n',
     'select': b'select P f A 0\n',
+    'sifted': b'select P f A 0 mask A\n',
     'reduce': b'reduce P f A\n',
 }
 
@@ -166,7 +167,7 @@ def charged_session() -> List[bytes]:
     full = matrix_text(height, width, [(row, column, 1) for row in range(1, height + 1) for column in range(1, width + 1)])
     commands = [matrix_command('A', full)]
     for form, cost in COSTS.items():
-        kind = {'copied': 'unary', 'apply': 'unary', 'select': 'index'}.get(form, 'binary')
+        kind = {'copied': 'unary', 'apply': 'unary', 'select': 'index', 'sifted': 'index'}.get(form, 'binary')
         commands += [assembly_command('f', operator_of(cost), kind), JOBS_OF_FORMS[form], b'run\n']
     return commands + [b'budget\n', b'quit\n']
 
