@@ -171,7 +171,7 @@ class Costs(unittest.TestCase):
             self.assertIn('Runs: %d' % runs, function.__doc__)
 
     def test_shortest_paths(self):
-        """1 a round, and 4; 4 more a round with a large front, 9 where a band ends with it."""
+        """1 a round, and 4; 4 more a round with a large front, 11 where a band ends with it."""
         path = graphs.undirected('path', 90, [(i, i + 1) for i in range(89)]).matrix(self.session)
         told, runs = self.counted(algorithms.sssp, path, 0)
         self.assertLessEqual(runs, len(told) + 4)

@@ -127,8 +127,12 @@ class Lengths(Generic[M]):
     def next_band(self, known: M, far: M) -> Tuple[M, M]:
         """As `take`, by jobs: the front and what waits behind it."""
         waiting = far.ewise_mult(known, 'second').select('valuege', self.end)
-        self.end = (waiting.reduce_scalar('min') or 0) + self.bounds.width
-        return waiting.select('valuelt', self.end), waiting.select('valuege', self.end)
+        self.end += self.bounds.width
+        front, far = waiting.select('valuelt', self.end), waiting.select('valuege', self.end)
+        if front.nvals or not far.nvals:
+            return front, far
+        self.end = (far.reduce_scalar('min') or 0) + self.bounds.width
+        return far.select('valuelt', self.end), far.select('valuege', self.end)
 
     def _fetch(self, known: M, front: M, far: M) -> None:
         """The client takes over what jobs kept."""
@@ -229,7 +233,7 @@ def sssp(W: M, source: Any, WT: Optional[M] = None, progress: Progress = None, *
     Each round lengthens the paths to vertices whose length changed, by one edge; where no edge is negative the nearest first, a band of
     lengths at a time (delta-stepping). The lengths are kept by the client; while many vertices change at a time, by jobs.
 
-    Runs: 1 a round, and 4; 4 more a round with a large front, 9 where a band ends with it. There are as many rounds as edges in the
+    Runs: 1 a round, and 4; 4 more a round with a large front, 11 where a band ends with it. There are as many rounds as edges in the
     longest of the shortest paths, and 1; with bands some more, but no more than vertices. Steps: up to 7 an edge that leaves a vertex
     whose length changed, a round; 20 a vertex it leads to where the front is large; 8 an edge and 4 a vertex, once, for the least and
     the greatest value, which are kept with the matrix. GraphBLAS: `vxm` over min and plus (Bellman and Ford; Meyer and Sanders).
