@@ -3,6 +3,11 @@
 A row times a graph costs what the edges cost that leave the row's vertices, however many vertices there are: where one session has
 the whole graph, vectors are rows, and a front *pushes*. In blocks a row lies in one block, and the product would bring the whole graph
 to that block's session: there vectors are columns, the front goes to each session, and each *pulls* along its rows of the transpose.
+
+One session always pushes. Under a mask of the vertices that weren't seen both ways take the same steps. By the clock, on graphs of 65,536
+vertices and a million edges, a search took 1.1 to 1.8 times as long where it pulled from its first large level on, or where half the
+vertices were seen: a pull looks at all rows, and wants the front as a column, which has to be sent. In the last level alone it saves a
+millisecond.
 """
 from __future__ import annotations
 
