@@ -8,6 +8,7 @@ from typing import Any, Dict, Iterator, List, Mapping, Optional
 
 from networkx import NetworkXError, NetworkXPointlessConcept
 
+from .. import market
 from ..matrix import Matrix
 from .graphs import SpmatGraph
 from .serving import DIRECTED, Terms, UNDIRECTED, serves
@@ -33,15 +34,27 @@ def one_or_all(G: SpmatGraph, nodes: Any, values: List[Any]) -> Any:
 
 
 def degree(G: SpmatGraph, back: bool = False) -> List[int]:
-    """Degrees by index, those that come in where `back` is set: of an undirected graph loops count twice. The conversion counted
-    the edges that leave a node; parallel and incoming ones are one job."""
+    """Degrees by index, those that come in where `back` is set: of an undirected graph loops count twice. The conversion knows
+    the edges that leave a node, and where edges lead; parallel ones are one job."""
     if back and G.is_directed():
-        found = G.dense_row(G.many().reduce_columnwise('plus'))
+        found = G.dense_row(G.many().reduce_columnwise('plus')) if G.parallel else _came(G)
     else:
         found = list(G.at.lengths) if not G.parallel else G.dense(G.many().reduce_rowwise('plus'))
     if not G.is_directed():
         for i, many in G.loops.items():
             found[i] += many
+    return found
+
+
+def _came(G: SpmatGraph) -> List[int]:
+    """How many edges come to each node, none of them parallel."""
+    if market.is_array(G.at.columns):
+        import numpy
+        counts: List[int] = numpy.bincount(G.at.columns, minlength=len(G)).tolist()
+        return counts
+    found = [0] * len(G)
+    for j in G.at.columns:
+        found[j] += 1
     return found
 
 
