@@ -229,6 +229,9 @@ class Left(Case):
                 ('undirected', 'in_degree_centrality', (path,), {}),
                 ('multigraphs', 'core_number', (networkx.MultiGraph(path),), {}),
                 ('given', 'eccentricity', (path,), {'sp': {}}),
+                ('another order', 'minimum_spanning_tree', (path,), {'algorithm': 'prim'}),
+                ('some sources', 'betweenness_centrality', (path,), {'k': 1}),
+                ('taken as undirected', 'ego_graph', (digraph, 0), {'undirected': True, 'distance': 'weight'}),
                 ('no graph', 'triangles', ({},), {})):
             with self.subTest(name=name, words=words):
                 self.assertIn(words, str(self.reason(name, *args, **kwargs)))
@@ -270,6 +273,8 @@ class Left(Case):
         self.assertIn('edges', str(Backend.should_run('triangles', (made,), {})))
         networkx.number_of_selfloops(made, backend='spmat')    # it is on the server from now on
         self.assertIs(Backend.should_run('triangles', (made,), {}), True)
+        self.assertIn('1500 edges', str(Backend.should_run('is_tree', (made,), {})))
+        self.assertIn('at hand', str(Backend.should_run('has_path', (made, 0, 1), {})))
 
     def test_no_program(self):
         path = networkx.path_graph(3)

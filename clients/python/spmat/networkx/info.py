@@ -19,32 +19,41 @@ class Pays(NamedTuple):
     again: int
 
 
-# Work that grows faster than the edges: triangles and what is between all nodes.
+# Triangles, and what is between all nodes: work that grows faster than the edges.
 MUCH = Pays(2_000, 1_000)
-# Some rounds over all edges.
-ROUNDS = Pays(100_000, 10_000)
+# Some products with the whole graph.
+PRODUCTS = Pays(10_000, 8_000)
+# Searches by weights, which networkx does with a heap.
+WEIGHTS = Pays(100_000, 8_000)
+# Rounds in which few nodes change at a time.
+ROUNDS = Pays(100_000, 50_000)
 # One walk over the edges, which is what a conversion takes.
-WALK = Pays(1_000_000, 30_000)
+WALK = Pays(300_000, 40_000)
+# What the conversion knows, and networkx looks up node by node.
+KNOWN = Pays(NEVER, 10_000)
 # What networkx has at hand, or where it ends early.
 LITTLE = Pays(NEVER, NEVER)
 
 SERVED: Dict[str, Pays] = {name: pays for pays, names in ((MUCH, '''
-    all_pairs_bellman_ford_path_length all_pairs_dijkstra_path_length all_pairs_shortest_path_length average_clustering
-    average_shortest_path_length betweenness_centrality center closeness_centrality clustering common_neighbor_centrality diameter eccentricity floyd_warshall
-    generalized_degree global_efficiency harmonic_centrality k_truss number_of_walks periphery power radius square_clustering
-    transitive_closure transitive_closure_dag transitive_reduction transitivity triangles wiener_index'''), (ROUNDS, '''
-    core_number k_core k_corona k_crust k_shell maximal_independent_set maximum_spanning_edges maximum_spanning_tree
-    minimum_spanning_edges minimum_spanning_tree negative_edge_cycle onion_layers pagerank
-    single_source_bellman_ford_path_length bellman_ford_path_length attracting_components average_neighbor_degree is_semiconnected
-    number_strongly_connected_components strongly_connected_components'''), (WALK, '''
-    ancestors bfs_layers color connected_components dag_longest_path_length degree_centrality descendants has_cycle
-    in_degree_centrality is_connected is_directed_acyclic_graph is_strongly_connected is_weakly_connected
-    multi_source_dijkstra_path_length node_connected_component number_connected_components number_weakly_connected_components
-    out_degree_centrality overall_reciprocity reciprocity s_metric shortest_path_length single_source_dijkstra_path_length
-    single_source_shortest_path_length single_target_shortest_path_length weakly_connected_components'''), (LITTLE, '''
-    descendants_at_distance dijkstra_path_length efficiency ego_graph has_path is_arborescence is_bipartite is_branching is_dominating_set
-    is_forest is_k_regular is_regular is_tournament is_tree isolates jaccard_coefficient node_boundary number_of_isolates
-    number_of_selfloops preferential_attachment''')) for name in names.split()}
+    all_pairs_bellman_ford_path_length all_pairs_dijkstra_path_length average_clustering average_shortest_path_length
+    betweenness_centrality center closeness_centrality clustering diameter eccentricity floyd_warshall generalized_degree
+    global_efficiency harmonic_centrality overall_reciprocity periphery power radius reciprocity square_clustering transitive_closure
+    transitivity triangles wiener_index'''), (PRODUCTS, '''
+    all_pairs_shortest_path_length k_core k_truss number_of_walks pagerank s_metric transitive_closure_dag transitive_reduction'''),
+    (WEIGHTS, '''
+    average_neighbor_degree bellman_ford_path_length is_branching is_forest maximum_spanning_edges maximum_spanning_tree
+    minimum_spanning_edges minimum_spanning_tree multi_source_dijkstra_path_length negative_edge_cycle
+    single_source_bellman_ford_path_length single_source_dijkstra_path_length'''), (ROUNDS, '''
+    attracting_components core_number dag_longest_path_length is_semiconnected k_corona k_crust k_shell maximal_independent_set
+    number_strongly_connected_components onion_layers strongly_connected_components'''), (WALK, '''
+    ancestors bfs_layers connected_components descendants is_connected is_weakly_connected node_connected_component
+    number_connected_components number_weakly_connected_components shortest_path_length single_source_shortest_path_length
+    single_target_shortest_path_length weakly_connected_components'''), (KNOWN, '''
+    degree_centrality dijkstra_path_length in_degree_centrality is_arborescence is_tree isolates number_of_isolates
+    number_of_selfloops out_degree_centrality'''), (LITTLE, '''
+    color common_neighbor_centrality descendants_at_distance efficiency ego_graph has_cycle has_path is_bipartite
+    is_directed_acyclic_graph is_dominating_set is_k_regular is_regular is_strongly_connected is_tournament jaccard_coefficient
+    node_boundary preferential_attachment''')) for name in names.split()}
 """Each function, and when it pays."""
 
 
@@ -57,7 +66,8 @@ def info() -> Dict[str, Any]:
 
 
 def _told(pays: Pays) -> str:
-    if pays.first == NEVER:
+    if pays.again == NEVER:
         return 'Taken where backend="spmat" is given, and for a graph that is on the server.'
     return ('Taken by itself from %d edges on, from %d on for a graph that was converted before, and wherever backend="spmat" is given.'
-            % pays)
+            % pays if pays.first < NEVER else
+            'Taken by itself from %d edges on for a graph that was converted before, and wherever backend="spmat" is given.' % pays.again)
