@@ -1,5 +1,5 @@
 #!/usr/bin/env python3
-"""networkx.py EDGES [--limit SECONDS] [--seconds SECONDS] [--page FILE] [FUNCTION..]: the clock of networkx' functions with and
+"""networkx.py EDGES [--limit SECONDS] [--seconds SECONDS] [--processors] [--page FILE] [FUNCTION..]: the clock of networkx' functions with and
 without the backend, of all that are served, or of those that are named.
 
 A random graph of EDGES edges between EDGES / 10 nodes with skewed degrees, whole weights from 1 to 9; of functions of directed graphs
@@ -7,9 +7,12 @@ the same edges, each one way; of those without cycles from the lower node to the
 backend with the conversion (first) and for a graph that is on the server (again, no answer kept), igraph from its own graph, where it
 is installed, and how often networkx' time the second is. The least of several calls counts. A call is ended after `--limit` seconds
 (5), and stands as `>5`; after `--seconds` in all (900) what is left isn't timed. Where both ended the answers are compared, and a
-difference is status 1. With `--page` the times are written into that page's table, too, in the column of this size.
+difference is status 1. `--processors` counts what processors spend on client and server together, where the clock of a busy machine
+says nothing (Linux alone). With `--page` the times are written into that page's table, too, in the column of this size.
 """
 import argparse
+import contextlib
+import glob
 import os
 import random
 import signal
@@ -145,6 +148,22 @@ def whole_answer(answer):
     return list(answer) if hasattr(answer, '__next__') else answer
 
 
+class Clock:
+    """What is timed by."""
+    read = staticmethod(time.perf_counter)
+
+    @staticmethod
+    def of_processors():
+        """Seconds that processors spent on this process and on the program of its session."""
+        from spmat.networkx import sessions
+        spent = time.process_time()
+        for held in list(sessions._open.values()):
+            for place in glob.glob('/proc/%d/task/*/schedstat' % held.connection._channel.process.pid):
+                with contextlib.suppress(OSError), open(place) as file:
+                    spent += int(file.read().split()[0]) / 1e9
+        return spent
+
+
 def seconds(work, limit, before=lambda: None):
     """The least seconds of some calls, and the answer; nothing where one takes longer than the limit. What is refused is raised."""
     def stop(*_):
@@ -155,9 +174,9 @@ def seconds(work, limit, before=lambda: None):
         for _ in range(MOST_TIMES):
             before()
             signal.setitimer(signal.ITIMER_REAL, limit)
-            start = time.perf_counter()
+            start = Clock.read()
             answer = whole_answer(work())
-            took = time.perf_counter() - start
+            took = Clock.read() - start
             signal.setitimer(signal.ITIMER_REAL, 0)
             best = took if best is None else min(best, took)
             if time.perf_counter() - began > TIMED_AGAIN:
@@ -313,10 +332,13 @@ def main():
     parser.add_argument('edges', type=int)
     parser.add_argument('--limit', type=float, default=5.0)
     parser.add_argument('--seconds', type=float, default=900.0)
+    parser.add_argument('--processors', action='store_true')
     parser.add_argument('--page')
     parser.add_argument('names', nargs='*', metavar='FUNCTION')
     given = parser.parse_intermixed_args()
     nx.config.cache_converted_graphs = False
+    if given.processors:
+        Clock.read = staticmethod(Clock.of_processors)
     table = Table(given.edges, given.limit, given.seconds)
     table.print(set(given.names))
     if given.page:
