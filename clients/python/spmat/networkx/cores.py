@@ -10,6 +10,7 @@ from networkx import NetworkXNotImplemented, NetworkXUnfeasible
 
 from .. import algorithms
 from ..algorithms.common import product, until_as_many
+from ..algorithms.cores import Peeling
 from .conversion import copied
 from .graphs import SpmatGraph
 from .serving import SIMPLE, SIMPLE_UNDIRECTED, UNDIRECTED, serves
@@ -97,18 +98,16 @@ def k_truss(G: SpmatGraph, k: int) -> Any:
 @serves(SIMPLE_UNDIRECTED)
 def onion_layers(G: SpmatGraph) -> Dict[Any, int]:
     _check_loops(G, 'contains')
-    left = G.A.mxv(G.full(), 'plus_pair')
-    some = set(left.to_coo(arrays=False)[0])
-    found = {node: 1 for at, node in enumerate(G) if at not in some}
-    layer, core = 1 + bool(found), 1
-    while left.nvals:
-        core = max(core, left.reduce_scalar('min') or 0)
-        for i in left.select('valuele', core).to_coo(arrays=False)[0]:
-            found[G.nodes[i]] = layer
-        kept, layer = left.select('valuegt', core), layer + 1
-        inside = G.A.mxv(kept, 'plus_pair', mask=kept.S)
-        left = kept.apply('zero').ewise_add(inside, 'plus')
-    return found
+    peeling = Peeling(G.A, None)
+    found = {node: 1 for node, many in zip(G, peeling.left.numbers) if not many}
+    layer = 1 if found else 0
+    while True:
+        core = peeling.least()
+        if core is None:
+            return found
+        for fallen in peeling.peel(core + 1):
+            layer += 1
+            found.update((G.nodes[i], layer) for i in fallen)
 
 
 @serves()
