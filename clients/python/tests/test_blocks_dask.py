@@ -21,6 +21,7 @@ from spmat import algorithms, blocks
 from spmat.blocks import place, tasks
 
 WORKERS = 3
+SECONDS = 200                                      # for workers that are started anew, on a busy machine
 GRAPH = graphs.UNDIRECTED[-1]
 
 
@@ -61,7 +62,7 @@ class Page(unittest.TestCase):
             with open(path, 'w', encoding='utf-8') as file:
                 file.write(lines)
             client = os.path.dirname(os.path.dirname(os.path.abspath(spmat.__file__)))
-            printed = subprocess.run([sys.executable, path], stdout=subprocess.PIPE, stderr=subprocess.DEVNULL, check=True, timeout=100,
+            printed = subprocess.run([sys.executable, path], stdout=subprocess.PIPE, stderr=subprocess.DEVNULL, check=True, timeout=SECONDS,
                                      env=dict(os.environ, PYTHONPATH=client)).stdout.decode()
         self.assertEqual(printed, said)
 
@@ -248,7 +249,7 @@ class Dask(unittest.TestCase):
                 self.assertEqual(algorithms.triangle_count(X), count)
                 self.assertEqual(algorithms.bfs_levels(X, 0).to_text(), levels)
                 self.assertEqual(X.to_text(), GRAPH.matrix(self.one).to_text())
-            self.client.wait_for_workers(WORKERS, timeout=30)
+            self.client.wait_for_workers(WORKERS, timeout=SECONDS)
             self.assertEqual(len(s.budgets()), WORKERS)
 
     def test_program_killed_with_texts(self):
