@@ -2,6 +2,7 @@
 import contextlib
 import faulthandler
 import importlib.util
+import multiprocessing
 import os
 import shutil
 import socket
@@ -35,7 +36,8 @@ def _watched(test, result=None, run=unittest.TestCase.run):
     return run(test, result)
 
 
-faulthandler.dump_traceback_later(LONGEST, exit=True)      # also while a class is set up
+if multiprocessing.parent_process() is None:       # Dask's workers import this, and run no test
+    faulthandler.dump_traceback_later(LONGEST, exit=True)      # also while a class is set up
 unittest.TestCase.run = _watched
 
 
