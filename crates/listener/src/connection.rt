@@ -1,5 +1,5 @@
 //! One connection, from its start to its end.
-ghost use Rattle.std.specs.Prelude.{◌≡◌, ◌<◌, IfSome};
+ghost use Rattle.std.specs.Prelude.{◌≡◌, ◌<◌, ◌⊎◌, true, false, Err, IfOk, IfErr, IfSome};
 ghost use Rattle.step_purse.specs.Passes.{IsPassOf};
 ghost use Rattle.session.specs.Rooms.{full_room};
 
@@ -109,7 +109,12 @@ fn serve_sides<R: Read + Drop, W: Write + Drop, H: Threads + Wait>(
 }
 
 /// How a session ended, by its outcome, where a call that failed had waited for too long or not.
-fn ending_of(outcome: Result<End, ServeFault>, is_idle: bool) -> Ending {
+fn ending_of(outcome: Result<End, ServeFault>, is_idle: bool) -> Ending
+    ensures ended { IfOk outcome (λ end. result ≡ Ending.Ended end) }
+    ensures idle { is_idle ≡ true → (outcome ≡ Err ServeFault.Read) ⊎ (outcome ≡ Err ServeFault.Write) → result ≡ Ending.Idle }
+    ensures broken { IfErr outcome (λ fault. (is_idle ≡ false) ⊎ (fault ≡ ServeFault.Turns) ⊎ (fault ≡ ServeFault.Memory)
+        → result ≡ Ending.BrokenOff fault) }
+{
     match outcome {
         Ok(end) => Ending::Ended(end),
         Err(ServeFault::Read | ServeFault::Write) if is_idle => Ending::Idle,

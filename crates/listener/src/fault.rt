@@ -1,4 +1,6 @@
 //! Why no more connections are taken.
+ghost use Rattle.std.specs.Prelude.{◌≡◌, ℤ, None, Some};
+ghost use Rattle.std.specs.IoError.{raw_os_error};
 
 use std::io::ErrorKind;
 use std::{fmt, io};
@@ -17,7 +19,10 @@ pub enum Cause {
 
 impl Cause {
     /// The cause that an error tells.
-    pub fn of(error: &io::Error) -> Self {
+    pub fn of(error: &io::Error) -> Self
+        ensures told { (code : ℤ) → raw_os_error error.now ≡ Some code → result ≡ Cause.System code }
+        ensures untold { raw_os_error error.now ≡ None → result ≡ Cause.Unknown }
+    {
         match error.raw_os_error() {
             Some(code) => Cause::System(code),
             None => Cause::Unknown,

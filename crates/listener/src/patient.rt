@@ -1,5 +1,6 @@
 //! For how long a session waits for its client, and how much goes over its connection.
-ghost use Rattle.std.specs.Prelude.{◌≡◌};
+ghost use Rattle.std.specs.Prelude.{◌≡◌, ◌+◌, ◌-◌, ◌^◌, ◌↔◌, min, false, IsTrue, IfOk, IfErr, OnOk, OnErr};
+ghost use Rattle.std.specs.IoError.{error_kind};
 
 use std::io;
 use std::io::{ErrorKind, Read, Write};
@@ -29,7 +30,9 @@ pub struct Traffic {
 
 impl Traffic {
     /// Nothing yet.
-    pub fn none() -> Self {
+    pub fn none() -> Self
+        ensures { result ≡ record { bytes = 0; is_idle = false } }
+    {
         Traffic {
             bytes: 0,
             is_idle: false,
@@ -37,7 +40,12 @@ impl Traffic {
     }
 
     /// Notes what a call of the side gave.
-    fn note(&mut self, outcome: &io::Result<usize>) {
+    fn note(&mut self, outcome: &io::Result<usize>)
+        ensures counted { IfOk outcome.now (λ count. self.new.bytes ≡ min (self.old.bytes + count) (2 ^ 64 - 1)) }
+        ensures uncounted { OnErr outcome.now (self.new.bytes ≡ self.old.bytes) }
+        ensures idle { IfErr outcome.now (λ error. IsTrue self.new.is_idle ↔ (error_kind error ≡ ErrorKind.WouldBlock)) }
+        ensures same { OnOk outcome.now (self.new.is_idle ≡ self.old.is_idle) }
+    {
         match outcome {
             Ok(count) => self.bytes = self.bytes.saturating_add(*count as u64),
             Err(error) => self.is_idle = error.kind() == ErrorKind::WouldBlock,
@@ -61,7 +69,10 @@ impl<'s> Patient<'s> {
 }
 
 /// Whether a signal cut a call short.
-fn is_cut_short<T>(outcome: &io::Result<T>) -> bool {
+fn is_cut_short<T>(outcome: &io::Result<T>) -> bool
+    ensures whole { OnOk outcome.now (result ≡ false) }
+    ensures cut { IfErr outcome.now (λ error. IsTrue result ↔ (error_kind error ≡ ErrorKind.Interrupted)) }
+{
     match outcome {
         Ok(_) => false,
         Err(error) => error.kind() == ErrorKind::Interrupted,
