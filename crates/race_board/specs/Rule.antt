@@ -1,5 +1,5 @@
--- The rule of the running board, which holds between any two steps, and the five kinds of step. This project's own.
--- A view is what a seat of the table knows: the records of its workers. Word 0 is the count of draws, word 1 the steps spent.
+-- Who acts at a seat of the running board. This project's own. A seat knows the records of its workers, as a list. The rule of the
+-- board and the five kinds of step are in inner/Rule.antt.
 use Rattle.std.specs.Prelude.{List, [], ◌∷◌}
 use Rattle.race_board.specs.Race.{Worker}
 

@@ -1,6 +1,5 @@
--- The rule that a purse's cell is kept by: what its three words say, and what each pass knows. This project's own. The words are
--- what is left, reserved and spent. The first counts what the purse withholds too: the greatest allowance less its own. So the
--- three add up to 2^62 in every purse, and every cell begins with the same words.
+-- What a pass knows before its first call, and when it may call the purse. This project's own. The rule of a purse's cell and
+-- the seven kinds of step are in inner/Rule.antt.
 use Rattle.std.specs.Prelude.{◌≡◌, ℕ, ◌-◌, List, [], true, false}
 use Rattle.step_purse.specs.declared.dealings.Dealing.{Dealing}
 use Rattle.step_purse.specs.declared.views.View.{View}

@@ -1,4 +1,5 @@
--- What stands beside specs/Rule.antt for this crate's own modules and proofs.
+-- The rule of the running board, which holds between any two steps, and the five kinds of step. This project's own.
+-- A view is what a seat of the table knows: the records of its workers. Word 0 is the count of draws, word 1 the steps spent.
 use Rattle.std.specs.Prelude.{◌≡◌, ℕ, ◌+◌, ◌^◌, ◌<◌, ◌≤◌, List, [], ◌∷◌, length}
 use mathlib.Core.Option.{some}
 use lib.ListN.{get_elem?}
