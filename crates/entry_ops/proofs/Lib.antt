@@ -8,6 +8,7 @@ pub mod Merging
 pub mod Lines
 pub mod Mapped
 pub mod Whole
+pub mod Paired
 pub mod Filling
 pub mod Bounds
 pub mod Regions

@@ -1,9 +1,10 @@
--- Copied rows with the values of calls are the rows of apply.
-use Rattle.std.proofs.Common.{◌≡◌, ◌≤◌, ◌<◌, ◌+◌, ◌^◌, ℕ, zero, suc, true, List, [], ◌∷◌, ◌++◌, length, map, Option, None, Some, refl, sym, ap, ◌∙◌, subst, arith, length-append, append_assoc, append-nil}
+-- Copied rows with the values of calls are the rows of a form.
+use Rattle.std.proofs.Common.{◌≡◌, ◌≤◌, ◌<◌, ◌+◌, ◌^◌, ℕ, zero, suc, true, List, [], ◌∷◌, ◌++◌, length, map, Option, None, Some, IfSome, refl, sym, ap, ◌∙◌, subst, arith, length-append, append_assoc, append-nil}
 use Rattle.bpf_verify.specs.Accepted.{Accepted, IsAccepted}
 use Rattle.csr_store.specs.Grid.{Grid, IsGrid, Cell, row_of}
 use Rattle.csr_store.specs.Along.{along, cell_at}
 use Rattle.csr_store.specs.Ascending.{Ascends}
+use Rattle.csr_store.specs.Copied.{Copied}
 use Rattle.csr_store.specs.Run.{Row, Run}
 use Rattle.csr_store.specs.Added.{with_values}
 use Rattle.csr_store.specs.Valued.{entries_of as entries_in_run, rows_of, cells_in, all_cells, valued, valued_from, AreAlike}
@@ -11,6 +12,8 @@ use Rattle.csr_store.proofs.Along.{row_of-ascends, along-none}
 use Rattle.csr_store.proofs.Valuing.{alike_then, alike_equal, alike_entries, entries_are}
 use Rattle.bpf_run.specs.Calls.{calls_on, values_on, steps_of, words_of}
 use Rattle.bpf_run.proofs.Charging.{values_on-append, calls_on-append}
+use Rattle.bpf_insn.specs.declared.operands.Operands.{Operands}
+use Rattle.entry_ops.specs.declared.form.Form.{Form}
 use Rattle.entry_ops.specs.declared.form.Form.TheVariants.{Apply}
 use Rattle.entry_ops.specs.declared.mapping.Mapping.{Mapping}
 use Rattle.job_forms.specs.Forms.{apply_kind}
@@ -68,9 +71,6 @@ length-operands : (thunk : Option ℕ) (i : ℕ) (cs : List Cell) → length (ro
 length-operands None i cs = length_words cs
 length-operands (Some thunk) i cs = length_entries i thunk cs
 
-row-values : (f : Accepted) (thunk : Option ℕ) (i : ℕ) (cs : List Cell) → length (values_on f (row_operands thunk i cs)) ≡ length cs
-row-values f thunk i cs = length_values f (row_operands thunk i cs) ∙ length-operands thunk i cs
-
 -- apply makes of a row the values of calls on its words
 
 module _ (f : Accepted) (thunk : Option ℕ) (i n : ℕ) where
@@ -100,112 +100,137 @@ module _ (f : Accepted) (thunk : Option ℕ) (i n : ℕ) where
       next_first (calls_here (Apply thunk) f i) (no_call (Apply thunk) f i) n low (x ∷ xs) [] None None x.0 (Some x.1) None xs [] (next_left n low x xs [] h tt) (λ j l. refl)
       ∙ (ap (λ us. form_calls (Apply thunk) f (i, x.0) (Some x.1) None ++ us) (alone-calls (suc x.0) xs h.2) ∙ first-call thunk x xs)
 
--- ---- the entries of a range of rows
+-- ---- a range of rows of a form, each of which is that of the first operand with the values of calls
 
-module _ (a : Grid) where
-  abbrev cells : ℕ → ℕ → Row
-  cells first n = cells_in (along (λ i. row_of a i ∷ []) first n)
+abbrev cells : Grid → ℕ → ℕ → Row
+cells a first n = cells_in (along (λ i. row_of a i ∷ []) first n)
 
-  range-count : (thunk : Option ℕ) (first n : ℕ) → length (range_operands thunk a first n) ≡ length (cells first n)
-  range-count thunk first zero = refl
-  range-count thunk first (suc n) =
-      let l = length-operands thunk first (row_of a first) in let r = range-count thunk (suc first) n in
-      omega (arith, l, r, length-append (row_operands thunk first (row_of a first)) (range_operands thunk a (suc first) n), length-append (row_of a first) (cells (suc first) n))
+-- for row i these operands are called, one for each of its cells
+pub record AreMapped (form : Form) (f : Accepted) (a : Grid) (b : Option Grid) (os : ℕ → List Operands) (first n : ℕ) : Type 0 where
+  pub many : (i : ℕ) → first ≤ i → i < first + n → length (os i) ≡ length (row_of a i)
+  pub rows : (i : ℕ) → first ≤ i → i < first + n → form_row form f a b None i ≡ with_values (row_of a i) (values_on f (os i))
+  pub calls : (i : ℕ) → first ≤ i → i < first + n → form_row_calls form f a b None i ≡ calls_on f (os i)
 
-  pub copied-entries : (thunk : Option ℕ) (first n : ℕ) → length (range_operands thunk a first n) ≡ entries_in_run (rows_of a first n)
-  copied-entries thunk first n = range-count thunk first n ∙ (ap (λ (cs : Row). length cs) (sym (append-nil (cells first n))) ∙ sym (entries_are (rows_of a first n)))
+module _ (a : Grid) (os : ℕ → List Operands) where
+  range-count : (first n : ℕ) → ((i : ℕ) → first ≤ i → i < first + n → length (os i) ≡ length (row_of a i))
+      → length (along os first n) ≡ length (cells a first n)
+  range-count first zero h = refl
+  range-count first (suc n) h =
+      let l = h first (omega arith) (omega arith) in
+      let r = range-count (suc first) n (λ i m u. h i (omega (arith, m)) (omega (arith, u))) in
+      omega (arith, l, r, length-append (os first) (along os (suc first) n), length-append (row_of a first) (cells a (suc first) n))
 
-module _ (f : Accepted) (a : Grid) (g : IsGrid a) where
-  row-is : (thunk : Option ℕ) (i : ℕ) → form_row (Apply thunk) f a None None i ≡ with_values (row_of a i) (values_on f (row_operands thunk i (row_of a i)))
-  row-is thunk i = alone-cells f thunk i a.columns 0 (row_of a i) (row_of-ascends a i g)
+  pub copied-entries : (first n : ℕ) → ((i : ℕ) → first ≤ i → i < first + n → length (os i) ≡ length (row_of a i))
+      → length (along os first n) ≡ entries_in_run (rows_of a first n)
+  copied-entries first n h =
+      range-count first n h ∙ (ap (λ (cs : Row). length cs) (sym (append-nil (cells a first n))) ∙ sym (entries_are (rows_of a first n)))
 
-  row-calls : (thunk : Option ℕ) (i : ℕ) → form_row_calls (Apply thunk) f a None None i ≡ calls_on f (row_operands thunk i (row_of a i))
-  row-calls thunk i = alone-calls f thunk i a.columns 0 (row_of a i) (row_of-ascends a i g)
+module _ (form : Form) (f : Accepted) (a : Grid) (b : Option Grid) (os : ℕ → List Operands) where
+  mapped_behind : (first n : ℕ) → AreMapped form f a b os first (suc n) → AreMapped form f a b os (suc first) n
+  mapped_behind first n h = record {
+    many = λ i l u. h.many i (omega (arith, l)) (omega (arith, u));
+    rows = λ i l u. h.rows i (omega (arith, l)) (omega (arith, u));
+    calls = λ i l u. h.calls i (omega (arith, l)) (omega (arith, u));
+  }
 
-  -- ---- a range of rows
+  pub range-calls : (first n : ℕ) → AreMapped form f a b os first n → form_all_calls form f a b None first n ≡ calls_on f (along os first n)
+  range-calls first zero h = refl
+  range-calls first (suc n) h =
+      ap (λ cs. cs ++ form_all_calls form f a b None (suc first) n) (h.calls first (omega arith) (omega arith))
+      ∙ (ap (λ cs. calls_on f (os first) ++ cs) (range-calls (suc first) n (mapped_behind first n h))
+      ∙ sym (calls_on-append f (os first) (along os (suc first) n)))
 
-  pub range-calls : (thunk : Option ℕ) (first n : ℕ) → form_all_calls (Apply thunk) f a None None first n ≡ calls_on f (range_operands thunk a first n)
-  range-calls thunk first zero = refl
-  range-calls thunk first (suc n) =
-      ap (λ cs. cs ++ form_all_calls (Apply thunk) f a None None (suc first) n) (row-calls thunk first)
-      ∙ (ap (λ cs. calls_on f (row_operands thunk first (row_of a first)) ++ cs) (range-calls thunk (suc first) n)
-      ∙ sym (calls_on-append f (row_operands thunk first (row_of a first)) (range_operands thunk a (suc first) n)))
-
-  range-lengths : (thunk : Option ℕ) (first n : ℕ)
-      → map (λ (r : Row). length r) (along (λ i. row_of a i ∷ []) first n) ≡ map (λ (r : Row). length r) (form_rows (Apply thunk) f a None None first n)
-  range-lengths thunk first zero = refl
-  range-lengths thunk first (suc n) =
+  range-lengths : (first n : ℕ) → AreMapped form f a b os first n
+      → map (λ (r : Row). length r) (along (λ i. row_of a i ∷ []) first n) ≡ map (λ (r : Row). length r) (form_rows form f a b None first n)
+  range-lengths first zero h = refl
+  range-lengths first (suc n) h =
       ap (λ m. m ∷ map (λ (r : Row). length r) (along (λ i. row_of a i ∷ []) (suc first) n))
-      (sym (ap (λ (r : Row). length r) (row-is thunk first) ∙ length-with_values (row_of a first) _ (row-values f thunk first (row_of a first))))
-      ∙ ap (λ ms. length (form_row (Apply thunk) f a None None first) ∷ ms) (range-lengths thunk (suc first) n)
+      (sym (ap (λ (r : Row). length r) (h.rows first (omega arith) (omega arith))
+      ∙ length-with_values (row_of a first) _ (length_values f (os first) ∙ h.many first (omega arith) (omega arith))))
+      ∙ ap (λ ms. length (form_row form f a b None first) ∷ ms) (range-lengths (suc first) n (mapped_behind first n h))
 
-  range-cells : (thunk : Option ℕ) (first n : ℕ)
-      → cells_in (form_rows (Apply thunk) f a None None first n) ≡ with_values (cells a first n) (values_on f (range_operands thunk a first n))
-  range-cells thunk first zero = refl
-  range-cells thunk first (suc n) =
-      ap (λ (r : Row). r ++ cells_in (form_rows (Apply thunk) f a None None (suc first) n)) (row-is thunk first)
-      ∙ (ap (λ (r : Row). with_values (row_of a first) (values_on f (row_operands thunk first (row_of a first))) ++ r) (range-cells thunk (suc first) n)
-      ∙ (sym (with_values-append (row_of a first) (cells a (suc first) n) (values_on f (row_operands thunk first (row_of a first)))
-      (values_on f (range_operands thunk a (suc first) n)) (row-values f thunk first (row_of a first)))
-      ∙ ap (with_values (cells a first (suc n))) (sym (values_on-append f (row_operands thunk first (row_of a first)) (range_operands thunk a (suc first) n)))))
+  range-cells : (first n : ℕ) → AreMapped form f a b os first n
+      → cells_in (form_rows form f a b None first n) ≡ with_values (cells a first n) (values_on f (along os first n))
+  range-cells first zero h = refl
+  range-cells first (suc n) h =
+      ap (λ (r : Row). r ++ cells_in (form_rows form f a b None (suc first) n)) (h.rows first (omega arith) (omega arith))
+      ∙ (ap (λ (r : Row). with_values (row_of a first) (values_on f (os first)) ++ r) (range-cells (suc first) n (mapped_behind first n h))
+      ∙ (sym (with_values-append (row_of a first) (cells a (suc first) n) (values_on f (os first)) (values_on f (along os (suc first) n))
+      (length_values f (os first) ∙ h.many first (omega arith) (omega arith)))
+      ∙ ap (with_values (cells a first (suc n))) (sym (values_on-append f (os first) (along os (suc first) n)))))
 
   -- the copied rows, when all their entries have got their values
-  pub whole-rows : (thunk : Option ℕ) (first n : ℕ) (r : Run) → AreAlike (rows_of a first n) r
-      → all_cells r ≡ valued_from 0 (values_on f (range_operands thunk a first n)) (all_cells (rows_of a first n))
-      → r ≡ record { first = first; columns = a.columns; ended = form_rows (Apply thunk) f a None None first n; opened = [] }
-  whole-rows thunk first n r h c =
+  pub whole-rows : (first n : ℕ) → AreMapped form f a b os first n → (r : Run) → AreAlike (rows_of a first n) r
+      → all_cells r ≡ valued_from 0 (values_on f (along os first n)) (all_cells (rows_of a first n))
+      → r ≡ record { first = first; columns = a.columns; ended = form_rows form f a b None first n; opened = [] }
+  whole-rows first n m r h c =
       alike_equal r _
       (alike_then r (rows_of a first n) _ (record { first = sym h.first; columns = sym h.columns; ended = sym h.ended; opened = sym h.opened })
-      (record { first = refl; columns = refl; ended = range-lengths thunk first n; opened = refl }))
-      (c ∙ (ap (valued_from 0 (values_on f (range_operands thunk a first n))) (append-nil (cells a first n))
-      ∙ (given-all (values_on f (range_operands thunk a first n)) (cells a first n)
-      (length_values f (range_operands thunk a first n) ∙ range-count a thunk first n)
-      ∙ (sym (range-cells thunk first n) ∙ sym (append-nil (cells_in (form_rows (Apply thunk) f a None None first n)))))))
+      (record { first = refl; columns = refl; ended = range-lengths first n m; opened = refl }))
+      (c ∙ (ap (valued_from 0 (values_on f (along os first n))) (append-nil (cells a first n))
+      ∙ (given-all (values_on f (along os first n)) (cells a first n) (length_values f (along os first n) ∙ range-count a os first n m.many)
+      ∙ (sym (range-cells first n m) ∙ sym (append-nil (cells_in (form_rows form f a b None first n)))))))
+
+-- ---- apply
+
+pub applied-entries : (a : Grid) (thunk : Option ℕ) (first n : ℕ) → length (range_operands thunk a first n) ≡ entries_in_run (rows_of a first n)
+applied-entries a thunk first n = copied-entries a (λ i. row_operands thunk i (row_of a i)) first n (λ i l u. length-operands thunk i (row_of a i))
+
+pub apply_mapped : (f : Accepted) (a : Grid) → IsGrid a → (thunk : Option ℕ) (first n : ℕ)
+    → AreMapped (Apply thunk) f a None (λ i. row_operands thunk i (row_of a i)) first n
+apply_mapped f a g thunk first n = record {
+  many = λ i l u. length-operands thunk i (row_of a i);
+  rows = λ i l u. alone-cells f thunk i a.columns 0 (row_of a i) (row_of-ascends a i g);
+  calls = λ i l u. alone-calls f thunk i a.columns 0 (row_of a i) (row_of-ascends a i g);
+}
+
+pub apply_kind_is : (t : Option ℕ) → kind_for (Apply t) ≡ apply_kind t
+apply_kind_is None = refl
+apply_kind_is (Some t) = refl
 
 pub copied-words : (a : Grid) (first n : ℕ) → words_of (all_cells (rows_of a first n)) ≡ range_operands None a first n
-copied-words a first n = ap words_of (append-nil (cells_in (along (λ i. row_of a i ∷ []) first n))) ∙ joined first n
+copied-words a first n = ap words_of (append-nil (cells a first n)) ∙ joined first n
   where
-    joined : (first n : ℕ) → words_of (cells_in (along (λ i. row_of a i ∷ []) first n)) ≡ range_operands None a first n
+    joined : (first n : ℕ) → words_of (cells a first n) ≡ range_operands None a first n
     joined first zero = refl
-    joined first (suc n) = words_of-append (row_of a first) (cells_in (along (λ i. row_of a i ∷ []) (suc first) n))
+    joined first (suc n) = words_of-append (row_of a first) (cells a (suc first) n)
         ∙ ap (λ os. words_of (row_of a first) ++ os) (joined (suc first) n)
 
 -- ---- a range of rows, from its copy to its values
 
-module _ (f p : Accepted) (a : Grid) (g : IsGrid a) (thunk : Option ℕ) (first n : ℕ) (kind : f.kind ≡ apply_kind thunk) (is : IsAccepted p) (same : p ≡ f) (l : n ≤ a.rows) where
-  whole-few : steps_of (calls_on f (range_operands thunk a first n)) < 2 ^ 64
-  whole-few =
-      let few = few_in_all f (subst IsAccepted same is) (Apply thunk) a None None first n (kind ∙ sym (kind_is thunk)) g l in
-      let e = ap steps_of (range-calls f a g thunk first n) in
-      omega (arith, few, e)
-    where
-      kind_is : (t : Option ℕ) → kind_for (Apply t) ≡ apply_kind t
-      kind_is None = refl
-      kind_is (Some t) = refl
+-- what a matrix lends to be copied
+pub copying_is : (o : Option Copied) (x d : Copied) → o ≡ Some x → IfSome o (λ c. c ≡ d) → x ≡ d
+copying_is o x d e h = subst (λ (q : Option Copied). IfSome q (λ c. c ≡ d)) e h
 
-  pub whole-room : 0 + steps_of (calls_on f (range_operands thunk a first n)) < 2 ^ 64
-  whole-room = let w = whole-few in omega (arith, w)
+module _ (form : Form) (f p : Accepted) (a : Grid) (b : Option Grid) (os : ℕ → List Operands) (first n : ℕ)
+    (mapped : AreMapped form f a b os first n) (g : IsGrid a) (kind : f.kind ≡ kind_for form) (is : IsAccepted p) (same : p ≡ f)
+    (l : n ≤ a.rows) where
+  pub whole-room : 0 + steps_of (calls_on f (along os first n)) < 2 ^ 64
+  whole-room =
+      let few = few_in_all f (subst IsAccepted same is) form a b None first n kind g l in
+      let e = ap steps_of (range-calls form f a b os first n mapped) in
+      omega (arith, few, e)
 
   module _ (m o : Mapping) (begun : m.rows.run ≡ rows_of a first n) (none_done : m.rows.written ≡ 0) (none_made : m.steps ≡ 0)
-      (added : IsFurther f (range_operands thunk a first n) m o) where
+      (added : IsFurther f (along os first n) m o) where
     -- all entries were written
     pub made-all : o.rows.written ≡ entries_in_run o.rows.run
     made-all =
-        let e = copied-entries a thunk first n in
-        let b = ap (λ (q : Run). entries_in_run q) begun in
+        let e = copied-entries a os first n mapped.many in
+        let r = ap (λ (q : Run). entries_in_run q) begun in
         let k = alike_entries m.rows.run o.rows.run added.alike in
         let p = added.place in
-        omega (arith, e, b, k, p, none_done)
+        omega (arith, e, r, k, p, none_done)
 
-    pub made-rows : o.rows.run ≡ record { first = first; columns = a.columns; ended = form_rows (Apply thunk) f a None None first n; opened = [] }
+    pub made-rows : o.rows.run ≡ record { first = first; columns = a.columns; ended = form_rows form f a b None first n; opened = [] }
     made-rows =
-        whole-rows f a g thunk first n o.rows.run (subst (λ (q : Run). AreAlike q o.rows.run) begun added.alike)
+        whole-rows form f a b os first n mapped o.rows.run (subst (λ (q : Run). AreAlike q o.rows.run) begun added.alike)
         (added.cells
-        ∙ (ap (λ k. valued_from k (values_on f (range_operands thunk a first n)) (all_cells m.rows.run)) none_done
-        ∙ ap (λ (q : Run). valued_from 0 (values_on f (range_operands thunk a first n)) (all_cells q)) begun))
+        ∙ (ap (λ k. valued_from k (values_on f (along os first n)) (all_cells m.rows.run)) none_done
+        ∙ ap (λ (q : Run). valued_from 0 (values_on f (along os first n)) (all_cells q)) begun))
 
-    pub made-steps : o.steps ≡ steps_of (form_all_calls (Apply thunk) f a None None first n)
+    pub made-steps : o.steps ≡ steps_of (form_all_calls form f a b None first n)
     made-steps =
         let s = added.steps in
-        let e = ap steps_of (range-calls f a g thunk first n) in
+        let e = ap steps_of (range-calls form f a b os first n mapped) in
         omega (arith, s, none_made, e)

@@ -5,6 +5,7 @@ pub mod Folding
 pub mod Heads
 pub mod Mapped
 pub mod Masked
+pub mod Paired
 pub mod Placing
 pub mod Sifting
 pub mod Standing

@@ -1,17 +1,20 @@
-//! Apply without a mask: rows are copied with the values of calls, 64 at a time, whichever row their entries stand in.
+//! Apply, and union and both of rows that are alike, without a mask: rows are copied with the values of calls, 64 at a time, whichever
+//! row their entries stand in.
 ghost use Rattle.std.specs.Prelude.{◌≡◌, ◌<◌, ◌≤◌, ◌+◌, ◌-◌, ◌^◌, None};
 ghost use Rattle.bpf_insn.specs.declared.operands.Kind.TheVariants as kinds;
 ghost use Rattle.bpf_run.specs.Calls.{calls_on, steps_of, words_of};
+ghost use Rattle.csr_store.specs.Mask.{mask_of};
 ghost use Rattle.csr_store.specs.Valued.{all_cells};
 ghost use Rattle.entry_ops.specs.declared.form.Form.TheVariants as forms;
 ghost use Rattle.job_forms.specs.Forms.{apply_kind};
 ghost use Rattle.entry_ops.specs.inner.Coming.{NoneWaits};
 ghost use Rattle.entry_ops.specs.inner.Mapped.{range_operands, HasRoom, IsCopied, IsFurther};
-ghost use Rattle.entry_ops.specs.inner.Walking.{IsFormMade};
+ghost use Rattle.entry_ops.specs.inner.Walking.{Joins, HaveRows, IsFormMade};
 
 use crate::coming::Coming;
 use crate::form::Form;
 use crate::line::Sources;
+use crate::pairs::Pairs;
 use crate::rows::fill_region;
 use bpf_run::{Calls, MOST_CALLS, Prepared};
 use csr_store::{Matrix, RowCopy};
@@ -63,6 +66,18 @@ impl Mapping<'_> {
         ensures { IsFurther operator.now coming.entry self.old self.new }
     {
         while coming.gather(calls) {
+            self.make(operator, calls);
+        }
+    }
+
+    /// Makes the calls on all pairs.
+    fn add_pairs(&mut self, operator: &Prepared, calls: &mut Calls, mut pairs: Pairs)
+        requires kind { operator.now.kind ≡ kinds.Binary }
+        requires waits { NoneWaits operator.now.kind calls.old }
+        requires room { HasRoom operator.now pairs self.old }
+        ensures { IsFurther operator.now pairs.entry self.old self.new }
+    {
+        while pairs.gather(calls) {
             self.make(operator, calls);
         }
     }
@@ -128,6 +143,45 @@ pub fn map_region(
     let mut mapping = Mapping { rows, steps: 0 };
     calls.begin(operator.kind());
     mapping.add_all(operator, calls, a, thunk, range);
+    Made {
+        result: Ok(mapping.rows.finish()),
+        steps: mapping.steps,
+    }
+}
+
+/// The rows of a range of a union, or of where both have a word. Where these rows are alike in both operands and there is no mask, they
+/// are copied with the values of calls, and their memory is taken first, so that on want of it no call was made.
+pub fn joint_region(
+    alloc: Global,
+    calls: &mut Calls,
+    form: Form,
+    operator: &Prepared,
+    sources: Sources,
+    range: Range<u64>,
+) -> Made
+    requires form { Joins form operator.now }
+    requires rows { HaveRows sources range.start range.end }
+    ensures { IsFormMade form operator.now sources.entry.left.now (mask_of sources.entry.right) (mask_of sources.entry.mask)
+        range.start (range.end - range.start) result }
+{
+    let Some(pairs) = Pairs::of_rows(sources, range.start..range.end) else {
+        return fill_region(alloc, calls, form, operator, sources, range);
+    };
+    let _ = operator.operator().program();
+    let _ = sources.left.columns();
+    let rows = match sources.left.copying(alloc, range.start..range.end) {
+        Ok(Some(rows)) => rows,
+        Ok(None) => return fill_region(alloc, calls, form, operator, sources, range),
+        Err(error) => {
+            return Made {
+                result: Err(error),
+                steps: 0,
+            };
+        }
+    };
+    let mut mapping = Mapping { rows, steps: 0 };
+    calls.begin(operator.kind());
+    mapping.add_pairs(operator, calls, pairs);
     Made {
         result: Ok(mapping.rows.finish()),
         steps: mapping.steps,

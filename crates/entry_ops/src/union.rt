@@ -7,7 +7,7 @@ ghost use Rattle.job_forms.specs.Region.{IsRegion, IsPartOf};
 use crate::blank::{blank_region, is_blank, is_shut};
 use crate::form::Form;
 use crate::line::Sources;
-use crate::rows::fill_region;
+use crate::mapping::joint_region;
 use bpf_run::{Calls, Prepared};
 use csr_store::Matrix;
 use job_forms::{Made, Region};
@@ -38,7 +38,7 @@ pub fn union_rows<'m>(
         right: Some(b),
         mask: region.mask,
     };
-    fill_region(alloc, calls, Form::Union, operator, sources, region.range)
+    joint_region(alloc, calls, Form::Union, operator, sources, region.range)
 }
 
 /// The operator where two matrices both have a word, in a region.
@@ -66,5 +66,5 @@ pub fn both_rows<'m>(
         right: Some(b),
         mask: region.mask,
     };
-    fill_region(alloc, calls, Form::Both, operator, sources, region.range)
+    joint_region(alloc, calls, Form::Both, operator, sources, region.range)
 }

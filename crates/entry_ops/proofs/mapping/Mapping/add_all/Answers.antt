@@ -4,7 +4,7 @@ use Rattle.csr_store.specs.Run.{Run}
 use Rattle.csr_store.specs.Valued.{all_cells, entries_of}
 use Rattle.bpf_run.specs.Calls.{words_of, calls_on, steps_of}
 use Rattle.entry_ops.specs.inner.Mapped.{range_operands, IsFurther}
-use Rattle.entry_ops.proofs.Whole.{copied-words, copied-entries}
+use Rattle.entry_ops.proofs.Whole.{copied-words, applied-entries}
 use Rattle.entry_ops.proofs.mapping.Mapping.add_all.Goals as goal
 
 pub add_words-requires-clause-room : goal.add_words-requires-clause-room
@@ -18,7 +18,7 @@ add_words-requires-clause-room c =
 
 pub add_entries-requires-clause-room : goal.add_entries-requires-clause-room
 add_entries-requires-clause-room c =
-    let n = copied-entries c.args.a.now (Some c.in-Some.thunk) c.args.range.start (c.args.range.end - c.args.range.start) in
+    let n = applied-entries c.args.a.now (Some c.in-Some.thunk) c.args.range.start (c.args.range.end - c.args.range.start) in
     let r = ap (λ (r : Run). entries_of r) c.requires.copied.copied in
     let z = c.requires.copied.none in
     let o = ap (λ (os : List Operands). length os) c.of_rows.ensures in
