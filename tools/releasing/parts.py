@@ -33,7 +33,7 @@ BELOW = {'clap': ['strsim']}
 
 def crates() -> List[str]:
     """The crates of the repository that are in the program: those without tests, in order."""
-    return sorted(name for name in graph() if not name.endswith('_tests'))
+    return sorted(name for name in graph() if not name.endswith('_tests') and not name.startswith('test_'))
 
 
 def graph() -> Dict[str, List[str]]:

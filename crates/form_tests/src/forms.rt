@@ -7,7 +7,6 @@ mod sizes;
 mod small;
 
 use crate::masks::{has_shape, passes};
-use crate::operators::{EXIT, operator};
 use bpf_insn::{Kind, Operands, Ran, run_tagged};
 use bpf_run::{Calls, Prepared};
 use csr_store::{Builder, Matrix, Rows, join_rows};
@@ -17,43 +16,47 @@ use std::alloc::{AllocError, Global};
 use std::ops::Range;
 use std::process::Abort;
 use std::test::Fail;
+use test_operators::{NoOperator, assembled};
 
 /// The most rows, columns and entries of a matrix.
 const LIMIT: u64 = 16_777_216;
 
 /// 3 x + 1
-const TRIPLE: [u64; 4] = [
-    0xbf10_0000_0000_0000,
-    0x2700_0000_0300_0000,
-    0x0700_0000_0100_0000,
-    EXIT,
-];
+const TRIPLE: &str = "
+    mov64 r0, r1
+    mul64 r0, 3
+    add64 r0, 1
+    exit
+";
+
 /// (2 (x + row) xor column) + thunk
-const PLACED: [u64; 6] = [
-    0xbf10_0000_0000_0000,
-    0x0f20_0000_0000_0000,
-    0x6700_0000_0100_0000,
-    0xaf30_0000_0000_0000,
-    0x0f40_0000_0000_0000,
-    EXIT,
-];
+const PLACED: &str = "
+    mov64 r0, r1
+    add64 r0, r2
+    lsh64 r0, 1
+    xor64 r0, r3
+    add64 r0, r4
+    exit
+";
+
 /// 7 where row + thunk is not below column, and else 0, a step sooner
-const BELOW: [u64; 5] = [
-    0xb700_0000_0000_0000,
-    0x0f42_0000_0000_0000,
-    0xad32_0100_0000_0000,
-    0xb700_0000_0700_0000,
-    EXIT,
-];
+const BELOW: &str = "
+    mov64 r0, 0
+    add64 r2, r4
+    jlt64 r2, r3, 1
+    mov64 r0, 7
+    exit
+";
+
 /// 2 x - y, and that xor 5 where x is not above y: neither associative nor commutative
-const UNEVEN: [u64; 6] = [
-    0xbf10_0000_0000_0000,
-    0x6700_0000_0100_0000,
-    0x1f20_0000_0000_0000,
-    0x2d21_0100_0000_0000,
-    0xa700_0000_0500_0000,
-    EXIT,
-];
+const UNEVEN: &str = "
+    mov64 r0, r1
+    lsh64 r0, 1
+    sub64 r0, r2
+    jgt64 r1, r2, 1
+    xor64 r0, 5
+    exit
+";
 
 /// What is asked of a matrix, or of two.
 #[derive(Clone, Copy)]
@@ -69,12 +72,12 @@ enum Job {
 type Triple = (u64, u64, u64);
 
 /// The operator that the tests take for a job.
-fn operator_for(alloc: Global, job: Job) -> Result<Prepared, AllocError> {
+fn operator_for(alloc: Global, job: Job) -> Result<Prepared, NoOperator> {
     match job {
-        Job::Apply(None) => operator(alloc, Kind::Unary, &TRIPLE),
-        Job::Apply(Some(_)) => operator(alloc, Kind::Index, &PLACED),
-        Job::Select(_) => operator(alloc, Kind::Index, &BELOW),
-        Job::Union | Job::Both | Job::Reduce => operator(alloc, Kind::Binary, &UNEVEN),
+        Job::Apply(None) => assembled(alloc, Kind::Unary, TRIPLE),
+        Job::Apply(Some(_)) => assembled(alloc, Kind::Index, PLACED),
+        Job::Select(_) => assembled(alloc, Kind::Index, BELOW),
+        Job::Union | Job::Both | Job::Reduce => assembled(alloc, Kind::Binary, UNEVEN),
     }
 }
 

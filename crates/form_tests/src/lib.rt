@@ -9,6 +9,4 @@ mod forms;
 #[cfg(test)]
 mod masks;
 #[cfg(test)]
-mod operators;
-#[cfg(test)]
 mod products;

@@ -108,61 +108,41 @@ fn random_matrices(rt: HostRuntime) -> Result<(), Fail> {
     Ok(())
 }
 
-/// A job's result has these entries and no others, and takes so many steps.
-fn assert_entries<'m>(
-    rt: &impl Abort,
-    alloc: Global,
+/// A job with or without a mask, the entries that it gives, and its steps.
+struct Case {
     job: Job,
-    sources: (&'m Matrix, &'m Matrix, Option<&'m Matrix>),
-    wanted: &[Triple],
+    is_masked: bool,
+    entries: &'static [Triple],
     steps: u64,
-) -> Result<(), Fail> {
-    let (result, spent) = done_for(alloc, job, sources, 1)?;
-    for (row, column, value) in wanted {
-        assert_value(rt, &result, *row, *column, Some(*value));
-    }
-    assert_totals(rt, &result, spent, wanted.len() as u64, steps);
-    Ok(())
 }
-
-/// The values of a job on two small matrices, without a mask and under one with the value 0 at two positions.
-fn assert_by_hand(
-    rt: &impl Abort,
-    alloc: Global,
-    job: Job,
-    masked: bool,
-    wanted: &[Triple],
-    steps: u64,
-) -> Result<(), Fail> {
-    let a = matrix(alloc, (2, 3), &[(0, 0, 4), (0, 2, 1), (1, 1, 6)])?;
-    let b = matrix(alloc, (2, 3), &[(0, 2, 10), (1, 0, 3)])?;
-    let mask = matrix(alloc, (2, 3), &[(0, 0, 0), (1, 1, 0)])?;
-    match masked {
-        false => assert_entries(rt, alloc, job, (&a, &b, None), wanted, steps),
-        true => assert_entries(rt, alloc, job, (&a, &b, Some(&mask)), wanted, steps),
-    }
-}
-
-/// A job, whether it is masked, its entries, and its steps.
-type Case = (Job, bool, &'static [Triple], u64);
 
 /// Jobs on the first matrix. With the thunk 9 the values are (2 (4 + 0) xor 0) + 9, (2 (1 + 0) xor 2) + 9 and
 /// (2 (6 + 1) xor 1) + 9.
 const APPLIED: [Case; 4] = [
-    (
-        Job::Apply(None),
-        false,
-        &[(0, 0, 13), (0, 2, 4), (1, 1, 19)],
-        12,
-    ),
-    (Job::Apply(None), true, &[(0, 0, 13), (1, 1, 19)], 8),
-    (
-        Job::Apply(Some(9)),
-        false,
-        &[(0, 0, 17), (0, 2, 9), (1, 1, 24)],
-        18,
-    ),
-    (Job::Select(0), false, &[(0, 0, 4), (1, 1, 6)], 14),
+    Case {
+        job: Job::Apply(None),
+        is_masked: false,
+        entries: &[(0, 0, 13), (0, 2, 4), (1, 1, 19)],
+        steps: 12,
+    },
+    Case {
+        job: Job::Apply(None),
+        is_masked: true,
+        entries: &[(0, 0, 13), (1, 1, 19)],
+        steps: 8,
+    },
+    Case {
+        job: Job::Apply(Some(9)),
+        is_masked: false,
+        entries: &[(0, 0, 17), (0, 2, 9), (1, 1, 24)],
+        steps: 18,
+    },
+    Case {
+        job: Job::Select(0),
+        is_masked: false,
+        entries: &[(0, 0, 4), (1, 1, 6)],
+        steps: 14,
+    },
 ];
 
 /// What stands where both matrices have a word: 2 * 1 - 10 is -8, and that xor 5 is -3.
@@ -170,21 +150,62 @@ const MET: Triple = (0, 2, u64::MAX - 2);
 
 /// Jobs on both matrices.
 const JOINED: [Case; 4] = [
-    (
-        Job::Union,
-        false,
-        &[(0, 0, 4), MET, (1, 0, 3), (1, 1, 6)],
-        6,
-    ),
-    (Job::Union, true, &[(0, 0, 4), (1, 1, 6)], 0),
-    (Job::Both, false, &[MET], 6),
-    (Job::Both, true, &[], 0),
+    Case {
+        job: Job::Union,
+        is_masked: false,
+        entries: &[(0, 0, 4), MET, (1, 0, 3), (1, 1, 6)],
+        steps: 6,
+    },
+    Case {
+        job: Job::Union,
+        is_masked: true,
+        entries: &[(0, 0, 4), (1, 1, 6)],
+        steps: 0,
+    },
+    Case {
+        job: Job::Both,
+        is_masked: false,
+        entries: &[MET],
+        steps: 6,
+    },
+    Case {
+        job: Job::Both,
+        is_masked: true,
+        entries: &[],
+        steps: 0,
+    },
 ];
+
+/// A case's result has its entries and no others, and takes its steps.
+fn assert_entries<'m>(
+    rt: &impl Abort,
+    alloc: Global,
+    sources: (&'m Matrix, &'m Matrix, Option<&'m Matrix>),
+    case: &Case,
+) -> Result<(), Fail> {
+    let (result, spent) = done_for(alloc, case.job, sources, 1)?;
+    for (row, column, value) in case.entries {
+        assert_value(rt, &result, *row, *column, Some(*value));
+    }
+    assert_totals(rt, &result, spent, case.entries.len() as u64, case.steps);
+    Ok(())
+}
+
+/// A case comes out on two small matrices, or under a mask with the value 0 at two positions.
+fn assert_by_hand(rt: &impl Abort, alloc: Global, case: &Case) -> Result<(), Fail> {
+    let a = matrix(alloc, (2, 3), &[(0, 0, 4), (0, 2, 1), (1, 1, 6)])?;
+    let b = matrix(alloc, (2, 3), &[(0, 2, 10), (1, 0, 3)])?;
+    let mask = matrix(alloc, (2, 3), &[(0, 0, 0), (1, 1, 0)])?;
+    match case.is_masked {
+        false => assert_entries(rt, alloc, (&a, &b, None), case),
+        true => assert_entries(rt, alloc, (&a, &b, Some(&mask)), case),
+    }
+}
 
 /// Each of these jobs has its entries and takes its steps.
 fn assert_all_by_hand(rt: &impl Abort, alloc: Global, cases: &[Case]) -> Result<(), Fail> {
-    for (job, masked, wanted, steps) in cases {
-        assert_by_hand(rt, alloc, *job, *masked, wanted, *steps)?;
+    for case in cases {
+        assert_by_hand(rt, alloc, case)?;
     }
     Ok(())
 }

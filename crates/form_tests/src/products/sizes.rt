@@ -1,6 +1,5 @@
 //! Products of many rows, and of a long one.
 use super::{assert_count, assert_rows, chunk_of, finished, operator, scattered};
-use crate::operators::{EXIT, FIRST, MUL};
 use csr_store::{Builder, Matrix};
 use job_forms::{Made, mult_count_in};
 use row_product::Scratch;
@@ -8,21 +7,26 @@ use std::alloc::Global;
 use std::ops::Range;
 use std::process::Abort;
 use std::test::Fail;
+use test_operators::MULTIPLY;
 
-/// `add64 r0, r2`
-const ADD: u64 = 0x0f20_0000_0000_0000;
+/// x + y
+const ADD: &str = "
+    mov64 r0, r1
+    add64 r0, r2
+    exit
+";
 
-/// A range of rows of a product by addition, and by the operator of this slot.
+/// A range of rows of a product by addition, and by the operator of this text.
 fn product_by(
     rt: &impl Abort,
     alloc: Global,
-    slot: u64,
+    text: &str,
     a: &Matrix,
     b: &Matrix,
     range: Range<u64>,
 ) -> Result<Made, Fail> {
-    let add = operator(alloc, &[FIRST, ADD, EXIT])?;
-    let mul = operator(alloc, &[FIRST, slot, EXIT])?;
+    let add = operator(alloc, ADD)?;
+    let mul = operator(alloc, text)?;
     let mut scratch = Scratch::new(alloc);
     Ok(chunk_of(rt, alloc, &mut scratch, a, b, &add, &mul, None, range))
 }
@@ -62,6 +66,6 @@ fn row_of_many_entries(rt: HostRuntime) -> Result<(), Fail> {
     let a = scattered(&rt, 1, 3, 8, 1, rt.alloc())?;
     let b = scattered(&rt, 3, 100_000, 9, 1, rt.alloc())?;
     assert_count(&rt, a.rows(), 1);
-    let chunk = product_by(&rt, rt.alloc(), MUL, &a, &b, 0..1)?;
+    let chunk = product_by(&rt, rt.alloc(), MULTIPLY, &a, &b, 0..1)?;
     assert_chunk(&rt, chunk, 0, 1, 1_500_000)
 }
