@@ -10,7 +10,7 @@ import support
 import spmat
 from spmat import algorithms
 from spmat.algorithms import facts
-from spmat.algorithms.common import product
+from spmat.algorithms.common import column, loops, nothing, product
 
 
 class Costs(unittest.TestCase):
@@ -137,6 +137,19 @@ class Costs(unittest.TestCase):
         for function, steps in ((algorithms.bfs_levels, 4), (algorithms.bfs_parents, 6), (algorithms.sssp, 15)):
             self.assertLessEqual(self.spent(function, path, 0), steps * path.nvals, function)
         self.assertLessEqual(self.spent(algorithms.core_numbers, path, check=False), 10 * path.nvals)
+
+    def test_what_is_made_once(self):
+        """Loops and a column of one value are sent once for a graph, and a column without entries when a job wants it."""
+        for make in (loops, column):
+            first = make(self.G, 3)
+            sent = self.session.connection.sent
+            self.assertIs(make(self.G, 3), first)
+            self.assertEqual(self.session.connection.sent, sent)
+            self.assertEqual(first.reduce_scalar('plus'), 3 * self.G.nrows)
+        commands = self.session.connection.commands
+        empty = nothing(self.G)
+        self.assertEqual((empty.shape, empty.nvals, self.session.connection.commands - commands), ((self.G.nrows, 1), 0, 0))
+        self.assertTrue(column(self.G, 3).ewise_add(empty, 'plus').isequal(column(self.G, 3)))
 
     def test_squarings(self):
         path = graphs.undirected('path', 12, [(i, i + 1) for i in range(11)]).matrix(self.session)
