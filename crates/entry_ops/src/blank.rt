@@ -1,6 +1,6 @@
 //! Regions in which nothing is made, since an operand or the mask has no entry in their rows. That is seen from where rows start, and
-//! no row is looked at: each is just ended.
-ghost use Rattle.std.specs.Prelude.{◌≡◌, ◌≤◌, ◌-◌, ◌++◌, ◌∷◌, [], IfSome, IsTrue, OnOk};
+//! no row is looked at: they are ended at once.
+ghost use Rattle.std.specs.Prelude.{◌≤◌, ◌-◌, ◌∷◌, [], IfSome, IsTrue};
 ghost use Rattle.csr_store.specs.Along.{along};
 ghost use Rattle.csr_store.specs.Mask.{mask_of};
 ghost use Rattle.job_forms.specs.Region.{IsMade};
@@ -8,7 +8,7 @@ ghost use Rattle.entry_ops.specs.inner.Blank.{AreBlank, AreShut};
 
 use csr_store::{Matrix, Rows};
 use job_forms::{Made, Region};
-use std::alloc::{AllocError, Global};
+use std::alloc::Global;
 use std::ops::Range;
 
 /// Whether an operand has no entry in the rows of a region.
@@ -43,7 +43,7 @@ pub fn blank_region(alloc: Global, columns: u64, range: Range<u64>) -> Made
 {
     let steps = 0;
     let mut rows = Rows::begin(alloc, range.start, columns);
-    match end_rows(range, &mut rows) {
+    match rows.end_blank(range.end - range.start) {
         Ok(()) => Made {
             result: Ok(rows),
             steps,
@@ -53,19 +53,4 @@ pub fn blank_region(alloc: Global, columns: u64, range: Range<u64>) -> Made
             steps,
         },
     }
-}
-
-/// Ends the rows of a range, all without an entry.
-fn end_rows(range: Range<u64>, rows: &mut Rows) -> Result<(), AllocError>
-    requires range { range.start ≤ range.end }
-    requires none_open { rows.old.opened ≡ [] }
-    ensures { OnOk result (rows.new ≡ record rows.old {
-      ended = rows.old.ended ++ along (λ i. [] ∷ []) range.start (range.end - range.start);
-    }) }
-{
-    rows.reserve_rows((range.end - range.start) as usize)?;
-    for _i in range.start..range.end {
-        rows.end_row()?;
-    }
-    Ok(())
 }

@@ -13,5 +13,5 @@
 mod count;
 mod region;
 
-pub use count::{is_open, mult_count, mult_count_in, mults_in_row};
+pub use count::{is_open, is_shut, mult_count, mult_count_in, mults_in_row};
 pub use region::{Made, Making, Region};
