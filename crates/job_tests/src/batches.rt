@@ -1,5 +1,4 @@
 //! Batches with their matrices and steps worked out by hand.
-use crate::operators::{ADD_ONE, EXIT, FIRST, MUL, SUB};
 use bpf_insn::Kind;
 use bpf_run::Prepared;
 use csr_store::{Builder, Matrix, Version};
@@ -10,23 +9,23 @@ use std::process::Abort;
 use std::sync::{Arc, Wait};
 use std::test::Fail;
 use std::thread::Threads;
+use test_operators::{INCREMENT, MULTIPLY, SUBTRACT, assembled};
 
 mod passes;
 mod seats;
 mod workers;
 
-/// The operator of these slots, with several owners.
-fn operator(alloc: Global, kind: Kind, slots: &[u64]) -> Result<Arc<Prepared>, AllocError> {
-    Ok(Arc::new(alloc, crate::operators::operator(alloc, kind, slots)?)?)
+/// A row and a column, from 0, and the value that stands there.
+type Entry = (u64, u64, u64);
+
+/// The operator of a text that is right, with several owners.
+fn operator(alloc: Global, kind: Kind, text: &str) -> Result<Arc<Prepared>, AllocError> {
+    let operator = assembled(alloc, kind, text).map_err(|_| AllocError)?;
+    Ok(Arc::new(alloc, operator)?)
 }
 
 /// A matrix of these entries.
-fn matrix(
-    alloc: Global,
-    rows: u32,
-    columns: u32,
-    entries: &[(u64, u64, u64)],
-) -> Result<Version, Fail> {
+fn matrix(alloc: Global, rows: u32, columns: u32, entries: &[Entry]) -> Result<Version, Fail> {
     let mut builder = Builder::new(alloc, u64::from(rows) % 4096, u64::from(columns) % 4096);
     for (row, column, value) in entries {
         builder.put(*row, *column, *value)?;
@@ -94,7 +93,7 @@ fn answer<H: Threads + Wait + Abort>(rt: &H, alloc: Global, plan: &Plan) -> Batc
 }
 
 /// Whether a job has these entries, and took so many steps.
-fn is(answer: &BatchAnswer, job: usize, entries: &[(u64, u64, u64)], steps: u64) -> bool {
+fn is(answer: &BatchAnswer, job: usize, entries: &[Entry], steps: u64) -> bool {
     let Some(result) = answer.results.get(job) else {
         return false;
     };
@@ -110,7 +109,7 @@ fn is(answer: &BatchAnswer, job: usize, entries: &[(u64, u64, u64)], steps: u64)
 /// The plan of one job that adds one to each entry of a diagonal.
 fn increments(rt: &impl Abort, alloc: Global, rows: u32) -> Result<Plan, AllocError> {
     let form = Form::Apply {
-        operator: operator(alloc, Kind::Unary, &[FIRST, ADD_ONE, EXIT])?,
+        operator: operator(alloc, Kind::Unary, INCREMENT)?,
         thunk: None,
         operand: diagonal(alloc, rows)?,
     };
@@ -153,7 +152,7 @@ fn no_jobs(rt: HostRuntime) -> Result<(), Fail> {
 /// The plan of a reduction of no rows.
 fn reduction_of_nothing(rt: &impl Abort, alloc: Global) -> Result<Plan, AllocError> {
     let form = Form::Reduce {
-        operator: operator(alloc, Kind::Binary, &[FIRST, SUB, EXIT])?,
+        operator: operator(alloc, Kind::Binary, SUBTRACT)?,
         operand: diagonal(alloc, 0)?,
     };
     plan_of(rt, alloc, form)
@@ -181,8 +180,8 @@ fn shared(alloc: Global) -> Result<Common, Fail> {
     let a = [(0, 0, 10), (0, 1, 3), (0, 2, 2), (1, 1, 1)];
     let b = [(0, 0, 4), (1, 0, 5), (1, 1, 1)];
     Ok(Common {
-        sub: operator(alloc, Kind::Binary, &[FIRST, SUB, EXIT])?,
-        index: operator(alloc, Kind::Index, &[FIRST, SUB, EXIT])?,
+        sub: operator(alloc, Kind::Binary, SUBTRACT)?,
+        index: operator(alloc, Kind::Index, SUBTRACT)?,
         a: matrix(alloc, 2, 3, &a)?,
         b: matrix(alloc, 2, 3, &b)?,
     })
@@ -229,7 +228,7 @@ fn product(alloc: Global, shared: &Common) -> Result<Form, Fail> {
     let right = matrix(alloc, 3, 1, &[(0, 0, 1), (1, 0, 2)])?;
     Ok(Form::Product {
         add: Arc::try_clone(&shared.sub)?,
-        mul: operator(alloc, Kind::Binary, &[FIRST, MUL, EXIT])?,
+        mul: operator(alloc, Kind::Binary, MULTIPLY)?,
         left: Arc::try_clone(&shared.a)?,
         right,
     })
@@ -256,24 +255,44 @@ fn each(rt: &impl Abort, alloc: Global, shared: &Common) -> Result<Plan, Fail> {
     Ok(queue.take()?)
 }
 
-/// The jobs by their numbers, with their entries and their steps.
-const EACH: [(usize, &[(u64, u64, u64)], u64); 6] = [
-    (0, &[(0, 0, 10), (0, 1, 3), (0, 2, 2), (1, 1, 0)], 12),
-    (1, &[(0, 0, 10), (0, 1, 3), (0, 2, 2)], 12),
-    (
-        2,
-        &[(0, 0, 6), (0, 1, 3), (0, 2, 2), (1, 0, 5), (1, 1, 0)],
-        6,
-    ),
-    (3, &[(0, 0, 6)], 3),
-    (4, &[(0, 0, 4), (1, 0, 2)], 12),
-    (5, &[(0, 0, 5), (1, 0, 1)], 6),
+/// What a job gives: its entries, and the steps that they took.
+struct Given {
+    entries: &'static [Entry],
+    steps: u64,
+}
+
+/// What the jobs give, in their order.
+const EACH: [Given; 6] = [
+    Given {
+        entries: &[(0, 0, 10), (0, 1, 3), (0, 2, 2), (1, 1, 0)],
+        steps: 12,
+    },
+    Given {
+        entries: &[(0, 0, 10), (0, 1, 3), (0, 2, 2)],
+        steps: 12,
+    },
+    Given {
+        entries: &[(0, 0, 6), (0, 1, 3), (0, 2, 2), (1, 0, 5), (1, 1, 0)],
+        steps: 6,
+    },
+    Given {
+        entries: &[(0, 0, 6)],
+        steps: 3,
+    },
+    Given {
+        entries: &[(0, 0, 4), (1, 0, 2)],
+        steps: 12,
+    },
+    Given {
+        entries: &[(0, 0, 5), (1, 0, 1)],
+        steps: 6,
+    },
 ];
 
-/// Jobs have these entries, and took so many steps.
-fn assert_each(rt: &impl Abort, answer: &BatchAnswer, wanted: &[(usize, &[(u64, u64, u64)], u64)]) {
-    for (job, entries, steps) in wanted {
-        assert!(rt; is(answer, *job, entries, *steps));
+/// Each job gives what is wanted of it.
+fn assert_each(rt: &impl Abort, answer: &BatchAnswer, wanted: &[Given]) {
+    for (job, given) in wanted.iter().enumerate() {
+        assert!(rt; is(answer, job, given.entries, given.steps));
     }
 }
 

@@ -7,6 +7,4 @@
 #[cfg(test)]
 mod batches;
 #[cfg(test)]
-mod operators;
-#[cfg(test)]
 mod plans;

@@ -4,7 +4,6 @@ mod prices;
 mod refusals;
 mod waiting;
 
-use crate::operators::{ADD_ONE, EXIT, FIRST, MUL as TIMES, SUB as LESS};
 use bpf_insn::Kind;
 use bpf_run::Prepared;
 use csr_store::{Builder, Version};
@@ -13,38 +12,35 @@ use std::alloc::{AllocError, Global};
 use std::process::Abort;
 use std::sync::Arc;
 use std::test::Fail;
+use test_operators::{INCREMENT, MULTIPLY, SUBTRACT, assembled};
 
-/// Subtracts, in three instructions.
-const SUB: &[u64] = &[FIRST, LESS, EXIT];
-/// Multiplies, in three instructions.
-const MUL: &[u64] = &[FIRST, TIMES, EXIT];
-/// Adds one, in three instructions.
-const INC: &[u64] = &[FIRST, ADD_ONE, EXIT];
 /// Whether the row is the column, in four instructions.
-const DIAGONAL: &[u64] = &[
-    0xb700_0000_0100_0000,
-    0x1d32_0100_0000_0000,
-    0xb700_0000_0000_0000,
-    EXIT,
-];
-/// A wide load and `exit`: two instructions in three slots.
-const WIDE: &[u64] = &[0x1800_0000_0100_0000, 0x0000_0000_0100_0000, EXIT];
+const DIAGONAL: &str = "
+    mov64 r0, 1
+    jeq64 r2, r3, 1
+    mov64 r0, 0
+    exit
+";
 
-/// The operator of these slots, with several owners.
-fn operator(alloc: Global, kind: Kind, slots: &[u64]) -> Result<Arc<Prepared>, AllocError> {
-    Ok(Arc::new(alloc, crate::operators::operator(alloc, kind, slots)?)?)
+/// 2 ^ 32 + 1, in two instructions and three slots.
+const WIDE: &str = "
+    wide r0, 4294967297
+    exit
+";
+
+/// A row and a column, from 0, and the value that stands there.
+type Entry = (u64, u64, u64);
+
+/// The operator of a text, with several owners.
+fn operator(alloc: Global, kind: Kind, text: &str) -> Result<Arc<Prepared>, Fail> {
+    Ok(Arc::new(alloc, assembled(alloc, kind, text)?)?)
 }
 
-/// The matrix of entries, each with its row and its column from 0, and its value.
-fn matrix(
-    alloc: Global,
-    rows: u64,
-    columns: u64,
-    entries: &[(u64, u64, u64)],
-) -> Result<Version, Fail> {
+/// The matrix of entries.
+fn matrix(alloc: Global, rows: u64, columns: u64, entries: &[Entry]) -> Result<Version, Fail> {
     let mut builder = Builder::new(alloc, rows.min(16_777_216), columns.min(16_777_216));
-    for entry in entries {
-        builder.put(entry.0, entry.1, entry.2)?;
+    for (row, column, value) in entries {
+        builder.put(*row, *column, *value)?;
     }
     Ok(version(alloc, builder)?)
 }
@@ -117,20 +113,20 @@ fn assert_count(rt: &impl Abort, count: u64, wanted: u64) {
     assert_eq!(rt; count, wanted);
 }
 
-/// An apply of a unary operator.
-fn applying(alloc: Global, slots: &[u64], operand: Version) -> Result<Form, Fail> {
-    applying_by(alloc, Kind::Unary, slots, None, operand)
+/// An apply of x + 1.
+fn incrementing(alloc: Global, operand: Version) -> Result<Form, Fail> {
+    applying(alloc, Kind::Unary, INCREMENT, None, operand)
 }
 
 /// An apply of any operator, with a thunk or without.
-fn applying_by(
+fn applying(
     alloc: Global,
     kind: Kind,
-    slots: &[u64],
+    text: &str,
     thunk: Option<u64>,
     operand: Version,
 ) -> Result<Form, Fail> {
-    let operator = operator(alloc, kind, slots)?;
+    let operator = operator(alloc, kind, text)?;
     Ok(Form::Apply {
         operator,
         thunk,
@@ -148,15 +144,9 @@ fn selecting(alloc: Global, operand: Version) -> Result<Form, Fail> {
     })
 }
 
-/// A union by an operator.
-fn uniting(
-    alloc: Global,
-    kind: Kind,
-    slots: &[u64],
-    left: Version,
-    right: Version,
-) -> Result<Form, Fail> {
-    let operator = operator(alloc, kind, slots)?;
+/// A union by subtraction.
+fn uniting(alloc: Global, left: Version, right: Version) -> Result<Form, Fail> {
+    let operator = operator(alloc, Kind::Binary, SUBTRACT)?;
     Ok(Form::Union {
         operator,
         left,
@@ -166,7 +156,7 @@ fn uniting(
 
 /// What stands in both, by subtraction.
 fn meeting(alloc: Global, left: Version, right: Version) -> Result<Form, Fail> {
-    let operator = operator(alloc, Kind::Binary, SUB)?;
+    let operator = operator(alloc, Kind::Binary, SUBTRACT)?;
     Ok(Form::Both {
         operator,
         left,
@@ -174,16 +164,10 @@ fn meeting(alloc: Global, left: Version, right: Version) -> Result<Form, Fail> {
     })
 }
 
-/// A product by an operator that multiplies, and subtraction.
-fn multiplying(
-    alloc: Global,
-    kind: Kind,
-    slots: &[u64],
-    left: Version,
-    right: Version,
-) -> Result<Form, Fail> {
-    let add = operator(alloc, Kind::Binary, SUB)?;
-    let mul = operator(alloc, kind, slots)?;
+/// A product by multiplication and subtraction.
+fn multiplying(alloc: Global, left: Version, right: Version) -> Result<Form, Fail> {
+    let add = operator(alloc, Kind::Binary, SUBTRACT)?;
+    let mul = operator(alloc, Kind::Binary, MULTIPLY)?;
     Ok(Form::Product {
         add,
         mul,
@@ -194,7 +178,7 @@ fn multiplying(
 
 /// A reduction by subtraction.
 fn reducing(alloc: Global, operand: Version) -> Result<Form, Fail> {
-    let operator = operator(alloc, Kind::Binary, SUB)?;
+    let operator = operator(alloc, Kind::Binary, SUBTRACT)?;
     Ok(Form::Reduce { operator, operand })
 }
 
@@ -202,32 +186,37 @@ fn reducing(alloc: Global, operand: Version) -> Result<Form, Fail> {
 #[derive(Clone, Copy)]
 enum Given {
     /// So many rows and columns, and these entries.
-    Of(u64, u64, &'static [(u64, u64, u64)]),
+    Of(u64, u64, &'static [Entry]),
     /// So many rows and columns, and an entry everywhere.
     Full(u64, u64),
 }
 
 use Given::{Full, Of};
 
-/// A form that is tried. Where its operators may be of several kinds, the kind and the slots are told.
+/// A form that is tried. An apply is of any operator.
 #[derive(Clone, Copy)]
 enum Tried {
-    Apply(Kind, &'static [u64], Option<u64>),
+    Apply {
+        kind: Kind,
+        text: &'static str,
+        thunk: Option<u64>,
+    },
     Select,
-    Union(Kind, &'static [u64]),
+    Union,
     Both,
-    Product(Kind, &'static [u64]),
+    Product,
     Reduce,
 }
 
-/// A form, the matrix on its left, the one on its right where it takes two, its mask, and its price or its fault.
-type Case = (
-    Tried,
-    Given,
-    Option<Given>,
-    Option<Given>,
-    Result<u64, JobError>,
-);
+/// A form with its matrices, of which the one on the right stands where it takes two, its mask, and its price or its fault.
+#[derive(Clone, Copy)]
+struct Case {
+    tried: Tried,
+    left: Given,
+    right: Option<Given>,
+    mask: Option<Given>,
+    wanted: Result<u64, JobError>,
+}
 
 /// The matrix that is given.
 fn made(alloc: Global, given: Given) -> Result<Version, Fail> {
@@ -253,12 +242,12 @@ fn form_on(
     right: Option<Version>,
 ) -> Result<Form, Fail> {
     match (tried, right) {
-        (Tried::Apply(kind, slots, thunk), _) => applying_by(alloc, kind, slots, thunk, left),
+        (Tried::Apply { kind, text, thunk }, _) => applying(alloc, kind, text, thunk, left),
         (Tried::Select, _) => selecting(alloc, left),
         (Tried::Reduce, _) => reducing(alloc, left),
-        (Tried::Union(kind, slots), Some(right)) => uniting(alloc, kind, slots, left, right),
+        (Tried::Union, Some(right)) => uniting(alloc, left, right),
         (Tried::Both, Some(right)) => meeting(alloc, left, right),
-        (Tried::Product(kind, slots), Some(right)) => multiplying(alloc, kind, slots, left, right),
+        (Tried::Product, Some(right)) => multiplying(alloc, left, right),
         (_, None) => Err("the form takes two matrices".into()),
     }
 }
@@ -277,10 +266,9 @@ fn assert_priced(
 
 /// A case has its price, or its fault.
 fn assert_case(rt: &impl Abort, alloc: Global, case: &Case) -> Result<(), Fail> {
-    let (tried, left, right, mask, wanted) = case;
-    let right = maybe_made(alloc, *right)?;
-    let form = form_on(alloc, *tried, made(alloc, *left)?, right)?;
-    assert_priced(rt, alloc, form, maybe_made(alloc, *mask)?, *wanted)
+    let right = maybe_made(alloc, case.right)?;
+    let form = form_on(alloc, case.tried, made(alloc, case.left)?, right)?;
+    assert_priced(rt, alloc, form, maybe_made(alloc, case.mask)?, case.wanted)
 }
 
 /// Each case has its price, or its fault.

@@ -4,7 +4,6 @@ ghost use Rattle.race_board.specs.Race.{IsSeatOf, MayDrawAt, SeatState};
 ghost use Rattle.job_runner.specs.Worked.{prices_of};
 
 use super::{diagonal, increments, is_incremented, operator, plan_of, put, version};
-use crate::operators::{ADD_ONE, EXIT, FIRST, MUL, SUB};
 use bpf_insn::Kind;
 use bpf_run::Prepared;
 use csr_store::{Builder, Version};
@@ -18,6 +17,7 @@ use std::sync::atomic::{AtomicBool, AtomicU64};
 use std::sync::{Arc, Wait};
 use std::test::Fail;
 use std::thread::Threads;
+use test_operators::{INCREMENT, MULTIPLY, SUBTRACT};
 
 /// How often a gate looks for the call that it waits for.
 const TURNS: u64 = 1_000_000_000;
@@ -138,13 +138,12 @@ const DEAR: u64 = 1000;
 
 /// The operator that adds one, by so many instructions.
 fn dear_increment(alloc: Global) -> Result<Arc<Prepared>, AllocError> {
-    let mut slots = Vec::new(alloc);
-    for _ in 0..DEAR - 2 {
-        slots.push(FIRST)?;
+    let mut text = String::new(alloc);
+    for _ in 0..DEAR - 3 {
+        text.push_str("mov64 r0, r1\n")?;
     }
-    slots.push(ADD_ONE)?;
-    slots.push(EXIT)?;
-    operator(alloc, Kind::Unary, &slots)
+    text.push_str(INCREMENT)?;
+    operator(alloc, Kind::Unary, &text)
 }
 
 /// The plan of one job that adds one to each entry of a diagonal by that operator.
@@ -281,8 +280,8 @@ fn ones(alloc: Global, rows: u32) -> Result<Version, AllocError> {
 fn square(rt: &impl Abort, alloc: Global) -> Result<Plan, AllocError> {
     let left = ones(alloc, 256)?;
     let form = Form::Product {
-        add: operator(alloc, Kind::Binary, &[FIRST, SUB, EXIT])?,
-        mul: operator(alloc, Kind::Binary, &[FIRST, MUL, EXIT])?,
+        add: operator(alloc, Kind::Binary, SUBTRACT)?,
+        mul: operator(alloc, Kind::Binary, MULTIPLY)?,
         right: Arc::try_clone(&left)?,
         left,
     };

@@ -4,27 +4,61 @@ use super::*;
 /// The plan of one job, an apply on a matrix.
 fn plan_of(alloc: Global, operand: Version) -> Result<Plan, Fail> {
     let mut queue = Queue::open(alloc)?;
-    submit(alloc, &mut queue, applying(alloc, INC, operand)?, None)?;
+    submit(alloc, &mut queue, incrementing(alloc, operand)?, None)?;
     Ok(queue.take()?)
 }
 
 /// A chunk: its job, its rows from one up to another, and its price.
-type Piece = (u64, u64, u64, u64);
+#[derive(Clone, Copy, Debug, PartialEq)]
+struct Piece {
+    job: u64,
+    first: u64,
+    end: u64,
+    price: u64,
+}
+
+/// The first 256 rows of an apply on a diagonal.
+const FIRST: Piece = Piece {
+    job: 0,
+    first: 0,
+    end: 256,
+    price: 768,
+};
+
+/// The next 256 rows.
+const SECOND: Piece = Piece {
+    job: 0,
+    first: 256,
+    end: 512,
+    price: 768,
+};
 
 /// A plan has these chunks.
 fn assert_chunks(rt: &impl Abort, plan: &Plan, wanted: &[Piece]) {
     assert_count(rt, plan.chunks(), wanted.len() as u64);
     for c in 0..plan.chunks() {
         let (job, rows, price) = plan.chunk(c);
-        assert_eq!(rt;
-            Some(&(job, rows.start, rows.end, price)),
-            wanted.get(c as usize)
-        );
+        let piece = Piece {
+            job,
+            first: rows.start,
+            end: rows.end,
+            price,
+        };
+        assert_eq!(rt; Some(&piece), wanted.get(c as usize));
     }
 }
 
 /// The chunks of 600 rows.
-const SHORTER: [Piece; 3] = [(0, 0, 256, 768), (0, 256, 512, 768), (0, 512, 600, 264)];
+const SHORTER: [Piece; 3] = [
+    FIRST,
+    SECOND,
+    Piece {
+        job: 0,
+        first: 512,
+        end: 600,
+        price: 264,
+    },
+];
 
 #[test]
 fn last_chunk_is_shorter(rt: HostRuntime) -> Result<(), Fail> {
@@ -34,10 +68,18 @@ fn last_chunk_is_shorter(rt: HostRuntime) -> Result<(), Fail> {
 }
 
 /// The chunks of 512 rows.
-const WHOLE: [Piece; 2] = [(0, 0, 256, 768), (0, 256, 512, 768)];
+const WHOLE: [Piece; 2] = [FIRST, SECOND];
 
 /// The chunks of 257 rows.
-const WITH_ONE_MORE: [Piece; 2] = [(0, 0, 256, 768), (0, 256, 257, 3)];
+const WITH_ONE_MORE: [Piece; 2] = [
+    FIRST,
+    Piece {
+        job: 0,
+        first: 256,
+        end: 257,
+        price: 3,
+    },
+];
 
 #[test]
 fn whole_chunks_alone(rt: HostRuntime) -> Result<(), Fail> {
@@ -60,11 +102,11 @@ fn no_rows_no_chunk(rt: HostRuntime) -> Result<(), Fail> {
 fn plan_of_three(alloc: Global) -> Result<Plan, Fail> {
     let mut queue = Queue::open(alloc)?;
     let a = diagonal(alloc, 300)?;
-    let whole = applying(alloc, INC, Arc::try_clone(&a)?)?;
+    let whole = incrementing(alloc, Arc::try_clone(&a)?)?;
     submit(alloc, &mut queue, whole, None)?;
     let none = matrix(alloc, 0, 0, &[])?;
-    submit(alloc, &mut queue, applying(alloc, INC, none)?, None)?;
-    let product = multiplying(alloc, Kind::Binary, MUL, Arc::try_clone(&a)?, a)?;
+    submit(alloc, &mut queue, incrementing(alloc, none)?, None)?;
+    let product = multiplying(alloc, Arc::try_clone(&a)?, a)?;
     let mask = matrix(alloc, 300, 300, &[(299, 0, 0)])?;
     submit(alloc, &mut queue, product, Some(mask))?;
     Ok(queue.take()?)
@@ -72,10 +114,25 @@ fn plan_of_three(alloc: Global) -> Result<Plan, Fail> {
 
 /// The chunks of these jobs.
 const OF_THREE: [Piece; 4] = [
-    (0, 0, 256, 768),
-    (0, 256, 300, 132),
-    (2, 0, 256, 0),
-    (2, 256, 300, 6),
+    FIRST,
+    Piece {
+        job: 0,
+        first: 256,
+        end: 300,
+        price: 132,
+    },
+    Piece {
+        job: 2,
+        first: 0,
+        end: 256,
+        price: 0,
+    },
+    Piece {
+        job: 2,
+        first: 256,
+        end: 300,
+        price: 6,
+    },
 ];
 
 #[test]

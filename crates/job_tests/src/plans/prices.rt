@@ -4,23 +4,42 @@ use super::*;
 /// One by one, with an entry.
 const ONE: Given = Of(1, 1, &[(0, 0, 41)]);
 
+/// An apply of x + 1.
+const INCREMENTED: Tried = Tried::Apply {
+    kind: Kind::Unary,
+    text: INCREMENT,
+    thunk: None,
+};
+/// An apply of two instructions in three slots.
+const WIDENED: Tried = Tried::Apply {
+    kind: Kind::Unary,
+    text: WIDE,
+    thunk: None,
+};
+
 /// Applies without a thunk.
 const APPLIES: [Case; 3] = [
-    (Tried::Apply(Kind::Unary, INC, None), ONE, None, None, Ok(3)),
-    (
-        Tried::Apply(Kind::Unary, WIDE, None),
-        ONE,
-        None,
-        None,
-        Ok(2),
-    ),
-    (
-        Tried::Apply(Kind::Unary, INC, None),
-        ONE,
-        None,
-        Some(Of(1, 1, &[])),
-        Ok(0),
-    ),
+    Case {
+        tried: INCREMENTED,
+        left: ONE,
+        right: None,
+        mask: None,
+        wanted: Ok(3),
+    },
+    Case {
+        tried: WIDENED,
+        left: ONE,
+        right: None,
+        mask: None,
+        wanted: Ok(2),
+    },
+    Case {
+        tried: INCREMENTED,
+        left: ONE,
+        right: None,
+        mask: Some(Of(1, 1, &[])),
+        wanted: Ok(0),
+    },
 ];
 
 #[test]
@@ -28,23 +47,36 @@ fn apply_counts_entries_by_instructions(rt: HostRuntime) -> Result<(), Fail> {
     assert_cases(&rt, rt.alloc(), &APPLIES)
 }
 
+/// An apply of four instructions with the thunk 7.
+const PLACED: Tried = Tried::Apply {
+    kind: Kind::Index,
+    text: DIAGONAL,
+    thunk: Some(7),
+};
+
 /// An apply with a thunk, and selections.
 const BY_INDEX: [Case; 3] = [
-    (
-        Tried::Apply(Kind::Index, DIAGONAL, Some(7)),
-        Full(2, 2),
-        None,
-        None,
-        Ok(16),
-    ),
-    (Tried::Select, Full(2, 2), None, None, Ok(16)),
-    (
-        Tried::Select,
-        Full(2, 2),
-        None,
-        Some(Of(2, 2, &[(1, 0, 0)])),
-        Ok(4),
-    ),
+    Case {
+        tried: PLACED,
+        left: Full(2, 2),
+        right: None,
+        mask: None,
+        wanted: Ok(16),
+    },
+    Case {
+        tried: Tried::Select,
+        left: Full(2, 2),
+        right: None,
+        mask: None,
+        wanted: Ok(16),
+    },
+    Case {
+        tried: Tried::Select,
+        left: Full(2, 2),
+        right: None,
+        mask: Some(Of(2, 2, &[(1, 0, 0)])),
+        wanted: Ok(4),
+    },
 ];
 
 #[test]
@@ -60,16 +92,43 @@ const FIRST_OF_TWO: Given = Of(1, 2, &[(0, 0, 4)]);
 const NONE_OF_TWO: Given = Of(1, 2, &[]);
 /// A row with the second entry.
 const LAST_OF_TWO: Given = Of(1, 2, &[(0, 1, 0)]);
-/// A union by subtraction.
-const UNION: Tried = Tried::Union(Kind::Binary, SUB);
-
 /// Unions, and what stands in both.
 const JOINED: [Case; 5] = [
-    (UNION, TWO, Some(FIRST_OF_TWO), None, Ok(3)),
-    (UNION, NONE_OF_TWO, Some(TWO), None, Ok(0)),
-    (UNION, TWO, Some(FIRST_OF_TWO), Some(LAST_OF_TWO), Ok(3)),
-    (UNION, TWO, Some(TWO), Some(NONE_OF_TWO), Ok(0)),
-    (Tried::Both, FIRST_OF_TWO, Some(TWO), None, Ok(3)),
+    Case {
+        tried: Tried::Union,
+        left: TWO,
+        right: Some(FIRST_OF_TWO),
+        mask: None,
+        wanted: Ok(3),
+    },
+    Case {
+        tried: Tried::Union,
+        left: NONE_OF_TWO,
+        right: Some(TWO),
+        mask: None,
+        wanted: Ok(0),
+    },
+    Case {
+        tried: Tried::Union,
+        left: TWO,
+        right: Some(FIRST_OF_TWO),
+        mask: Some(LAST_OF_TWO),
+        wanted: Ok(3),
+    },
+    Case {
+        tried: Tried::Union,
+        left: TWO,
+        right: Some(TWO),
+        mask: Some(NONE_OF_TWO),
+        wanted: Ok(0),
+    },
+    Case {
+        tried: Tried::Both,
+        left: FIRST_OF_TWO,
+        right: Some(TWO),
+        mask: None,
+        wanted: Ok(3),
+    },
 ];
 
 #[test]
@@ -77,46 +136,43 @@ fn union_and_both_count_the_lesser_row(rt: HostRuntime) -> Result<(), Fail> {
     assert_cases(&rt, rt.alloc(), &JOINED)
 }
 
-/// A product by multiplication and subtraction.
-const PRODUCT: Tried = Tried::Product(Kind::Binary, MUL);
-
 /// Products, whole and under masks.
 const PRODUCTS: [Case; 5] = [
-    (
-        PRODUCT,
-        TWO,
-        Some(Of(2, 1, &[(0, 0, 1), (1, 0, 1)])),
-        None,
-        Ok(12),
-    ),
-    (
-        PRODUCT,
-        Of(1, 2, &[(0, 0, 10)]),
-        Some(Of(2, 1, &[(1, 0, 1)])),
-        None,
-        Ok(0),
-    ),
-    (
-        PRODUCT,
-        Full(2, 2),
-        Some(Full(2, 2)),
-        Some(Of(2, 2, &[(0, 0, 0), (1, 1, 0)])),
-        Ok(48),
-    ),
-    (
-        PRODUCT,
-        Full(2, 2),
-        Some(Full(2, 2)),
-        Some(Of(2, 2, &[(0, 0, 0)])),
-        Ok(24),
-    ),
-    (
-        PRODUCT,
-        Full(2, 2),
-        Some(Full(2, 2)),
-        Some(Of(2, 2, &[])),
-        Ok(0),
-    ),
+    Case {
+        tried: Tried::Product,
+        left: TWO,
+        right: Some(Of(2, 1, &[(0, 0, 1), (1, 0, 1)])),
+        mask: None,
+        wanted: Ok(12),
+    },
+    Case {
+        tried: Tried::Product,
+        left: Of(1, 2, &[(0, 0, 10)]),
+        right: Some(Of(2, 1, &[(1, 0, 1)])),
+        mask: None,
+        wanted: Ok(0),
+    },
+    Case {
+        tried: Tried::Product,
+        left: Full(2, 2),
+        right: Some(Full(2, 2)),
+        mask: Some(Of(2, 2, &[(0, 0, 0), (1, 1, 0)])),
+        wanted: Ok(48),
+    },
+    Case {
+        tried: Tried::Product,
+        left: Full(2, 2),
+        right: Some(Full(2, 2)),
+        mask: Some(Of(2, 2, &[(0, 0, 0)])),
+        wanted: Ok(24),
+    },
+    Case {
+        tried: Tried::Product,
+        left: Full(2, 2),
+        right: Some(Full(2, 2)),
+        mask: Some(Of(2, 2, &[])),
+        wanted: Ok(0),
+    },
 ];
 
 #[test]
@@ -129,15 +185,27 @@ const THREE: Given = Of(2, 3, &[(0, 0, 10), (0, 1, 3), (0, 2, 2)]);
 
 /// Reductions, whole and under masks.
 const REDUCTIONS: [Case; 3] = [
-    (Tried::Reduce, THREE, None, None, Ok(6)),
-    (Tried::Reduce, THREE, None, Some(Of(2, 1, &[])), Ok(0)),
-    (
-        Tried::Reduce,
-        THREE,
-        None,
-        Some(Of(2, 1, &[(0, 0, 0)])),
-        Ok(6),
-    ),
+    Case {
+        tried: Tried::Reduce,
+        left: THREE,
+        right: None,
+        mask: None,
+        wanted: Ok(6),
+    },
+    Case {
+        tried: Tried::Reduce,
+        left: THREE,
+        right: None,
+        mask: Some(Of(2, 1, &[])),
+        wanted: Ok(0),
+    },
+    Case {
+        tried: Tried::Reduce,
+        left: THREE,
+        right: None,
+        mask: Some(Of(2, 1, &[(0, 0, 0)])),
+        wanted: Ok(6),
+    },
 ];
 
 #[test]
@@ -147,12 +215,12 @@ fn reduce_counts_one_less_a_row(rt: HostRuntime) -> Result<(), Fail> {
 
 /// An operator of so many instructions before `exit`.
 fn long_operator(alloc: Global, count: u64) -> Result<Arc<Prepared>, Fail> {
-    let mut slots = Vec::new(alloc);
+    let mut text = String::new(alloc);
     for _ in 0..count {
-        slots.push(FIRST)?;
+        text.push_str("mov64 r0, r1\n")?;
     }
-    slots.push(EXIT)?;
-    Ok(operator(alloc, Kind::Binary, &slots)?)
+    text.push_str("exit")?;
+    operator(alloc, Kind::Binary, &text)
 }
 
 /// A column of so many rows times a row of 4,096 columns, added by an operator of so many instructions before `exit`,
@@ -165,7 +233,7 @@ fn assert_large(
     wanted: Result<u64, JobError>,
 ) -> Result<(), Fail> {
     let add = long_operator(alloc, count)?;
-    let mul = operator(alloc, Kind::Binary, MUL)?;
+    let mul = operator(alloc, Kind::Binary, MULTIPLY)?;
     let left = full(alloc, rows, 1)?;
     let right = full(alloc, 1, 4096)?;
     let product = Form::Product {

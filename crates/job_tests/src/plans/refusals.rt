@@ -5,7 +5,7 @@ use super::*;
 fn unfit(alloc: Global) -> Result<Job, Fail> {
     let a = matrix(alloc, 1, 2, &[(0, 0, 1)])?;
     let mask = matrix(alloc, 1, 2, &[])?;
-    let product = multiplying(alloc, Kind::Binary, MUL, Arc::try_clone(&a)?, a)?;
+    let product = multiplying(alloc, Arc::try_clone(&a)?, a)?;
     job(alloc, product, Some(mask))
 }
 

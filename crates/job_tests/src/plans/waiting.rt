@@ -4,7 +4,7 @@ use super::*;
 /// A form of price 3, which can't be refused.
 fn small(alloc: Global) -> Result<Form, Fail> {
     let a = matrix(alloc, 1, 1, &[(0, 0, 1)])?;
-    applying(alloc, INC, a)
+    incrementing(alloc, a)
 }
 
 /// Puts such jobs into a queue, from one number up to another.
