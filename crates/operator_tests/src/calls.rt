@@ -1,13 +1,13 @@
 //! Calls of flat code against the machine that knows of each register what stands in it: values and steps.
 mod lanes;
 
-use crate::programs::{EXIT, MOVE, program};
 use bpf_insn::{Kind, Operands, Program, Ran, run_tagged};
 use bpf_run::{Calls, MOST_CALLS, Outcome, Prepared, call};
-use bpf_verify::verify;
-use std::alloc::{AllocError, Global};
+use bpf_text::assemble;
+use std::alloc::Global;
 use std::process::Abort;
 use std::test::Fail;
+use test_operators::assembled;
 
 /// The words that operands are made of.
 const WORDS: [u64; 12] = [
@@ -38,10 +38,10 @@ fn operands_of(kind: Kind, x: u64, y: u64) -> Operands {
     }
 }
 
-/// That calls of the operator of these slots, alone and together, give and cost what the tagged machine says, on all pairs of words.
-fn expect_alike(rt: &impl Abort, alloc: Global, slots: &[u64], kind: Kind) -> Result<(), Fail> {
-    let tagged = program(alloc, slots)?;
-    let prepared = lanes::prepared(alloc, slots, kind)?;
+/// That calls of the operator of a text, alone and together, give and cost what the tagged machine says, on all pairs of words.
+fn expect_alike(rt: &impl Abort, alloc: Global, text: &str, kind: Kind) -> Result<(), Fail> {
+    let tagged = assemble(alloc, text.as_bytes())?;
+    let prepared = assembled(alloc, kind, text)?;
     assert_eq!(rt; prepared.len(), tagged.len());
     lanes::expect_together_in_all_counts(rt, alloc, &tagged, &prepared)?;
     for x in WORDS {
@@ -58,28 +58,28 @@ fn expect_alike(rt: &impl Abort, alloc: Global, slots: &[u64], kind: Kind) -> Re
 }
 
 /// Each of four jumps parts the lanes; those that go on store, load, compute and exit while the others wait.
-const PARTED: [u64; 18] = [
-    0x7b1a_f8ff_0000_0000, // stx64 r10, -8, r1
-    0x7b2a_f0ff_0000_0000, // stx64 r10, -16, r2
-    MOVE,
-    0x6d21_0600_0000_0000, // jsgt64 r1, r2, 6
-    0x632a_f8ff_0000_0000, // stx32 r10, -8, r2
-    0x79a0_f8ff_0000_0000, // ldx64 r0, r10, -8
-    0x4502_0600_0100_0000, // jset64 r2, 1, 6
-    0x620a_f0ff_fdff_ffff, // st32 r10, -16, -3
-    0x1501_0300_0000_0000, // jeq64 r1, 0, 3
-    EXIT,
-    0xac20_0000_0000_0000, // xor32 r0, r2
-    0x3e10_0100_0000_0000, // jge32 r0, r1, 1
-    0x8700_0000_0000_0000, // neg64 r0
-    0x69a3_f0ff_0000_0000, // ldx16 r3, r10, -16
-    0x0f30_0000_0000_0000, // add64 r0, r3
-    0x79a3_f8ff_0000_0000, // ldx64 r3, r10, -8
-    0xaf30_0000_0000_0000, // xor64 r0, r3
-    EXIT,
-];
+const PARTED: &str = "
+    stx64 r10, -8, r1
+    stx64 r10, -16, r2
+    mov64 r0, r1
+    jsgt64 r1, r2, 6
+    stx32 r10, -8, r2
+    ldx64 r0, r10, -8
+    jset64 r2, 1, 6
+    st32 r10, -16, -3
+    jeq64 r1, 0, 3
+    exit
+    xor32 r0, r2
+    jge32 r0, r1, 1
+    neg64 r0
+    ldx16 r3, r10, -16
+    add64 r0, r3
+    ldx64 r3, r10, -8
+    xor64 r0, r3
+    exit
+";
 
 #[test]
 fn parted_lanes_are_alike(rt: HostRuntime) -> Result<(), Fail> {
-    expect_alike(&rt, rt.alloc(), &PARTED, Kind::Binary)
+    expect_alike(&rt, rt.alloc(), PARTED, Kind::Binary)
 }

@@ -1,12 +1,10 @@
-//! Programs from slots, each written as the eight bytes of its code in hexadecimal.
+//! Programs from code: slots, each written as its eight bytes in hexadecimal.
 use bpf_insn::{Program, decode};
 use std::alloc::Global;
 use std::test::Fail;
 
 /// `exit`
 pub const EXIT: u64 = 0x9500_0000_0000_0000;
-/// `mov64 r0, r1`
-pub const MOVE: u64 = 0xbf10_0000_0000_0000;
 
 /// The code of these slots.
 pub fn code_of(alloc: Global, slots: &[u64]) -> Result<Vec<u8>, Fail> {

@@ -2,6 +2,7 @@
 ghost use Rattle.std.specs.Prelude.{◌≡◌, []};
 
 use super::*;
+use test_operators::SUBTRACT;
 
 /// How many calls are gathered: below the counts from which on they are made in lanes, and above.
 const COUNTS: [u64; 27] = [
@@ -88,14 +89,6 @@ pub(super) fn expect_together_in_all_counts(
     Ok(())
 }
 
-/// An operator of these slots.
-pub(super) fn prepared(alloc: Global, slots: &[u64], kind: Kind) -> Result<Prepared, Fail> {
-    let Ok(operator) = verify(alloc, program(alloc, slots)?, kind) else {
-        return Err(AllocError.into());
-    };
-    Ok(Prepared::new(alloc, operator)?)
-}
-
 /// Cells, each a column with a word.
 const CELLS: [(u64, u64); 3] = [(1, 10), (4, 40), (7, 70)];
 
@@ -115,7 +108,7 @@ fn expect_made(rt: &impl Abort, calls: &mut Calls, operator: &Prepared, steps: u
 /// Words that are gathered in bulk stand behind those that were gathered before.
 #[test]
 fn words_in_bulk(rt: HostRuntime) -> Result<(), Fail> {
-    let operator = prepared(rt.alloc(), &[MOVE, EXIT], Kind::Unary)?;
+    let operator = assembled(rt.alloc(), Kind::Unary, "mov64 r0, r1\nexit")?;
     let mut calls = Calls::new(rt.alloc())?;
     calls.begin(Kind::Unary);
     calls.gather(Operands::Unary { x: 9 });
@@ -126,12 +119,17 @@ fn words_in_bulk(rt: HostRuntime) -> Result<(), Fail> {
     Ok(())
 }
 
+/// x + y
+const SUM: &str = "
+    mov64 r0, r1
+    add64 r0, r2
+    exit
+";
+
 /// And so do pairs of one word with each of many.
 #[test]
 fn pairs_in_bulk(rt: HostRuntime) -> Result<(), Fail> {
-    // mov64 r0, r1; add64 r0, r2
-    let sum = [MOVE, 0x0f20_0000_0000_0000, EXIT];
-    let operator = prepared(rt.alloc(), &sum, Kind::Binary)?;
+    let operator = assembled(rt.alloc(), Kind::Binary, SUM)?;
     let mut calls = Calls::new(rt.alloc())?;
     calls.begin(Kind::Binary);
     calls.gather_pair(1, 2);
@@ -142,21 +140,22 @@ fn pairs_in_bulk(rt: HostRuntime) -> Result<(), Fail> {
     Ok(())
 }
 
+/// x, row, column and thunk as the digits of a number
+const DIGITS: &str = "
+    mov64 r0, r1
+    mul64 r0, 10
+    add64 r0, r2
+    mul64 r0, 10
+    add64 r0, r3
+    mul64 r0, 10
+    add64 r0, r4
+    exit
+";
+
 /// Cells of rows are called with their positions and a number.
 #[test]
 fn entries_in_bulk(rt: HostRuntime) -> Result<(), Fail> {
-    // mov64 r0, r1, and then each of r2, r3 and r4 behind mul64 r0, 10
-    let digits = [
-        MOVE,
-        0x2700_0000_0a00_0000,
-        0x0f20_0000_0000_0000,
-        0x2700_0000_0a00_0000,
-        0x0f30_0000_0000_0000,
-        0x2700_0000_0a00_0000,
-        0x0f40_0000_0000_0000,
-        EXIT,
-    ];
-    let operator = prepared(rt.alloc(), &digits, Kind::Index)?;
+    let operator = assembled(rt.alloc(), Kind::Index, DIGITS)?;
     let mut calls = Calls::new(rt.alloc())?;
     calls.begin(Kind::Index);
     calls.gather_entries(&CELLS, 2, 5);
@@ -200,9 +199,9 @@ const OTHERS: [(u64, u64); 64] = [(3000, 1000); 64];
 
 /// That calls of cells that are gathered where other words stood in the lanes give and cost what the tagged machine says of
 /// each: of a few cells, one call after the other, and of more, in lanes.
-fn expect_entries(rt: &impl Abort, alloc: Global, slots: &[u64]) -> Result<(), Fail> {
-    let tagged = program(alloc, slots)?;
-    let operator = prepared(alloc, slots, Kind::Index)?;
+fn expect_entries(rt: &impl Abort, alloc: Global, text: &str) -> Result<(), Fail> {
+    let tagged = assemble(alloc, text.as_bytes())?;
+    let operator = assembled(alloc, Kind::Index, text)?;
     let long = squares(alloc)?;
     let mut calls = Calls::new(alloc)?;
     for more in [false, true] {
@@ -227,54 +226,61 @@ fn expect_entries(rt: &impl Abort, alloc: Global, slots: &[u64]) -> Result<(), F
     Ok(())
 }
 
+/// 100 row + column
+const POSITION: &str = "
+    mov64 r0, r2
+    mul64 r0, 100
+    add64 r0, r3
+    exit
+";
+
+/// row, or x where that is below the column
+const WORD: &str = "
+    mov64 r0, r2
+    jge64 r1, r3, 1
+    mov64 r0, r1
+    exit
+";
+
+/// column - thunk
+const NUMBER: &str = "
+    mov64 r0, r3
+    sub64 r0, r4
+    exit
+";
+
+/// 1 where x is above the thunk, else 0
+const BOTH: &str = "
+    mov64 r0, 1
+    jgt64 r1, r4, 1
+    mov64 r0, 0
+    exit
+";
+
+/// thunk + x, by the stack
+const STORED: &str = "
+    stx64 r10, -8, r1
+    stx64 r10, -16, r4
+    ldx64 r0, r10, -16
+    ldx64 r5, r10, -8
+    add64 r0, r5
+    exit
+";
+
 /// Cells are called with their own words, whichever of them the operator reads.
 #[test]
 fn entries_where_others_stood(rt: HostRuntime) -> Result<(), Fail> {
-    // mov64 r0, r2; mul64 r0, 100; add64 r0, r3
-    let position = [
-        0xbf20_0000_0000_0000,
-        0x2700_0000_6400_0000,
-        0x0f30_0000_0000_0000,
-        EXIT,
-    ];
-    // mov64 r0, r2; jge64 r1, r3, +1; mov64 r0, r1
-    let word = [
-        0xbf20_0000_0000_0000,
-        0x3d31_0100_0000_0000,
-        0xbf10_0000_0000_0000,
-        EXIT,
-    ];
-    // mov64 r0, r3; sub64 r0, r4
-    let number = [0xbf30_0000_0000_0000, 0x1f40_0000_0000_0000, EXIT];
-    // mov64 r0, 1; jgt64 r1, r4, +1; mov64 r0, 0
-    let both = [
-        0xb700_0000_0100_0000,
-        0x2d41_0100_0000_0000,
-        0xb700_0000_0000_0000,
-        EXIT,
-    ];
-    // stxdw [r10 - 8], r1; stxdw [r10 - 16], r4; ldxdw r0, [r10 - 16]; ldxdw r5, [r10 - 8]; add64 r0, r5
-    let stored = [
-        0x7b1a_f8ff_0000_0000,
-        0x7b4a_f0ff_0000_0000,
-        0x79a0_f0ff_0000_0000,
-        0x79a5_f8ff_0000_0000,
-        0x0f50_0000_0000_0000,
-        EXIT,
-    ];
-    expect_entries(&rt, rt.alloc(), &position)?;
-    expect_entries(&rt, rt.alloc(), &word)?;
-    expect_entries(&rt, rt.alloc(), &number)?;
-    expect_entries(&rt, rt.alloc(), &both)?;
-    expect_entries(&rt, rt.alloc(), &stored)
+    expect_entries(&rt, rt.alloc(), POSITION)?;
+    expect_entries(&rt, rt.alloc(), WORD)?;
+    expect_entries(&rt, rt.alloc(), NUMBER)?;
+    expect_entries(&rt, rt.alloc(), BOTH)?;
+    expect_entries(&rt, rt.alloc(), STORED)
 }
 
 /// Pairs of two lists are called in their order, and values stay until the next calls are made.
 #[test]
 fn pairs_of_lists(rt: HostRuntime) -> Result<(), Fail> {
-    // mov64 r0, r1; sub64 r0, r2
-    let difference = [MOVE, 0x1f20_0000_0000_0000, EXIT];
-    let operator = prepared(rt.alloc(), &difference, Kind::Binary)?;
+    let operator = assembled(rt.alloc(), Kind::Binary, SUBTRACT)?;
     let mut calls = Calls::new(rt.alloc())?;
     calls.begin(Kind::Binary);
     calls.gather_pair(9, 2);

@@ -3,69 +3,98 @@
 //! Run these also with each allocation refused in turn, by `rt try --test --fail-alloc N` for N from 1 on: what is asked for besides a
 //! verdict is asked for once more, and then each test passes whichever allocation was refused.
 use super::*;
-use bpf_insn::{Program, decode, encode};
+use bpf_insn::{Program, encode};
+use bpf_text::AsmError;
 use std::alloc::AllocError;
+use std::fmt;
+use std::fmt::Write;
 
 /// What is found of a program: its length where it is accepted, or the slot and the rule of its fault.
 type Verdict = Result<u64, (u64, CodeRule)>;
 
-/// `mov64 r0, r3`
-const MOVE_THIRD: u64 = 0xbf30_0000_0000_0000;
-/// `stx64 r10, -8, r1`
-const STORE: u64 = 0x7b1a_f8ff_0000_0000;
-/// `ldx64 r0, r10, -8`
-const LOAD: u64 = 0x79a0_f8ff_0000_0000;
-
-/// Programs, each behind its name, with the kind and what is found of them.
-const VERDICTS: [(&str, &[u64], Kind, Verdict); 7] = [
-    ("two slots", &[ZERO, EXIT], Kind::Unary, Ok(2)),
-    (
-        "a wide load",
-        &[0x1800_0000_efbe_adde, 0x0000_0000_0df0_0df0, EXIT],
-        Kind::Binary,
-        Ok(2),
-    ),
-    (
-        "stored and loaded",
-        &[STORE, LOAD, EXIT],
-        Kind::Index,
-        Ok(3),
-    ),
-    ("an index alone", &[MOVE_THIRD, EXIT], Kind::Index, Ok(2)),
-    (
-        "not an operand",
-        &[MOVE_THIRD, EXIT],
-        Kind::Binary,
-        Err((0, CodeRule::UnsetRead)),
-    ),
-    (
-        "loaded alone",
-        &[ZERO, LOAD, EXIT],
-        Kind::Unary,
-        Err((1, CodeRule::UnstoredRead)),
-    ),
-    (
-        "a jump back",
-        &[ZERO, 0x0500_ffff_0000_0000, EXIT],
-        Kind::Unary,
-        Err((1, CodeRule::JumpsBack)),
-    ),
-];
-
-/// The program of these slots.
-fn program_of(alloc: Global, slots: &[u64]) -> Result<Program, AllocError> {
-    let mut code = Vec::new(alloc);
-    for slot in slots {
-        code.extend_from_slice(&slot.to_be_bytes())?;
-    }
-    decode(alloc, &code).map_err(|_| AllocError)
+/// A program with the verdict on it.
+struct Judged {
+    name: &'static str,
+    text: &'static str,
+    kind: Kind,
+    verdict: Verdict,
 }
 
-/// The same, asked for once more where memory was refused.
-fn program_again(alloc: Global, slots: &[u64]) -> Result<Program, AllocError> {
-    match program_of(alloc, slots) {
+/// Programs with their verdicts.
+const JUDGED: [Judged; 7] = [
+    Judged {
+        name: "two slots",
+        text: "
+            mov64 r0, 0
+            exit
+        ",
+        kind: Kind::Unary,
+        verdict: Ok(2),
+    },
+    Judged {
+        name: "a wide load",
+        text: "
+            wide r0, -1148998387548438801
+            exit
+        ",
+        kind: Kind::Binary,
+        verdict: Ok(2),
+    },
+    Judged {
+        name: "stored and loaded",
+        text: "
+            stx64 r10, -8, r1
+            ldx64 r0, r10, -8
+            exit
+        ",
+        kind: Kind::Index,
+        verdict: Ok(3),
+    },
+    Judged {
+        name: "an index alone",
+        text: "
+            mov64 r0, r3
+            exit
+        ",
+        kind: Kind::Index,
+        verdict: Ok(2),
+    },
+    Judged {
+        name: "not an operand",
+        text: "
+            mov64 r0, r3
+            exit
+        ",
+        kind: Kind::Binary,
+        verdict: Err((0, CodeRule::UnsetRead)),
+    },
+    Judged {
+        name: "loaded alone",
+        text: "
+            mov64 r0, 0
+            ldx64 r0, r10, -8
+            exit
+        ",
+        kind: Kind::Unary,
+        verdict: Err((1, CodeRule::UnstoredRead)),
+    },
+    Judged {
+        name: "a jump back",
+        text: "
+            mov64 r0, 0
+            ja -1
+            exit
+        ",
+        kind: Kind::Unary,
+        verdict: Err((1, CodeRule::JumpsBack)),
+    },
+];
+
+/// The program of a text, asked for once more where memory was refused.
+fn program_again(alloc: Global, text: &str) -> Result<Program, AsmError> {
+    match assemble(alloc, text.as_bytes()) {
         Ok(program) => Ok(program),
-        Err(AllocError) => program_of(alloc, slots),
+        Err(_) => assemble(alloc, text.as_bytes()),
     }
 }
 
@@ -118,57 +147,40 @@ fn verdict_again(
 
 #[test]
 fn the_same_verdict_after_a_refusal(rt: HostRuntime) -> Result<(), Fail> {
-    for (name, slots, kind, want) in VERDICTS {
-        let program = program_again(rt.alloc(), slots)?;
-        assert_eq!(rt;
-            verdict_again(&rt, rt.alloc(), program, kind)?,
-            want,
-            "{name}"
-        );
+    for judged in &JUDGED {
+        let program = program_again(rt.alloc(), judged.text)?;
+        let verdict = verdict_again(&rt, rt.alloc(), program, judged.kind)?;
+        assert_eq!(rt; verdict, judged.verdict, "{}", judged.name);
     }
     Ok(())
 }
 
-/// `jeq64 r1, imm, 1`
-fn skip_where(imm: u64) -> u64 {
-    0x1501_0100_0000_0000 | imm.swap_bytes() >> 32
-}
-
-/// Stores of 0 at four places.
-const STORES: [u64; 4] = [
-    0x7a0a_f8ff_0000_0000,
-    0x7a0a_f0ff_0000_0000,
-    0x7a0a_e8ff_0000_0000,
-    0x7a0a_00fe_0000_0000,
-];
+/// The places that the longest program stores into.
+const PLACES: [i16; 4] = [-8, -16, -24, -512];
 
 /// 2,047 branches, each over a store into one of four places: 2^2047 ways.
-fn branches(alloc: Global) -> Result<Vec<u64>, AllocError> {
-    let mut slots = Vec::new(alloc);
+fn branches(alloc: Global) -> Result<String, fmt::Error> {
+    let mut text = String::new(alloc);
     for i in 0..2047 {
-        slots.push(skip_where(i))?;
-        slots.push(STORES[(i % 4) as usize])?;
+        let place = PLACES[i % 4];
+        write!(text, "jeq64 r1, {i}, 1\nst64 r10, {place}, 0\n")?;
     }
-    slots.push(ZERO)?;
-    slots.push(EXIT)?;
-    Ok(slots)
+    write!(text, "mov64 r0, 0\nexit")?;
+    Ok(text)
 }
 
-/// The slots of the longest program, asked for once more where memory was refused.
-fn branches_again(alloc: Global) -> Result<Vec<u64>, AllocError> {
+/// The text of the longest program, asked for once more where memory was refused.
+fn branches_again(alloc: Global) -> Result<String, fmt::Error> {
     match branches(alloc) {
-        Ok(slots) => Ok(slots),
-        Err(AllocError) => branches(alloc),
+        Ok(text) => Ok(text),
+        Err(_) => branches(alloc),
     }
 }
 
 #[test]
 fn the_longest_program_after_a_refusal(rt: HostRuntime) -> Result<(), Fail> {
-    let slots = branches_again(rt.alloc())?;
-    let program = program_again(rt.alloc(), slots.as_slice())?;
-    assert_eq!(rt;
-        verdict_again(&rt, rt.alloc(), program, Kind::Unary)?,
-        Ok(4096)
-    );
+    let program = program_again(rt.alloc(), &branches_again(rt.alloc())?)?;
+    let verdict = verdict_again(&rt, rt.alloc(), program, Kind::Unary)?;
+    assert_eq!(rt; verdict, Ok(4096));
     Ok(())
 }

@@ -10,17 +10,16 @@ fn tag(operator: &Operator, slot: u64, reg: usize) -> Option<Tag> {
 }
 
 /// A wide load, a jump over a slot to `exit`.
-const UNREACHED: [u64; 5] = [
-    0x1800_0000_0100_0000,
-    0,
-    0x0500_0100_0000_0000,
-    0xbf50_0000_0000_0000,
-    EXIT,
-];
+const UNREACHED: &str = "
+    wide r0, 1
+    ja 1
+    mov64 r0, r5
+    exit
+";
 
 #[test]
 fn what_no_path_reaches_is_not_typed(rt: HostRuntime) -> Result<(), Fail> {
-    let operator = accepted(&rt, rt.alloc(), &UNREACHED, Kind::Unary)?;
+    let operator = accepted(&rt, rt.alloc(), UNREACHED, Kind::Unary)?;
     for slot in [1, 3, 5] {
         assert_eq!(rt; operator.typing(slot), None);
     }
@@ -30,14 +29,14 @@ fn what_no_path_reaches_is_not_typed(rt: HostRuntime) -> Result<(), Fail> {
 }
 
 /// A store, a jump over another, and a third.
-const STORING: [u64; 6] = [
-    0x631a_f8ff_0000_0000,
-    0x1501_0100_0000_0000,
-    0x6b1a_00fe_0000_0000,
-    0x731a_ffff_0000_0000,
-    ZERO,
-    EXIT,
-];
+const STORING: &str = "
+    stx32 r10, -8, r1
+    jeq64 r1, 0, 1
+    stx16 r10, -512, r1
+    stx8 r10, -1, r1
+    mov64 r0, 0
+    exit
+";
 
 /// Slots and offsets, with whether the byte there is stored.
 const MARKS: [(u64, i16, bool); 10] = [
@@ -66,7 +65,7 @@ fn expect_mark(rt: &impl Abort, operator: &Operator, slot: u64, place: i16, stor
 
 #[test]
 fn bytes_stored_on_all_paths_are_marked(rt: HostRuntime) -> Result<(), Fail> {
-    let operator = accepted(&rt, rt.alloc(), &STORING, Kind::Unary)?;
+    let operator = accepted(&rt, rt.alloc(), STORING, Kind::Unary)?;
     for (slot, place, stored) in &MARKS {
         expect_mark(&rt, &operator, *slot, *place, *stored);
     }
