@@ -11,10 +11,14 @@ matrix B 67
 2 1 2
 1 1 1
 2 1 1
-op sub binary 48
-bf100000000000001f200000000000009500000000000000
-op mul binary 48
-bf100000000000002f200000000000009500000000000000
+asm sub binary 31
+mov64 r0, r1
+sub64 r0, r2
+exit
+asm mul binary 31
+mov64 r0, r1
+mul64 r0, r2
+exit
 ";
 
 /// The replies to them.
