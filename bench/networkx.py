@@ -167,8 +167,11 @@ class Clock:
 def seconds(work, limit, before=lambda: None):
     """The least seconds of some calls, and the answer; nothing where one takes longer than the limit. What is refused is raised."""
     def stop(*_):
-        raise OutOfTime
-    best, answer, began = None, None, time.perf_counter()
+        left = limit - (Clock.read() - start)
+        if left <= 0:
+            raise OutOfTime
+        signal.setitimer(signal.ITIMER_REAL, max(left, 0.01))
+    best, answer, began, start = None, None, time.perf_counter(), 0
     previous = signal.signal(signal.SIGALRM, stop)
     try:
         for _ in range(MOST_TIMES):
