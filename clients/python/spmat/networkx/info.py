@@ -28,7 +28,7 @@ WEIGHTS = Pays(100_000, 8_000)
 # Rounds in which few nodes change at a time.
 ROUNDS = Pays(100_000, 50_000)
 # One walk over the edges, which is what a conversion takes.
-WALK = Pays(300_000, 40_000)
+WALK = Pays(1_000_000, 40_000)
 # What the conversion knows, and networkx looks up node by node.
 KNOWN = Pays(NEVER, 10_000)
 # What networkx has at hand, or where it ends early.
