@@ -186,6 +186,8 @@ def seconds(work, limit, before=lambda: None):
                 break
         return best, answer
     except OutOfTime:
+        from spmat.networkx import sessions
+        sessions.close()                            # whose jobs were cut short
         return None, None
     finally:
         signal.setitimer(signal.ITIMER_REAL, 0)
