@@ -174,7 +174,8 @@ class Algorithms(support.InSession):
                     function(G, 0, target=source if source is not None else 7)
             with self.assertRaisesRegex(ValueError, 'transpose'):
                 function(G, 0, wide)
-        for call in (lambda: algorithms.k_truss(G, 1), lambda: algorithms.k_core(G, -1), lambda: algorithms.pagerank(G, damping=1),
+        for call in (lambda: algorithms.k_truss(G, 1), lambda: algorithms.k_truss(G, 3.5), lambda: algorithms.k_core(G, -1),
+                     lambda: algorithms.k_core(G, 1.5), lambda: algorithms.label_propagation(G, 2.5), lambda: algorithms.pagerank(G, damping=1),
                      lambda: algorithms.pagerank(G, tolerance=0), lambda: algorithms.pagerank(G, scale=1 << 53),
                      lambda: algorithms.clustering(G, 0)):
             with self.assertRaises(ValueError):

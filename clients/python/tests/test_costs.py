@@ -163,13 +163,13 @@ class Costs(unittest.TestCase):
             self.assertLessEqual(runs, 3 * len(told) + 3 + rest)
 
     def test_orders(self):
-        """7 a level, and 5; 9 a level where lengths are kept."""
+        """7 a level, and 5; 9 a level, and 9, where lengths are kept."""
         lower = graphs.directed('lower', 40, {(i, j) for i, j in graphs.DIRECTED[2].edges if i < j}).matrix(self.session)
-        for function, many in ((algorithms.topological_levels, 7), (algorithms.longest_paths, 9)):
+        for function, many, more in ((algorithms.topological_levels, 7, 5), (algorithms.longest_paths, 9, 9)):
             told, runs = self.counted(function, lower)
             self.assertGreater(len(told), 3)
-            self.assertLessEqual(runs, many * len(told) + 5)
-            self.assertIn('Runs: %d a level' % many, function.__doc__)
+            self.assertLessEqual(runs, many * len(told) + more)
+            self.assertIn('Runs: %d a level, and %d' % (many, more), function.__doc__)
 
     def test_searches(self):
         """4 a level of a batch, 5 for the greatest distance, and 3 a batch."""

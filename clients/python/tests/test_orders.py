@@ -59,6 +59,16 @@ class Orders(graphs.OnGraphs):
         with self.assertRaises(algorithms.CycleError):
             algorithms.longest_paths(self.session.from_triples([(0, 1, 5), (1, 0, -9)], 3, 3))
 
+    def test_lengths_that_wrap(self):
+        """Up to 2^63 - 1 all lengths are told, beyond it is refused; an edge below 0 wraps nothing."""
+        for last, want in ((-5, (1 << 62) - 5), ((1 << 62) - 1, (1 << 63) - 1)):
+            W = self.session.from_triples([(0, 1, 1 << 62), (1, 2, last)], 3, 3)
+            self.assertEqual(algorithms.longest_paths(W).to_list(), [0, 1 << 62, want])
+        W = self.session.from_triples([(0, 1, 1 << 62), (1, 2, 1 << 62)], 3, 3)
+        with self.assertRaisesRegex(ValueError, 'would wrap'):
+            algorithms.longest_paths(W)
+        self.assertEqual(algorithms.longest_paths(W, check=False).to_list(), [0, 1 << 62, 0])
+
     def test_long_cycle_is_told_in_part(self):
         ring = self.session.from_triples([(k, (k + 1) % 50, 1) for k in range(50)], 50, 50)
         with self.assertRaises(algorithms.CycleError) as fault:

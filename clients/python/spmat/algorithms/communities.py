@@ -1,6 +1,7 @@
 """Communities by label propagation."""
 from __future__ import annotations
 
+from ..convert import whole
 from ..market import Triples, find_numpy
 from ..operators import asm
 from .common import Progress, beside, order, product, tell
@@ -24,7 +25,7 @@ def label_propagation(G: M, rounds: int = ROUNDS, progress: Progress = None, *, 
     `label_propagation_communities` has another rule for ties. Raises ValueError where rounds is below 1, and where an edge
     leads one way alone (2 jobs, 3 runs, 13 steps an edge and 5 a vertex, once; `check=False` leaves it out).
     """
-    count = order(G)
+    count, rounds = order(G), whole(rounds, 'number of rounds')
     if rounds < 1:
         raise ValueError('1 round or more are wanted')
     check_undirected(G, check, loops=True)

@@ -4,6 +4,7 @@ from __future__ import annotations
 from typing import Generic, List, Optional
 
 from .. import market
+from ..convert import whole
 from ..operators import Semiring, binary
 from .common import Progress, beside, order, tell
 from .counts import degrees
@@ -96,6 +97,7 @@ def k_core(G: M, k: int, progress: Progress = None, *, check: bool = True) -> M:
     vertex, once; `check=False` leaves it out).
     """
     order(G)
+    k = whole(k, 'number of neighbours')
     if k < 0:
         raise ValueError('a k-core has k of 0 or above')
     check_undirected(G, check)

@@ -1,6 +1,7 @@
 """Trusses: parts of a graph in which each edge stands in so many triangles."""
 from __future__ import annotations
 
+from ..convert import whole
 from .common import Progress, order, product, tell
 from .facts import check_undirected
 from .graph import M
@@ -22,6 +23,7 @@ def k_truss(G: M, k: int, progress: Progress = None, *, check: bool = True) -> M
     `check=False` leaves it out).
     """
     order(G)
+    k = whole(k, 'number')
     if k < 2:
         raise ValueError('a k-truss has k of 2 or above')
     check_undirected(G, check)
