@@ -64,7 +64,11 @@ class Outbox:
                 for later in waiting:
                     later.lost(fault)
             raise
-        self._settle(waiting, answers, len(sent))
+        try:
+            self._settle(waiting, answers, len(sent))
+        except BaseException:                      # of a signal's handler, say: what stands behind it isn't noted
+            self._connection.end('an exception came while its replies were noted', kill=True)
+            raise
         if len(answers) < len(sent):
             self._connection.check_open()
         if last is None:

@@ -11,6 +11,8 @@ import unittest
 
 import support  # noqa: F401 (finds the program)
 import spmat
+from spmat.outbox import Later
+from spmat.wire import Sent
 
 ENVIRONMENT = dict(os.environ, PYTHONPATH=os.path.dirname(os.path.dirname(os.path.abspath(spmat.__file__))))
 
@@ -285,6 +287,19 @@ class Interrupts(unittest.TestCase):
                 self.assertEqual(seen, [1])
             finally:
                 signal.signal(signal.SIGINT, before)
+
+    def test_exception_while_replies_are_noted(self):
+        """One that a handler of another signal raises ends the session, as what stands behind it was never noted."""
+        def noted(_):
+            raise TimeoutError('an alarm')
+        with spmat.Session() as s:
+            B = s.full(2, 2).apply('ainv')
+            s._outbox.put(Later(Sent('budget'), noted, lambda _: None))
+            with self.assertRaisesRegex(TimeoutError, 'an alarm'):
+                s.budget()
+            for ask in (s.budget, s.run, lambda: B.nvals):
+                with self.assertRaisesRegex(spmat.Closed, 'while its replies were noted'):
+                    ask()
 
     def test_ctrl_c_of_a_terminal(self):
         """A Ctrl-C at a terminal goes to all processes of the client's group: the program isn't one of them."""
