@@ -6,6 +6,7 @@ import unittest
 
 import support
 import spmat
+from spmat.notes import COMMUTE
 
 TOP = support.TOP
 FOLDER = os.path.join(os.path.dirname(os.path.abspath(spmat.__file__)), 'operators')
@@ -90,6 +91,8 @@ class ReadyOperators(unittest.TestCase):
         for kind, meanings in MEANINGS.items():
             self.assertEqual(names(kind), sorted(meanings))
             self.assertEqual(sorted(READY[kind]), sorted(meanings))
+        with open(os.path.join(TOP, 'docs', 'operators.md'), encoding='utf-8') as page:
+            self.assertIn('%d that are written already' % sum(map(len, MEANINGS.values())), page.read())
 
     def test_unary(self):
         for name, meaning in UNARY.items():
@@ -99,6 +102,12 @@ class ReadyOperators(unittest.TestCase):
         for name, meaning in BINARY.items():
             want = [signed(meaning(x, y)) for x, y in zip(self.x, self.y)]
             self.assertEqual(self.X.ewise_mult(self.Y, name).to_list(), want, name)
+
+    def test_operands_in_either_order(self):
+        """What is noted to commute does, and each other operator has two words of which it tells the order."""
+        for name, meaning in BINARY.items():
+            turned = all(signed(meaning(x, y)) == signed(meaning(y, x)) for x, y in zip(self.x, self.y))
+            self.assertEqual(turned, name in COMMUTE, name)
 
     def test_bound(self):
         """A binary operator whose right or left operand is a thunk."""

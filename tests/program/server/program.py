@@ -116,8 +116,7 @@ def ends_when_running_sessions_have_ended(program: str) -> None:
                 said = third.replies.line()
             except (OSError, Wrong):
                 said = b''
-            if said.startswith(b'ok'):
-                raise Wrong('a third session was served')
+            expect('what a third client reads', b'', said)
         first.expect(b'budget\n', b'ok budget %d 0 0\n' % MOST_STEPS)
         first.send_no_more()
         expect('the end', b'', first.rest())
