@@ -1,6 +1,7 @@
 """What a matrix holds, taken out: text, numbers, tables of numpy, scipy and networkx; with the names of its rows and columns."""
 from __future__ import annotations
 
+import difflib
 import heapq
 from typing import TYPE_CHECKING, Any, Dict, Iterable, List, Optional, Sequence, Tuple
 
@@ -12,6 +13,7 @@ if TYPE_CHECKING:
     from .session import Session
 
 FEW_NAMES = 6                                      # so many names are told where one isn't found
+FEW_NEAR, LIKE = 2, .7                              # so many names that are so much alike
 
 
 class Held:
@@ -74,7 +76,7 @@ class Held:
                 return names.at(node)
             except KeyError:
                 if names.numbered or not hasattr(node, '__index__'):
-                    raise ValueError('no vertex %r: they are %s' % (node, told(names))) from None
+                    raise ValueError('no vertex %r: %s' % (node, near(node, names) or 'they are ' + told(names))) from None
         if isinstance(node, bool) or not hasattr(node, '__index__') or not 0 <= node < count:
             raise ValueError('no vertex %r: they are 0 to %d' % (node, count - 1) if count else 'there is no vertex')
         return int(node)
@@ -178,6 +180,13 @@ class Held:
             return
         with open(target, 'wb') as file:
             file.write(self.to_text())
+
+
+def near(node: Any, names: Sequence[Any]) -> str:
+    """The names that a wrong one may have meant, in words; nothing where none is like it."""
+    folded = {name.casefold(): name for name in names if isinstance(name, str)} if isinstance(node, str) else {}
+    found = [folded[word] for word in difflib.get_close_matches(node.casefold(), folded, FEW_NEAR, LIKE)] if folded else []
+    return 'did you mean %s?' % ' or '.join(map(repr, found)) if found else ''
 
 
 def told(names: Sequence[Any]) -> str:

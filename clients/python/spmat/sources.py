@@ -89,8 +89,9 @@ class Sources(abc.ABC, Generic[Made]):
         and perhaps a value, parted by commas, tabs, semicolons or blanks (CSV, TSV, edge list). Lines that begin with # or % are passed
         over.
 
-        What isn't given is seen from the first lines: the `delimiter`; whether the first line is a `header` (its words are usual ones,
-        as source and target, or a field of it is no number and all below it are). `columns` are those of the two names and of the
+        What isn't given is seen from the first lines: the `delimiter`; whether the first line is a `header` (a field of it is no number
+        and all below it are, or its first words are source and target, from and to, src and dst, start and end, sender and receiver,
+        parent and child, or others like these; of other words `header=True` says so). `columns` are those of the two names and of the
         value, by the header's words or from 0: without them the first two and, if there is one, that called weight or value, or the
         third of three. `values=False` reads none. Values are whole numbers; with `scale` they are multiplied by it and rounded.
 

@@ -23,7 +23,7 @@ class Checks(support.InSession):
         one_way = self.graph((0, 1), (1, 2), (2, 0), (2, 3))
         for name in UNDIRECTED_ALONE:
             function = getattr(algorithms, name)
-            with self.subTest(name), self.assertRaisesRegex(ValueError, r'one way alone: undirected\(G\).*check=False'):
+            with self.subTest(name), self.assertRaisesRegex(ValueError, r'one way alone: algorithms\.undirected\(G\).*check=False'):
                 function(one_way, *MORE.get(name, ()))
             function(one_way, *MORE.get(name, ()), check=False)
         both = algorithms.undirected(one_way)
@@ -41,7 +41,7 @@ class Checks(support.InSession):
                 if name in LOOPS_DO_NOT_COUNT:
                     function(loops)
                     continue
-                with self.assertRaisesRegex(ValueError, r'without loops.*undirected\(G\)'):
+                with self.assertRaisesRegex(ValueError, r'without loops.*algorithms\.undirected\(G\)'):
                     function(loops, *MORE.get(name, ()))
                 function(loops, *MORE.get(name, ()), check=False)
 

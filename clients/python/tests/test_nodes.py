@@ -75,6 +75,7 @@ class Names(unittest.TestCase):
                 G.index(wrong)
             self.assertIn('no vertex %r' % (wrong,), str(said.exception))
         self.assertIn("they are 'ann', 'bob', 'cid', 'dee'", self.said(G, 'eve'))
+        self.assertIn("no vertex 'Bobb': did you mean 'bob'?", self.said(G, 'Bobb'))
         G.nodes = [10, 20, 30, 40]
         self.assertEqual(G.index(30), 2)
         self.assertIn('no vertex 2: they are 10, 20, 30, 40', self.said(G, 2))

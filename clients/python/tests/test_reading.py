@@ -135,6 +135,7 @@ class Lists(Case):
                             ('FROM TO\na b\n', 'ab'), ('from,to\n', '')):
             self.assertEqual(self.read(text).nodes, list(names) or None, text)
         self.assertEqual(self.read('a,b\nc,d\n', header=True).nodes, ['c', 'd'])
+        self.assertEqual(self.read('Sender,Receiver\na,b\n').nodes, ['a', 'b'])
         self.assertEqual(self.read('source,target\na,b\n', header=False).nodes, ['source', 'target', 'a', 'b'])
 
     def test_columns(self):

@@ -37,7 +37,7 @@ _WITH_VALUE = 'mul64 r0, r4\nxor64 r0, r1\nmul64 r0, r4\nmov64 r5, r0\nrsh64 r5,
 # A number of each entry's place, or of its place and value; and the same of the transpose's entry.
 _PLACES = asm('index', _HASH % ''), asm('index', _TURN + _HASH % '')
 _VALUES = asm('index', _HASH % _WITH_VALUE), asm('index', _TURN + _HASH % _WITH_VALUE)
-UNDIRECTED = 'undirected(G) is the graph without directions, weights and loops; check=False leaves this check out'
+UNDIRECTED = 'algorithms.undirected(G) is the graph without directions, weights and loops; check=False leaves this check out'
 
 
 def found(graph: GraphMatrix, name: str, find: Callable[[], Any]) -> Any:

@@ -24,7 +24,9 @@ SAMPLE = 100                                       # lines that are looked at
 # Pairs of words that name columns, as they stand in a first line, without their case, blanks, dashes and underscores.
 ENDS = {('source', 'target'), ('from', 'to'), ('src', 'dst'), ('source', 'destination'), ('fromnode', 'tonode'), ('node1', 'node2'),
         ('fromnodeid', 'tonodeid'), ('id1', 'id2'), ('fromid', 'toid'), ('sourceid', 'targetid'), ('person1', 'person2'),
-        ('start', 'end'), ('head', 'tail'), ('tail', 'head'), ('row', 'column'), ('row', 'col'), ('user1', 'user2'), ('name1', 'name2')}
+        ('start', 'end'), ('head', 'tail'), ('tail', 'head'), ('row', 'column'), ('row', 'col'), ('user1', 'user2'), ('name1', 'name2'),
+        ('sender', 'receiver'), ('sender', 'recipient'), ('origin', 'destination'), ('parent', 'child'), ('follower', 'followed'),
+        ('follower', 'followee'), ('caller', 'callee'), ('citing', 'cited'), ('buyer', 'seller'), ('left', 'right')}
 WEIGHTS = ('weight', 'value')
 
 
