@@ -155,7 +155,10 @@ class Commands(unittest.TestCase):
     def test_fractions(self):
         shares = self.printed('clustering', 'graph.mtx').splitlines()
         self.assertEqual(shares[:3], ['1 1.000000000', '2 1.000000000', '3 0.333333333'])
-        ranks = [float(line.split()[1]) for line in self.printed('pagerank', 'graph.mtx', '--undirected').splitlines()]
+        lines = self.printed('pagerank', 'graph.mtx', '--undirected').splitlines()
+        ranks = [float(line.split()[1]) for line in lines]
+        best = self.printed('pagerank', 'graph.mtx', '--undirected', '--top', '2').splitlines()
+        self.assertEqual(best, sorted(lines, key=lambda line: -float(line.split()[1]))[:2])
         self.assertAlmostEqual(sum(ranks), 1, places=6)
 
     def test_standard_input_and_output_file(self):

@@ -111,6 +111,8 @@ OPTIONS: Dict[str, Dict[str, Any]] = {
     'seed': dict(type=int, default=0, metavar='N', help='decides which of the sets it is (default: 0)'),
 }
 
+RANKED = ('degrees', 'triangles', 'clustering', 'pagerank', 'eccentricity', 'k-core', 'common-neighbours', 'jaccard')     # have --top
+
 
 def add_commands(commands: Any) -> None:
     """Adds a command for each algorithm."""
@@ -120,7 +122,7 @@ def add_commands(commands: Any) -> None:
         common.add_graph_options(command)
         for option in algorithm.options:
             command.add_argument('--' + option, **OPTIONS[option])
-        common.add_output_options(command)
+        common.add_output_options(command, name in RANKED)
         if algorithm.plot:
             command.add_argument('--plot', metavar='FILE.png', help='a picture of the result; wants matplotlib')
         common.add_session_options(command)

@@ -5,6 +5,8 @@ import argparse
 import contextlib
 import enum
 import errno
+import heapq
+import operator
 import os
 import sys
 from typing import Any, Callable, Iterable, Iterator, List, NamedTuple, Optional, TextIO, Tuple
@@ -66,9 +68,13 @@ def add_graph_options(command: argparse.ArgumentParser) -> None:
     group.add_argument('--dup-op', metavar='OP', help='joins the values of an edge that repeats: plus, max, first, ..')
 
 
-def add_output_options(command: argparse.ArgumentParser) -> None:
-    """Where the result goes, and in which form."""
-    command.add_argument('--mtx', action='store_true', help='the result as Matrix Market text')
+def add_output_options(command: argparse.ArgumentParser, ranked: bool = False) -> None:
+    """Where the result goes, and in which form; how many of it where it is `ranked`."""
+    form = command.add_mutually_exclusive_group()
+    form.add_argument('--mtx', action='store_true', help='the result as Matrix Market text')
+    command.set_defaults(top=None)
+    if ranked:
+        form.add_argument('--top', type=int, metavar='N', help='the N greatest alone, the greatest first')
     command.add_argument('--output', metavar='FILE', help='where the result goes (default: standard output)')
 
 
@@ -205,6 +211,8 @@ def lines_of(options: argparse.Namespace, matrix: Matrix, value_of: Callable[[in
     if options.mtx:
         return [matrix.to_text().decode()]
     entries: List[Tuple[Any, ...]] = [*(matrix.to_edgelist() if matrix.ncols != 1 else matrix.by_node().items())]
+    if options.top is not None:
+        entries = heapq.nlargest(options.top, entries, key=operator.itemgetter(-1))
     names = {str(name) for names in (matrix.notes.rows, matrix.notes.columns) if names is not None for name in names}
     parted = '\t' if any(len(name.split()) != 1 for name in names) else ' '
     return (parted.join(map(str, (*entry[:-1], value_of(entry[-1])))) + '\n' for entry in entries)
