@@ -231,7 +231,7 @@ class Commands(unittest.TestCase):
 
     def test_terminated_amid_a_command(self):
         """SIGTERM ends the program too, which may be amid a long batch."""
-        silent = "sh -c 'read line; echo ok budget 1 0 0; echo $$ > number; exec sleep 100'"
+        silent = "sh -c 'read line; echo ok budget 1 0 0; read line; echo $$ > number; exec sleep 100'"     # the second one waits
         with subprocess.Popen([sys.executable, '-m', 'spmat', 'degrees', 'graph.mtx', '--program', silent], cwd=self.folder,
                               env=dict(os.environ, PYTHONPATH=PACKAGE), stderr=subprocess.PIPE) as process:
             end = time.monotonic() + 30
