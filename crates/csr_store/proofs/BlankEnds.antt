@@ -8,7 +8,7 @@ pub all_last : (P : ℕ → Type 0) (xs ys : List ℕ) → AllByRecursion P (xs 
 all_last P [] ys h = h
 all_last P (x ∷ xs) ys h = all_last P xs ys h.1
 
-map_zeros : (base n : ℕ) → map (λ e. base + e) (replicate n 0) ≡ replicate n base
+pub map_zeros : (base n : ℕ) → map (λ e. base + e) (replicate n 0) ≡ replicate n base
 map_zeros base zero = refl
 map_zeros base (suc n) =
     let z : base + 0 ≡ base = omega arith in

@@ -1,5 +1,5 @@
 -- Rows of one column: each has one cell or none. So where some rows have as many cells as there are rows, each has one.
-use Rattle.std.proofs.Common.{◌≡◌, ◌≤◌, ◌<◌, ◌+◌, ◌-◌, ℕ, zero, suc, true, false, Bool, cond, nat_lt, List, [], ◌∷◌, Option, None, Some, length, take, drop, get_or, refl, sym, ap, ◌∙◌, subst, arith, length-append, ◌*◌, ◌/◌, ◌%◌, ◌++◌}
+use Rattle.std.proofs.Common.{◌≡◌, ◌≤◌, ◌<◌, ◌+◌, ◌-◌, ℕ, zero, suc, cond, nat_lt, List, [], ◌∷◌, None, Some, length, take, drop, get_or, refl, sym, ap, ◌∙◌, subst, arith, length-append, ◌*◌, ◌/◌, ◌%◌}
 use Rattle.std.proofs.lemmas.List.{drop_more, take-append-drop}
 use Rattle.std.proofs.lemmas.Bool.{lt-ltb, le-ltb, cases_lt}
 use Rattle.std.proofs.Math.Logic.{⊎_elim}
@@ -9,9 +9,8 @@ use Rattle.csr_store.specs.Grid.{Grid, IsGrid, Cell, row_of, row_start}
 use Rattle.csr_store.specs.inner.Column.{first_word}
 use Rattle.csr_store.specs.ByRows.{grid, by_rows, ends_of}
 use Rattle.csr_store.specs.inner.ByRows.{AreStarts}
-use Rattle.csr_store.specs.inner.Cells.{joined, joined_cells, cells_before, AreParts}
-use Rattle.csr_store.specs.declared.cells.Cells.{Cells}
-use Rattle.csr_store.specs.declared.cells.Cells.TheVariants.{Whole, Runs}
+use Rattle.csr_store.specs.inner.Cells.{joined, cells_before, AreParts}
+use Rattle.csr_store.specs.declared.cells.Cells.TheVariants.{Runs}
 use Rattle.csr_store.proofs.ByRow.{lookup-row_of, row_start-next, row_start-zero, row_start-all}
 use Rattle.csr_store.proofs.Along.{Ascends, at, at-first, row_of-ascends, length-row_of}
 use Rattle.csr_store.proofs.Filling.{sorted_entries}

@@ -25,3 +25,4 @@ pub mod InRuns
 pub mod Copied
 pub mod Column
 pub mod BlankEnds
+pub mod Alike

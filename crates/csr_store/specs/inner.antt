@@ -9,3 +9,4 @@ pub mod Run
 pub mod Cells
 pub mod Copied
 pub mod Column
+pub mod Growing

@@ -1,6 +1,7 @@
 //! Where the rows of a run end among its cells: rows in front of all cells are only counted.
-ghost use Rattle.std.specs.Prelude.{◌≡◌, ◌<◌, ◌≤◌, ◌+◌, ◌^◌, ◌++◌, ◌∷◌, [], length, map, replicate, OnOk, OnErr};
+ghost use Rattle.std.specs.Prelude.{◌≡◌, ◌<◌, ◌≤◌, ◌+◌, ◌^◌, ◌++◌, ◌∷◌, [], length, map, replicate, take, IsTrue, OnOk, OnErr};
 ghost use Rattle.std.specs.List.{AllByRecursion};
+ghost use Rattle.std.specs.List.Sorted.{IsNonDecreasing};
 
 use std::alloc::{AllocError, Global};
 use std::marker::Model;
@@ -97,6 +98,45 @@ impl RowEnds {
         starts.resize(len, base)?;
         push_ends(starts, &self.listed, base)
     }
+
+    /// Whether starts that don't fall begin with these ends, each counted from `base` on. Of the rows in front of all cells only
+    /// the first and the last is looked at.
+    pub(crate) fn begin(&self, starts: &[u64], base: u64) -> bool
+        requires rise { IsNonDecreasing starts.now }
+        requires fit { AllByRecursion (λ e. base + e < 2 ^ 64) self.now }
+        ensures many { IsTrue result → length self.now ≤ length starts.now }
+        ensures alike { IsTrue result → take (length self.now) starts.now ≡ map (λ e. base + e) self.now }
+    {
+        if (starts.len() as u64) < self.len() {
+            return false;
+        }
+        let (front, others) = starts.split_at(self.blank as usize);
+        are_all(front, base) && are_ahead(&self.listed, others, base)
+    }
+}
+
+/// Whether starts that don't fall are all this one. They are where the first and the last is.
+fn are_all(starts: &[u64], start: u64) -> bool
+    requires { IsNonDecreasing starts.now }
+    ensures { IsTrue result → starts.now ≡ replicate (length starts.now) start }
+{
+    starts.is_empty() || (starts[0] == start && starts[starts.len() - 1] == start)
+}
+
+/// Whether starts begin with ends that are counted from `base` on.
+fn are_ahead(ends: &[u64], starts: &[u64], base: u64) -> bool
+    requires many { length ends.now ≤ length starts.now }
+    requires fit { AllByRecursion (λ e. base + e < 2 ^ 64) ends.now }
+    ensures { IsTrue result → take (length ends.now) starts.now ≡ map (λ e. base + e) ends.now }
+{
+    let mut next = 0;
+    for end in ends {
+        if starts[next] != base + *end {
+            return false;
+        }
+        next += 1;
+    }
+    true
 }
 
 /// So many ends are added at once.

@@ -14,9 +14,9 @@
 //!
 //! Read `specs/Grid.antt` and `specs/Refusal.antt` first, then `error`, `builder`, `matrix`, `rows` and
 //! `stack`; below them `cells` (one list of cells, or many), `starts` (where rows start, in a list that
-//! matrices may share), `ends` (where the rows of a run end), `filler` (rows filled in ascending order), `merge` (two lists of entries as one
-//! matrix), `kept` (cells of which some are kept) and `row` (parts of a list of cells, and searches in a
-//! row), over `specs/ByRows.antt`.
+//! matrices may share), `growing` (where rows start while runs are stacked), `ends` (where the rows of a run end), `filler` (rows filled
+//! in ascending order), `merge` (two lists of entries as one matrix), `kept` (cells of which some are kept) and `row` (parts of a list of
+//! cells, and searches in a row), over `specs/ByRows.antt`.
 #![tactic(auto)]
 
 pub mod builder;
@@ -25,6 +25,7 @@ mod ends;
 mod entry_list;
 pub mod error;
 mod filler;
+mod growing;
 mod join;
 mod kept;
 pub mod matrix;

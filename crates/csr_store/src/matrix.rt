@@ -129,15 +129,11 @@ impl Matrix {
         self.starts.list()
     }
 
-    /// Where the rows of another matrix start: in one list with this one's, if they are the same.
-    pub(crate) fn starts_like(
-        &self,
-        alloc: Global,
-        starts: Vec<u64>,
-    ) -> Result<RowStarts, AllocError>
-        ensures { IfOk result (λ s. s ≡ starts.items) }
+    /// Where the rows of another matrix start that start as these do: in one list with them.
+    pub(crate) fn share_starts(&self) -> Result<RowStarts, AllocError>
+        ensures { IfOk result (λ s. s ≡ map (row_start self.now) (range_with_len 0 (self.now.rows + 1))) }
     {
-        self.starts.shared_or(alloc, starts)
+        self.starts.share()
     }
 
     /// Whether no entry stands in the rows from one up to another. That is seen from where these start and end, however many

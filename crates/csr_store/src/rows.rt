@@ -10,6 +10,7 @@ ghost use Rattle.csr_store.specs.inner.Cells.{Stacks, joined};
 ghost use Rattle.csr_store.specs.inner.Run.{AreClosed, AreRows, IsRow, ended_rows, open_row};
 
 use crate::ends::RowEnds;
+use crate::growing::Growing;
 use crate::kept::{add_rows_where, room_for};
 use crate::matrix::{Cell, Matrix};
 use crate::row::{append, put_values};
@@ -228,19 +229,19 @@ impl Rows {
     pub(crate) fn stack_on(
         self,
         entries: u64,
-        starts: &mut Vec<u64>,
+        starts: &mut Growing<'_>,
         lists: &mut Vec<Vec<Cell>>,
     ) -> Result<u64, AllocError>
-        requires closed { AreClosed starts.old.items (joined lists.old.items) }
+        requires closed { AreClosed starts.old (joined lists.old.items) }
         requires none_open { self.opened ≡ [] }
         requires entries { entries ≡ length (joined lists.old.items) }
         requires few { entries + entries_in self.ended ≤ limit }
-        ensures stacked { OnOk result (Stacks self starts.old.items lists.old.items starts.new.items lists.new.items) }
+        ensures stacked { OnOk result (Stacks self starts.old lists.old.items starts.new lists.new.items) }
         ensures entries { IfOk result (λ n. n ≡ length (joined lists.new.items)) }
         ensures rows { AllByRecursion (λ r. IsRow self.columns r) self.ended }
     {
         let count = self.cells.len() as u64;
-        self.ends.add_to(starts, entries)?;
+        starts.add(&self.ends, entries)?;
         lists.push(self.cells)?;
         Ok(entries + count)
     }

@@ -4,6 +4,7 @@ ghost use Rattle.csr_store.specs.Grid.{limit};
 ghost use Rattle.csr_store.specs.ByRows.{grid};
 ghost use Rattle.csr_store.specs.Run.{AreEven, Follow, all_ended, numbered};
 
+use crate::growing::Growing;
 use crate::matrix::Matrix;
 use crate::rows::Rows;
 use std::alloc::{AllocError, Global};
@@ -11,8 +12,9 @@ use std::alloc::{AllocError, Global};
 /// The matrix of runs of rows that follow one another from row 0 to the last, 256 in each but the last, which has no more;
 /// each with these columns and without an entry in its open row.
 ///
-/// The cells stay where the runs have them, so this takes 8 bytes a row and no time for an entry; and where the rows start as those
-/// of a matrix that it is like, as a result of apply is like its operand, both keep one list of starts.
+/// The cells stay where the runs have them, so this takes 8 bytes a row and no time for an entry. Where all rows start as those of
+/// a matrix that it is like, as a result of apply is like its operand, both keep one list of starts: then it takes no memory for a
+/// row, and no time for one in front of all entries of its run.
 pub fn stack_runs(
     alloc: Global,
     rows: u64,
@@ -27,14 +29,13 @@ pub fn stack_runs(
     requires small { length (numbered 0 (all_ended runs.items)) ≤ limit }
     ensures { IfOk result (λ m. m ≡ grid rows columns (numbered 0 (all_ended runs.items))) }
 {
-    let mut starts: Vec<u64> = Vec::with_capacity(alloc, rows as usize + 1)?;
+    let mut starts = Growing::begin(alloc, like, rows as usize + 1);
     let mut lists = Vec::with_capacity(alloc, runs.len())?;
     let mut entries = 0;
-    starts.push(0)?;
     let mut rest = runs.into_iter();
     while let Some(run) = rest.next() {
         entries = run.stack_on(entries, &mut starts, &mut lists)?;
     }
-    let starts = like.starts_like(alloc, starts)?;
+    let starts = starts.finish()?;
     Ok(Matrix::from_lists(rows, columns, entries, starts, lists))
 }

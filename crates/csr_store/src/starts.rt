@@ -51,14 +51,11 @@ impl RowStarts {
         &self.list
     }
 
-    /// Of a list too: it is one more owner of this one where both are the same.
-    pub(crate) fn shared_or(&self, alloc: Global, list: Vec<u64>) -> Result<Self, AllocError>
-        ensures { IfOk result (λ s. s ≡ list.items) }
+    /// The same list, with one more owner.
+    pub(crate) fn share(&self) -> Result<Self, AllocError>
+        ensures { IfOk result (λ s. s ≡ self.now) }
     {
-        if self.list() == list.as_slice() {
-            let list = Arc::try_clone(&self.list)?;
-            return Ok(RowStarts { list });
-        }
-        RowStarts::new(alloc, list)
+        let list = Arc::try_clone(&self.list)?;
+        Ok(RowStarts { list })
     }
 }

@@ -1,0 +1,115 @@
+//! Where rows start that are stacked on one another: no list as long as they start as the rows of another matrix do.
+ghost use Rattle.std.specs.Prelude.{◌≡◌, ◌<◌, ◌≤◌, ◌+◌, ◌^◌, ◌++◌, ◌∷◌, [], map, take, IfOk, OnOk};
+ghost use Rattle.std.specs.List.{AllByRecursion};
+ghost use Rattle.csr_store.specs.inner.Growing.{starts_of};
+
+use crate::ends::RowEnds;
+use crate::matrix::Matrix;
+use crate::starts::RowStarts;
+use std::alloc::{AllocError, Global};
+use std::marker::Model;
+
+/// Where rows start, and at last where they end, beside where those of a matrix do. A contract sees the list. It takes memory
+/// once the two differ, and no row that is only counted is looked at before.
+#[derive(Drop)]
+pub(crate) struct Growing<'m> {
+    alloc: Global,
+    like: &'m Matrix,
+    /// So many starts will there be.
+    room: usize,
+    so_far: SoFar,
+}
+
+/// The starts so far.
+#[derive(Drop)]
+enum SoFar {
+    /// So many, the same as the first of the other matrix.
+    Alike(usize),
+    /// Those of a list.
+    Listed(Vec<u64>),
+}
+
+impl<'m> Model for Growing<'m> {
+    ghost use Rattle.std.specs.Prelude.{ℕ, List};
+    ghost use Rattle.std.specs.Coded.{coded_list, coded_ℕ};
+    ghost use Rattle.csr_store.specs.inner.Growing.{first_of, AreFirst};
+
+    ghost Value = { List ℕ };
+
+    ghost coded = { coded_list coded_ℕ };
+
+    ghost view = { λ g. first_of g.like.now g.so_far };
+
+    ghost invariant = { λ g. AreFirst g.like.now g.so_far };
+}
+
+impl<'m> Growing<'m> {
+    /// The start of the first row. Takes no memory; a list of their own will have room for so many.
+    pub(crate) fn begin(alloc: Global, like: &'m Matrix, room: usize) -> Self
+        ensures { result ≡ 0 ∷ [] }
+    {
+        Growing {
+            alloc,
+            like,
+            room,
+            so_far: SoFar::Alike(1),
+        }
+    }
+
+    /// Adds the starts behind rows that end there, each counted from `base` on.
+    pub(crate) fn add(&mut self, ends: &RowEnds, base: u64) -> Result<(), AllocError>
+        requires { AllByRecursion (λ e. base + e < 2 ^ 64) ends.now }
+        ensures { OnOk result (self.new ≡ self.old ++ map (λ e. base + e) ends.now) }
+    {
+        match &mut self.so_far {
+            SoFar::Listed(starts) => ends.add_to(starts, base),
+            SoFar::Alike(count) => {
+                let (_, later) = self.like.starts().split_at(*count);
+                if ends.begin(later, base) {
+                    *count += ends.len() as usize;
+                    return Ok(());
+                }
+                let mut starts = first_starts(self.alloc, self.like, *count, self.room)?;
+                ends.add_to(&mut starts, base)?;
+                self.so_far = SoFar::Listed(starts);
+                Ok(())
+            }
+        }
+    }
+
+    /// All of them: in one list with the other matrix's, if they are the same.
+    pub(crate) fn finish(self) -> Result<RowStarts, AllocError>
+        ensures { IfOk result (λ s. s ≡ self.entry) }
+    {
+        let Growing {
+            alloc,
+            like,
+            so_far,
+            ..
+        } = self;
+        match so_far {
+            SoFar::Listed(starts) => RowStarts::new(alloc, starts),
+            SoFar::Alike(count) => {
+                if count == like.starts().len() {
+                    return like.share_starts();
+                }
+                RowStarts::new(alloc, first_starts(alloc, like, count, count)?)
+            }
+        }
+    }
+}
+
+/// The first starts of a matrix, in a list with room for more.
+fn first_starts(
+    alloc: Global,
+    matrix: &Matrix,
+    count: usize,
+    room: usize,
+) -> Result<Vec<u64>, AllocError>
+    requires { count ≤ matrix.now.rows + 1 }
+    ensures { IfOk result (λ starts. starts.items ≡ take count (starts_of matrix.now)) }
+{
+    let mut starts = Vec::with_capacity(alloc, room)?;
+    starts.extend_from_slice(&matrix.starts()[..count])?;
+    Ok(starts)
+}
