@@ -6,7 +6,7 @@ use Rattle.std.proofs.lemmas.List.FromFn.{get_or-map-range_with_len, length-map-
 use Rattle.std.proofs.lemmas.List.Sorted.{IsNonDecreasingBy-from_default}
 use Rattle.std.specs.List.Sorted.{IsNonDecreasing}
 use Rattle.csr_store.specs.Grid.{Grid, row_start}
-use Rattle.csr_store.specs.inner.Growing.{starts_of}
+use Rattle.csr_store.specs.inner.Starts.{starts_of}
 use Rattle.csr_store.proofs.BlankEnds.{map_zeros}
 use Rattle.csr_store.proofs.Starting.{start_rises}
 use Rattle.csr_store.proofs.ByRow.{row_start-zero}

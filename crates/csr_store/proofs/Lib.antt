@@ -26,3 +26,4 @@ pub mod Copied
 pub mod Column
 pub mod BlankEnds
 pub mod Alike
+pub mod Reading

@@ -10,4 +10,5 @@ pub mod Ascending
 pub mod Added
 pub mod Valued
 pub mod Copied
+pub mod Reading
 pub mod inner

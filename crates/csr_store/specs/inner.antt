@@ -9,4 +9,5 @@ pub mod Run
 pub mod Cells
 pub mod Copied
 pub mod Column
+pub mod Starts
 pub mod Growing

@@ -1,7 +1,7 @@
 //! Where rows start that are stacked on one another: no list as long as they start as the rows of another matrix do.
 ghost use Rattle.std.specs.Prelude.{◌≡◌, ◌<◌, ◌≤◌, ◌+◌, ◌^◌, ◌++◌, ◌∷◌, [], map, take, IfOk, OnOk};
 ghost use Rattle.std.specs.List.{AllByRecursion};
-ghost use Rattle.csr_store.specs.inner.Growing.{starts_of};
+ghost use Rattle.csr_store.specs.inner.Starts.{starts_of};
 
 use crate::ends::RowEnds;
 use crate::matrix::Matrix;

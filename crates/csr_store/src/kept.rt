@@ -90,9 +90,10 @@ pub fn add_rows_where(
         ≡ ended_rows 0 ends.old.items cells.old.items ++ kept_rows a.now answers.now rows.start (rows.end - rows.start) }
 {
     let _ = a.columns();
+    let mut reader = a.rows_from(rows.start);
     let mut left = answers;
-    for row in rows.start..rows.end {
-        let here = a.row(row);
+    while reader.row() < rows.end {
+        let here = reader.next_row();
         let (now, later) = left.split_at(here.len());
         add_where(cells, here, now);
         ends.push_reserved(cells.len() as u64);

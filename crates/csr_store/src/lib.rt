@@ -8,7 +8,7 @@
 //! and that the starts of the rows are lent. [`Rows`] is a run of rows, a `Run` of `specs/Run.antt`.
 //! [`stack_runs`] makes a matrix of runs of 256 rows, whose cells stay where they are, and whose starts are
 //! another matrix's where they are the same; and [`join_rows`] one of any runs that follow one another, by
-//! copying. [`RowCopy`] copies rows of a matrix with other values. What callers need to know of grids is
+//! copying. [`RowReader`] reads rows one after the other, and [`RowCopy`] copies rows of a matrix with other values. What callers need to know of grids is
 //! proved in `proofs/Laws.antt` (single entries), `proofs/ByRow.antt` (a grid row by row) and
 //! `proofs/Copying.antt` (a matrix put into a builder, entry by entry).
 //!
@@ -30,6 +30,7 @@ mod join;
 mod kept;
 pub mod matrix;
 mod merge;
+mod reader;
 mod row;
 mod row_copy;
 mod rows;
@@ -41,6 +42,7 @@ pub use entry_list::EntryList;
 pub use error::StoreError;
 pub use join::join_rows;
 pub use matrix::{Matrix, Version};
+pub use reader::RowReader;
 pub use row_copy::RowCopy;
 pub use rows::Rows;
 pub use stack::stack_runs;

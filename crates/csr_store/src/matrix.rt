@@ -12,6 +12,7 @@ ghost use Rattle.csr_store.specs.inner.Cells.{AreBases, joined};
 mod column;
 
 use crate::cells::{Cells, HEIGHT};
+use crate::reader::RowReader;
 use crate::row::value_at;
 use crate::row_copy::RowCopy;
 use crate::starts::RowStarts;
@@ -180,6 +181,27 @@ impl Matrix {
         let from = starts[range.start as usize];
         let to = starts[range.end as usize];
         Some(self.cells.part(starts, run, from, to))
+    }
+
+    /// The cells of row `i`, counted from 0, and of those behind it that stand in one list with it; and the row behind these.
+    #[inline(never)]
+    pub(crate) fn list_from(&self, i: u64) -> (&[Cell], u64)
+        requires { i < self.now.rows }
+        ensures end { (i < result.1) × (result.1 ≤ self.now.rows) }
+        ensures cells { result.0.now ≡ along (row_of self.now) i (result.1 - i) }
+    {
+        let rows = self.rows();
+        let end = (i / HEIGHT * HEIGHT + HEIGHT).min(rows);
+        let cells = self.cells_of(i..end).unwrap();
+        (cells, end)
+    }
+
+    /// The rows one after the other, from one on.
+    pub fn rows_from(&self, row: u64) -> RowReader<'_>
+        requires { row ≤ self.now.rows }
+        ensures { result ≡ record { grid = self.now; row = row } }
+    {
+        RowReader::begin(self, row)
     }
 
     /// The rows from one up to another, to be copied with other values, where they stand in one list. They do so where these

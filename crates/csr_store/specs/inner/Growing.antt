@@ -1,13 +1,9 @@
 -- Where rows start that are stacked on one another. This project's own.
-use Rattle.std.specs.Prelude.{◌≤◌, ◌+◌, ℕ, List, map, take}
-use Rattle.std.specs.List.{range_with_len}
-use Rattle.csr_store.specs.Grid.{Grid, row_start}
+use Rattle.std.specs.Prelude.{◌≤◌, ◌+◌, ℕ, List, take}
+use Rattle.csr_store.specs.Grid.{Grid}
+use Rattle.csr_store.specs.inner.Starts.{starts_of}
 use Rattle.csr_store.specs.declared.growing.SoFar.{SoFar}
 use Rattle.csr_store.specs.declared.growing.SoFar.TheVariants.{Alike, Listed}
-
--- where each row of a matrix starts, and at last where the rows end
-abbrev pub starts_of : Grid → List ℕ
-starts_of g = map (row_start g) (range_with_len 0 (g.rows + 1))
 
 -- the starts so far, beside those of a matrix
 abbrev pub first_of : Grid → SoFar → List ℕ

@@ -1,7 +1,8 @@
 use Rattle.std.proofs.Common.{◌≤◌, ◌+◌, ◌++◌, List, ℕ, map, take, drop, length-drop, length, sym, ap, ◌∙◌, subst, arith}
 use Rattle.std.specs.List.Sorted.{IsNonDecreasing}
 use Rattle.std.proofs.lemmas.List.Sorted.{IsNonDecreasingBy-drop}
-use Rattle.csr_store.specs.inner.Growing.{starts_of, first_of, AreFirst}
+use Rattle.csr_store.specs.inner.Starts.{starts_of}
+use Rattle.csr_store.specs.inner.Growing.{first_of, AreFirst}
 use Rattle.csr_store.proofs.Alike.{starts_rise, starts_count, more_alike}
 use Rattle.csr_store.proofs.growing.Growing.add.Goals as goal
 
