@@ -8,15 +8,15 @@
 //! and that the starts of the rows are lent. [`Rows`] is a run of rows, a `Run` of `specs/Run.antt`.
 //! [`stack_runs`] makes a matrix of runs of 256 rows, whose cells stay where they are, and whose starts are
 //! another matrix's where they are the same; and [`join_rows`] one of any runs that follow one another, by
-//! copying. [`RowReader`] reads rows one after the other, and [`RowCopy`] copies rows of a matrix with other values. What callers need to know of grids is
-//! proved in `proofs/Laws.antt` (single entries), `proofs/ByRow.antt` (a grid row by row) and
-//! `proofs/Copying.antt` (a matrix put into a builder, entry by entry).
+//! copying. [`RowReader`] reads rows one after the other, and [`RowCopy`] copies rows of a matrix with other
+//! values. What callers need to know of grids is proved in `proofs/Laws.antt` (single entries),
+//! `proofs/ByRow.antt` (a grid row by row) and `proofs/Copying.antt` (a matrix put into a builder, entry by entry).
 //!
 //! Read `specs/Grid.antt` and `specs/Refusal.antt` first, then `error`, `builder`, `matrix`, `rows` and
 //! `stack`; below them `cells` (one list of cells, or many), `starts` (where rows start, in a list that
 //! matrices may share), `growing` (where rows start while runs are stacked), `ends` (where the rows of a run end), `filler` (rows filled
-//! in ascending order), `merge` (two lists of entries as one matrix), `kept` (cells of which some are kept) and `row` (parts of a list of
-//! cells, and searches in a row), over `specs/ByRows.antt`.
+//! in ascending order), `merge` (two lists of entries as one matrix), `kept` (cells of which some are kept), `reader` (rows one after the
+//! other) and `row` (parts of a list of cells, and searches in a row), over `specs/ByRows.antt`.
 #![tactic(auto)]
 
 pub mod builder;
