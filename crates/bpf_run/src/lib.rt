@@ -12,9 +12,9 @@
 //! A program that `known` finds in the table of `specs/inner/Known.antt` computes a function of two words, which is a type in `function`;
 //! a number that stands in the program is told at each call, so that one type serves all numbers.
 //! A `Loop` over calls of one operator is generic over that type, and `native` runs it, compiled for what the operator computes: there is
-//! one for folds in `folding`, one for a word with each of some words in `products`, and crates above may write their own. All that they
-//! may use is `Computes` of `specs/Known.antt`. What calls in a list cost stands in `specs/Calls.antt`, and what a fold is in
-//! `specs/Fold.antt`.
+//! one for folds in `folding`, one for a word with each of some words in `products`, and crates above may write their own. Calls that are
+//! made together have one in `lanes::known`, for operators of each kind. All that loops of other crates may use is `Computes` of
+//! `specs/Known.antt`. What calls in a list cost stands in `specs/Calls.antt`, and what a fold is in `specs/Fold.antt`.
 #![tactic(auto)]
 
 mod calls;

@@ -23,16 +23,17 @@ TAKEN = [part for place in (-512, -504, -16, -8)
 
 
 def of_arithmetic(spelling: Spelling) -> Iterator[Made]:
-    """`mov64 r0, r1`, the operation on R0 and, where it reads one, R2 or a number, `exit`."""
+    """`mov64 r0, r1` twice, so that the program doesn't know the operator by its code, the operation on R0 and, where it reads one, R2 or a
+    number, `exit`."""
     if 'imm' in spelling.fields:
         for number in NUMBERS:
             code = slot(spelling.opcode, 0, 0, spelling.offset, number)
-            yield '%s r0, %d' % (spelling.mnemonic, number), [MOVE, code, EXIT], 'unary'
+            yield '%s r0, %d' % (spelling.mnemonic, number), [MOVE, MOVE, code, EXIT], 'unary'
     elif 'src' in spelling.fields:
-        yield '%s r0, r2' % spelling.mnemonic, [MOVE, slot(spelling.opcode, 0, 2, spelling.offset), EXIT], 'binary'
+        yield '%s r0, r2' % spelling.mnemonic, [MOVE, MOVE, slot(spelling.opcode, 0, 2, spelling.offset), EXIT], 'binary'
     else:
         code = slot(spelling.opcode, 0, 0, spelling.offset, spelling.imm)
-        yield '%s r0' % spelling.mnemonic, [MOVE, code, EXIT], 'index'
+        yield '%s r0' % spelling.mnemonic, [MOVE, MOVE, code, EXIT], 'index'
 
 
 def over_three_slots(jump: str) -> List[str]:
