@@ -1,15 +1,18 @@
--- Columns by their bits, in words of 64: a bit that is set, and a word that is read off from its lowest bit on.
-use Rattle.std.proofs.Common.{◌≡◌, ℕ, zero, suc, ◌+◌, ◌-◌, ◌*◌, ◌/◌, ◌%◌, ◌^◌, ◌<◌, ◌≤◌, ◌++◌, w64, List, Option, None, Some, length, get_or, set, refl, sym, ap, ◌∙◌, subst, inl, inr, arith, get_or-set_same, get_or-set_other}
+-- Columns by their bits, in words of 64: a bit that is set, words that are cleared, and one that is read off from its lowest bit on.
+use Rattle.std.proofs.Common.{◌≡◌, ◌≢◌, ℕ, zero, suc, ◌+◌, ◌-◌, ◌*◌, ◌/◌, ◌%◌, ◌^◌, ◌<◌, ◌≤◌, ◌++◌, w64, List, [], ◌∷◌, Option, None, Some, length, get_or, set, refl, sym, ap, ◌∙◌, subst, inl, inr, arith, get_or-set_same, get_or-set_other}
+use Rattle.std.proofs.Math.ListN.{length-set}
+use Rattle.std.proofs.lemmas.List.{get_or_past}
 use Rattle.std.proofs.lemmas.Bool.Decides.{eqb_tells}
 use Rattle.std.proofs.Math.Nat.{div-div-eq-div-mul}
 use Rattle.std.proofs.lemmas.Nat.{pow-add, shr_le}
 use Rattle.std.proofs.lemmas.Nat.Bits.{bit_at_set_same, bit_at_set_other, bit_at-trailing_zeros, bit_at-zero}
 use Rattle.std.specs.Int.{bit_at, trailing_zeros}
+use Rattle.std.specs.List.{Contains}
 use Rattle.std.specs.Int.RustNames.{bit_or}
 use Rattle.csr_store.specs.Run.{Run}
 use Rattle.csr_store.specs.Along.{cell_at}
 use Rattle.row_product.specs.inner.Held.{bit_of}
-use Rattle.row_product.proofs.Putting.{Putting, putting_skip, putting_cell}
+use Rattle.row_product.proofs.Putting.{Putting, putting_skip, putting_cell, other_one, none_contained}
 
 -- ---- a bit that is set
 
@@ -20,24 +23,87 @@ bit_set bits j l =
     (omega (arith, l)))
     ∙ bit_at_set_same w64 (get_or bits (j / 64) 0) (j % 64) (omega arith)
 
-pub bit_kept : (bits : List ℕ) (j i : ℕ) → j < 64 * length bits → bit_of bits i ≡ 1
-    → bit_of (set bits (j / 64) (bit_or (get_or bits (j / 64) 0) (1 * 2 ^ (j % 64) % 2 ^ 64))) i ≡ 1
-bit_kept bits j i l h = elim (eqb_tells (i / 64) (j / 64)) [
+pub bit_other : (bits : List ℕ) (j i : ℕ) → j < 64 * length bits → i ≢ j
+    → bit_of (set bits (j / 64) (bit_or (get_or bits (j / 64) 0) (1 * 2 ^ (j % 64) % 2 ^ 64))) i ≡ bit_of bits i
+bit_other bits j i l ne = elim (eqb_tells (i / 64) (j / 64)) [
   | inl d ↦ elim (eqb_tells (i % 64) (j % 64)) [
-    | inl e ↦ let q = d.1 in let r = e.1 in let same : i ≡ j = omega (arith, q, r) in
-        subst (λ k. bit_of (set bits (j / 64) (bit_or (get_or bits (j / 64) 0) (1 * 2 ^ (j % 64) % 2 ^ 64))) k ≡ 1) (sym same)
-        (bit_set bits j l)
+    | inl e ↦ absurd (ne (let q = d.1 in let r = e.1 in omega (arith, q, r)))
     | inr e ↦
         ap (λ k. bit_at (get_or (set bits (j / 64) (bit_or (get_or bits (j / 64) 0) (1 * 2 ^ (j % 64) % 2 ^ 64))) k 0) (i % 64)) d.1
         ∙ (ap (λ w. bit_at w (i % 64)) (get_or-set_same bits (j / 64) (bit_or (get_or bits (j / 64) 0) (1 * 2 ^
         (j % 64) % 2 ^ 64)) 0
         (omega (arith, l)))
         ∙ (bit_at_set_other w64 (get_or bits (j / 64) 0) (j % 64) (omega arith) (i % 64) e.1
-        ∙ (ap (λ k. bit_at (get_or bits k 0) (i % 64)) (sym d.1) ∙ h)))
+        ∙ ap (λ k. bit_at (get_or bits k 0) (i % 64)) (sym d.1)))
   ]
   | inr d ↦ ap (λ w. bit_at w (i % 64)) (get_or-set_other bits (j / 64) (i / 64)
-      (bit_or (get_or bits (j / 64) 0) (1 * 2 ^ (j % 64) % 2 ^ 64)) 0 d.1) ∙ h
+      (bit_or (get_or bits (j / 64) 0) (1 * 2 ^ (j % 64) % 2 ^ 64)) 0 d.1)
 ]
+
+-- ---- a word of bits that is cleared
+
+zeroed : (bits : List ℕ) (p : ℕ) → get_or (set bits p 0) p 0 ≡ 0
+zeroed [] zero = refl
+zeroed [] (suc p) = refl
+zeroed (b ∷ bits) zero = refl
+zeroed (b ∷ bits) (suc p) = zeroed bits p
+
+pub bit_cleared : (bits : List ℕ) (p j : ℕ) → j / 64 ≡ p → bit_of (set bits p 0) j ≡ 0
+bit_cleared bits p j e =
+    ap (λ k. bit_at (get_or (set bits p 0) k 0) (j % 64)) e ∙ (ap (λ w. bit_at w (j % 64)) (zeroed bits p) ∙ bit_at-zero (j % 64))
+
+pub bit_stays_clear : (bits : List ℕ) (p j : ℕ) → bit_of bits j ≡ 0 → bit_of (set bits p 0) j ≡ 0
+bit_stays_clear bits p j h = elim (eqb_tells (j / 64) p) [
+  | inl d ↦ bit_cleared bits p j d.1
+  | inr d ↦ ap (λ w. bit_at w (j % 64)) (get_or-set_other bits p (j / 64) 0 0 d.1) ∙ h
+]
+
+pub bit_past : (bits : List ℕ) (j : ℕ) → length bits ≤ j / 64 → bit_of bits j ≡ 0
+bit_past bits j l = ap (λ w. bit_at w (j % 64)) (get_or_past bits (j / 64) 0 l) ∙ bit_at-zero (j % 64)
+
+-- words of bits before this place are cleared, and no bit is set anew
+pub record IsCleared (first : List ℕ) (place : ℕ) (bits : List ℕ) : Type 0 where
+  pub long : length bits ≡ length first
+  pub clear : (j : ℕ) → j / 64 < place → bit_of bits j ≡ 0
+  pub kept : (j : ℕ) → bit_of first j ≡ 0 → bit_of bits j ≡ 0
+
+pub cleared_start : (first : List ℕ) → IsCleared first 0 first
+cleared_start first = record { long = refl; clear = λ j l. absurd (omega (arith, l)); kept = λ j h. h }
+
+pub cleared_step : (first : List ℕ) (place : ℕ) (bits : List ℕ) → IsCleared first place bits → IsCleared first (place + 1) (set bits place 0)
+cleared_step first place bits m = record {
+  long = length-set bits place 0 ∙ m.long;
+  clear = λ j l. elim (eqb_tells (j / 64) place) [
+    | inl d ↦ bit_cleared bits place j d.1
+    | inr d ↦ bit_stays_clear bits place j (m.clear j (let n = d.1 in omega (arith, l, n)))
+  ];
+  kept = λ j h. bit_stays_clear bits place j (m.kept j h);
+}
+
+-- bits of listed columns that are no more among those left are cleared, and no bit is set anew
+pub record AreForgotten (first listed rest bits : List ℕ) : Type 0 where
+  pub long : length bits ≡ length first
+  pub clear : (j : ℕ) → Contains listed j → (Contains rest j → ⊥) → bit_of bits j ≡ 0
+  pub kept : (j : ℕ) → bit_of first j ≡ 0 → bit_of bits j ≡ 0
+
+pub forgotten_start : (first listed : List ℕ) → AreForgotten first listed listed first
+forgotten_start first listed = record { long = refl; clear = λ j l n. absurd (n l); kept = λ j h. h }
+
+pub forgotten_step : (first listed rest bits : List ℕ) (k : ℕ) (ks next : List ℕ) → AreForgotten first listed rest bits
+    → rest ≡ k ∷ ks → length next ≡ length bits → bit_of next k ≡ 0 → ((j : ℕ) → bit_of bits j ≡ 0 → bit_of next j ≡ 0)
+    → AreForgotten first listed ks next
+forgotten_step first listed rest bits k ks next m e long here kept = record {
+  long = long ∙ m.long;
+  clear = λ j l n. elim (eqb_tells j k) [
+    | inl d ↦ ap (bit_of next) d.1 ∙ here
+    | inr d ↦ kept j (m.clear j l (λ r. n (other_one k ks j d.1 (subst (λ us. Contains us j) e r))))
+  ];
+  kept = λ j h. kept j (m.kept j h);
+}
+
+pub forgotten_end : (first listed rest bits : List ℕ) (j : ℕ) → AreForgotten first listed rest bits → rest ≡ [] → Contains listed j
+    → bit_of bits j ≡ 0
+forgotten_end first listed rest bits j m e l = m.clear j l (λ r. none_contained j (subst (λ us. Contains us j) e r))
 
 -- ---- a word that is read off
 

@@ -1,6 +1,6 @@
 pub mod Adding
 pub mod Gathering
-pub mod Turns
+pub mod Flags
 pub mod Putting
 pub mod Marking
 pub mod Filling

@@ -111,7 +111,7 @@ rises_least low (k ∷ ks) h = (h.0, lower ks (rises_least k ks h.1))
 least_of : (low : ℕ) (xs : List ℕ) (j : ℕ) → Rises low xs → Contains xs j → low ≤ j
 least_of low xs j h c = All-contains (λ j. low ≤ j) xs j (All-from_recursion (λ j. low ≤ j) xs (rises_least low xs h)) c
 
-other_one : (k : ℕ) (ks : List ℕ) (j : ℕ) → (j ≡ k → ⊥) → Contains (k ∷ ks) j → Contains ks j
+pub other_one : (k : ℕ) (ks : List ℕ) (j : ℕ) → (j ≡ k → ⊥) → Contains (k ∷ ks) j → Contains ks j
 other_one k ks j ne c = elim (Contains-append_cases (k ∷ []) ks j c) [
   | inl d ↦ absurd (ne (sym (All-contains (λ i. k ≡ i) (k ∷ []) j (All-from_recursion (λ i. k ≡ i) (k ∷ []) (refl, _)) d)))
   | inr d ↦ d
@@ -173,7 +173,7 @@ listing_step n whole from p rest now k ks o next m e l w h r = record {
   covers = λ j v a b i. other_one k ks j (λ q. omega (arith, q, a)) (subst (λ us. Contains us j) e (m.covers j v (omega (arith, a, l)) b i));
 }
 
-none_contained : (j : ℕ) → Contains {X = ℕ} [] j → ⊥
+pub none_contained : (j : ℕ) → Contains {X = ℕ} [] j → ⊥
 none_contained j c = let l = c.1 in absurd (omega (arith, l))
 
 none_left : (whole : ℕ → Option ℕ) (j : ℕ) (o : Option ℕ) → ((v : ℕ) → whole j ≡ Some v → Contains {X = ℕ} [] j) → whole j ≡ o → o ≡ None

@@ -51,26 +51,26 @@ impl Accumulator {
         })
     }
 
-    /// How many columns there are.
-    pub(crate) fn len(&self) -> usize
-        ensures { result ≡ length self.now }
+    /// For how many columns there is room.
+    pub(crate) fn room(&self) -> usize
+        ensures { length self.now ≤ result }
     {
-        self.sums.len()
+        self.sums.room()
     }
 
-    /// Room for so many columns, at least.
+    /// Room for so many columns, none of which has a sum.
     pub(crate) fn widen(&mut self, columns: u64) -> Result<(), AllocError>
         ensures { OnOk result (columns ≤ length self.new) }
     {
         self.sums.widen(columns)
     }
 
-    /// Begins a row of so many columns, with no sum.
-    pub(crate) fn begin(&mut self, columns: u64)
+    /// Begins a row, with no sum.
+    pub(crate) fn begin(&mut self)
         ensures none { (j : ℕ) → slot self.new j ≡ None }
         ensures long { length self.new ≡ length self.old }
     {
-        self.sums.begin(columns);
+        self.sums.begin();
     }
 
     /// Adds a word times each of up to 64 cells of a row of B to the sums of their columns. Answers the steps.

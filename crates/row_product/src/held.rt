@@ -1,29 +1,32 @@
-//! A word for each column, which counts where its mark is the row's.
-ghost use Rattle.std.specs.Prelude.{◌≡◌, ◌≤◌, ◌<◌, ℕ, None, Some, [], length, max, set, OnOk};
-ghost use Rattle.row_product.specs.inner.Held.{AreUpTo};
+//! A word for each column, which counts where the column's bit is set.
+ghost use Rattle.std.specs.Prelude.{◌≡◌, ◌≤◌, ◌<◌, ◌*◌, ℕ, None, Some, [], length, set, slice_index_or, is_some, true, OnOk};
+ghost use Rattle.row_product.specs.inner.Held.{AreMarked, AreAllListed};
 ghost use Rattle.row_product.specs.inner.Sums.{slot};
 
+use crate::marked::{clear_bits, clear_listed, is_set, set_bit};
 use std::alloc::{AllocError, Global};
 use std::marker::Model;
 
-/// The sums of a row by their columns. The mark of a column is the turn at which its sum began, and turns only go up: so all sums
-/// are forgotten at once, and no mark is ever cleared. A contract sees the sum of each column, if there is one.
+/// The sums of a row by their columns. A contract sees the sum of each column, if there is one.
 #[derive(Drop)]
 pub(crate) struct Held {
-    turn: u64,
-    marks: Vec<u64>,
+    /// How many columns there are. There may be room for more.
+    columns: u64,
     words: Vec<u64>,
+    /// A bit for each column, in words of 64. Those that have a sum have theirs set, and no other has.
+    bits: Vec<u64>,
 }
 
 impl Model for Held {
-    ghost use Rattle.std.specs.Prelude.{ℕ, List, Option, ◌≤◌, length};
-    ghost use Rattle.row_product.specs.inner.Held.{marked, AreUpTo};
+    ghost use Rattle.std.specs.Prelude.{ℕ, List, Option, ◌≤◌, ◌*◌, length};
+    ghost use Rattle.row_product.specs.inner.Held.{words_of, AreClear};
 
     ghost Value = { List (Option ℕ) };
 
-    ghost view = { λ h. marked h.turn h.marks.items h.words.items };
+    ghost view = { λ h. words_of h.bits.items h.words.items 0 h.columns };
 
-    ghost invariant = { λ h. AreUpTo h.turn h.marks.items × (length h.marks.items ≤ length h.words.items) };
+    ghost invariant = { λ h. (h.columns ≤ length h.words.items) × (h.columns ≤ 64 * length h.bits.items)
+        × AreClear h.columns h.bits.items };
 }
 
 impl Held {
@@ -32,29 +35,39 @@ impl Held {
         ensures { result ≡ [] }
     {
         Held {
-            turn: 0,
-            marks: Vec::new(alloc),
+            columns: 0,
             words: Vec::new(alloc),
+            bits: Vec::new(alloc),
         }
     }
 
-    /// How many columns there are.
-    pub(crate) fn len(&self) -> usize
-        ensures { result ≡ length self.now }
+    /// For how many columns there is room.
+    pub(crate) fn room(&self) -> usize
+        ensures { length self.now ≤ result }
     {
-        self.marks.len()
+        self.words.len()
     }
 
-    /// Room for so many columns, at least.
-    pub(crate) fn widen(&mut self, columns: usize) -> Result<(), AllocError>
-        ensures wide { OnOk result (columns ≤ length self.new) }
-        ensures no_wider { length self.new ≤ max columns (length self.old) }
+    /// Room for so many columns, none of which has a sum, where none had.
+    pub(crate) fn widen(&mut self, columns: u64) -> Result<(), AllocError>
+        requires none { (j : ℕ) → slot self.old j ≡ None }
+        ensures wide { OnOk result (length self.new ≡ columns) }
+        ensures none { (j : ℕ) → slot self.new j ≡ None }
     {
-        if columns > self.marks.len() {
-            self.words.resize(columns.max(self.words.len()), 0)?;
-            self.marks.resize(columns, 0)?;
-        }
+        self.columns = 0;
+        lengthen(&mut self.bits, (columns / 64) as usize + 1)?;
+        lengthen(&mut self.words, columns as usize)?;
+        self.columns = columns;
         Ok(())
+    }
+
+    /// Forgets the sums, all of which are of listed columns.
+    pub(crate) fn forget_listed(&mut self, listed: &[u64])
+        requires { AreAllListed self.old listed.now }
+        ensures none { (j : ℕ) → slot self.new j ≡ None }
+        ensures long { length self.new ≡ length self.old }
+    {
+        clear_listed(listed, &mut self.bits);
     }
 
     /// Forgets all sums.
@@ -62,19 +75,7 @@ impl Held {
         ensures none { (j : ℕ) → slot self.new j ≡ None }
         ensures long { length self.new ≡ length self.old }
     {
-        match self.turn.checked_add(1) {
-            Some(turn) => self.turn = turn,
-            None => self.restart(),
-        }
-    }
-
-    /// Forgets all sums, and counts turns from the first again.
-    fn restart(&mut self)
-        ensures none { (j : ℕ) → slot self.new j ≡ None }
-        ensures long { length self.new ≡ length self.old }
-    {
-        clear(&mut self.marks);
-        self.turn = 1;
+        clear_bits(self.columns, &mut self.bits);
     }
 
     /// The sum of a column, if there is one.
@@ -83,9 +84,8 @@ impl Held {
         requires { column < length self.now }
         ensures { result ≡ slot self.now column }
     {
-        let column = column as usize;
-        if self.marks[column] == self.turn {
-            Some(self.words[column])
+        if is_set(&self.bits, column) {
+            Some(self.words[column as usize])
         } else {
             None
         }
@@ -97,18 +97,36 @@ impl Held {
         requires { column < length self.old }
         ensures { self.new ≡ set self.old column (Some sum) }
     {
-        let column = column as usize;
-        self.marks[column] = self.turn;
-        self.words[column] = sum;
+        self.words[column as usize] = sum;
+        set_bit(&mut self.bits, column);
+    }
+
+    /// Gives a column that has a sum another.
+    #[inline(always)]
+    pub(crate) fn replace(&mut self, column: u64, sum: u64)
+        requires within { column < length self.old }
+        requires there { is_some (slot self.old column) ≡ true }
+        ensures { self.new ≡ set self.old column (Some sum) }
+    {
+        self.words[column as usize] = sum;
+    }
+
+    /// The bits of the columns, in words of 64.
+    pub(crate) fn bits(&self) -> &[u64]
+        ensures long { length self.now ≤ 64 * length result.now }
+        ensures marked { AreMarked result.now self.now }
+    {
+        &self.bits
     }
 }
 
-/// Sets all marks to 0.
-fn clear(marks: &mut Vec<u64>)
-    ensures zeros { AreUpTo 0 marks.new.items }
-    ensures long { length marks.new.items ≡ length marks.old.items }
+/// At least so many words, with zeros behind those that are there.
+fn lengthen(words: &mut Vec<u64>, least: usize) -> Result<(), AllocError>
+    ensures long { OnOk result (least ≤ length words.new.items) }
+    ensures same { (p : ℕ) → slice_index_or words.new.items p 0 ≡ slice_index_or words.old.items p 0 }
 {
-    for k in 0..marks.len() {
-        marks[k] = 0;
+    if least > words.len() {
+        words.resize(least, 0)?;
     }
+    Ok(())
 }

@@ -32,7 +32,7 @@ impl Progress {
         })
     }
 
-    /// Room for so many columns, at least.
+    /// Room for so many columns, at least, none of which has a sum.
     pub(crate) fn widen(&mut self, columns: u64) -> Result<(), AllocError>
         requires { IsReady 0 self.old × AllForbidden self.old }
         ensures wide { OnOk result (IsReady columns self.new) }
@@ -41,10 +41,7 @@ impl Progress {
         if columns as usize > self.allowed.len() {
             self.allowed.resize(columns as usize, false)?;
         }
-        if columns as usize > self.sums.len() {
-            self.sums.widen(columns)?;
-        }
-        Ok(())
+        self.sums.widen(columns)
     }
 
     /// Adds a word times each of up to 64 cells of a row of B to the sums: where it is masked, of those whose columns are allowed.

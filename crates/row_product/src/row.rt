@@ -18,7 +18,7 @@ fn sum_under(factors: &MaskedFactors, i: u64, progress: &mut Progress) -> u64
     ensures summed { AreSummed factors.now i (stands progress.new) result }
     ensures ready { IsReady factors.now.b.now.columns progress.new × AllForbidden progress.new }
 {
-    progress.sums.begin(factors.b.columns());
+    progress.sums.begin();
     match factors.mask {
         None => progress.add_rows(factors, i, false),
         Some(mask) => {

@@ -1,5 +1,5 @@
-//! The sums of a row, with a bit for each column that has one, and a list of these columns as long as they are few.
-ghost use Rattle.std.specs.Prelude.{◌≡◌, ◌≤◌, ◌<◌, ℕ, List, Option, None, Some, [], length, set, OnOk};
+//! The sums of a row, with a list of the columns that have one as long as they are few.
+ghost use Rattle.std.specs.Prelude.{◌≡◌, ◌≤◌, ◌<◌, ℕ, List, Option, None, Some, [], length, set, is_some, true, OnOk};
 ghost use Rattle.csr_store.specs.Along.{row_by};
 ghost use Rattle.bpf_run.specs.Calls.{steps_of};
 ghost use Rattle.bpf_run.specs.Known.{Computes};
@@ -8,7 +8,6 @@ ghost use Rattle.row_product.specs.inner.Sums.{slot, added, added_calls};
 
 use crate::emit::{emit_listed, emit_marked};
 use crate::held::Held;
-use crate::marked::{clear_bits, set_bit};
 use bpf_run::{Function, Prepared, call_by};
 use csr_store::Rows;
 use std::alloc::{AllocError, Global};
@@ -24,20 +23,17 @@ pub(crate) struct Sums {
     /// The columns that have a sum, unless there are `most`.
     touched: Vec<u64>,
     most: usize,
-    /// A bit for each column, in words of 64. Those that have a sum have theirs set, and others may.
-    bits: Vec<u64>,
 }
 
 impl Model for Sums {
-    ghost use Rattle.std.specs.Prelude.{ℕ, List, Option, ◌≤◌, ◌*◌, length, vec_capacity};
-    ghost use Rattle.row_product.specs.inner.Held.{AreListed, AreMarked};
+    ghost use Rattle.std.specs.Prelude.{ℕ, List, Option, ◌≤◌, vec_capacity};
+    ghost use Rattle.row_product.specs.inner.Held.{AreListed};
 
     ghost Value = { List (Option ℕ) };
 
     ghost view = { λ s. s.held };
 
-    ghost invariant = { λ s. (s.most ≤ vec_capacity s.touched) × AreListed s.most s.held s.touched.items
-        × (length s.held ≤ 64 * length s.bits.items) × AreMarked s.bits.items s.held };
+    ghost invariant = { λ s. (s.most ≤ vec_capacity s.touched) × AreListed s.most s.held s.touched.items };
 }
 
 impl Sums {
@@ -49,47 +45,40 @@ impl Sums {
             held: Held::new(alloc),
             touched: Vec::new(alloc),
             most: 0,
-            bits: Vec::new(alloc),
         }
     }
 
-    /// How many columns there are.
-    pub(crate) fn len(&self) -> usize
-        ensures { result ≡ length self.now }
+    /// For how many columns there is room.
+    pub(crate) fn room(&self) -> usize
+        ensures { length self.now ≤ result }
     {
-        self.held.len()
+        self.held.room()
     }
 
-    /// Room for so many columns, at least.
+    /// Room for so many columns, none of which has a sum.
     pub(crate) fn widen(&mut self, columns: u64) -> Result<(), AllocError>
         ensures { OnOk result (columns ≤ length self.new) }
     {
+        self.begin();
         self.most = 0;
-        self.touched.clear();
-        self.touched.reserve((columns / COLUMNS_A_SUM) as usize)?;
-        let words = (columns / 64) as usize + 1;
-        if words > self.bits.len() {
-            self.bits.resize(words, 0)?;
-        }
-        let widened = self.held.widen(columns as usize);
-        self.held.forget();
-        widened
+        let most = (columns / COLUMNS_A_SUM) as usize;
+        self.touched.reserve(most)?;
+        self.held.widen(columns)?;
+        self.most = most;
+        Ok(())
     }
 
-    /// Begins a row of so many columns, with no sum.
-    pub(crate) fn begin(&mut self, columns: u64)
+    /// Begins a row, with no sum.
+    pub(crate) fn begin(&mut self)
         ensures none { (j : ℕ) → slot self.new j ≡ None }
         ensures long { length self.new ≡ length self.old }
     {
-        self.held.forget();
-        if self.touched.len() >= self.most {
-            clear_bits(columns, &mut self.bits);
+        if self.touched.len() < self.most {
+            self.held.forget_listed(&self.touched);
+        } else {
+            self.held.forget();
         }
         self.touched.clear();
-        self.most = self
-            .touched
-            .capacity()
-            .min((columns / COLUMNS_A_SUM) as usize);
     }
 
     /// The sum of a column, if there is one.
@@ -108,20 +97,19 @@ impl Sums {
         ensures { self.new ≡ set self.old column (Some sum) }
     {
         self.held.put(column, sum);
-        set_bit(&mut self.bits, column);
         if self.touched.len() < self.most {
             self.touched.push_reserved(column);
         }
     }
 
-    /// Gives a column that has a sum another.
+    /// Gives a column a sum, whether it has one or not.
     #[inline(always)]
     pub(crate) fn put(&mut self, column: u64, sum: u64)
         requires { column < length self.old }
         ensures { self.new ≡ set self.old column (Some sum) }
     {
         match self.held.get(column) {
-            Some(_) => self.held.put(column, sum),
+            Some(_) => self.held.replace(column, sum),
             None => self.begin_sum(column, sum),
         }
     }
@@ -134,10 +122,10 @@ impl Sums {
         ensures sum { self.new ≡ set self.old column (Some (added add.now (slot self.old column) term)) }
         ensures steps { result ≡ steps_of (added_calls add.now (slot self.old column) term) }
     {
-        match self.get(column) {
+        match self.held.get(column) {
             Some(so_far) => {
                 let sum = call_by::<F>(add, so_far, term);
-                self.put(column, sum.value);
+                self.held.replace(column, sum.value);
                 sum.steps
             }
             None => {
@@ -158,6 +146,6 @@ impl Sums {
             self.touched.sort_unstable();
             return emit_listed(columns, &self.touched, &self.held, rows);
         }
-        emit_marked(columns, &self.bits, &self.held, rows)
+        emit_marked(columns, self.held.bits(), &self.held, rows)
     }
 }

@@ -1,58 +1,43 @@
-use Rattle.std.proofs.Common.{◌≡◌, length, ap, arith}
-use Rattle.row_product.specs.inner.Held.{marked}
-use Rattle.row_product.proofs.Turns.{length_marked}
+use Rattle.std.proofs.Common.{ap, ◌∙◌, arith}
+use Rattle.row_product.specs.inner.Sums.{slot}
+use Rattle.row_product.proofs.Flags.{length_words, words_none, clear_from_none, clear_lengthened}
 use Rattle.row_product.proofs.held.Held.widen.Goals as goal
 
-pub returns-in_ok-resize-2-clause-wide : goal.returns-in_ok-resize-2-clause-wide
-returns-in_ok-resize-2-clause-wide c =
-    let i = c.self.inside in
-    let marks = c.resize-then-columns-len.new.self in
-    let words = c.resize.new.self in
-    let o = marks.ok.0 in
-    let p = words.ok.0 in
-    let a = c.in_ok-resize-2.ensures.len in
-    let b = c.in_ok-resize.ensures.len in
-    let m = c.max.ensures in
-    let l : length (marked i.turn marks.items words.items) ≡ length marks.items =
-    length_marked i.turn marks.items words.items (omega (arith, o, p, a, b, m)) in
-    omega (arith, l, o, a)
+pub invariant_of-self : goal.invariant_of-self
+invariant_of-self c =
+    let i = c.self.inside in (
+      omega arith,
+      omega arith,
+      clear_lengthened i.bits.items c.lengthen.new.words.items 0 (clear_from_none i.bits.items i.words.items i.columns c.self.invariant.2
+          (λ j. ap (λ us. slot us j) c.self.view_is ∙ c.requires.none j)) c.lengthen.ensures.same,
+    )
 
-pub returns-else-columns-len-clause-wide : goal.returns-else-columns-len-clause-wide
-returns-else-columns-len-clause-wide c =
-    let i = c.self.inside in
-    let l = length_marked i.turn i.marks.items i.words.items c.self.invariant.1 in
-    let v : length (marked i.turn i.marks.items i.words.items) ≡ length c.args.self.now = ap length c.self.view_is in
-    let e = c.len.ensures in
-    let t = c.if-columns-len.false in
-    omega (arith, l, v, e, t)
+pub invariant_of-self-in_err-lengthen-2 : goal.invariant_of-self-in_err-lengthen-2
+invariant_of-self-in_err-lengthen-2 c =
+    let i = c.self.inside in (
+      omega arith,
+      omega arith,
+      clear_lengthened i.bits.items c.lengthen.new.words.items 0 (clear_from_none i.bits.items i.words.items i.columns c.self.invariant.2
+          (λ j. ap (λ us. slot us j) c.self.view_is ∙ c.requires.none j)) c.lengthen.ensures.same,
+    )
 
-pub returns-in_ok-resize-2-clause-no_wider : goal.returns-in_ok-resize-2-clause-no_wider
-returns-in_ok-resize-2-clause-no_wider c =
+pub invariant_of-self-2 : goal.invariant_of-self-2
+invariant_of-self-2 c =
     let i = c.self.inside in
-    let marks = c.resize-then-columns-len.new.self in
-    let words = c.resize.new.self in
-    let o = marks.ok.0 in
-    let p = words.ok.0 in
-    let a = c.in_ok-resize-2.ensures.len in
-    let b = c.in_ok-resize.ensures.len in
-    let m = c.max.ensures in
-    let l : length (marked i.turn marks.items words.items) ≡ length marks.items =
-    length_marked i.turn marks.items words.items (omega (arith, o, p, a, b, m)) in
-    omega (arith, l, o, a)
+    let b = c.in_ok-lengthen.ensures.long in (
+      c.in_ok-lengthen-2.ensures.long,
+      omega (arith, b),
+      λ j a.
+          clear_lengthened i.bits.items c.lengthen.new.words.items 0 (clear_from_none i.bits.items i.words.items i.columns
+          c.self.invariant.2 (λ k. ap (λ us. slot us k) c.self.view_is ∙ c.requires.none k)) c.lengthen.ensures.same j (omega arith),
+    )
 
-pub returns-in_err-resize-2-clause-no_wider : goal.returns-in_err-resize-2-clause-no_wider
-returns-in_err-resize-2-clause-no_wider c =
+pub returns-clause-wide : goal.returns-clause-wide
+returns-clause-wide c = length_words c.lengthen.new.words.items c.lengthen-2.new.words.items 0 c.args.columns
+
+pub returns-clause-none : goal.returns-clause-none
+returns-clause-none c =
     let i = c.self.inside in
-    let marks = c.resize-then-columns-len.new.self in
-    let words = c.resize.new.self in
-    let b = c.in_ok-resize.ensures.len in
-    let m = c.max.ensures in
-    let w = c.self.invariant.1 in
-    let p = words.ok.0 in
-    let y = c.len-then-columns-len.ensures in
-    let q = ap length c.in_err-resize-2.ensures.items in
-    let n : length (marked i.turn i.marks.items i.words.items) ≡ length i.marks.items = length_marked i.turn i.marks.items i.words.items w in
-    let v : length (marked i.turn i.marks.items i.words.items) ≡ length c.args.self.now = ap length c.self.view_is in
-    let l : length (marked i.turn marks.items words.items) ≡ length marks.items =
-    length_marked i.turn marks.items words.items (omega (arith, p, b, m, w, y, q)) in
-    omega (arith, l, q, n, v)
+    words_none c.lengthen.new.words.items c.lengthen-2.new.words.items c.args.columns
+    (clear_lengthened i.bits.items c.lengthen.new.words.items 0 (clear_from_none i.bits.items i.words.items i.columns c.self.invariant.2
+    (λ j. ap (λ us. slot us j) c.self.view_is ∙ c.requires.none j)) c.lengthen.ensures.same)

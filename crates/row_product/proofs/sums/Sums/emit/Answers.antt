@@ -25,6 +25,4 @@ invariant_of-self c =
       λ l j v e.
           Contains-permutation c.self.inside.touched.items c.sort_unstable.new.self.items j c.sort_unstable.ensures.permutation
           (c.self.invariant.1 (omega (arith, l, p)) j v e),
-      c.self.invariant.2,
-      c.self.invariant.3,
     )
