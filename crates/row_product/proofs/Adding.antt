@@ -19,12 +19,12 @@ use Rattle.row_product.specs.inner.Sums.{slot, seen, after, extra}
 abbrev pub extras : Accepted → Accepted → ℕ → ℕ → (ℕ → Bool) → List (Option ℕ) → List Cell → List Call
 extras add mul x n t sums row = along (λ j. extra add mul x (slot sums j) (seen (t j) (at row j))) 0 n
 
-pub record Adding (add mul : Accepted) (x n : ℕ) (t : ℕ
-    → Bool) (first : List (Option ℕ)) (row : List Cell) (sums : List (Option ℕ)) (rest : List Cell) (steps : ℕ) : Type 0 where
+pub record Adding (add mul : Accepted) (x n : ℕ) (t : ℕ → Bool) (first : List (Option ℕ)) (row : List Cell)
+    (sums : List (Option ℕ)) (rest : List Cell) (steps : ℕ) : Type 0 where
   pub ascends : Ascends 0 n rest
   pub len : length sums ≡ length first
-  pub slots : (j : ℕ) → after add mul x (slot sums j) (seen (t j) (at rest j)) ≡ after add mul x (slot first j) (seen (t j) (at row
-      j))
+  pub slots : (j : ℕ)
+      → after add mul x (slot sums j) (seen (t j) (at rest j)) ≡ after add mul x (slot first j) (seen (t j) (at row j))
   pub counted : steps + steps_of (extras add mul x n t sums rest) ≡ steps_of (extras add mul x n t first row)
 
 pub adding_start : (add mul : Accepted) (x n : ℕ) (t : ℕ → Bool) (first : List (Option ℕ)) (row : List Cell) → Ascends 0 n row

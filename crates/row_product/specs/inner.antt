@@ -1,4 +1,5 @@
--- What serves this crate's own modules: contracts between them, invariants and proofs. No public contract reaches it.
+-- What serves this crate's own modules: contracts between them, invariants and proofs. A public contract reaches `columns_in` and
+-- `stands` of Progress alone: the view of a scratch names them, and no contract of another crate unfolds it.
 pub mod Adding
 pub mod Beside
 pub mod Column
