@@ -23,7 +23,8 @@ pub mod Blocks
 pub mod Keeping
 pub mod InRuns
 pub mod Copied
-pub mod Column
+pub mod InColumn
+pub mod ByBits
 pub mod BlankEnds
 pub mod Alike
 pub mod Reading

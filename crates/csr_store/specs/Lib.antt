@@ -11,4 +11,5 @@ pub mod Added
 pub mod Valued
 pub mod Copied
 pub mod Reading
+pub mod Column
 pub mod inner

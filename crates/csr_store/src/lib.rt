@@ -8,9 +8,10 @@
 //! and that the starts of the rows are lent. [`Rows`] is a run of rows, a `Run` of `specs/Run.antt`.
 //! [`stack_runs`] makes a matrix of runs of 256 rows, whose cells stay where they are, and whose starts are
 //! another matrix's where they are the same; and [`join_rows`] one of any runs that follow one another, by
-//! copying. [`RowReader`] reads rows one after the other, and [`RowCopy`] copies rows of a matrix with other
-//! values. What callers need to know of grids is proved in `proofs/Laws.antt` (single entries),
-//! `proofs/ByRow.antt` (a grid row by row) and `proofs/Copying.antt` (a matrix put into a builder, entry by entry).
+//! copying. [`RowReader`] reads rows one after the other, [`RowCopy`] copies rows of a matrix with other
+//! values, and [`Column`] is a copy of a matrix of one column, a word and a bit a row. What callers need to
+//! know of grids is proved in `proofs/Laws.antt` (single entries), `proofs/ByRow.antt` (a grid row by row)
+//! and `proofs/Copying.antt` (a matrix put into a builder, entry by entry).
 //!
 //! Read `specs/Grid.antt` and `specs/Refusal.antt` first, then `error`, `builder`, `matrix`, `rows` and
 //! `stack`; below them `cells` (one list of cells, or many), `starts` (where rows start, in a list that
@@ -21,6 +22,7 @@
 
 pub mod builder;
 mod cells;
+mod column;
 mod ends;
 mod entry_list;
 pub mod error;
@@ -38,6 +40,7 @@ mod stack;
 mod starts;
 
 pub use builder::Builder;
+pub use column::Column;
 pub use entry_list::EntryList;
 pub use error::StoreError;
 pub use join::join_rows;

@@ -6,7 +6,7 @@ use Rattle.csr_store.specs.inner.ByRows.{AreStarts}
 use Rattle.csr_store.specs.inner.Cells.{joined_cells, AreParts}
 use Rattle.csr_store.specs.inner.Column.{first_word}
 use Rattle.csr_store.specs.declared.cells.Cells.{Cells}
-use Rattle.csr_store.proofs.Column.{word_whole, word_full, in_run, word_in_run, word_in_full_run}
+use Rattle.csr_store.proofs.InColumn.{word_whole, word_full, in_run, word_in_run, word_in_full_run}
 use Rattle.csr_store.proofs.matrix.Matrix.word_in_column.Goals as goal
 
 abbrev grid_by : ℕ → ℕ → List ℕ → Cells → Grid

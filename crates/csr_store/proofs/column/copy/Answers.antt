@@ -1,0 +1,53 @@
+use Rattle.std.proofs.Common.{◌+◌, ◌&&◌, List, ℕ, refl, sym, ◌∙◌, arith, subst}
+use Rattle.csr_store.proofs.ByBits.{Copying, copying_starts, copying_step, copying_ends}
+use Rattle.csr_store.proofs.column.copy.Goals as goal
+
+pub loop-k-init : goal.loop-k-init
+loop-k-init c = record {
+  copying = copying_starts c.args.column.now c.args.words.now.items c.args.bits.now.items c.requires.none c.requires.clear;
+  room = c.requires.room;
+  wide = refl;
+}
+
+pub push_reserved-requires : goal.push_reserved-requires
+push_reserved-requires c =
+    let i = c.loop-k.invariant in
+    let n = i.copying.rows in
+    let r = i.room in
+    let t = c.loop-k-test.true in
+    let e = c.rows-k-end.ensures.rows in
+    let o = c.loop-k.words.ok.0 in
+    omega (arith, n, r, t, e, o)
+
+pub set_bit-requires : goal.set_bit-requires
+set_bit-requires c =
+    let w = c.loop-k.invariant.wide in
+    let t = c.loop-k-test.true in
+    let e = c.rows-k-end.ensures.rows in
+    let r = c.requires.wide in
+    omega (arith, w, t, e, r)
+
+pub loop-k-preserved : goal.loop-k-preserved
+loop-k-preserved c =
+    let i = c.loop-k.invariant in
+    let r = i.room in
+    let p = c.push_reserved.ensures.capacity in
+    record {
+      copying = subst (λ (us : List ℕ). Copying c.args.column.now (c.loop-k.k + 1) us c.set_bit.new.bits.items
+          (c.loop-k.full && c.word_in_column-word.result.1)) (sym c.push_reserved.ensures.items)
+          (copying_step c.args.column.now c.loop-k.k c.loop-k.words.items c.loop-k.bits.items c.set_bit.new.bits.items
+          c.word_in_column-word.result.0 c.word_in_column-word.result.1 c.loop-k.full i.copying c.word_in_column-word.ensures
+          c.set_bit.ensures.set c.set_bit.ensures.others);
+      room = omega (arith, r, p);
+      wide = c.set_bit.ensures.wide ∙ i.wide;
+    }
+
+pub returns-clause-copied : goal.returns-clause-copied
+returns-clause-copied c =
+    let k = c.loop-k.auto.k-end in
+    let t = c.loop-k-test.false in
+    let e = c.rows-k-end.ensures.rows in
+    copying_ends c.args.column.now c.loop-k.k c.loop-k.words.items c.loop-k.bits.items c.loop-k.full c.loop-k.invariant.copying (omega (arith, k, t, e))
+
+pub returns-clause-wide : goal.returns-clause-wide
+returns-clause-wide c = c.loop-k.invariant.wide

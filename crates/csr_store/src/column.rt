@@ -1,0 +1,97 @@
+//! A copy of a matrix of one column, which is read by its rows.
+ghost use Rattle.std.specs.Prelude.{◌≡◌, ◌≤◌, ◌<◌, ◌*◌, ℕ, None, Some, length, get_or, IfOk, if◌then◌else◌, vec_capacity};
+ghost use Rattle.csr_store.specs.Column.{column_of};
+ghost use Rattle.csr_store.specs.inner.Column.{bit_of, IsCopied};
+
+use crate::matrix::Matrix;
+use std::alloc::{AllocError, Global};
+use std::marker::Model;
+
+/// The words of a matrix of one column in a list, so that each is found by its row alone: who reads many doesn't wait for where
+/// rows start. It takes 8 bytes and a bit a row. A contract sees the word of each row, if there is one.
+#[derive(Drop)]
+pub struct Column {
+    /// A word for each row: any, where the row has none.
+    words: Vec<u64>,
+    /// A bit for each row, in words of 64: whether it has a word.
+    bits: Vec<u64>,
+    /// Whether each row has a word. Then no bit is read.
+    full: bool,
+}
+
+impl Model for Column {
+    ghost use Rattle.std.specs.Prelude.{ℕ, List, Option, ◌≡◌, ◌≤◌, ◌<◌, ◌*◌, true, length};
+    ghost use Rattle.csr_store.specs.inner.Column.{bit_of, slots, AllHave};
+
+    ghost Value = { List (Option ℕ) };
+
+    ghost view = { λ c. slots c.words.items c.bits.items };
+
+    ghost invariant = { λ c. (length c.words.items ≤ 64 * length c.bits.items)
+        × (c.full ≡ true → AllHave c.bits.items (length c.words.items)) };
+}
+
+impl Column {
+    /// The copy of a matrix of one column. Where all rows of a run have a word, no start is read.
+    ///
+    /// # Errors
+    ///
+    /// There is no memory for it.
+    pub fn of(alloc: Global, column: &Matrix) -> Result<Self, AllocError>
+        requires { column.now.columns ≡ 1 }
+        ensures { IfOk result (λ c. c ≡ column_of column.now) }
+    {
+        let rows = column.rows() as usize;
+        let mut words = Vec::with_capacity(alloc, rows)?;
+        let mut bits = vec![in alloc; 0; rows.div_ceil(64)]?;
+        let full = copy(column, &mut words, &mut bits);
+        Ok(Column { words, bits, full })
+    }
+
+    /// The word at row `k`, and whether there is one. Where there is none it is any word, so that a caller may go on with it before
+    /// the answer is known.
+    #[inline(always)]
+    pub fn word(&self, k: u64) -> (u64, bool)
+        requires { k < length self.now }
+        ensures { get_or self.now k None ≡ (if result.1 then Some result.0 else None) }
+    {
+        let word = self.words[k as usize];
+        if self.full {
+            return (word, true);
+        }
+        let bits = self.bits[(k / 64) as usize];
+        (word, bits >> (k % 64) & 1 == 1)
+    }
+}
+
+/// Lists the words of a column, and sets the bits of the rows that have one, where no bit is set. Answers whether all have.
+fn copy(column: &Matrix, words: &mut Vec<u64>, bits: &mut Vec<u64>) -> bool
+    requires column { column.now.columns ≡ 1 }
+    requires none { length words.old.items ≡ 0 }
+    requires room { column.now.rows ≤ vec_capacity words.old }
+    requires wide { column.now.rows ≤ 64 * length bits.old.items }
+    requires clear { (k : ℕ) → bit_of bits.old.items k ≡ 0 }
+    ensures copied { IsCopied column.now words.new.items bits.new.items result }
+    ensures wide { length bits.new.items ≡ length bits.old.items }
+{
+    let mut full = true;
+    for k in 0..column.rows() {
+        let (word, stands) = column.word_in_column(k);
+        words.push_reserved(word);
+        set_bit(bits, k, stands);
+        full &= stands;
+    }
+    full
+}
+
+/// Sets the bit of a row, if it has a word.
+#[inline(always)]
+fn set_bit(bits: &mut Vec<u64>, k: u64, stands: bool)
+    requires { k < 64 * length bits.old.items }
+    ensures set { bit_of bits.new.items k ≡ (if stands then 1 else bit_of bits.old.items k) }
+    ensures others { (j : ℕ) → (j ≡ k → ⊥) → bit_of bits.new.items j ≡ bit_of bits.old.items j }
+    ensures wide { length bits.new.items ≡ length bits.old.items }
+{
+    let place = (k / 64) as usize;
+    bits[place] |= u64::from(stands) << (k % 64);
+}
