@@ -1,5 +1,5 @@
 -- A list of entries with one more, for every crate that gathers entries.
-use Rattle.std.proofs.Common.{◌≡◌, ℕ, true, false, cond, List, [], ◌∷◌, ◌++◌, None, Some, refl, sym, ap, ◌∙◌}
+use Rattle.std.proofs.Common.{◌≡◌, ℕ, true, false, cond, List, [], ◌∷◌, ◌++◌, None, Some, refl, sym, ap, ◌∙◌, subst, append_assoc, append-nil}
 use Rattle.std.specs.List.{AllByRecursion, IsDistinct}
 use Rattle.std.specs.Map.{keys_of}
 use Rattle.std.specs.Ordering.{eq_by_cmp, is_eq}
@@ -66,3 +66,25 @@ module _ (es : List Entry) (p : Position) (v : ℕ) (once : NoneTwice (es ++ (p,
   -- and it is put into their map
   pub map_with_entry : from_entries {R = pos_cmp} (es ++ (p, v) ∷ []) ≡ insert (from_entries es) p v
   map_with_entry = insert_last p v es before.1
+
+-- entries that stand before others have none twice either
+pub once_front : (xs ys : List Entry) → NoneTwice (xs ++ ys) → NoneTwice xs
+once_front xs [] h = subst (λ (es : List Entry). NoneTwice es) (append-nil xs) h
+once_front xs (y ∷ ys) h = once_others xs y.0 y.1 (once_front (xs ++ y ∷ []) ys (subst (λ (es : List Entry). NoneTwice es) (sym (append_assoc xs (y ∷ []) ys)) h))
+
+apart_push : (q p : Position) (v : ℕ) (es : List Entry) → AllByRecursion (λ r. eq_by_cmp pos_cmp q r ≡ false) (keys_of es) → eq_by_cmp pos_cmp q p ≡ false → AllByRecursion (λ r. eq_by_cmp pos_cmp q r ≡ false) (keys_of (es ++ (p, v) ∷ []))
+apart_push q p v [] h e = (e, tt)
+apart_push q p v (x ∷ es) h e = (h.0, apart_push q p v es h.1 e)
+
+once_push : (p : Position) (v : ℕ) (es : List Entry) → NoneTwice es → find pos_cmp p es ≡ None → NoneTwice (es ++ (p, v) ∷ [])
+unfolding IsDistinct
+once_push p v [] h n = (tt, tt)
+once_push p v (e ∷ es) h n =
+    elim (is_eq (pos_cmp p e.0)) as (λ b. eq_by_cmp pos_cmp p e.0 ≡ b → cond b (Some e.1) (find pos_cmp p es) ≡ None → NoneTwice ((e ∷ es) ++ (p, v) ∷ [])) [
+      | true ↦ λ t k. absurd (cc)
+      | false ↦ λ t k. (apart_push e.0 p v es h.0 (flips e.0 p ∙ t), once_push p v es h.1 k)
+    ] refl n
+
+-- nor have they with an entry at a position that none of them has
+pub once_more : (es : List Entry) (p : Position) (v : ℕ) → NoneTwice es → get (from_entries {R = pos_cmp} es) p ≡ None → NoneTwice (es ++ (p, v) ∷ [])
+once_more es p v h n = once_push p v es h (sym (get-from_entries pos_total es p) ∙ n)

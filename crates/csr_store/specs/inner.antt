@@ -5,6 +5,7 @@ pub mod Grid
 pub mod Kept
 pub mod Merged
 pub mod Packed
+pub mod Repeated
 pub mod Run
 pub mod Cells
 pub mod Copied

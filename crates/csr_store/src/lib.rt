@@ -15,9 +15,10 @@
 //!
 //! Read `specs/Grid.antt` and `specs/Refusal.antt` first, then `error`, `builder`, `matrix`, `rows` and
 //! `stack`; below them `cells` (one list of cells, or many), `starts` (where rows start, in a list that
-//! matrices may share), `growing` (where rows start while runs are stacked), `ends` (where the rows of a run end), `filler` (rows filled
-//! in ascending order), `merge` (two lists of entries as one matrix), `kept` (cells of which some are kept), `reader` (rows one after the
-//! other) and `row` (parts of a list of cells, and searches in a row), over `specs/ByRows.antt`.
+//! matrices may share), `growing` (where rows start while runs are stacked), `ends` (where the rows of a run
+//! end), `filler` (rows filled in ascending order), `merge` (two lists of entries as one matrix), `repeat` (the
+//! first entry that has the position of an earlier one), `kept` (cells of which some are kept), `reader` (rows
+//! one after the other) and `row` (parts of a list of cells, and searches in a row), over `specs/ByRows.antt`.
 #![tactic(auto)]
 
 pub mod builder;
@@ -33,6 +34,7 @@ mod kept;
 pub mod matrix;
 mod merge;
 mod reader;
+mod repeat;
 mod row;
 mod row_copy;
 mod rows;
