@@ -91,6 +91,7 @@ fn compute_rows(alloc: Global, scratch: &mut Scratch, job: &Job, range: Range<u6
                 mul,
                 a: left,
                 b: right,
+                column: None,
             };
             product_rows(alloc, row, &factors, region)
         }

@@ -1,6 +1,6 @@
 //! The factors of a product.
 use bpf_run::Prepared;
-use csr_store::Matrix;
+use csr_store::{Column, Matrix};
 
 /// The operators and the matrices of a product.
 #[derive(Clone, Copy)]
@@ -9,6 +9,8 @@ pub struct Factors<'m> {
     pub mul: &'m Prepared,
     pub a: &'m Matrix,
     pub b: &'m Matrix,
+    /// A copy of B, if there is one. It is made only of a B of one column.
+    pub column: Option<&'m Column>,
 }
 
 /// The factors of a product, with its mask if there is one.
@@ -18,5 +20,6 @@ pub(crate) struct MaskedFactors<'m> {
     pub(crate) mul: &'m Prepared,
     pub(crate) a: &'m Matrix,
     pub(crate) b: &'m Matrix,
+    pub(crate) column: Option<&'m Column>,
     pub(crate) mask: Option<&'m Matrix>,
 }

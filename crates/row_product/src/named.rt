@@ -1,21 +1,38 @@
 //! Words of a column that the cells of a row of A name, each multiplied: the terms of a row of a product of one column.
-ghost use Rattle.std.specs.Prelude.{◌≡◌, ◌≤◌, ◌<◌, ◌++◌, ◌∷◌, [], length, vec_capacity, if◌then◌else◌};
+ghost use Rattle.std.specs.Prelude.{◌≡◌, ◌≤◌, ◌<◌, ◌++◌, ◌∷◌, [], None, Some, length, vec_capacity, if◌then◌else◌};
+ghost use Rattle.std.specs.FinMap as fin;
 ghost use Rattle.bpf_insn.specs.declared.operands.Kind.TheVariants as kinds;
 ghost use Rattle.bpf_insn.specs.declared.operands.Operands.TheVariants.{Binary};
 ghost use Rattle.bpf_verify.specs.Accepted.{Accepted};
 ghost use Rattle.bpf_run.specs.Fold.{terms_of};
 ghost use Rattle.bpf_run.specs.Known.{Computes};
+ghost use Rattle.csr_store.specs.Column.{IsCopyOf};
 ghost use Rattle.row_product.specs.inner.Column.{AreNamed, AreGathered, MayMultiply, AreMultiplied, HasRoom};
 
 use bpf_insn::Kind;
 use bpf_run::{Calls, Function, Loop, Outcome, Prepared, call_by};
-use csr_store::Matrix;
+use csr_store::{Column, Matrix};
 
-/// Up to 64 cells of a row of A, and the column whose words they name.
+/// Up to 64 cells of a row of A, and the column whose words they name, with its copy if there is one.
 #[derive(Drop)]
 pub(crate) struct Named<'c> {
     pub(crate) cells: &'c [(u64, u64)],
     pub(crate) b: &'c Matrix,
+    pub(crate) column: Option<&'c Column>,
+}
+
+/// The word at row `k` of a column, and whether there is one: by its copy, if there is one. Where there is no word it is any.
+#[inline(always)]
+fn word_at(b: &Matrix, column: Option<&Column>, k: u64) -> (u64, bool)
+    requires column { b.now.columns ≡ 1 }
+    requires copy { IsCopyOf b.now column }
+    requires row { k < b.now.rows }
+    ensures { fin.get b.now.cells (k, 0) ≡ (if result.1 then Some result.0 else None) }
+{
+    match column {
+        Some(column) => column.word(k),
+        None => b.word_in_column(k),
+    }
 }
 
 /// Lists the terms of cells, each at column 0, by an operator that computes a function. Answers the steps. A term is listed before it
@@ -25,10 +42,12 @@ fn multiply<F: Function>(
     mul: &Prepared,
     cells: &[(u64, u64)],
     b: &Matrix,
+    column: Option<&Column>,
     terms: &mut Vec<(u64, u64)>,
 ) -> u64
     requires computes { Computes mul.now F.meaning F.price }
     requires may { MayMultiply mul.now b.now cells.now }
+    requires copy { IsCopyOf b.now column }
     requires room { HasRoom terms.old }
     ensures multiplied { AreMultiplied mul.now b.now cells.now terms.new.items result }
     ensures room { HasRoom terms.new }
@@ -36,7 +55,7 @@ fn multiply<F: Function>(
     terms.clear();
     let mut steps = 0;
     for (k, x) in cells {
-        let (word, stands) = b.word_in_column(*k);
+        let (word, stands) = word_at(b, column, *k);
         steps += list_if(terms, call_by::<F>(mul, *x, word), stands);
     }
     steps
@@ -62,26 +81,27 @@ fn list_if(terms: &mut Vec<(u64, u64)>, called: Outcome, stands: bool) -> u64
 impl<'c> Loop for Named<'c> {
     type State = Vec<(u64, u64)>;
 
-    ghost may_run = { λ n mul terms. MayMultiply mul n.b.now n.cells.now × HasRoom terms };
+    ghost may_run = { λ n mul terms. MayMultiply mul n.b.now n.cells.now × IsCopyOf n.b.now n.column × HasRoom terms };
 
     ghost gives = { λ n mul old terms steps. AreMultiplied mul n.b.now n.cells.now terms.items steps × HasRoom terms };
 
     #[inline(never)]
     fn run<F: Function>(&self, mul: &Prepared, terms: &mut Vec<(u64, u64)>) -> u64 {
-        multiply::<F>(mul, self.cells, self.b, terms)
+        multiply::<F>(mul, self.cells, self.b, self.column, terms)
     }
 }
 
 /// Gathers the words of cells with those of B that they meet, in place of what was gathered.
-pub(crate) fn gather(cells: &[(u64, u64)], b: &Matrix, calls: &mut Calls)
+pub(crate) fn gather(cells: &[(u64, u64)], b: &Matrix, column: Option<&Column>, calls: &mut Calls)
     requires named { AreNamed b.now cells.now }
+    requires copy { IsCopyOf b.now column }
     requires few { length cells.now ≤ 64 }
     ensures kind { calls.new.kind ≡ kinds.Binary }
     ensures gathered { (mul : Accepted) → AreGathered mul b.now cells.now calls.new.operands }
 {
     calls.begin(Kind::Binary);
     for (k, x) in cells {
-        let (word, stands) = b.word_in_column(*k);
+        let (word, stands) = word_at(b, column, *k);
         gather_if(calls, *x, word, stands);
     }
 }

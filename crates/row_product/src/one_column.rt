@@ -4,6 +4,7 @@ ghost use Rattle.bpf_insn.specs.declared.operands.Kind.TheVariants as kinds;
 ghost use Rattle.bpf_run.specs.Calls.{steps_of};
 ghost use Rattle.bpf_run.specs.Fold.{terms_of, fold_from, fold_calls_from};
 ghost use Rattle.csr_store.specs.Along.{cell_at};
+ghost use Rattle.csr_store.specs.Column.{IsCopyOf};
 ghost use Rattle.csr_store.specs.Grid.{limit};
 ghost use Rattle.csr_store.specs.Mask.{mask_of, passes};
 ghost use Rattle.row_product.specs.inner.Column.{AreNamed, MayMultiply, AreMultiplied, AddsListed, IsSummed, HasRoom};
@@ -14,7 +15,7 @@ use crate::factors::MaskedFactors;
 use crate::named::{Named, gather, list_terms};
 use crate::room::Room;
 use bpf_run::{Calls, MOST_CALLS, Outcome, Prepared, fold, run_known};
-use csr_store::{Matrix, Rows};
+use csr_store::{Column, Matrix, Rows};
 use job_forms::Making;
 use std::alloc::{AllocError, Global};
 
@@ -92,17 +93,24 @@ impl Summing {
     }
 
     /// Lists the terms of up to 64 cells of a row of A. Answers the steps.
-    fn multiply(&mut self, mul: &Prepared, cells: &[(u64, u64)], b: &Matrix) -> u64
+    fn multiply(
+        &mut self,
+        mul: &Prepared,
+        cells: &[(u64, u64)],
+        b: &Matrix,
+        column: Option<&Column>,
+    ) -> u64
         requires mul { mul.now.kind ≡ kinds.Binary }
         requires may { MayMultiply mul.now b.now cells.now }
+        requires copy { IsCopyOf b.now column }
         requires room { HasRoom self.old.terms }
         ensures multiplied { AreMultiplied mul.now b.now cells.now self.new.terms.items result }
         ensures room { HasRoom self.new.terms }
     {
-        if let Some(steps) = run_known(&Named { cells, b }, mul, &mut self.terms) {
+        if let Some(steps) = run_known(&Named { cells, b, column }, mul, &mut self.terms) {
             return steps;
         }
-        gather(cells, b, &mut self.calls);
+        gather(cells, b, column, &mut self.calls);
         let steps = self.calls.make(mul);
         list_terms(self.calls.values(), &mut self.terms);
         steps
@@ -124,7 +132,7 @@ impl Summing {
         let mut cells = row;
         while !cells.is_empty() {
             let (now, rest) = cells.split_at(cells.len().min(MOST_CALLS));
-            let multiplied = self.multiply(factors.mul, now, factors.b);
+            let multiplied = self.multiply(factors.mul, now, factors.b, factors.column);
             steps += multiplied + add_terms(factors.add, &self.terms, &mut sum);
             cells = rest;
         }

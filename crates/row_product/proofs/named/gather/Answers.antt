@@ -5,7 +5,7 @@ use Rattle.row_product.proofs.named.gather.Goals as goal
 pub loop-k-preserved : goal.loop-k-preserved
 loop-k-preserved c =
     let now = c.loop-k.invariant in
-    let found = c.word_in_column-word in
+    let found = c.word_at-word in
     let few = now.few in
     let more = gathered_few c.loop-k.calls.operands c.gather_if.new.calls.operands _ found.result.1 c.gather_if.ensures.gathered in
     record {
