@@ -1,35 +1,47 @@
 -- The entries of rows that are called one after another: what comes behind some of them.
-use Rattle.std.proofs.Common.{◌≡◌, ◌≤◌, ◌<◌, ◌+◌, ◌-◌, ℕ, List, [], ◌++◌, refl, sym, ap, ◌∙◌, arith, append_assoc}
+use Rattle.std.proofs.Common.{◌≡◌, ◌≤◌, ◌<◌, ◌+◌, ◌-◌, ℕ, List, [], ◌++◌, refl, sym, ap, ◌∙◌, append_assoc}
 use Rattle.csr_store.specs.Grid.{Grid, row_of}
 use Rattle.csr_store.specs.Run.{Row}
 use Rattle.csr_store.proofs.Along.{along-next, along-over}
 use Rattle.bpf_insn.specs.declared.operands.Operands.{Operands}
 use Rattle.bpf_run.specs.Calls.{entries_of}
-use Rattle.entry_ops.specs.inner.Coming.{entries_along, coming}
+use Rattle.csr_store.specs.Reading.{Reading}
+use Rattle.entry_ops.specs.inner.Coming.{entries_along, entries_up_to, coming}
 use Rattle.entry_ops.proofs.Mapped.{entries_of-append}
 
-module _ (a : Grid) (thunk end : ℕ) where
-  -- a row that isn't begun
-  pub coming-from : (i : ℕ) → i < end → coming a thunk i end (row_of a i) ≡ entries_along a thunk i (end - i)
-  coming-from i l = sym (along-next (λ k. entries_of k thunk (row_of a k)) i end l)
+-- the next row is read
+pub read-next : (end thunk : ℕ) (old new : Reading) (row : Row) → old.row < end → row ≡ row_of old.grid old.row → new ≡ record old { row = old.row + 1 }
+    → entries_up_to end thunk old ≡ entries_of old.row thunk row ++ entries_up_to end thunk new
+read-next end thunk old new row l e n =
+    along-next (λ k. entries_of k thunk (row_of old.grid k)) old.row end l
+    ∙ (ap (λ r. entries_of old.row thunk r ++ entries_along old.grid thunk (old.row + 1) (end - (old.row + 1))) (sym e)
+    ∙ ap (λ (q : Reading). entries_of old.row thunk row ++ entries_up_to end thunk q) (sym n))
 
-  pub coming-none : (i : ℕ) (left : Row) → end ≤ i → left ≡ [] → coming a thunk i end left ≡ []
-  coming-none i left l e = ap (coming a thunk i end) e ∙ along-over (λ k. entries_of k thunk (row_of a k)) (i + 1) end (omega arith)
+module _ (a : Grid) (thunk end : ℕ) where
+  along-read : (next : ℕ) (row : Row) → next < end → row ≡ row_of a next
+      → entries_along a thunk next (end - next) ≡ entries_of next thunk row ++ entries_along a thunk (next + 1) (end - (next + 1))
+  along-read next row l e =
+      along-next (λ k. entries_of k thunk (row_of a k)) next end l
+      ∙ ap (λ r. entries_of next thunk r ++ entries_along a thunk (next + 1) (end - (next + 1))) (sym e)
+
+  -- the next row is read
+  pub coming-read : (i next : ℕ) (left row : Row) → next < end → row ≡ row_of a next
+      → coming a thunk i left next end ≡ entries_of i thunk left ++ coming a thunk next row (next + 1) end
+  coming-read i next left row l e = ap (λ os. entries_of i thunk left ++ os) (along-read next row l e)
+
+  -- none is left to be read
+  pub coming-last : (i next : ℕ) (left : Row) → end ≤ next → coming a thunk i left next end ≡ entries_of i thunk left ++ coming a thunk i [] next end
+  coming-last i next left l = refl
+
+  pub coming-over : (i next : ℕ) → end ≤ next → coming a thunk i [] next end ≡ []
+  coming-over i next l = along-over (λ k. entries_of k thunk (row_of a k)) next end l
 
   -- the first cells of a row
-  pub coming-parts : (i : ℕ) (left now later : Row) → left ≡ now ++ later → coming a thunk i end left ≡ entries_of i thunk now ++ coming a thunk i end later
-  coming-parts i left now later e =
-      ap (coming a thunk i end) e
-      ∙ (ap (λ us. us ++ entries_along a thunk (i + 1) (end - (i + 1))) (entries_of-append i thunk now later)
-      ∙ append_assoc (entries_of i thunk now) (entries_of i thunk later) (entries_along a thunk (i + 1) (end - (i + 1))))
-
-  -- all that are left of a row
-  pub coming-next : (i : ℕ) (left : Row) → i + 1 < end → coming a thunk i end left ≡ entries_of i thunk left ++ coming a thunk (i + 1) end (row_of a (i + 1))
-  coming-next i left l = ap (λ us. entries_of i thunk left ++ us) (sym (coming-from (i + 1) l))
-
-  pub coming-last : (i : ℕ) (left : Row) → end ≤ i + 1 → coming a thunk i end left ≡ entries_of i thunk left ++ coming a thunk (i + 1) end []
-  coming-last i left l = ap (λ us. entries_of i thunk left ++ us)
-      (along-over (λ k. entries_of k thunk (row_of a k)) (i + 1) end l ∙ sym (coming-none (i + 1) [] l refl))
+  pub coming-parts : (i next : ℕ) (left now later : Row) → left ≡ now ++ later → coming a thunk i left next end ≡ entries_of i thunk now ++ coming a thunk i later next end
+  coming-parts i next left now later e =
+      ap (λ r. coming a thunk i r next end) e
+      ∙ (ap (λ us. us ++ entries_along a thunk next (end - next)) (entries_of-append i thunk now later)
+      ∙ append_assoc (entries_of i thunk now) (entries_of i thunk later) (entries_along a thunk next (end - next)))
 
 -- more is gathered
 pub gathered-more : (all was now here rest left : List Operands) → all ≡ was ++ rest → now ≡ was ++ here → rest ≡ here ++ left → all ≡ now ++ left
