@@ -1,5 +1,5 @@
--- One entry line more in a list.
-use Rattle.std.proofs.Common.{◌≡◌, ◌≤◌, ◌<◌, ◌+◌, ◌-◌, ◌^◌, ◌%◌, ℕ, List, [], ◌∷◌, ◌++◌, Bool, true, false, ◌||◌, Ok, nat_lt, is_some, length, drop, refl, sym, ap, ◌∙◌, subst, arith, length-drop, append_assoc, append-nil}
+-- Entry lines in a list, and what a text with them has.
+use Rattle.std.proofs.Common.{◌≡◌, ◌≤◌, ◌<◌, ◌+◌, ◌-◌, ◌^◌, ◌%◌, ℕ, zero, suc, List, [], ◌∷◌, ◌++◌, Bool, true, false, ◌||◌, Ok, nat_lt, is_some, length, drop, refl, sym, ap, ◌∙◌, subst, arith, append_assoc, append-nil}
 use Rattle.std.proofs.lemmas.Bool.{le-ltb}
 use Rattle.std.proofs.lemmas.Bool.Decides.{nat_tests}
 use Rattle.std.specs.Str.Lines.{lines}
@@ -7,16 +7,18 @@ use Rattle.std.specs.FinMap as fin
 use Rattle.csr_store.specs.Grid.{Grid, Position, Entry, pos_cmp}
 use Rattle.csr_store.specs.ByRows.{grid}
 use Rattle.csr_store.specs.Listed.{Listed, NoneTwice}
-use Rattle.csr_store.proofs.Listing.{once_others, absent_others, map_with_entry}
+use Rattle.csr_store.proofs.Listing.{once_front, once_others, absent_others, map_with_entry}
 use Rattle.matrix_market.specs.declared.kinds.Banner.{Banner}
 use Rattle.matrix_market.specs.declared.kinds.Size.{Size}
+use Rattle.matrix_market.specs.declared.kinds.Header.{Header}
 use Rattle.matrix_market.specs.declared.kinds.Found.{Found}
+use Rattle.matrix_market.specs.declared.place.Place.{Place}
 use Rattle.matrix_market.specs.declared.usual.UsualLine.{UsualLine}
 use Rattle.matrix_market.specs.Market.{Value, words, is_skipped, entry_words, outside, is_word, word_of}
 use Rattle.matrix_market.specs.inner.Answers.{Passes, entry_answer, entry_checked, spots, put_all, some_given}
-use Rattle.matrix_market.specs.inner.Filling.{Filled}
+use Rattle.matrix_market.specs.inner.Filling.{At, Filled}
 use Rattle.matrix_market.specs.inner.Usual.{IsEntryLine}
-use Rattle.matrix_market.specs.inner.Gathering.{Gathered, Reached, Takes, with_word}
+use Rattle.matrix_market.specs.inner.Gathering.{Adds, Begun, Run, Taken, Takes, nothing, with_word}
 use Rattle.matrix_market.proofs.Puts.{none_before}
 use Rattle.matrix_market.proofs.Reading.{entry_read}
 
@@ -55,21 +57,99 @@ puts es (p ∷ ps) w h =
       cells = ap fin.from_entries split ∙ r.cells ∙ ap (λ (m : fin.FinMap pos_cmp ℕ). put_all m ps w) put;
     }
 
--- ---- one line more
+-- ---- lines in a row
 
-module _ (text : List ℕ) (b : Banner) (s : Size) (old new : Listed) (rest more : List ℕ) (n before m given : ℕ) (line : List ℕ) (f : Found)
-    (h : Gathered text b s old rest n given) (few : given < s.entries) (p : Passes rest n (line ∷ lines more) before) (e : m ≡ before + 1) (k : is_skipped line ≡ false) (l : nat_lt 1024 (length line) ≡ false)
-    (answer : s.rows ≤ 16777216 → s.columns ≤ 16777216 → old.rows ≡ s.rows → old.columns ≡ s.columns → Ok f ≡ entry_answer s (entry_words b.pattern (words line))) (t : Takes old b.symmetric f new) where
-  same_grid : grid new.rows new.columns new.entries ≡ grid old.rows old.columns (old.entries ++ with_word (spots b.symmetric f) f.word)
-  same_grid =
-      ap (λ i. grid i new.columns new.entries) t.rows_same ∙ ap (λ j. grid old.rows j new.entries) t.columns_same ∙ ap (grid old.rows old.columns) t.entries_are
+-- the same lines begin elsewhere
+pub run_same : (b : Banner) (s : Size) (given : ℕ) (start rest : List ℕ) (many : ℕ) (es : List Entry) (end : List ℕ) → lines start ≡ lines rest → Run b s given rest many es end → Run b s given start many es end
+run_same b s zero start rest many es end e r = (e ∙ r.0, r.1, r.2)
+run_same b s (suc given) start rest many es end e r =
+    let x = r.0 in
+    let y : Taken b s start es = record { between = x.between; line = x.line; more = x.more; split = e ∙ x.split; idle = x.idle; content = x.content; short = x.short; found = x.found; answer = x.answer; entries = x.entries; entries_are = x.entries_are } in
+    (y, r.1, r.2, r.3)
 
-  pub gathered_more : Gathered text b s new more m (given + 1)
-  gathered_more once =
-      let q = puts old.entries (spots b.symmetric f) f.word (subst (λ (xs : List Entry). NoneTwice xs) t.entries_are once) in
-      let filled = h q.once in
-      entry_read text rest more b s (grid old.rows old.columns old.entries) (grid new.rows new.columns new.entries) n before m given line f filled few p e k l (answer filled.rows_small filled.columns_small filled.rows_are filled.columns_are) q.free
-      (same_grid ∙ ap (λ (c : fin.FinMap pos_cmp ℕ). let x : Grid = record { rows = old.rows; columns = old.columns; cells = c } in x) q.cells)
+run_by : (b : Banner) (s : Size) (i j : ℕ) (rest : List ℕ) (m n : ℕ) (es fs : List Entry) (end : List ℕ) → i ≡ j → m ≡ n → es ≡ fs → Run b s i rest m es end → Run b s j rest n fs end
+run_by b s i j rest m n es fs end p q e r =
+    subst (λ (xs : List Entry). Run b s j rest n xs end) e (subst (λ (k : ℕ). Run b s j rest k es end) q (subst (λ (k : ℕ). Run b s k rest m es end) p r))
+
+run_append : (b : Banner) (s : Size) (i j : ℕ) (start rest end : List ℕ) (many more : ℕ) (es fs : List Entry) → Run b s i start many es rest → Run b s j rest more fs end → Run b s (i + j) start (many + more) (es ++ fs) end
+run_append b s zero j start rest end many more es fs r q =
+    let n = r.1 in
+    run_by b s j (zero + j) start more (many + more) fs (es ++ fs) end (omega arith) (omega arith) (sym (ap (λ (xs : List Entry). xs ++ fs) r.2)) (run_same b s j start rest more fs end r.0 q)
+run_append b s (suc i) j start rest end many more es fs r q =
+    let x = r.0 in
+    let n = r.2 in
+    let y : Taken b s start (es ++ fs) = record {
+      between = x.between;
+      line = x.line;
+      more = x.more;
+      split = x.split;
+      idle = x.idle;
+      content = x.content;
+      short = x.short;
+      found = x.found;
+      answer = x.answer;
+      entries = x.entries ++ fs;
+      entries_are = ap (λ (xs : List Entry). xs ++ fs) x.entries_are ∙ append_assoc (with_word (spots b.symmetric x.found) x.found.word) x.entries fs;
+    } in
+    run_by b s (suc (i + j)) (suc i + j) start (many + more) (many + more) (es ++ fs) (es ++ fs) end (omega arith) refl refl
+    (y, r.1 + more, (let k : many + more ≡ length x.between + 1 + (r.1 + more) = omega arith in k), run_append b s i j x.more rest end r.1 more x.entries fs r.3 q)
+
+pub adds_none : (h : Header) (l : Listed) (rest : List ℕ) (at : ℕ) → Adds h l l rest at 0 rest at
+adds_none h l rest at = record { entries = []; entries_are = sym (append-nil l.entries); rows_same = refl; columns_same = refl; many = 0; last_is = omega arith; run = (refl, refl, refl) }
+
+pub adds_more : (h : Header) (old mid new : Listed) (start rest end : List ℕ) (first at last i j : ℕ) → Adds h old mid start first i rest at → Adds h mid new rest at j end last → Adds h old new start first (i + j) end last
+adds_more h old mid new start rest end first at last i j a b =
+    let m = a.last_is in let n = b.last_is in
+    record {
+      entries = a.entries ++ b.entries;
+      entries_are = b.entries_are ∙ ap (λ (es : List Entry). es ++ b.entries) a.entries_are ∙ append_assoc old.entries a.entries b.entries;
+      rows_same = b.rows_same ∙ a.rows_same;
+      columns_same = b.columns_same ∙ a.columns_same;
+      many = a.many + b.many;
+      last_is = omega arith;
+      run = run_append h.banner h.size i j start rest end a.many b.many a.entries b.entries a.run b.run;
+    }
+
+-- the same behind a line of another number
+pub adds_at : (h : Header) (old new : Listed) (rest end : List ℕ) (at given last number : ℕ) → Adds h old new rest 0 given end last → number ≡ at + last → Adds h old new rest at given end number
+adds_at h old new rest end at given last number a e =
+    let m = a.last_is in
+    record { entries = a.entries; entries_are = a.entries_are; rows_same = a.rows_same; columns_same = a.columns_same; many = a.many; last_is = omega arith; run = a.run }
+
+-- a run of lines more
+pub adds_run : (h : Header) (old mid new : Listed) (start rest end : List ℕ) (first at number given many next : ℕ) → Adds h old mid start first given rest at → Adds h mid new rest 0 many (drop next rest) many → end ≡ drop next rest → number ≡ at + many
+    → Adds h old new start first (given + many) end number
+adds_run h old mid new start rest end first at number given many next a b e n =
+    adds_more h old mid new start rest end first at number given many a
+    (adds_at h mid new rest end at many many number (subst (λ (xs : List ℕ). Adds h mid new rest 0 many xs many) (sym e) b) n)
+
+-- one line
+pub adds_line : (h : Header) (old new : Listed) (rest more : List ℕ) (at before last : ℕ) (line : List ℕ) (f : Found) → Passes rest at (line ∷ lines more) before → last ≡ before + 1 → is_skipped line ≡ false → nat_lt 1024 (length line) ≡ false
+    → Ok f ≡ entry_answer h.size (entry_words h.banner.pattern (words line)) → Takes old h.banner.symmetric f new → Adds h old new rest at 1 more last
+adds_line h old new rest more at before last line f p e k l a t =
+    let c = p.counts in
+    let x : Taken h.banner h.size rest (with_word (spots h.banner.symmetric f) f.word) = record {
+      between = p.between;
+      line = line;
+      more = more;
+      split = p.split;
+      idle = p.idle;
+      content = k;
+      short = l;
+      found = f;
+      answer = a;
+      entries = [];
+      entries_are = sym (append-nil (with_word (spots h.banner.symmetric f) f.word));
+    } in
+    record {
+      entries = with_word (spots h.banner.symmetric f) f.word;
+      entries_are = t.entries_are;
+      rows_same = t.rows_same;
+      columns_same = t.columns_same;
+      many = length p.between + 1;
+      last_is = omega arith;
+      run = (x, 0, (let q : length p.between + 1 ≡ length p.between + 1 + 0 = omega arith in q), (refl, refl, refl));
+    }
 
 -- ---- a line in its usual form
 
@@ -79,44 +159,71 @@ inside_one i n p l = grind (arith, nat_tests)
 answer_for : (s : Size) (f : Found) (i j : ℕ) (v : Value) → 0 < i → 0 < j → f.row ≡ i - 1 → f.column ≡ j - 1 → f.row < s.rows → f.column < s.columns → is_word v ≡ true → word_of v ≡ f.word → Ok f ≡ entry_checked s i j v
 answer_for s f i j v p q fi fj r c w e = rw (inside_one i s.rows p (omega arith), inside_one j s.columns q (omega arith), w, e, sym fi, sym fj) refl
 
-pub reached_none : (text : List ℕ) (b : Banner) (s : Size) (l : Listed) (rest : List ℕ) (at before : ℕ) → Gathered text b s l rest at before → before ≤ s.entries → Reached text b s l rest at before 0 0
-reached_none text b s l rest at before h m =
-    record {
-      gathered = λ once. subst (λ (n : ℕ). Filled text b s (grid l.rows l.columns l.entries) rest n (before + 0)) (let q : at ≡ at + 0 = omega arith in q)
-          (subst (λ (n : ℕ). Filled text b s (grid l.rows l.columns l.entries) rest at n) (let q : before ≡ before + 0 = omega arith in q) (h once));
-      within = omega arith;
-      fewer = omega arith;
-      most = omega arith;
-    }
-
 -- an index as written, counted from 1, by what is one less in 64 bits
 written : (i k n : ℕ) → i < 2 ^ 64 → k ≡ (i + (2 ^ 64 - 1)) % 2 ^ 64 → k < n → n ≤ 16777216 → (0 < i) × (k ≡ i - 1)
 written i k n b e l m = omega arith
 
-module _ (text : List ℕ) (b : Banner) (s : Size) (old new : Listed) (rest : List ℕ) (at before given next : ℕ) (u : UsualLine) (f : Found)
-    (h : Reached text b s old rest at before given next) (few : before + given < s.entries) (line : IsEntryLine b.pattern (drop next rest) u (drop u.next rest)) (later : next < u.next) (end : u.next ≤ length rest)
-    (t : Takes old b.symmetric f new) (row_fits : u.row < 2 ^ 64) (column_fits : u.column < 2 ^ 64) (row_is : f.row ≡ (u.row + (2 ^ 64 - 1)) % 2 ^ 64) (column_is : f.column ≡ (u.column + (2 ^ 64 - 1)) % 2 ^ 64)
-    (word_is : f.word ≡ u.word) where
-  answer : s.rows ≤ 16777216 → s.columns ≤ 16777216 → old.rows ≡ s.rows → old.columns ≡ s.columns → Ok f ≡ entry_answer s (entry_words b.pattern (words line.line))
-  answer x y r c =
-      let row_in : f.row < s.rows = let a = t.row in omega arith in
-      let column_in : f.column < s.columns = let a = t.column in omega arith in
-      let row = written u.row f.row s.rows row_fits row_is row_in x in
-      let column = written u.column f.column s.columns column_fits column_is column_in y in
-      answer_for s f u.row u.column line.value row.0 column.0 row.1 column.1 row_in column_in line.fits (line.word ∙ sym word_is) ∙ sym (ap (entry_answer s) line.entry)
+pub adds_usual : (h : Header) (old new : Listed) (rest more : List ℕ) (at : ℕ) (u : UsualLine) (f : Found) → h.size.rows ≤ 16777216 → h.size.columns ≤ 16777216 → IsEntryLine h.banner.pattern rest u more → f.row < h.size.rows → f.column < h.size.columns
+    → f.row ≡ (u.row + (2 ^ 64 - 1)) % 2 ^ 64 → f.column ≡ (u.column + (2 ^ 64 - 1)) % 2 ^ 64 → f.word ≡ u.word → Takes old h.banner.symmetric f new → Adds h old new rest at 1 more (at + 1)
+adds_usual h old new rest more at u f rows columns line row_in column_in row_is column_is word_is t =
+    let row = written u.row f.row h.size.rows line.small.0 row_is row_in rows in
+    let column = written u.column f.column h.size.columns line.small.1 column_is column_in columns in
+    let answer : Ok f ≡ entry_answer h.size (entry_words h.banner.pattern (words line.line)) =
+    answer_for h.size f u.row u.column line.value row.0 column.0 row.1 column.1 row_in column_in line.fits (line.word ∙ sym word_is) ∙ sym (ap (entry_answer h.size) line.entry) in
+    adds_line h old new rest more at at (at + 1) line.line f (record { between = []; split = line.first; counts = (let q : at ≡ at + 0 = omega arith in q); idle = tt }) refl line.content (le-ltb 1024 (length line.line) line.short) answer t
 
-  passes : Passes (drop next rest) (at + given) (line.line ∷ lines (drop u.next rest)) (at + given)
-  passes = record { between = []; split = line.first; counts = (let q : at + given ≡ at + given + 0 = omega arith in q); idle = tt }
+-- ---- what a text has
 
-  more : Gathered text b s new (drop u.next rest) (at + given + 1) (before + given + 1)
-  more = gathered_more text b s old new (drop next rest) (drop u.next rest) (at + given) (at + given) (at + given + 1) (before + given) line.line f h.gathered few passes refl line.content (le-ltb 1024 (length line.line) line.short) answer t
+filled_same : (text : List ℕ) (b : Banner) (s : Size) (rest end : List ℕ) (n m i j : ℕ) (es fs : List Entry) → Filled text b s (grid s.rows s.columns es) rest n i → lines rest ≡ lines end → n ≡ m → i ≡ j → es ≡ fs → Filled text b s (grid s.rows s.columns fs) end m j
+filled_same text b s rest end n m i j es fs h e p q k =
+    subst (λ (xs : List Entry). Filled text b s (grid s.rows s.columns xs) end m j) k
+    (subst (λ (x : ℕ). Filled text b s (grid s.rows s.columns es) end m x) q
+    (subst (λ (x : ℕ). Filled text b s (grid s.rows s.columns es) end x i) p
+    (record {
+      size_line = h.size_line;
+      entry_lines = h.entry_lines;
+      here = subst (λ (ls : List (List ℕ)). At (lines text) b (h.size_line ∷ h.entry_lines) ls n) e h.here;
+      size_is = h.size_is;
+      rows_small = h.rows_small;
+      columns_small = h.columns_small;
+      entries_small = h.entries_small;
+      given_is = h.given_is;
+      rows_are = h.rows_are;
+      columns_are = h.columns_are;
+      cells_are = h.cells_are;
+    })))
 
-  pub reached_more : Reached text b s new rest at before (given + 1) u.next
-  reached_more =
-      record {
-        gathered = λ once. subst (λ (n : ℕ). Filled text b s (grid new.rows new.columns new.entries) (drop u.next rest) n (before + (given + 1))) (let q : at + given + 1 ≡ at + (given + 1) = omega arith in q)
-            (subst (λ (n : ℕ). Filled text b s (grid new.rows new.columns new.entries) (drop u.next rest) (at + given + 1) n) (let q : before + given + 1 ≡ before + (given + 1) = omega arith in q) (more once));
-        within = end;
-        fewer = let x = h.fewer in let w = h.within in omega (arith, length-drop next rest, length-drop u.next rest);
-        most = omega arith;
-      }
+-- one entry line more
+pub filled_line : (text : List ℕ) (b : Banner) (s : Size) (before : List Entry) (rest more : List ℕ) (n at m given : ℕ) (line : List ℕ) (f : Found) → Filled text b s (grid s.rows s.columns before) rest n given → given < s.entries
+    → Passes rest n (line ∷ lines more) at → m ≡ at + 1 → is_skipped line ≡ false → nat_lt 1024 (length line) ≡ false → Ok f ≡ entry_answer s (entry_words b.pattern (words line)) → NoneTwice (before ++ with_word (spots b.symmetric f) f.word)
+    → Filled text b s (grid s.rows s.columns (before ++ with_word (spots b.symmetric f) f.word)) more m (given + 1)
+filled_line text b s before rest more n at m given line f h few p e k l a once =
+    let q = puts before (spots b.symmetric f) f.word once in
+    entry_read text rest more b s (grid s.rows s.columns before) (grid s.rows s.columns (before ++ with_word (spots b.symmetric f) f.word)) n at m given line f h few p e k l a q.free
+    (ap (λ (c : fin.FinMap pos_cmp ℕ). let x : Grid = record { rows = s.rows; columns = s.columns; cells = c } in x) q.cells)
+
+filled_run : (text : List ℕ) (b : Banner) (s : Size) (before es : List Entry) (rest end : List ℕ) (n given j many : ℕ) → Filled text b s (grid s.rows s.columns before) rest n given → given + j ≤ s.entries → Run b s j rest many es end → NoneTwice (before ++ es)
+    → Filled text b s (grid s.rows s.columns (before ++ es)) end (n + many) (given + j)
+filled_run text b s before es rest end n given zero many h few r once =
+    let m = r.1 in
+    filled_same text b s rest end n (n + many) given (given + zero) before (before ++ es) h r.0 (omega arith) (omega arith) (sym (append-nil before) ∙ ap (λ (xs : List Entry). before ++ xs) (sym r.2))
+filled_run text b s before es rest end n given (suc j) many h few r once =
+    let x = r.0 in
+    let m = r.2 in
+    let own = with_word (spots b.symmetric x.found) x.found.word in
+    let split : before ++ es ≡ (before ++ own) ++ x.entries = ap (λ (xs : List Entry). before ++ xs) x.entries_are ∙ sym (append_assoc before own x.entries) in
+    let all = subst (λ (xs : List Entry). NoneTwice xs) split once in
+    let p : Passes rest n (x.line ∷ lines x.more) (n + length x.between) = record { between = x.between; split = x.split; counts = refl; idle = x.idle } in
+    let next = filled_line text b s before rest x.more n (n + length x.between) (n + length x.between + 1) given x.line x.found h (omega arith) p refl x.content x.short x.answer (once_front (before ++ own) x.entries all) in
+    let rest_filled = filled_run text b s (before ++ own) x.entries x.more end (n + length x.between + 1) (given + 1) j r.1 next (omega arith) r.3 all in
+    filled_same text b s end end (n + length x.between + 1 + r.1) (n + many) (given + 1 + j) (given + suc j) ((before ++ own) ++ x.entries) (before ++ es) rest_filled refl (omega arith) (omega arith) (sym split)
+
+-- the lines of a list that has none twice break no rule
+pub adds_filled : (text : List ℕ) (h : Header) (start : Place) (l : Listed) (end : List ℕ) (last given : ℕ) → Begun text h start → given ≤ h.size.entries → Adds h (nothing h) l start.rest.now start.at given end last → NoneTwice l.entries
+    → Filled text h.banner h.size (grid l.rows l.columns l.entries) end last given
+adds_filled text h start l end last given begun few a once =
+    let m = a.last_is in
+    let whole = filled_run text h.banner h.size [] a.entries start.rest.now end start.at 0 given a.many begun (omega arith) a.run (subst (λ (xs : List Entry). NoneTwice xs) a.entries_are once) in
+    let there = filled_same text h.banner h.size end end (start.at + a.many) last (0 + given) given a.entries l.entries whole refl (omega arith) (omega arith) (sym a.entries_are) in
+    subst (λ (i : ℕ). Filled text h.banner h.size (grid i l.columns l.entries) end last given) (sym a.rows_same)
+    (subst (λ (i : ℕ). Filled text h.banner h.size (grid h.size.rows i l.entries) end last given) (sym a.columns_same) there)

@@ -12,4 +12,6 @@ pub mod WrittenText
 pub mod Scanning
 pub mod Fields
 pub mod Gathering
+pub mod Repeated
 pub mod Sizes
+pub mod Telling

@@ -1,39 +1,18 @@
--- Putting an entry and its mirror.
-use Rattle.std.proofs.Common.{◌≡◌, ◌≢◌, ◌≤◌, ◌+◌, ℕ, List, [], ◌∷◌, ◌++◌, Bool, true, false, ◌||◌, ◌&&◌, cond, not, nat_eq, Option, Some, None, is_some, length, refl, sym, ap, ◌∙◌, arith, append-nil}
-use Rattle.std.proofs.lemmas.Bool.{ne_eqb}
+-- An entry and its mirror, put into a map.
+use Rattle.std.proofs.Common.{◌≡◌, ℕ, List, [], ◌∷◌, ◌++◌, Bool, true, false, ◌||◌, ◌&&◌, cond, nat_eq, Option, Some, None, is_some, refl, sym, ap, ◌∙◌, arith, append-nil}
 use Rattle.std.proofs.lemmas.Bool.Decides.{nat_tests}
 use Rattle.std.specs.List.{list_any}
 use Rattle.std.specs.Ordering.{eq_by_cmp, nat_cmp, is_eq, ordering_then}
 use Rattle.std.specs.declared.cmp.Ordering.{Ordering}
 use Rattle.std.specs.declared.cmp.Ordering.TheVariants.{Less, Equal, Greater}
 use Rattle.std.specs.FinMap as fin
-use Rattle.std.specs.Option.{unwrap_or}
-use Rattle.std.specs.Prelude.{nat_lt, nat_le}
-use Rattle.csr_store.specs.declared.error.StoreError.{StoreError}
-use Rattle.csr_store.specs.declared.error.StoreError.TheVariants.{IndexOutOfRange, PositionGivenTwice, TooManyEntries, Memory}
-use Rattle.csr_store.specs.Refusal.{put_fault}
-use Rattle.csr_store.proofs.Laws.{put_fault-fits}
-use Rattle.csr_store.specs.Grid.{Grid, Position, pos_cmp, limit}
+use Rattle.csr_store.specs.Grid.{Position, pos_cmp}
 use Rattle.csr_store.proofs.Order.{pos_total}
-use Rattle.matrix_market.specs.Market.{WrittenEntry, is_place, places, mirrored, is_repeated, words_at, word_of, at_most}
+use Rattle.matrix_market.specs.Market.{WrittenEntry, is_place, places, is_repeated, words_at, word_of, at_most}
 use Rattle.matrix_market.specs.inner.Answers.{put_all, some_given}
 
 abbrev Cells : Type 0
 Cells = fin.FinMap pos_cmp ℕ
-
-twice_only : (a b c d : Bool) → unwrap_or (cond (not (a && b)) (Some IndexOutOfRange) (cond c (Some PositionGivenTwice) (cond d (Some TooManyEntries) None))) Memory ≡ PositionGivenTwice → c ≡ true
-twice_only true true true d h = refl
-twice_only true true false true h = absurd (cc)
-twice_only true true false false h = absurd (cc)
-twice_only true false c d h = absurd (cc)
-twice_only false b c d h = absurd (cc)
-
--- what a builder says of a position
-pub given_before : (g : Grid) (p : Position) (e : StoreError) → e ≡ unwrap_or (put_fault g p) Memory → e ≡ PositionGivenTwice → is_some (fin.get g.cells p) ≡ true
-given_before g p e h t = twice_only (nat_lt p.0 g.rows) (nat_lt p.1 g.columns) (fin.contains_key g.cells p) (nat_le limit (fin.len g.cells)) (sym h ∙ t)
-
-pub not_given : (g : Grid) (p : Position) → put_fault g p ≡ None → is_some (fin.get g.cells p) ≡ false
-not_given g p h = ap is_some (put_fault-fits g p h).absent
 
 is_eq-then : (a b : Ordering) → is_eq (ordering_then a b) ≡ (is_eq a && is_eq b)
 is_eq-then Less b = refl
@@ -59,15 +38,6 @@ none_before m p q w h = elim (is_place q p) as (λ t. is_some (cond t (Some w) (
   | false ↦ λ e. e
 ] (sym (ap is_some (get_put m p w q)) ∙ h)
 
-mirror_apart : (r c : ℕ) → r ≢ c → is_place (c, r) (r, c) ≡ false
-mirror_apart r c h = grind (arith, nat_tests)
-
--- a mirror that has something after the first was put had it before
-pub some_before : (m : Cells) (r c w : ℕ) → r ≢ c → is_some (fin.get (fin.insert m (r, c) w) (c, r)) ≡ true → is_some (fin.get m (c, r)) ≡ true
-some_before m r c w h e =
-    let k : fin.get (fin.insert m (r, c) w) (c, r) ≡ fin.get m (c, r) = get_put m (r, c) w (c, r) ∙ ap (λ t. cond t (Some w) (fin.get m (c, r))) (mirror_apart r c h) in
-    sym (ap is_some k) ∙ e
-
 either : (a b w : Bool) (x y : Option ℕ) (n : ℕ) → cond a (Some n) (cond b (Some n) x) ≡ cond (b || a) (Some n) x
 either true true w x y n = refl
 either true false w x y n = refl
@@ -78,16 +48,6 @@ pub get_put_all : (m : Cells) (ps : List Position) (w : ℕ) (q : Position) → 
 get_put_all m [] w q = refl
 get_put_all m (p ∷ ps) w q =
     get_put_all (fin.insert m p w) ps w q ∙ (ap (cond (list_any (is_place q) ps) (Some w)) (get_put m p w q) ∙ either (list_any (is_place q) ps) (is_place q p) true (fin.get m q) None w)
-
-len_put : (m : Cells) (p : Position) (w : ℕ) → fin.len (fin.insert m p w) ≤ fin.len m + 1
-len_put m p w = elim (fin.contains_key m p) as (λ t. fin.len (fin.insert m p w) ≡ cond t (fin.len m) (fin.len m + 1) → fin.len (fin.insert m p w) ≤ fin.len m + 1) [
-  | true ↦ λ e. omega arith
-  | false ↦ λ e. omega arith
-] (fin.len-insert pos_total m p w)
-
-pub len_put_all : (m : Cells) (ps : List Position) (w : ℕ) → fin.len (put_all m ps w) ≤ fin.len m + length ps
-len_put_all m [] w = omega arith
-len_put_all m (p ∷ ps) w = let a = len_put_all (fin.insert m p w) ps w in let b = len_put m p w in omega arith
 
 place_eq : (p q : Position) → is_place p q ≡ true → p ≡ q
 place_eq p q h = let a : p.0 ≡ q.0 = grind (arith, nat_tests) in let b : p.1 ≡ q.1 = grind (arith, nat_tests) in λ i. (a i, b i)
@@ -153,27 +113,3 @@ any_same f g (p ∷ ps) h = ap (λ t. t || list_any f ps) (h p) ∙ ap (λ t. g 
 -- an entry is repeated where one of its places is given
 pub repeated_is : (symmetric : Bool) (es : List WrittenEntry) (e : WrittenEntry) (m : Cells) → ((p : Position) → words_at symmetric es p ≡ at_most (fin.get m p)) → is_repeated symmetric e es ≡ some_given m (places symmetric e)
 repeated_is symmetric es e m h = any_same _ _ (places symmetric e) (λ p. sym (has_words symmetric es p) ∙ (ap has (h p) ∙ has_at_most (fin.get m p)))
-
-mirrored_two : (symmetric : Bool) (r c : ℕ) → symmetric ≡ true → r ≢ c → mirrored symmetric (r, c) ≡ (r, c) ∷ (c, r) ∷ []
-mirrored_two symmetric r c s h = rw (s, ne_eqb r c h) refl
-
-or_none : (a b : Bool) → a ≡ false → b ≡ false → (a || (b || false)) ≡ false
-or_none a b e f = rw (e, f) refl
-
-or_last : (a b : Bool) → b ≡ true → (a || (b || false)) ≡ true
-or_last true b f = refl
-or_last false b f = rw f refl
-
-pub two_put : (g a b : Grid) (symmetric : Bool) (r c w : ℕ) → symmetric ≡ true → r ≢ c → a ≡ record g { cells = fin.insert g.cells (r, c) w } → b ≡ record a { cells = fin.insert a.cells (c, r) w }
-    → is_some (fin.get g.cells (r, c)) ≡ false → is_some (fin.get a.cells (c, r)) ≡ false
-    → (b ≡ record g { cells = put_all g.cells (mirrored symmetric (r, c)) w }) × (some_given g.cells (mirrored symmetric (r, c)) ≡ false)
-two_put g a b symmetric r c w s h e f x y =
-    let y' : is_some (fin.get (fin.insert g.cells (r, c) w) (c, r)) ≡ false = ap (λ (k : Grid). is_some (fin.get k.cells (c, r))) (sym e) ∙ y in
-    rw (mirrored_two symmetric r c s h)
-    (f ∙ ap (λ (k : Grid). let n : Grid = record k { cells = fin.insert k.cells (c, r) w } in n) e, or_none _ _ x (none_before g.cells (r, c) (c, r) w y'))
-
-pub two_refused : (g a : Grid) (symmetric : Bool) (r c w : ℕ) → symmetric ≡ true → r ≢ c → a ≡ record g { cells = fin.insert g.cells (r, c) w } → is_some (fin.get a.cells (c, r)) ≡ true
-    → some_given g.cells (mirrored symmetric (r, c)) ≡ true
-two_refused g a symmetric r c w s h e y =
-    let y' : is_some (fin.get (fin.insert g.cells (r, c) w) (c, r)) ≡ true = ap (λ (k : Grid). is_some (fin.get k.cells (c, r))) (sym e) ∙ y in
-    rw (mirrored_two symmetric r c s h) (or_last _ _ (some_before g.cells r c w h y'))

@@ -2,7 +2,6 @@
 pub mod Answers
 pub mod Filling
 pub mod Gathering
-pub mod Halting
 pub mod Market
 pub mod Refusal
 pub mod Usual

@@ -1,32 +1,20 @@
-//! Entries gathered in any order, up to the first line that breaks a rule; and that line's fault, where no position before it is
-//! given twice.
-ghost use Rattle.std.specs.Prelude.{◌≡◌, ◌<◌, ◌≤◌, ◌+◌, ◌^◌, length, drop, true, None, IfErr, IfOk, IfSome, OnOk};
-ghost use Rattle.std.specs.FinMap as map;
-ghost use Rattle.csr_store.specs.ByRows.{grid};
-ghost use Rattle.csr_store.specs.Listed.{NoneTwice};
-ghost use Rattle.matrix_market.specs.Market.{IsTextOf};
-ghost use Rattle.matrix_market.specs.inner.Answers.{spots, some_given};
-ghost use Rattle.matrix_market.specs.inner.Filling.{Filled};
-ghost use Rattle.matrix_market.specs.inner.Gathering.{Gathered, Reached, Takes, IsEnd};
-ghost use Rattle.matrix_market.specs.inner.Halting.{NamesHalt, IsNoFault};
-ghost use Rattle.matrix_market.specs.inner.Refusal.{NamesFault};
+//! Entries gathered in any order, up to the first line that breaks a rule, where a position that is given again breaks none.
+ghost use Rattle.std.specs.Prelude.{◌≡◌, ◌≤◌, ◌+◌, [], length, drop, IfErr, IfOk, OnErr, OnOk};
+ghost use Rattle.matrix_market.specs.inner.Gathering.{Adds, IsEnd, IsFaultAt, IsRead, Takes, Tells};
 
-use crate::kinds::{Banner, Found, Size, read_entry};
+use crate::kinds::{Found, Header, read_entry};
 use crate::lines::{Next, next_content};
+use crate::place::Place;
 use crate::rule::{MarketError, MarketRule};
 use crate::usual::{behind_feeds, entry_line, feed_before};
-use csr_store::{EntryList, Matrix, StoreError};
-use std::alloc::Global;
+use csr_store::EntryList;
+use std::alloc::{AllocError, Global};
 
-/// Why entries are not gathered.
-#[derive(Clone, Copy)]
-pub enum Halt {
-    /// This fault.
-    Fault(MarketError),
-    /// A line breaks a rule; which one is left to the reader that knows the first.
-    Rule,
-    /// Memory was refused.
-    Memory,
+/// The entries of a text in their order, and its first fault, where a position that is given again is none.
+#[derive(Drop)]
+pub struct Gathering {
+    pub list: EntryList,
+    pub fault: Option<MarketError>,
 }
 
 /// How far a run of entry lines goes: how many there are, and where the next line begins.
@@ -36,214 +24,65 @@ struct Run {
     next: usize,
 }
 
-/// How far all entry lines were gathered: what follows them, the number of the last, and how many there are.
-#[derive(Clone, Copy)]
-struct Stop<'a> {
-    rest: &'a [u8],
-    at: u64,
-    given: u64,
-}
-
-/// With fewer entries than one in so many rows, it costs less to read a text that breaks a rule again, by all the rules, than to
-/// make a matrix of what was gathered of it.
-const ROWS_AN_ENTRY: u64 = 64;
-
-/// The matrix of the entries that a size line says, by one sort, where no line breaks a rule.
-///
-/// At most so many entry lines are read. The fault of the line behind them is told where no position is given twice before it,
-/// which the sort tells of all of them at once.
-pub fn gather(
-    alloc: Global,
-    text: &[u8],
-    banner: Banner,
-    size: Size,
-    rest: &[u8],
-    at: u64,
-    most: u64,
-) -> Result<Matrix, Halt>
-    requires most { most ≤ size.entries }
-    requires room { at + length rest.now < 2 ^ 63 }
-    requires filled { Filled text.now banner size
-        (record { rows = size.rows; columns = size.columns; cells = map.empty }) rest.now at 0 }
-    ensures ok { IfOk result (λ m. IsTextOf text.now m) }
-    ensures err { IfErr result (NamesHalt text.now) }
+/// Gathers the entries that a size line says.
+pub fn gather(alloc: Global, header: Header, start: Place<'_>) -> Result<Gathering, AllocError>
+    ensures read { IfOk result (λ g. IsRead header start.entry g.list) }
+    ensures told { IfOk result (λ g. Tells header start.entry g.list g.fault) }
 {
+    let size = header.size;
     let mut list = EntryList::new(alloc, size.rows, size.columns);
-    match list.reserve(room_for(banner, size, rest)) {
-        Ok(()) => {}
-        Err(_) => return Err(Halt::Memory),
-    }
-    let stop = match gather_lines(&mut list, text, banner, size, rest, at, most) {
-        Ok(stop) => stop,
-        Err(halt) => return Err(halt),
-    };
-    let whole = is_whole(size, stop.rest, stop.at, stop.given);
-    if !whole && stop.given < size.rows / ROWS_AN_ENTRY {
-        return Err(Halt::Rule);
-    }
-    let matrix = match finished(list) {
-        Ok(matrix) => matrix,
-        Err(halt) => return Err(halt),
-    };
-    if whole {
-        return Ok(matrix);
-    }
-    match fault_behind(text, banner, size, &matrix, stop) {
-        Some(fault) => Err(Halt::Fault(fault)),
-        None => Err(Halt::Rule),
-    }
-}
-
-/// Whether all entries were gathered, and nothing but lines that are passed over follows.
-fn is_whole(size: Size, rest: &[u8], at: u64, given: u64) -> bool
-    requires room { at + length rest.now < 2 ^ 63 }
-    ensures { result ≡ true → (given ≡ size.entries) × IsEnd rest.now at }
-{
-    if given != size.entries {
-        return false;
-    }
-    match next_content(rest, at) {
-        Next::End(_) => true,
-        _ => false,
-    }
-}
-
-/// The matrix of a list, in which no position is given twice.
-fn finished(list: EntryList) -> Result<Matrix, Halt>
-    ensures once { OnOk result (NoneTwice list.entries) }
-    ensures made { IfOk result (λ m. m ≡ grid list.rows list.columns list.entries) }
-    ensures err { IfErr result IsNoFault }
-{
-    match list.finish() {
-        Ok(matrix) => Ok(matrix),
-        Err(StoreError::Memory) => Err(Halt::Memory),
-        Err(_) => Err(Halt::Rule),
-    }
-}
-
-/// The fault of the line behind those that a matrix was read from, if it has one.
-fn fault_behind(
-    text: &[u8],
-    banner: Banner,
-    size: Size,
-    matrix: &Matrix,
-    stop: Stop<'_>,
-) -> Option<MarketError>
-    requires room { stop.at + length stop.rest.now < 2 ^ 63 }
-    requires filled { Filled text.now banner size matrix.now stop.rest.now stop.at stop.given }
-    requires rows { size.rows ≤ 16777216 }
-    requires columns { size.columns ≤ 16777216 }
-    ensures { IfSome result (NamesFault text.now) }
-{
-    let given = stop.given;
-    match next_content(stop.rest, stop.at) {
-        Next::End(line) => {
-            if given < size.entries {
-                return Some(MarketError::Fault {
-                    rule: MarketRule::TooFewEntries,
-                    line: line + 1,
-                });
-            }
-            None
-        }
-        Next::TooLong(line) => Some(MarketError::Fault {
-            rule: MarketRule::LineTooLong,
-            line,
-        }),
-        Next::Line(content, _, line) => {
-            if given >= size.entries {
-                return Some(MarketError::Fault {
-                    rule: MarketRule::LineAfterLastEntry,
-                    line,
-                });
-            }
-            let found = match read_entry(banner.pattern, size, content) {
-                Ok(found) => found,
-                Err(rule) => return Some(MarketError::Fault { rule, line }),
-            };
-            if is_given(matrix, banner.symmetric, found) {
-                return Some(MarketError::Fault {
-                    rule: MarketRule::PositionGivenTwice,
-                    line,
-                });
-            }
-            None
-        }
-    }
-}
-
-/// Whether a matrix has an entry where another is found or, in a symmetric matrix, at its mirror.
-fn is_given(matrix: &Matrix, symmetric: bool, found: Found) -> bool
-    ensures { result ≡ true → some_given matrix.now.cells (spots symmetric found) ≡ true }
-{
-    if matrix.get(found.row, found.column).is_some() {
-        return true;
-    }
-    if found.row != found.column && symmetric {
-        return matrix.get(found.column, found.row).is_some();
-    }
-    false
+    list.reserve(room_for(header, start.rest.len()))?;
+    let fault = gather_lines(&mut list, header, start)?;
+    Ok(Gathering { list, fault })
 }
 
 /// For how many entries there is to be room: a line of one has at least four bytes.
-fn room_for(banner: Banner, size: Size, lines: &[u8]) -> usize {
-    let entries = (size.entries as usize).min(lines.len() / 4 + 1);
-    if banner.symmetric {
+fn room_for(header: Header, bytes: usize) -> usize {
+    let entries = (header.size.entries as usize).min(bytes / 4 + 1);
+    if header.banner.symmetric {
         entries.saturating_mul(2)
     } else {
         entries
     }
 }
 
-/// Gathers the entry lines, so many at most, up to the first that breaks a rule.
-fn gather_lines<'a>(
+/// Gathers the entry lines into a list that has none, and tells the fault of the first line that breaks a rule.
+fn gather_lines(
     list: &mut EntryList,
-    text: &[u8],
-    banner: Banner,
-    size: Size,
-    rest: &'a [u8],
-    at: u64,
-    most: u64,
-) -> Result<Stop<'a>, Halt>
-    requires most { most ≤ size.entries }
-    requires rows { size.rows ≤ 16777216 }
-    requires columns { size.columns ≤ 16777216 }
-    requires room { at + length rest.now < 2 ^ 63 }
-    requires gathered { Gathered text.now banner size list.old rest.now at 0 }
-    ensures room { IfOk result (λ s. s.at + length s.rest.now < 2 ^ 63) }
-    ensures few { IfOk result (λ s. s.given ≤ size.entries) }
-    ensures gathered { IfOk result (λ s. Gathered text.now banner size list.new s.rest.now s.at s.given) }
-    ensures err { IfErr result IsNoFault }
+    header: Header,
+    start: Place<'_>,
+) -> Result<Option<MarketError>, AllocError>
+    requires { list.old ≡ record { rows = header.size.rows; columns = header.size.columns; entries = [] } }
+    ensures read { OnOk result (IsRead header start.entry list.new) }
+    ensures told { IfOk result (Tells header start.entry list.new) }
 {
-    let behind = behind_feeds(rest);
-    let mut rest = rest;
-    let mut at = at;
+    let mut place = start;
+    let behind = behind_feeds(place.rest);
     let mut given = 0;
-    while given < most {
-        let run = match gather_run(list, text, banner, size, rest, behind, at, given, most) {
-            Ok(run) => run,
-            Err(halt) => return Err(halt),
-        };
-        rest = text_behind(rest, run.next);
-        at += run.given;
+    while given < header.size.entries {
+        let run = gather_run(
+            list,
+            header,
+            place.rest,
+            behind,
+            header.size.entries - given,
+        )?;
+        place = place_behind(place, run);
         given += run.given;
-        if given == most {
-            return Ok(Stop { rest, at, given });
-        }
-        match gather_line(list, text, banner, size, rest, at, given) {
-            Ok(Some((more, n))) => {
-                rest = more;
-                at = n;
-                given += 1;
+        if given < header.size.entries {
+            match gather_line(list, header, place)? {
+                Ok(behind) => {
+                    place = behind;
+                    given += 1;
+                }
+                Err(fault) => return Ok(Some(fault)),
             }
-            Ok(None) => return Ok(Stop { rest, at, given }),
-            Err(halt) => return Err(halt),
         }
     }
-    Ok(Stop { rest, at, given })
+    Ok(fault_behind(place))
 }
 
-/// Gathers the entries of the lines that a text begins with, up to the first line that has not the usual form.
+/// Gathers the entries of the lines that a text begins with, so many at most, up to the first line that has not the usual form.
 ///
 /// The text ends with so many bytes behind its last LF, that LF among them. It is not looked for again here: a long last line would
 /// be gone over anew behind each line of another form.
@@ -252,30 +91,22 @@ fn gather_lines<'a>(
 #[inline(never)]
 fn gather_run(
     list: &mut EntryList,
-    text: &[u8],
-    banner: Banner,
-    size: Size,
+    header: Header,
     rest: &[u8],
     behind: usize,
-    at: u64,
-    before: u64,
     most: u64,
-) -> Result<Run, Halt>
-    requires few { before ≤ most }
-    requires most { most ≤ size.entries }
-    requires gathered { Gathered text.now banner size list.old rest.now at before }
-    ensures reached { IfOk result (λ r. Reached text.now banner size list.new rest.now at before r.given r.next) }
-    ensures few { IfOk result (λ r. before + r.given ≤ most) }
-    ensures err { IfErr result IsNoFault }
+) -> Result<Run, AllocError>
+    ensures added { IfOk result (λ r. Adds header list.old list.new rest.now 0 r.given (drop r.next rest.now) r.given) }
+    ensures few { IfOk result (λ r. r.given ≤ most) }
+    ensures within { IfOk result (λ r. (r.given ≤ r.next) × (r.next ≤ length rest.now)) }
 {
     let mut given = 0;
     let mut next = 0;
     let Some(last) = feed_before(rest, behind) else {
         return Ok(Run { given, next });
     };
-    let left = most - before;
-    while given < left && next <= last {
-        let Some(line) = entry_line(rest, next, last, banner.pattern) else {
+    while given < most && next <= last {
+        let Some(line) = entry_line(rest, next, last, header.banner.pattern) else {
             return Ok(Run { given, next });
         };
         let found = Found {
@@ -283,78 +114,99 @@ fn gather_run(
             column: line.column.wrapping_sub(1),
             word: line.word,
         };
-        if found.row >= size.rows || found.column >= size.columns {
+        if found.row >= header.size.rows || found.column >= header.size.columns {
             return Ok(Run { given, next });
         }
-        match push_entry(list, banner.symmetric, found) {
-            Ok(()) => {}
-            Err(halt) => return Err(halt),
-        }
+        push_entry(list, header.banner.symmetric, found)?;
         given += 1;
         next = line.next;
     }
     Ok(Run { given, next })
 }
 
-/// Gathers the next entry line, whatever its form, and says what follows it and its number. Where it breaks a rule, nothing is
-/// added.
+/// Gathers the next entry line, whatever its form, and says what follows it. Where it breaks a rule, nothing is added, and its fault
+/// is told.
 fn gather_line<'a>(
     list: &mut EntryList,
-    text: &[u8],
-    banner: Banner,
-    size: Size,
-    rest: &'a [u8],
-    at: u64,
-    given: u64,
-) -> Result<Option<(&'a [u8], u64)>, Halt>
-    requires rows { size.rows ≤ 16777216 }
-    requires columns { size.columns ≤ 16777216 }
-    requires room { at + length rest.now < 2 ^ 63 }
-    requires few { given < size.entries }
-    requires gathered { Gathered text.now banner size list.old rest.now at given }
-    ensures less { IfOk result (λ o. IfSome o (λ p. p.1 + length p.0.now ≤ at + length rest.now)) }
-    ensures gathered { IfOk result (λ o. IfSome o (λ p. Gathered text.now banner size list.new p.0.now p.1 (given + 1))) }
-    ensures kept { IfOk result (λ o. o ≡ None → list.new ≡ list.old) }
-    ensures err { IfErr result IsNoFault }
+    header: Header,
+    place: Place<'a>,
+) -> Result<Result<Place<'a>, MarketError>, AllocError>
+    ensures added { IfOk result (λ r. IfOk r (λ p. Adds header list.old list.new place.entry.rest.now place.entry.at 1 p.rest.now p.at)) }
+    ensures kept { IfOk result (λ r. OnErr r (list.new ≡ list.old)) }
+    ensures fault { IfOk result (λ r. IfErr r (IsFaultAt header place.entry)) }
 {
-    let Next::Line(line, more, n) = next_content(rest, at) else {
-        return Ok(None);
-    };
-    let found = match read_entry(banner.pattern, size, line) {
-        Ok(found) => found,
-        Err(_) => return Ok(None),
-    };
-    match push_entry(list, banner.symmetric, found) {
-        Ok(()) => Ok(Some((more, n))),
-        Err(halt) => Err(halt),
+    match next_content(place) {
+        Next::End(line) => Ok(Err(MarketError::Fault {
+            rule: MarketRule::TooFewEntries,
+            line: line + 1,
+        })),
+        Next::TooLong(line) => Ok(Err(MarketError::Fault {
+            rule: MarketRule::LineTooLong,
+            line,
+        })),
+        Next::Line(content, behind) => match read_entry(header, content) {
+            Ok(found) => {
+                push_entry(list, header.banner.symmetric, found)?;
+                Ok(Ok(behind))
+            }
+            Err(rule) => Ok(Err(MarketError::Fault {
+                rule,
+                line: behind.at,
+            })),
+        },
     }
 }
 
 /// Adds an entry and, in a symmetric matrix, its mirror.
 #[inline(always)]
-fn push_entry(list: &mut EntryList, symmetric: bool, found: Found) -> Result<(), Halt>
-    ensures taken { OnOk result (Takes list.old symmetric found list.new) }
-    ensures err { IfErr result IsNoFault }
+fn push_entry(list: &mut EntryList, symmetric: bool, found: Found) -> Result<(), AllocError>
+    ensures { OnOk result (Takes list.old symmetric found list.new) }
 {
-    match list.push(found.row, found.column, found.word) {
-        Ok(()) => {}
-        Err(StoreError::Memory) => return Err(Halt::Memory),
-        Err(_) => return Err(Halt::Rule),
-    }
+    list.push(found.row, found.column, found.word)
+        .map_err(|_| AllocError)?;
     if symmetric && found.row != found.column {
-        match list.push(found.column, found.row, found.word) {
-            Ok(()) => {}
-            Err(StoreError::Memory) => return Err(Halt::Memory),
-            Err(_) => return Err(Halt::Rule),
-        }
+        list.push(found.column, found.row, found.word)
+            .map_err(|_| AllocError)?;
     }
     Ok(())
+}
+
+/// The fault of what follows the last entry, if it has one.
+fn fault_behind(place: Place<'_>) -> Option<MarketError>
+    ensures { IsEnd place.entry result }
+{
+    match next_content(place) {
+        Next::End(_) => None,
+        Next::TooLong(line) => Some(MarketError::Fault {
+            rule: MarketRule::LineTooLong,
+            line,
+        }),
+        Next::Line(_, behind) => Some(MarketError::Fault {
+            rule: MarketRule::LineAfterLastEntry,
+            line: behind.at,
+        }),
+    }
+}
+
+/// The place behind a run of lines.
+fn place_behind<'a>(place: Place<'a>, run: Run) -> Place<'a>
+    requires lines { run.given ≤ run.next }
+    requires within { run.next ≤ length place.rest.now }
+    ensures rest { result.rest.now ≡ drop run.next place.entry.rest.now }
+    ensures at { result.at ≡ place.entry.at + run.given }
+{
+    let rest = text_behind(place.rest, run.next);
+    Place {
+        rest,
+        at: place.at + run.given,
+    }
 }
 
 /// A text from a place on.
 fn text_behind(text: &[u8], from: usize) -> &[u8]
     requires { from ≤ length text.now }
-    ensures { result.now ≡ drop from text.now }
+    ensures rest { result.now ≡ drop from text.now }
+    ensures shorter { from + length result.now ≡ length text.now }
 {
     &text[from..]
 }

@@ -31,6 +31,15 @@ pub struct Size {
     pub entries: u64,
 }
 
+/// What the lines before the entries say.
+#[derive(Clone, Copy)]
+pub struct Header {
+    pub banner: Banner,
+    pub size: Size,
+    ghost rows_small: { size.rows ≤ 16777216 },
+    ghost columns_small: { size.columns ≤ 16777216 },
+}
+
 /// What an entry line says, its position counted from 0.
 #[derive(Clone, Copy)]
 pub struct Found {
@@ -240,11 +249,11 @@ pub fn read_size(symmetric: bool, line: &[u8]) -> Result<Size, MarketRule>
 }
 
 /// What an entry line says.
-pub fn read_entry(pattern: bool, size: Size, line: &[u8]) -> Result<Found, MarketRule>
-    requires rows { size.rows ≤ 16777216 }
-    requires columns { size.columns ≤ 16777216 }
-    ensures { result ≡ entry_answer size (entry_words pattern (words line.now)) }
+pub fn read_entry(header: Header, line: &[u8]) -> Result<Found, MarketRule>
+    ensures { result ≡ entry_answer header.size (entry_words header.banner.pattern (words line.now)) }
 {
+    let pattern = header.banner.pattern;
+    let size = header.size;
     match fields_of(line) {
         Fields::Two(a, b) => {
             if !pattern {

@@ -5,18 +5,18 @@
 //! text. `write` gives the canonical text of a matrix (`specs/CanonicalText.antt`), which is a text of it
 //! and of no other, so what is written is read back.
 //!
-//! Read `rule` first (what can be wrong with a text), then `writer`; of the reader first `reader`, which
-//! goes line by line and knows all the rules, over `kinds` (what a line of each kind says), `lines` and
-//! `words`; then `gather`, which reads entries fast, in any order, up to the first line that breaks a rule,
-//! over `usual`, which reads entry lines in their usual form; then `repeats`, which looks where a position
-//! is given again.
+//! Read `rule` first (what can be wrong with a text), then `writer`; of the reader first `reader`, over `kinds`
+//! (what a line of each kind says), `lines` and `words`; then `gather`, which reads entries in any order, up to the
+//! first line that breaks a rule, over `usual`, which reads entry lines in their usual form fast; then `repeat`,
+//! which tells the line that gives a position again.
 #![tactic(auto)]
 
 mod gather;
 mod kinds;
 mod lines;
+mod place;
 mod reader;
-mod repeats;
+mod repeat;
 mod rule;
 mod usual;
 mod values;

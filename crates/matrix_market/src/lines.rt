@@ -4,6 +4,7 @@ ghost use Rattle.matrix_market.specs.inner.Answers.{NextOf};
 ghost use Rattle.std.specs.Str.Lines.{lines, strip_carriage_return};
 
 use crate::kinds::skipped;
+use crate::place::Place;
 
 /// A line without the CR at its end.
 fn strip_cr(line: &[u8]) -> &[u8]
@@ -34,8 +35,8 @@ pub fn first_line(text: &[u8]) -> Option<(&[u8], &[u8])>
 /// What comes behind blank lines and comments.
 #[derive(Clone, Copy)]
 pub enum Next<'a> {
-    /// A line, what follows it, and its number.
-    Line(&'a [u8], &'a [u8], u64),
+    /// A line, and the place behind it.
+    Line(&'a [u8], Place<'a>),
     /// The end, and the number of the last line.
     End(u64),
     /// A line that is too long, by its number.
@@ -43,19 +44,18 @@ pub enum Next<'a> {
 }
 
 /// What comes behind blank lines and comments.
-pub fn next_content(text: &[u8], number: u64) -> Next<'_>
-    requires { number + length text.now < 2 ^ 63 }
-    ensures { NextOf result number text.now }
+pub fn next_content(place: Place<'_>) -> Next<'_>
+    ensures { NextOf result place.entry }
 {
-    let mut rest = text;
-    let mut at = number;
+    let mut rest = place.rest;
+    let mut at = place.at;
     while let Some((line, more)) = first_line(rest) {
         at += 1;
         if line.len() > 1024 {
             return Next::TooLong(at);
         }
         if !skipped(line) {
-            return Next::Line(line, more, at);
+            return Next::Line(line, Place { rest: more, at });
         }
         rest = more;
     }

@@ -1,6 +1,8 @@
 //! The rules that the text of a matrix is held to.
 ghost use Rattle.std.specs.Prelude.{◌≡◌};
+ghost use Rattle.matrix_market.specs.declared.rule.MarketError.TheVariants.{Memory};
 
+use std::alloc::AllocError;
 use std::fmt;
 use thiserror::Error;
 
@@ -80,4 +82,12 @@ pub enum MarketError {
     /// There was no memory for the matrix.
     #[error("no memory for the matrix")]
     Memory,
+}
+
+impl From<AllocError> for MarketError {
+    ghost from_gives = { λ _ e. e ≡ Memory };
+
+    fn from(_refused: AllocError) -> MarketError {
+        MarketError::Memory
+    }
 }

@@ -13,6 +13,7 @@ use Rattle.std.specs.Str.Lines.{lines}
 use Rattle.std.specs.FinMap as fin
 use Rattle.csr_store.specs.Grid.{Position, pos_cmp}
 use Rattle.matrix_market.specs.declared.lines.Next.{Next}
+use Rattle.matrix_market.specs.declared.place.Place.{Place}
 use Rattle.matrix_market.specs.declared.lines.Next.TheVariants.{Line, End, TooLong}
 use Rattle.matrix_market.specs.Market.{mirrored, is_skipped, Value, WrittenEntry, is_banner, banner_words, tail, is_large, outside, is_word, word_of}
 
@@ -71,14 +72,15 @@ pub record Passes (text : List ℕ) (number : ℕ) (rest : List (List ℕ)) (at 
   pub idle : AllByRecursion IsIdle between
 
 -- what comes behind the lines that are passed over
-abbrev pub NextOf : Next → ℕ → List ℕ → Type 0
-NextOf (Line line rest at) number text =
-    (before : ℕ) × Passes text number (line.now ∷ lines rest.now) before × (at ≡ before + 1)
-    × (is_skipped line.now ≡ false) × (nat_lt 1024 (length line.now) ≡ false) × (at + length rest.now ≤ number + length text)
-NextOf (TooLong at) number text =
-    (before : ℕ) × (line : List ℕ) × (rest : List (List ℕ)) × Passes text number (line ∷ rest) before
+abbrev pub NextOf : Next → Place → Type 0
+NextOf (Line line behind) place =
+    (before : ℕ) × Passes place.rest.now place.at (line.now ∷ lines behind.rest.now) before × (behind.at ≡ before + 1)
+    × (is_skipped line.now ≡ false) × (nat_lt 1024 (length line.now) ≡ false)
+    × (behind.at + length behind.rest.now ≤ place.at + length place.rest.now)
+NextOf (TooLong at) place =
+    (before : ℕ) × (line : List ℕ) × (rest : List (List ℕ)) × Passes place.rest.now place.at (line ∷ rest) before
     × (at ≡ before + 1) × (nat_lt 1024 (length line) ≡ true)
-NextOf (End at) number text = Passes text number [] at × (at ≤ number + length text)
+NextOf (End at) place = Passes place.rest.now place.at [] at × (at ≤ place.at + length place.rest.now)
 
 abbrev pub spots : Bool → Found → List Position
 spots symmetric f = mirrored symmetric (f.row, f.column)

@@ -1,5 +1,5 @@
 -- What stands beside specs/Market.antt for this crate's own modules and proofs.
-use Rattle.std.specs.Prelude.{◌≡◌, ℕ, ◌-◌, false, List, [], ◌∷◌}
+use Rattle.std.specs.Prelude.{◌≡◌, ℕ, false, List, [], ◌∷◌}
 use Rattle.matrix_market.specs.Market.{is_blank}
 
 -- a text that is empty or begins with a word

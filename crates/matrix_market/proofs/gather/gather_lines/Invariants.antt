@@ -1,13 +1,12 @@
-use Rattle.std.proofs.Common.{◌≤◌, ◌<◌, ◌-◌, ◌+◌, ◌^◌, length}
-use Rattle.matrix_market.specs.inner.Gathering.{Gathered}
+use Rattle.std.proofs.Common.{◌≤◌, ◌-◌}
+use Rattle.matrix_market.specs.inner.Gathering.{Adds, nothing}
 use Rattle.matrix_market.proofs.gather.gather_lines.Given as goal
 
 abbrev pub invariant-loop-given : goal.invariant-loop-given
 invariant-loop-given l = record {
-  gathered : Gathered l.text l.fn.banner l.fn.size l.list l.rest l.at l.given;
-  room : l.at + length l.rest < 2 ^ 63;
-  most : l.given ≤ l.most;
+  adds : Adds l.fn.header (nothing l.fn.header) l.list l.start.rest.now l.start.at l.given l.place.rest.now l.place.at;
+  few : l.given ≤ l.header.size.entries;
 }
 
 abbrev pub decreases-loop-given : goal.decreases-loop-given
-decreases-loop-given l = l.most - l.given
+decreases-loop-given l = l.header.size.entries - l.given

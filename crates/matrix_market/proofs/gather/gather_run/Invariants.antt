@@ -1,12 +1,14 @@
-use Rattle.std.proofs.Common.{◌≤◌, ◌-◌}
-use Rattle.matrix_market.specs.inner.Gathering.{Reached}
+use Rattle.std.proofs.Common.{◌≤◌, ◌-◌, drop, length}
+use Rattle.matrix_market.specs.inner.Gathering.{Adds}
 use Rattle.matrix_market.proofs.gather.gather_run.Given as goal
 
 abbrev pub invariant-loop-given : goal.invariant-loop-given
 invariant-loop-given l = record {
-  reached : Reached l.text l.fn.banner l.fn.size l.list l.rest l.at l.before l.given l.next;
-  few : l.given ≤ l.left;
+  adds : Adds l.fn.header l.fn.list l.list l.rest 0 l.given (drop l.next l.rest) l.given;
+  few : l.given ≤ l.most;
+  order : l.given ≤ l.next;
+  within : l.next ≤ length l.rest;
 }
 
 abbrev pub decreases-loop-given : goal.decreases-loop-given
-decreases-loop-given l = l.left - l.given
+decreases-loop-given l = l.most - l.given

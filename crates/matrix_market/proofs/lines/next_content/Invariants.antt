@@ -4,7 +4,7 @@ use Rattle.matrix_market.specs.inner.Answers.{Passes}
 use Rattle.matrix_market.proofs.lines.next_content.Given as goal
 
 abbrev pub invariant-loop-line : goal.invariant-loop-line
-invariant-loop-line l = record { passes : Passes l.text l.number (lines l.rest) l.at; room : l.at + length l.rest ≤ l.number + length l.text }
+invariant-loop-line l = record { passes : Passes l.place.rest.now l.place.at (lines l.rest) l.at; room : l.at + length l.rest ≤ l.place.at + length l.place.rest.now }
 
 abbrev pub decreases-loop-line : goal.decreases-loop-line
 decreases-loop-line l = length l.rest
