@@ -1,5 +1,5 @@
--- Commands that bind a name, once their body is there: as in their turn, and where memory is wanting, which refusals are named before
--- (this project's own).
+-- Commands that bind a name, once their body is there: as in their turn, and where memory is wanting, which refusals are named
+-- before (this project's own).
 use Rattle.std.specs.Prelude.{ℕ, ◌⊎◌, MatchBool, List, [], Option, None, Some}
 use Rattle.bpf_insn.specs.declared.operands.Kind.{Kind}
 use Rattle.bpf_insn.specs.declared.insn.Insn.{Insn}
