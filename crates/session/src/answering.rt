@@ -9,50 +9,47 @@ ghost use Rattle.wire.specs.Prefixes.{IsPrefixOf};
 ghost use Rattle.job_plan.specs.Price.{total_price};
 ghost use Rattle.workspace.specs.Workspace.{state_of};
 ghost use Rattle.session.specs.inner.Exchange.{Responds, Tells};
+ghost use Rattle.session.specs.inner.Standing.{touched_at};
 
+use crate::desk::Bench;
 use crate::end::End;
 use crate::hearing::Heard;
 use command_text::{Command, Refusal, Reply, refuse};
-use std::alloc::Global;
 use std::sync::Wait;
 use std::thread::Threads;
 use step_budget::Steps;
 use wire::{Sink, WriteFailed, put};
-use workspace::{Workspace, answer, answer_with_body};
+use workspace::{Means, answer, answer_with_body};
 
-/// Answers what was heard, a batch on so many workers. Tells how the session ends, if it does.
+/// Answers what was heard. Tells how the session ends, if it does.
 fn respond<T: Steps, H: Threads + Wait>(
-    rt: &H,
-    alloc: Global,
+    means: &Means<'_, H>,
     heard: Heard<'_>,
-    workspace: &mut Workspace,
-    workers: u64,
+    bench: &mut Bench,
     steps: &mut T,
-    reply: &mut Reply,
 ) -> Option<End>
-    requires some { 1 ≤ workers }
-    requires few { workers ≤ 64 }
-    requires owed { total_price (state_of workspace.old).queue ≤ T.owes steps.old }
+    requires owed { total_price (state_of bench.old.workspace).queue ≤ T.owes steps.old }
     ensures turn { (dealings : List Dealing) ×
-        Responds (state_of workspace.old) heard.entry dealings (whole reply.new)
-        (state_of workspace.new) result × Deals T.leads steps.old dealings steps.new }
-    ensures owed { total_price (state_of workspace.new).queue + T.owes steps.old ≡
-        total_price (state_of workspace.old).queue + T.owes steps.new }
+        Responds (state_of bench.old.workspace) heard.entry dealings (whole bench.new.reply)
+        (state_of bench.new.workspace) result × Deals T.leads steps.old dealings steps.new }
+    ensures owed { total_price (state_of bench.new.workspace).queue + T.owes steps.old ≡
+        total_price (state_of bench.old.workspace).queue + T.owes steps.new }
 {
+    let Bench { workspace, reply } = bench;
     match heard {
         Heard::Stopped(rule) => {
             refuse(reply, Refusal::Fatal(rule));
             Some(End::Refused(rule))
         }
         Heard::Plain(command) => {
-            answer(rt, alloc, workspace, workers, command, steps, reply);
+            answer(means, workspace, command, steps, reply);
             match command {
                 Command::Quit => Some(End::Quit),
                 _ => None,
             }
         }
         Heard::Whole { header, body } => {
-            answer_with_body(alloc, workspace, header, body, reply);
+            answer_with_body(means.alloc, workspace, header, body, reply);
             None
         }
         Heard::Dropped { .. } => {
@@ -90,27 +87,22 @@ fn say<W: Sink>(writer: &mut W, reply: &Reply) -> Result<(), WriteFailed>
 ///
 /// A write failed.
 pub fn respond_and_say<W: Sink, T: Steps, H: Threads + Wait>(
-    rt: &H,
-    alloc: Global,
+    means: &Means<'_, H>,
     heard: Heard<'_>,
-    workspace: &mut Workspace,
-    workers: u64,
+    bench: &mut Bench,
     writer: &mut W,
     steps: &mut T,
-    reply: &mut Reply,
 ) -> Result<Option<End>, WriteFailed>
-    requires some { 1 ≤ workers }
-    requires few { workers ≤ 64 }
-    requires owed { total_price (state_of workspace.old).queue ≤ T.owes steps.old }
+    requires owed { total_price (state_of bench.old.workspace).queue ≤ T.owes steps.old }
     ensures told { Tells T.leads
-        (record { budget = steps.old; sink = W.state writer.old; state = state_of workspace.old })
-        (record { budget = steps.new; sink = W.state writer.new; state = state_of workspace.new })
+        (touched_at bench.old (W.state writer.old) steps.old)
+        (touched_at bench.new (W.state writer.new) steps.new)
         heard.entry result }
-    ensures owed { total_price (state_of workspace.new).queue + T.owes steps.old ≡
-        total_price (state_of workspace.old).queue + T.owes steps.new }
+    ensures owed { total_price (state_of bench.new.workspace).queue + T.owes steps.old ≡
+        total_price (state_of bench.old.workspace).queue + T.owes steps.new }
 {
-    let end = respond(rt, alloc, heard, workspace, workers, steps, reply);
-    match say(writer, reply) {
+    let end = respond(means, heard, bench, steps);
+    match say(writer, &bench.reply) {
         Ok(()) => Ok(end),
         Err(failed) => Err(failed),
     }

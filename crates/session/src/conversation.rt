@@ -1,65 +1,28 @@
 //! A session, from the bytes that it reads to the bytes that it writes.
-ghost use Rattle.std.specs.Prelude.{◌≡◌, ◌≢◌, ◌≤◌, ◌<◌, ◌+◌, [], false, vec_capacity, IfOk, Ok, Err, None};
+ghost use Rattle.std.specs.Prelude.{◌≡◌, ◌≢◌, ◌≤◌, ◌<◌, ◌+◌, [], false, IfOk, Ok, Err, None};
 ghost use Rattle.wire.specs.Fetching.{reach};
 ghost use Rattle.job_plan.specs.Price.{total_price};
 ghost use Rattle.workspace.specs.State.{empty};
 ghost use Rattle.workspace.specs.Workspace.{state_of};
 ghost use Rattle.session.specs.Exchange.{Exchanged, behind};
 ghost use Rattle.session.specs.inner.Exchange.{Conversed};
+ghost use Rattle.session.specs.inner.Standing.{scene_at};
 ghost use Rattle.session.specs.Next.{next};
 ghost use Rattle.session.specs.Rooms.{full_room};
 ghost use Rattle.session.specs.Talk.{Outcome};
 
 use crate::answering::respond_and_say;
+use crate::desk::Desk;
 use crate::end::{End, ServeFault};
 use crate::hearing::{Heard, hear};
-use command_text::{FatalRule, Reply, parse};
+use command_text::{FatalRule, parse};
 use std::alloc::{AllocError, Global};
 use std::marker::Model;
 use std::sync::Wait;
 use std::thread::Threads;
 use step_budget::Steps;
-use wire::{Input, Lined, ReadFault, Sink, Source, next_line};
-use workspace::{Workspace, release};
-
-/// Room for a line, with its line end.
-const LINE_ROOM: usize = 1026;
-
-/// What a session works with, for which the room is made at its start.
-#[derive(Drop)]
-struct Desk {
-    input: Input,
-    line: Vec<u8>,
-    reply: Reply,
-    workspace: Workspace,
-    /// How many workers run a batch.
-    workers: u64,
-    /// How many commands were taken, or the largest number there is. No contract speaks of it.
-    commands: u64,
-    ghost line_room: { 1026 ≤ vec_capacity line },
-    ghost some: { 1 ≤ workers },
-    ghost few: { workers ≤ 64 },
-}
-
-impl Desk {
-    /// Nothing read, nothing bound, so many workers, and so many reads that may be made.
-    fn new(alloc: Global, workers: u64, reads: u64) -> Result<Desk, AllocError>
-        requires some { 1 ≤ workers }
-        requires few { workers ≤ 64 }
-        ensures input { IfOk result (λ d. d.input ≡ record { bytes = []; ended = false; reads_left = reads }) }
-        ensures state { IfOk result (λ d. state_of d.workspace ≡ empty) }
-        ensures workers { IfOk result (λ d. d.workers ≡ workers) }
-    {
-        Ok(Desk {
-            input: Input::new(alloc, reads)?,
-            line: Vec::with_capacity(alloc, LINE_ROOM)?,
-            reply: Reply::new(alloc)?,
-            workspace: Workspace::new(alloc)?,
-            workers,
-            commands: 0,
-        })
-    }
-}
+use wire::{Lined, ReadFault, Sink, Source, next_line};
+use workspace::{Means, release};
 
 /// The fault of a session whose stream could not be read on.
 fn fault_of(fault: ReadFault) -> ServeFault
@@ -74,40 +37,24 @@ fn fault_of(fault: ReadFault) -> ServeFault
 
 /// Reads what a line asks for to its end, answers it, and writes the reply.
 fn answer_line<R: Source, W: Sink, T: Steps, H: Threads + Wait>(
-    rt: &H,
-    alloc: Global,
+    means: &Means<'_, H>,
     desk: &mut Desk,
     reader: &mut R,
     writer: &mut W,
     steps: &mut T,
 ) -> Result<Option<End>, ServeFault>
-    requires owed { total_price (state_of desk.old.workspace).queue ≤ T.owes steps.old }
+    requires owed { total_price (state_of desk.old.bench.workspace).queue ≤ T.owes steps.old }
     ensures exchanged { Exchanged (behind desk.old.line.items) T.leads
-        (record {
-          stream = record { source = R.state reader.old; held = desk.old.input };
-          touched = record { budget = steps.old; sink = W.state writer.old; state = state_of desk.old.workspace };
-        })
-        (record {
-          stream = record { source = R.state reader.new; held = desk.new.input };
-          touched = record { budget = steps.new; sink = W.state writer.new; state = state_of desk.new.workspace };
-        }) result }
-    ensures owed { total_price (state_of desk.new.workspace).queue + T.owes steps.old ≡
-        total_price (state_of desk.old.workspace).queue + T.owes steps.new }
+        (scene_at desk.old (R.state reader.old) (W.state writer.old) steps.old)
+        (scene_at desk.new (R.state reader.new) (W.state writer.new) steps.new) result }
+    ensures owed { total_price (state_of desk.new.bench.workspace).queue + T.owes steps.old ≡
+        total_price (state_of desk.old.bench.workspace).queue + T.owes steps.new }
     ensures bounded { reach desk.new.input ≤ reach desk.old.input }
 {
-    match hear(alloc, parse(&desk.line), &mut desk.input, reader) {
+    match hear(means.alloc, parse(&desk.line), &mut desk.input, reader) {
         Ok(heard) => {
             desk.commands = desk.commands.saturating_add(heard.count());
-            match respond_and_say(
-                rt,
-                alloc,
-                heard,
-                &mut desk.workspace,
-                desk.workers,
-                writer,
-                steps,
-                &mut desk.reply,
-            ) {
+            match respond_and_say(means, heard, &mut desk.bench, writer, steps) {
                 Ok(end) => Ok(end),
                 Err(_) => Err(ServeFault::Write),
             }
@@ -118,41 +65,26 @@ fn answer_line<R: Source, W: Sink, T: Steps, H: Threads + Wait>(
 
 /// Reads one command, answers it, and writes the reply. Tells how the session ends, if it does.
 fn exchange<R: Source, W: Sink, T: Steps, H: Threads + Wait>(
-    rt: &H,
-    alloc: Global,
+    means: &Means<'_, H>,
     desk: &mut Desk,
     reader: &mut R,
     writer: &mut W,
     steps: &mut T,
 ) -> Result<Option<End>, ServeFault>
-    requires owed { total_price (state_of desk.old.workspace).queue ≤ T.owes steps.old }
+    requires owed { total_price (state_of desk.old.bench.workspace).queue ≤ T.owes steps.old }
     ensures exchanged { Exchanged next T.leads
-        (record {
-          stream = record { source = R.state reader.old; held = desk.old.input };
-          touched = record { budget = steps.old; sink = W.state writer.old; state = state_of desk.old.workspace };
-        })
-        (record {
-          stream = record { source = R.state reader.new; held = desk.new.input };
-          touched = record { budget = steps.new; sink = W.state writer.new; state = state_of desk.new.workspace };
-        }) result }
-    ensures owed { total_price (state_of desk.new.workspace).queue + T.owes steps.old ≡
-        total_price (state_of desk.old.workspace).queue + T.owes steps.new }
+        (scene_at desk.old (R.state reader.old) (W.state writer.old) steps.old)
+        (scene_at desk.new (R.state reader.new) (W.state writer.new) steps.new) result }
+    ensures owed { total_price (state_of desk.new.bench.workspace).queue + T.owes steps.old ≡
+        total_price (state_of desk.old.bench.workspace).queue + T.owes steps.new }
     ensures less { result ≡ Ok None → reach desk.new.input < reach desk.old.input }
 {
     match next_line(&mut desk.input, reader, &mut desk.line) {
-        Ok(Lined::Whole) => answer_line(rt, alloc, desk, reader, writer, steps),
+        Ok(Lined::Whole) => answer_line(means, desk, reader, writer, steps),
         Ok(Lined::Over) => {
-            desk.commands = desk.commands.saturating_add(1);
-            match respond_and_say(
-                rt,
-                alloc,
-                Heard::Stopped(FatalRule::LineTooLong),
-                &mut desk.workspace,
-                desk.workers,
-                writer,
-                steps,
-                &mut desk.reply,
-            ) {
+            let heard = Heard::Stopped(FatalRule::LineTooLong);
+            desk.commands = desk.commands.saturating_add(heard.count());
+            match respond_and_say(means, heard, &mut desk.bench, writer, steps) {
                 Ok(end) => Ok(end),
                 Err(_) => Err(ServeFault::Write),
             }
@@ -164,8 +96,7 @@ fn exchange<R: Source, W: Sink, T: Steps, H: Threads + Wait>(
 
 /// Makes exchanges until the session ends or breaks off.
 fn converse<R: Source, W: Sink, T: Steps, H: Threads + Wait>(
-    rt: &H,
-    alloc: Global,
+    means: &Means<'_, H>,
     desk: &mut Desk,
     reader: &mut R,
     writer: &mut W,
@@ -173,20 +104,14 @@ fn converse<R: Source, W: Sink, T: Steps, H: Threads + Wait>(
 ) -> Result<End, ServeFault>
     requires bytes { desk.old.input.bytes ≡ [] }
     requires open { desk.old.input.ended ≡ false }
-    requires state { state_of desk.old.workspace ≡ empty }
+    requires state { state_of desk.old.bench.workspace ≡ empty }
     ensures conversed { Conversed T.leads
-        (record {
-          stream = record { source = R.state reader.old; held = desk.old.input };
-          touched = record { budget = steps.old; sink = W.state writer.old; state = state_of desk.old.workspace };
-        })
-        (record {
-          stream = record { source = R.state reader.new; held = desk.new.input };
-          touched = record { budget = steps.new; sink = W.state writer.new; state = state_of desk.new.workspace };
-        }) result }
-    ensures owed { total_price (state_of desk.new.workspace).queue + T.owes steps.old ≡ T.owes steps.new }
+        (scene_at desk.old (R.state reader.old) (W.state writer.old) steps.old)
+        (scene_at desk.new (R.state reader.new) (W.state writer.new) steps.new) result }
+    ensures owed { total_price (state_of desk.new.bench.workspace).queue + T.owes steps.old ≡ T.owes steps.new }
 {
     'exchanges: loop {
-        match exchange(rt, alloc, desk, reader, writer, steps) {
+        match exchange(means, desk, reader, writer, steps) {
             Ok(None) => {}
             Ok(Some(end)) => return Ok(end),
             Err(fault) => return Err(fault),
@@ -199,20 +124,22 @@ fn converse<R: Source, W: Sink, T: Steps, H: Threads + Wait>(
 #[derive(Drop)]
 pub struct Room {
     alloc: Global,
+    workers: u64,
     desk: Desk,
 }
 
 impl Model for Room {
-    ghost use Rattle.std.specs.Prelude.{◌≡◌, [], false};
+    ghost use Rattle.std.specs.Prelude.{◌≡◌, ◌≤◌, [], false};
     ghost use Rattle.workspace.specs.State.{empty};
     ghost use Rattle.workspace.specs.Workspace.{state_of};
     ghost use Rattle.session.specs.Rooms.{RoomState};
 
     ghost Value = { RoomState };
 
-    ghost view = { λ r. record { reads = r.desk.input.reads_left; workers = r.desk.workers } };
+    ghost view = { λ r. record { reads = r.desk.input.reads_left; workers = r.workers } };
 
-    ghost invariant = { λ r. (r.desk.input.bytes ≡ []) × (r.desk.input.ended ≡ false) × (state_of r.desk.workspace ≡ empty) };
+    ghost invariant = { λ r. (1 ≤ r.workers) × (r.workers ≤ 64) ×
+        (r.desk.input.bytes ≡ []) × (r.desk.input.ended ≡ false) × (state_of r.desk.bench.workspace ≡ empty) };
 }
 
 /// The most reads that a session makes.
@@ -242,8 +169,12 @@ impl Room {
         requires few { workers ≤ 64 }
         ensures { IfOk result (λ r. r ≡ record { reads = reads; workers = workers }) }
     {
-        let desk = Desk::new(alloc, workers, reads)?;
-        Ok(Room { alloc, desk })
+        let desk = Desk::new(alloc, reads)?;
+        Ok(Room {
+            alloc,
+            workers,
+            desk,
+        })
     }
 
     /// Serves a session in this room, as `serve` does.
@@ -283,9 +214,14 @@ impl Room {
         ensures owed { T.owes steps.new ≡ T.owes steps.old }
         ensures begun { result.0 ≢ Err ServeFault.Memory }
     {
-        let Room { alloc, mut desk } = self;
-        let outcome = converse(rt, alloc, &mut desk, reader, writer, steps);
-        release(rt, &desk.workspace, steps);
+        let Room {
+            alloc,
+            workers,
+            mut desk,
+        } = self;
+        let means = Means { rt, alloc, workers };
+        let outcome = converse(&means, &mut desk, reader, writer, steps);
+        release(rt, &desk.bench.workspace, steps);
         (outcome, desk.commands)
     }
 }

@@ -7,11 +7,12 @@
 //! what a line and a body are `wire`'s, and what the budget's calls are `step_budget`'s.
 //!
 //! Read these definitions first. Then `conversation`, from `serve` down to one exchange; then `hearing` (what is read for a
-//! command), `answering` (its turn, and its reply written) and `end` (how a session ends).
+//! command), `answering` (its turn, and its reply written), `desk` (what both work at) and `end` (how a session ends).
 #![tactic(auto)]
 
 mod answering;
 mod conversation;
+mod desk;
 mod end;
 mod hearing;
 #[cfg(test)]

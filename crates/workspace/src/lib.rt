@@ -7,12 +7,13 @@
 //! Read `turn` first, which hands each command to its function; then `workspace` (matrices, operators and jobs) over `names`;
 //! then the commands, each a function whose contract is its turn: `bind` (`matrix`, `op`, `asm`), `tell` (`show`, `dis`,
 //! and `types` over the module of that name), `jobs` (the jobs' commands, over `found` and `share`, and `budget`)
-//! and `run`.
+//! and `run`. `means` is what they are answered by.
 #![tactic(auto)]
 
 mod bind;
 mod found;
 mod jobs;
+mod means;
 mod names;
 mod run;
 mod share;
@@ -21,6 +22,7 @@ mod turn;
 mod types;
 mod workspace;
 
+pub use means::Means;
 pub use run::release;
 pub use turn::{answer, answer_with_body};
 pub use workspace::Workspace;

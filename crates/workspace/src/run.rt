@@ -16,13 +16,14 @@ ghost use Rattle.command_text.specs.ReplyText.{whole};
 ghost use Rattle.workspace.specs.Turn.{RunTurn, settled, charged, all_bound, batch_refusal, job_line, job_lines, released};
 ghost use Rattle.workspace.specs.Workspace.{state_of};
 
+use crate::means::Means;
 use crate::names::Names;
 use crate::workspace::Workspace;
 use command_text::{JobLine, Refusal, Reply, add_job, begin_run, refuse};
 use csr_store::Version;
 use job_plan::{Plan, Priced, price};
 use job_runner::{BatchAnswer, BatchFault, Cause, JobResult, Open, run_batch};
-use std::alloc::{AllocError, Global};
+use std::alloc::AllocError;
 use std::sync::Wait;
 use std::thread::Threads;
 use step_budget::Steps;
@@ -198,25 +199,22 @@ fn begin(workspace: &mut Workspace) -> Result<Plan, AllocError>
     workspace.queue.take()
 }
 
-/// Runs the jobs that wait, on so many workers: each output is bound, in order of submission, each price is settled, and the
-/// reply has a line for each job. Where memory or a thread is refused, no name is bound, and the steps that were taken are charged
-/// to the jobs in order. No job waits any longer.
+/// Runs the jobs that wait: each output is bound, in order of submission, each price is settled, and the reply has a line for
+/// each job. Where memory or a thread is refused, no name is bound, and the steps that were taken are charged to the jobs in
+/// order. No job waits any longer.
 pub fn run<T: Steps, H: Threads + Wait>(
-    rt: &H,
-    alloc: Global,
+    means: &Means<'_, H>,
     workspace: &mut Workspace,
-    workers: u64,
     steps: &mut T,
     reply: &mut Reply,
 )
-    requires some { 1 ≤ workers }
-    requires few { workers ≤ 64 }
     requires owed { total_price (state_of workspace.old).queue ≤ T.owes steps.old }
     ensures turn { (dealings : List Dealing) ×
         RunTurn (state_of workspace.old) dealings (whole reply.new) (state_of workspace.new) ×
         Deals T.leads steps.old dealings steps.new }
     ensures owed { T.owes steps.new + total_price (state_of workspace.old).queue ≡ T.owes steps.old }
 {
+    let rt = means.rt;
     let Ok(plan) = begin(workspace) else {
         let fault = BatchFault {
             cause: Cause::Memory,
@@ -226,7 +224,7 @@ pub fn run<T: Steps, H: Threads + Wait>(
         workspace.queue.clear();
         return;
     };
-    match run_batch(rt, alloc, &plan, workers, &Open) {
+    match run_batch(rt, means.alloc, &plan, means.workers, &Open) {
         Ok(answer) => finish(rt, workspace, &plan, answer, steps, reply),
         Err(fault) => break_off(rt, steps, reply, plan.jobs(), fault),
     }

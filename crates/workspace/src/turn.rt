@@ -12,6 +12,7 @@ ghost use Rattle.workspace.specs.Workspace.{state_of};
 
 use crate::bind::{assembly, matrix, operator};
 use crate::jobs::{budget, submit};
+use crate::means::Means;
 use crate::run::run;
 use crate::tell::{disassembly, show, types};
 use crate::workspace::Workspace;
@@ -44,18 +45,13 @@ pub fn answer_with_body(
 }
 
 /// Answers a command without a body. What the caller owes its budget grows and shrinks with the prices of the jobs that wait.
-/// A batch runs on so many workers.
 pub fn answer<T: Steps, H: Threads + Wait>(
-    rt: &H,
-    alloc: Global,
+    means: &Means<'_, H>,
     workspace: &mut Workspace,
-    workers: u64,
     command: Command<'_>,
     steps: &mut T,
     reply: &mut Reply,
 )
-    requires some { 1 ≤ workers }
-    requires few { workers ≤ 64 }
     requires owed { total_price (state_of workspace.old).queue ≤ T.owes steps.old }
     ensures turn { (dealings : List Dealing) ×
         Turn (state_of workspace.old) (command_of command.entry) dealings (whole reply.new)
@@ -63,10 +59,11 @@ pub fn answer<T: Steps, H: Threads + Wait>(
     ensures owed { total_price (state_of workspace.new).queue + T.owes steps.old ≡
         total_price (state_of workspace.old).queue + T.owes steps.new }
 {
+    let (rt, alloc) = (means.rt, means.alloc);
     match command {
         Command::Blank => silent(reply),
         Command::Submit(submission) => submit(rt, alloc, workspace, &submission, steps, reply),
-        Command::Run => run(rt, alloc, workspace, workers, steps, reply),
+        Command::Run => run(means, workspace, steps, reply),
         Command::Show { name } => show(alloc, workspace, name, reply),
         Command::Types { name } => types(alloc, workspace, name, reply),
         Command::Dis { name } => disassembly(alloc, workspace, name, reply),

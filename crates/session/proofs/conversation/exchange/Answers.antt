@@ -1,10 +1,9 @@
 use Rattle.std.proofs.Common.{◌≡◌, Ok, None, refl, subst}
 use Rattle.wire.specs.Fetching.{Fetched, IsLined}
 use Rattle.command_text.specs.declared.rules.FatalRule.TheVariants.{LineTooLong}
-use Rattle.workspace.specs.Workspace.{state_of}
 use Rattle.session.specs.Next.{next}
-use Rattle.session.specs.Exchange.{Touched}
 use Rattle.session.specs.inner.Exchange.{Tells}
+use Rattle.session.specs.inner.Standing.{touched_at}
 use Rattle.session.specs.declared.hearing.Heard.TheVariants as h
 use Rattle.session.proofs.Exchanging.{exchanged_then, exchanged_told, exchanged_cut, exchanged_unlined, exchanged_end, told_stopped, heard_over, heard_end}
 use Rattle.session.proofs.conversation.exchange.Goals as goal
@@ -25,8 +24,8 @@ returns-in-Ok-clause-exchanged g c =
 
 pub returns-in-Ok-clause-less : goal.returns-in-Ok-clause-less
 returns-in-Ok-clause-less g c =
-    let was : Touched _ = record { budget = c.args.steps.now; sink = g.W.Sink.state c.args.writer.now; state = state_of c.args.desk.now.workspace } in
-    let now : Touched _ = record { budget = c.respond_and_say.new.steps; sink = g.W.Sink.state c.respond_and_say.new.writer; state = state_of c.respond_and_say.new.workspace } in
+    let was = touched_at c.args.desk.now.bench (g.W.Sink.state c.args.writer.now) c.args.steps.now in
+    let now = touched_at c.respond_and_say.new.bench (g.W.Sink.state c.respond_and_say.new.writer) c.respond_and_say.new.steps in
     λ e.
     let none : c.in-Ok.end ≡ None = cc in
     absurd (told_stopped g.T.Steps.leads was now LineTooLong (subst (λ o. Tells g.T.Steps.leads was now (h.Stopped LineTooLong) (Ok o)) none c.in-Ok.ensures.told))

@@ -1,18 +1,14 @@
 use Rattle.std.proofs.Common.{Err, ap, subst}
-use Rattle.workspace.specs.Workspace.{state_of}
-use Rattle.session.specs.Exchange.{Scene}
 use Rattle.session.specs.Rooms.{RoomState}
 use Rattle.session.specs.inner.Exchange.{Conversed}
+use Rattle.session.specs.inner.Standing.{scene_at}
 use Rattle.session.proofs.Talking.{outcome_of}
 use Rattle.session.proofs.conversation.Room.serve_counting.Goals as goal
 
 pub returns-clause-said : goal.returns-clause-said
 returns-clause-said g c =
     let said = c.converse-outcome in
-    let mid : Scene _ = record {
-      stream = record { source = g.R.Source.state said.new.reader; held = said.new.desk.input };
-      touched = record { budget = said.new.steps; sink = g.W.Sink.state said.new.writer; state = state_of said.new.desk.workspace };
-    } in
+    let mid = scene_at said.new.desk (g.R.Source.state said.new.reader) (g.W.Sink.state said.new.writer) said.new.steps in
     outcome_of g.T.Steps.leads c.args.self.reads _ mid c.release.new.steps (ap (λ (r : RoomState). r.reads) c.self.view_is) c.release.ensures.dealt said.result said.ensures.conversed
 
 pub returns-clause-begun : goal.returns-clause-begun
