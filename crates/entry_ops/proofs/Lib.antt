@@ -24,3 +24,4 @@ pub mod Reducing
 pub mod Heads
 pub mod Comings
 pub mod Answering
+pub mod Beside

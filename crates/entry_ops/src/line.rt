@@ -1,10 +1,12 @@
 //! The rows of operands and mask that are read for a row of a result.
-ghost use Rattle.std.specs.Prelude.{◌≡◌, ◌<◌};
-ghost use Rattle.csr_store.specs.Ascending.{Ascends, AscendsIn};
-ghost use Rattle.csr_store.specs.Mask.{HasShape, mask_of};
-ghost use Rattle.entry_ops.specs.inner.Walking.{cells_of, row_or_none, mask_row, AreAlike, IsLineOf};
+ghost use Rattle.std.specs.Prelude.{◌≡◌, ◌<◌, ◌≤◌, ◌+◌, IfSome};
+ghost use Rattle.std.specs.Option.{option_map};
+ghost use Rattle.csr_store.specs.Grid.{IsGrid, row_of};
+ghost use Rattle.csr_store.specs.Mask.{mask_of};
+ghost use Rattle.csr_store.specs.Reading.{Reading};
+ghost use Rattle.entry_ops.specs.inner.Walking.{cells_of, cells_or_none, reading_at, AreAlike, AreRead, IsLineOf};
 
-use csr_store::Matrix;
+use csr_store::{Matrix, RowReader};
 
 /// A column with its value.
 pub type Cell = (u64, u64);
@@ -27,50 +29,83 @@ pub struct Sources<'a> {
     pub mask: Option<&'a Matrix>,
 }
 
-/// Row `row` of a second matrix, if there is one.
-fn second_row<'a>(first: &Matrix, second: Option<&'a Matrix>, row: u64) -> &'a [Cell]
-    requires shape { HasShape first.now.rows first.now.columns (mask_of second) }
-    requires within { row < first.now.rows }
-    ensures cells { result.now ≡ row_or_none (mask_of second.entry) row }
-    ensures ascends { Ascends 0 first.now.columns result.now }
-{
-    match second {
-        None => &[],
-        Some(matrix) => {
-            let _ = matrix.columns();
-            matrix.row(row)
-        }
-    }
+/// What reads the operands and the mask, row by row.
+#[derive(Drop)]
+pub struct Lines<'a> {
+    left: RowReader<'a>,
+    right: Option<RowReader<'a>>,
+    mask: Option<RowReader<'a>>,
 }
 
-/// Row `row` of a mask, if there is one.
-fn row_of_mask<'a>(first: &Matrix, mask: Option<&'a Matrix>, row: u64) -> Option<&'a [Cell]>
-    requires shape { HasShape first.now.rows first.now.columns (mask_of mask) }
-    requires within { row < first.now.rows }
-    ensures cells { cells_of result ≡ mask_row (mask_of mask.entry) row }
-    ensures ascends { AscendsIn first.now.columns (cells_of result) }
+/// What reads a matrix from a row on, if there is one.
+fn reader_of<'a>(matrix: Option<&'a Matrix>, row: u64) -> Option<RowReader<'a>>
+    requires within { IfSome (mask_of matrix) (λ g. row ≤ g.rows) }
+    ensures reads { result ≡ reading_at (mask_of matrix.entry) row }
+    ensures grid { IfSome (mask_of matrix.entry) (λ g. IsGrid g) }
 {
-    match mask {
+    match matrix {
         None => None,
         Some(matrix) => {
             let _ = matrix.columns();
-            Some(matrix.row(row))
+            Some(matrix.rows_from(row))
         }
     }
 }
 
-/// The rows of operands and mask that are read for a row of the result.
-pub fn read_line<'a>(sources: Sources<'a>, row: u64) -> Line<'a>
-    requires alike { AreAlike sources }
-    requires within { row < sources.left.now.rows }
-    ensures { IsLineOf sources.entry row result }
+/// The next row of a matrix, if there is one.
+#[inline(always)]
+fn next_of<'a>(reader: &mut Option<RowReader<'a>>) -> Option<&'a [Cell]>
+    requires within { IfSome reader.old (λ r. r.row < r.grid.rows) }
+    ensures cells { cells_of result ≡ option_map (λ (r : Reading). row_of r.grid r.row) reader.old }
+    ensures next { reader.new ≡ option_map (λ (r : Reading). record r { row = r.row + 1 }) reader.old }
 {
-    Line {
-        row,
-        columns: sources.left.columns(),
-        left: sources.left.row(row),
-        right: second_row(sources.left, sources.right, row),
-        mask: row_of_mask(sources.left, sources.mask, row),
+    match reader {
+        None => None,
+        Some(reader) => Some(reader.next_row()),
+    }
+}
+
+/// The cells of a row, if there is one.
+#[inline(always)]
+fn cells_or_none(row: Option<&[Cell]>) -> &[Cell]
+    ensures { result.now ≡ cells_or_none (cells_of row.entry) }
+{
+    match row {
+        None => &[],
+        Some(cells) => cells,
+    }
+}
+
+impl<'a> Lines<'a> {
+    /// Of the rows from one on.
+    pub fn begin(sources: Sources<'a>, row: u64) -> Self
+        requires alike { AreAlike sources }
+        requires within { row ≤ sources.left.now.rows }
+        ensures { AreRead sources.entry row result }
+    {
+        let _ = sources.left.columns();
+        Lines {
+            left: sources.left.rows_from(row),
+            right: reader_of(sources.right, row),
+            mask: reader_of(sources.mask, row),
+        }
+    }
+
+    /// What is read for the next row of the result, of the same operands and mask.
+    #[inline(always)]
+    pub fn next_line(&mut self, sources: Sources<'a>, row: u64) -> Line<'a>
+        requires read { AreRead sources row self.old }
+        requires within { row < sources.left.now.rows }
+        ensures line { IsLineOf sources.entry row result }
+        ensures read { AreRead sources.entry (row + 1) self.new }
+    {
+        Line {
+            row,
+            columns: sources.left.columns(),
+            left: self.left.next_row(),
+            right: cells_or_none(next_of(&mut self.right)),
+            mask: next_of(&mut self.mask),
+        }
     }
 }
 

@@ -18,7 +18,7 @@ ghost use Rattle.entry_ops.specs.inner.Walking.{
 use crate::emitter::Emitter;
 use crate::form::Form;
 use crate::joint::fill_joint;
-use crate::line::{Cell, Line, MOST_ROOM, Sources, entries_between, read_line};
+use crate::line::{Line, Lines, MOST_ROOM, Sources, entries_between};
 use crate::masked::fill_masked;
 use bpf_run::{Calls, Prepared};
 use job_forms::Made;
@@ -81,8 +81,10 @@ fn fill(
         (with_rows (rows_from form operator.now sources.entry range.start range.end))
         emitter.old calls.old emitter.new calls.new result }
 {
+    let mut lines = Lines::begin(sources, range.start);
     for row in range.start..range.end {
-        fill_line(form, operator, calls, emitter, read_line(sources, row))?;
+        let line = lines.next_line(sources, row);
+        fill_line(form, operator, calls, emitter, line)?;
         emitter.end_row()?;
     }
     Ok(())

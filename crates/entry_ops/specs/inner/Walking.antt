@@ -1,12 +1,13 @@
 -- Two rows read side by side, and what each form makes of their positions. This project's own.
 use Rattle.std.specs.Prelude.{◌≡◌, ℕ, ◌+◌, ◌-◌, ◌<◌, ◌≤◌, List, [], ◌∷◌, ◌++◌, Option, None, Some}
-use Rattle.std.specs.Prelude.{Bool, true, false, if◌then◌else◌, length}
+use Rattle.std.specs.Prelude.{Bool, true, false, if◌then◌else◌, length, IfSome}
 use Rattle.bpf_insn.specs.declared.operands.Kind.{Kind}
 use Rattle.bpf_insn.specs.declared.operands.Kind.TheVariants as kinds
 use Rattle.bpf_verify.specs.Accepted.{Accepted}
 use denote.Ref.{Bor}
 use Rattle.std.specs.Option.{option_map}
-use Rattle.csr_store.specs.Grid.{Grid, Cell, Position, row_of}
+use Rattle.csr_store.specs.Grid.{Grid, IsGrid, Cell, Position, row_of}
+use Rattle.csr_store.specs.Reading.{Reading}
 use Rattle.csr_store.specs.Run.{Row, Run}
 use Rattle.csr_store.specs.Along.{along, cell_at}
 use Rattle.csr_store.specs.Mask.{HasShape, mask_of}
@@ -17,6 +18,7 @@ use Rattle.job_forms.specs.Region.{IsMade}
 use Rattle.job_forms.specs.declared.region.Made.{Made}
 use Rattle.entry_ops.specs.declared.form.Form.{Form}
 use Rattle.entry_ops.specs.declared.line.Line.{Line}
+use Rattle.entry_ops.specs.declared.line.Lines.{Lines}
 use Rattle.entry_ops.specs.declared.line.Sources.{Sources}
 use Rattle.entry_ops.specs.declared.form.Form.TheVariants.{Apply, Select, Union, Both}
 
@@ -144,6 +146,24 @@ pub record HaveRows (sources : Sources) (start to : ℕ) : Type 0 where
   pub alike : AreAlike sources
   pub range : start ≤ to
   pub within : to ≤ sources.left.now.rows
+
+-- a matrix is read from row i on, if there is one
+abbrev pub reading_at : Option Grid → ℕ → Option Reading
+reading_at matrix i = option_map (λ (g : Grid). record { grid = g; row = i }) matrix
+
+-- so are operands and mask
+pub record AreRead (sources : Sources) (i : ℕ) (lines : Lines) : Type 0 where
+  pub alike : AreAlike sources
+  pub left : lines.left ≡ record { grid = sources.left.now; row = i }
+  pub right : lines.right ≡ reading_at (mask_of sources.right) i
+  pub mask : lines.mask ≡ reading_at (mask_of sources.mask) i
+  pub right_grid : IfSome (mask_of sources.right) (λ g. IsGrid g)
+  pub mask_grid : IfSome (mask_of sources.mask) (λ g. IsGrid g)
+
+-- the cells of a row, if there is one
+abbrev pub cells_or_none : Option (List Cell) → List Cell
+cells_or_none None = []
+cells_or_none (Some cells) = cells
 
 -- what is read for row i
 pub record IsLineOf (sources : Sources) (i : ℕ) (line : Line) : Type 0 where

@@ -14,18 +14,18 @@ use Rattle.entry_ops.proofs.Standing.{on_err, charges-kept}
 use Rattle.entry_ops.proofs.rows.fill.Goals as goal
 
 pub loop-row-init : goal.loop-row-init
-loop-row-init c = (c.requires.ready.holds, filling-start _ _ _ _ _ _ _ _ c.requires.ready.open_row.none)
+loop-row-init c = (c.requires.ready.holds, filling-start _ _ _ _ _ _ _ _ c.requires.ready.open_row.none, c.begin-lines.ensures)
 
 pub fill_line-requires-clause-ready : goal.fill_line-requires-clause-ready
 fill_line-requires-clause-ready c =
     let room = filling-room _ _ _ _ _ _ _ _ _ _ c.loop-row.invariant.1
     c.loop-row-test.true c.requires.ready.room in
-    let same = ap steps_of (c.read_line.ensures.calls c.args.form c.args.operator.now) in
+    let same = ap steps_of (c.next_line-line.ensures.line.calls c.args.form c.args.operator.now) in
     let begun = filling-open _ _ _ _ _ _ _ _ _ _ c.loop-row.invariant.1
     c.requires.ready.open_row in
     record {
       holds = c.loop-row.invariant.0;
-      open_row = record { columns_are = begun.columns_are ∙ sym c.read_line.ensures.columns; none = begun.none };
+      open_row = record { columns_are = begun.columns_are ∙ sym c.next_line-line.ensures.line.columns; none = begun.none };
       room = omega (arith, room, same);
     }
 
@@ -34,7 +34,7 @@ returns-in_err-fill_line c = record {
   does = search rules;
   spent = on_err c.from_residual.result (filling-stop _ _ _ _ _ _ _ _ _ _
       c.loop-row.invariant.1 c.loop-row-test.true _ _
-      (c.read_line.ensures.calls c.args.form c.args.operator.now) c.in_err-fill_line.ensures.spent);
+      (c.next_line-line.ensures.line.calls c.args.form c.args.operator.now) c.in_err-fill_line.ensures.spent);
 }
 
 pub returns-in_err-end_row : goal.returns-in_err-end_row
@@ -43,7 +43,7 @@ returns-in_err-end_row c = record {
   spent = on_err c.from_residual-in_err-end_row.result
       (filling-stop_end _ _ _ _ _ _ _ _ _ _ c.loop-row.invariant.1
       c.loop-row-test.true
-      _ _ _ _ (c.read_line.ensures.calls c.args.form c.args.operator.now) c.in_ok-fill_line.ensures.does.adds
+      _ _ _ _ (c.next_line-line.ensures.line.calls c.args.form c.args.operator.now) c.in_ok-fill_line.ensures.does.adds
       (charges-kept _ _ _ c.in_err-end_row.ensures.kept));
 }
 
@@ -54,8 +54,9 @@ loop-row-preserved c =
       ended.holds,
       filling-step _ _ _ _ _ _ _ _ _ _ c.loop-row.invariant.1
           c.loop-row-test.true _ _ _ _
-          (c.read_line.ensures.calls c.args.form c.args.operator.now) (c.read_line.ensures.cells c.args.form c.args.operator.now)
+          (c.next_line-line.ensures.line.calls c.args.form c.args.operator.now) (c.next_line-line.ensures.line.cells c.args.form c.args.operator.now)
           c.in_ok-fill_line.ensures.does.adds ended.adds,
+      c.next_line-line.ensures.read,
     )
 
 pub returns : goal.returns
