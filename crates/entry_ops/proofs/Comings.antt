@@ -1,8 +1,8 @@
 -- The entries of rows that are called one after another: what comes behind some of them.
-use Rattle.std.proofs.Common.{◌≡◌, ◌≤◌, ◌<◌, ◌+◌, ◌-◌, ℕ, List, [], ◌++◌, refl, sym, ap, ◌∙◌, append_assoc}
+use Rattle.std.proofs.Common.{◌≡◌, ◌<◌, ◌+◌, ◌-◌, ℕ, List, ◌++◌, sym, ap, ◌∙◌, append_assoc}
 use Rattle.csr_store.specs.Grid.{Grid, row_of}
 use Rattle.csr_store.specs.Run.{Row}
-use Rattle.csr_store.proofs.Along.{along-next, along-over}
+use Rattle.csr_store.proofs.Along.{along-next}
 use Rattle.bpf_insn.specs.declared.operands.Operands.{Operands}
 use Rattle.bpf_run.specs.Calls.{entries_of}
 use Rattle.csr_store.specs.Reading.{Reading}
@@ -17,31 +17,13 @@ read-next end thunk old new row l e n =
     ∙ (ap (λ r. entries_of old.row thunk r ++ entries_along old.grid thunk (old.row + 1) (end - (old.row + 1))) (sym e)
     ∙ ap (λ (q : Reading). entries_of old.row thunk row ++ entries_up_to end thunk q) (sym n))
 
-module _ (a : Grid) (thunk end : ℕ) where
-  along-read : (next : ℕ) (row : Row) → next < end → row ≡ row_of a next
-      → entries_along a thunk next (end - next) ≡ entries_of next thunk row ++ entries_along a thunk (next + 1) (end - (next + 1))
-  along-read next row l e =
-      along-next (λ k. entries_of k thunk (row_of a k)) next end l
-      ∙ ap (λ r. entries_of next thunk r ++ entries_along a thunk (next + 1) (end - (next + 1))) (sym e)
-
-  -- the next row is read
-  pub coming-read : (i next : ℕ) (left row : Row) → next < end → row ≡ row_of a next
-      → coming a thunk i left next end ≡ entries_of i thunk left ++ coming a thunk next row (next + 1) end
-  coming-read i next left row l e = ap (λ os. entries_of i thunk left ++ os) (along-read next row l e)
-
-  -- none is left to be read
-  pub coming-last : (i next : ℕ) (left : Row) → end ≤ next → coming a thunk i left next end ≡ entries_of i thunk left ++ coming a thunk i [] next end
-  coming-last i next left l = refl
-
-  pub coming-over : (i next : ℕ) → end ≤ next → coming a thunk i [] next end ≡ []
-  coming-over i next l = along-over (λ k. entries_of k thunk (row_of a k)) next end l
-
-  -- the first cells of a row
-  pub coming-parts : (i next : ℕ) (left now later : Row) → left ≡ now ++ later → coming a thunk i left next end ≡ entries_of i thunk now ++ coming a thunk i later next end
-  coming-parts i next left now later e =
-      ap (λ r. coming a thunk i r next end) e
-      ∙ (ap (λ us. us ++ entries_along a thunk next (end - next)) (entries_of-append i thunk now later)
-      ∙ append_assoc (entries_of i thunk now) (entries_of i thunk later) (entries_along a thunk next (end - next)))
+-- the first cells of a row
+pub coming-parts : (a : Grid) (thunk end i next : ℕ) (left now later : Row) → left ≡ now ++ later
+    → coming a thunk i left next end ≡ entries_of i thunk now ++ coming a thunk i later next end
+coming-parts a thunk end i next left now later e =
+    ap (λ r. coming a thunk i r next end) e
+    ∙ (ap (λ us. us ++ entries_along a thunk next (end - next)) (entries_of-append i thunk now later)
+    ∙ append_assoc (entries_of i thunk now) (entries_of i thunk later) (entries_along a thunk next (end - next)))
 
 -- more is gathered
 pub gathered-more : (all was now here rest left : List Operands) → all ≡ was ++ rest → now ≡ was ++ here → rest ≡ here ++ left → all ≡ now ++ left
