@@ -294,13 +294,13 @@ row_within : (form : Form) (mask : Option Grid) (i : ℕ) → IsForm form → Is
     → has_shape (operation form).rows (operation form).columns mask ≡ true
     → bound_of (listed_under mask (operation form).columns (operation form).calls_at i)
     ≤ (costing form).rounds mask i * (costing form).round
-row_within (Apply f thunk a) mask i g m s p = one_of f thunk a mask i g.1 m p
-row_within (Select f thunk a) mask i g m s p = one_of f (Some thunk) a mask i g.1 m p
-row_within (Union f a b) mask i g m s p = joint_of f a b mask i g.1 g.2 m s p
-row_within (Both f a b) mask i g m s p = joint_of f a b mask i g.1 g.2 m s p
+row_within (Apply f thunk a) mask i g m s p = one_of f thunk a mask i g.1.0 m p
+row_within (Select f thunk a) mask i g m s p = one_of f (Some thunk) a mask i g.1.0 m p
+row_within (Union f a b) mask i g m s p = joint_of f a b mask i g.1.0 g.1.1.0 m s p
+row_within (Both f a b) mask i g m s p = joint_of f a b mask i g.1.0 g.1.1.0 m s p
 row_within (Product add mul a b) mask i g m s p =
     passing_bound mask (product_calls_at add mul a b) (length mul.insns + length add.insns) (mults_of b (row_of a i)) b.columns i
-    (product_bound add mul a b i g.3)
+    (product_bound add mul a b i g.1.1.0)
 row_within (Reduce f a) mask i g m s p =
     passing_bound mask (entry.reduce_calls_at f a) (length f.insns) (count a i - 1) 1 i (reduce_bound f a i)
 

@@ -1,3 +1,4 @@
+pub mod Mapping
 pub mod Sums
 pub mod Rounds
 pub mod Covering

@@ -62,15 +62,15 @@ below p a n g h = let s = summed-le p (count a) 0 n h in let f = few_entries a n
 
 pub few_rounds : (form : Form) (mask : Option Grid) → IsForm form → (costing form).entries mask ≤ limit
     → summed ((costing form).rounds mask) 0 (operation form).rows ≤ limit
-few_rounds (Apply f thunk a) mask h e = below _ a a.rows h.1 (λ i. passing_le mask i (count a i))
-few_rounds (Select f thunk a) mask h e = below _ a a.rows h.1 (λ i. passing_le mask i (count a i))
+few_rounds (Apply f thunk a) mask h e = below _ a a.rows h.1.0 (λ i. passing_le mask i (count a i))
+few_rounds (Select f thunk a) mask h e = below _ a a.rows h.1.0 (λ i. passing_le mask i (count a i))
 few_rounds (Union f a b) mask h e =
-    below _ a a.rows h.1 (λ i. let l = passing_le mask i (min (count a i) (count b i)) in omega arith)
+    below _ a a.rows h.1.0 (λ i. let l = passing_le mask i (min (count a i) (count b i)) in omega arith)
 few_rounds (Both f a b) mask h e =
-    below _ a a.rows h.1 (λ i. let l = passing_le mask i (min (count a i) (count b i)) in omega arith)
+    below _ a a.rows h.1.0 (λ i. let l = passing_le mask i (min (count a i) (count b i)) in omega arith)
 few_rounds (Product add mul a b) mask h e = e
 few_rounds (Reduce f a) mask h e =
-    below _ a a.rows h.1 (λ i. let l = passing_if mask i (count a i - 1) in omega arith)
+    below _ a a.rows h.1.0 (λ i. let l = passing_if mask i (count a i - 1) in omega arith)
 
 -- ---- sums over rows, of which none has more than its entries
 

@@ -98,16 +98,16 @@ both_true true false h = absurd (cc)
 both_true false b h = absurd (cc)
 
 cheap_at : (form : Form) → IsForm form → (operation form).kinds ≡ true → (at : Position) → AreCheap ((operation form).calls_at at)
-cheap_at (Apply f thunk a) g k at = cheap_apply f thunk at (get a.cells at) g.0 (same_kind-is _ _ k)
-cheap_at (Select f thunk a) g k at = cheap_apply f (Some thunk) at (get a.cells at) g.0 (same_kind-is _ _ k)
-cheap_at (Union f a b) g k at = cheap_joint f (get a.cells at) (get b.cells at) g.0 (same_kind-is _ _ k)
-cheap_at (Both f a b) g k at = cheap_joint f (get a.cells at) (get b.cells at) g.0 (same_kind-is _ _ k)
+cheap_at (Apply f thunk a) g k at = cheap_apply f thunk at (get a.cells at) g.0.0 (same_kind-is _ _ k)
+cheap_at (Select f thunk a) g k at = cheap_apply f (Some thunk) at (get a.cells at) g.0.0 (same_kind-is _ _ k)
+cheap_at (Union f a b) g k at = cheap_joint f (get a.cells at) (get b.cells at) g.0.0 (same_kind-is _ _ k)
+cheap_at (Both f a b) g k at = cheap_joint f (get a.cells at) (get b.cells at) g.0.0 (same_kind-is _ _ k)
 cheap_at (Product add mul a b) g k at =
     let t = both_true (is_of kinds.Binary add) (is_of kinds.Binary mul) k in
     cheap-append (mul_calls mul b (row_of a at.0) at.1) (fold_calls add (terms mul b (row_of a at.0) at.1))
-    (cheap_mul mul b (row_of a at.0) at.1 g.1 (same_kind-is _ _ t.1))
-    (cheap_fold add (terms mul b (row_of a at.0) at.1) g.0 (same_kind-is _ _ t.0))
-cheap_at (Reduce f a) g k at = cheap_fold f (entry.row_words a at.0) g.0 (same_kind-is _ _ k)
+    (cheap_mul mul b (row_of a at.0) at.1 g.0.1.0 (same_kind-is _ _ t.1))
+    (cheap_fold add (terms mul b (row_of a at.0) at.1) g.0.0 (same_kind-is _ _ t.0))
+cheap_at (Reduce f a) g k at = cheap_fold f (entry.row_words a at.0) g.0.0 (same_kind-is _ _ k)
 
 cheap_cut : (mask : Option Grid) (lists : Position → List Call) (at : Position) → AreCheap (lists at)
     → AreCheap (cut_list mask lists at)

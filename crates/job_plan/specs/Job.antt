@@ -4,19 +4,12 @@
 use Rattle.std.specs.Prelude.{ℕ, List, Option}
 use Rattle.bpf_verify.specs.Accepted.{Accepted}
 use Rattle.csr_store.specs.Grid.{Grid}
+use Rattle.job_plan.specs.declared.form.Form as declared
+pub use Rattle.job_plan.specs.declared.form.Form.TheVariants.{Apply, Select, Union, Both, Product, Reduce}
 
-pub data Form : Type 0 where
-  -- the operator, the thunk that an index operator is given, the operand
-  Apply : Accepted → Option ℕ → Grid → Form
-  -- the operator, the thunk, the operand
-  Select : Accepted → ℕ → Grid → Form
-  -- the operator, the operands
-  Union : Accepted → Grid → Grid → Form
-  Both : Accepted → Grid → Grid → Form
-  -- the operator that adds, the operator that multiplies, the operands
-  Product : Accepted → Accepted → Grid → Grid → Form
-  -- the operator, the operand
-  Reduce : Accepted → Grid → Form
+-- a form of operators and matrices
+abbrev pub Form : Type 0
+Form = declared.Form Accepted Grid
 
 pub record Job : Type 0 where
   pub form : Form

@@ -1,3 +1,4 @@
+pub mod Form
 pub mod Job
 pub mod Forms
 pub mod Costing

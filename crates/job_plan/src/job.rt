@@ -12,60 +12,17 @@ ghost use Rattle.job_plan.specs.Refusal.{job_fault, IsPriced};
 ghost use Rattle.job_plan.specs.inner.Refusal.{Passes};
 
 use crate::error::JobError;
-use crate::form::has_shape;
-use bpf_run::Prepared;
+use crate::form::Form;
+use crate::table::has_shape;
 use csr_store::{Matrix, Version};
 use std::marker::Model;
 use std::ops::Range;
-use std::sync::Arc;
 
 /// The most entries that a result may have.
 const MOST_ENTRIES: u64 = 16_777_216;
 
 /// The most steps that a job may cost.
 const MOST_STEPS: u64 = 4_294_967_296;
-
-/// The six forms of jobs, each with just the operators, the thunk and the operands that it takes. Operators may be of the wrong
-/// kind and operands of shapes that don't fit: [`Priced::of`](crate::Priced::of) looks at that.
-#[derive(Drop)]
-pub enum Form {
-    /// What a unary operator makes of each word; with a thunk, what an index operator makes of it.
-    Apply {
-        operator: Arc<Prepared>,
-        thunk: Option<u64>,
-        operand: Version,
-    },
-    /// The words for which an index operator's answer isn't 0.
-    Select {
-        operator: Arc<Prepared>,
-        thunk: u64,
-        operand: Version,
-    },
-    /// What a binary operator makes of two words where both stand; where one does, that one.
-    Union {
-        operator: Arc<Prepared>,
-        left: Version,
-        right: Version,
-    },
-    /// What a binary operator makes of two words where both stand.
-    Both {
-        operator: Arc<Prepared>,
-        left: Version,
-        right: Version,
-    },
-    /// The product of two matrices over two binary operators.
-    Product {
-        add: Arc<Prepared>,
-        mul: Arc<Prepared>,
-        left: Version,
-        right: Version,
-    },
-    /// Each row folded by a binary operator, into one column.
-    Reduce {
-        operator: Arc<Prepared>,
-        operand: Version,
-    },
-}
 
 /// A form with its operators and operands, a structural mask or none, and the name that the result will be bound to. A contract
 /// sees the `Job` of `specs/Job.antt`, in which versions and operators are the matrices and the accepted operators that they stand
@@ -159,13 +116,14 @@ impl Job {
         let form = &self.form;
         let mask = self.mask();
         form.recall();
-        if !form.kinds() {
+        let operation = form.operation();
+        if !operation.kinds {
             return Err(JobError::WrongKind);
         }
-        if !form.shapes() {
+        if !operation.shapes {
             return Err(JobError::WrongShapes);
         }
-        if !has_shape(form.rows(), form.columns(), mask) {
+        if !has_shape(operation.rows, operation.columns, mask) {
             return Err(JobError::WrongMask);
         }
         let entries = form.entries(mask);

@@ -9,19 +9,22 @@
 //! `specs/Costing.antt` and `specs/Price.antt` what it may cost, `specs/Refusal.antt` when it is refused, and `specs/Chunks.antt` how
 //! jobs are cut.
 //!
-//! Read `job` first, then `form` (the table in code) with `rows` (what rows count for), `priced`, `queue` and `plan`.
+//! Read `form` and `job` first, then `table` (that of the forms, in code) with `rows` (what rows count for), `priced`, `queue` and
+//! `plan`.
 #![tactic(auto)]
 
 pub mod error;
-mod form;
+pub mod form;
 pub mod job;
 pub mod plan;
 pub mod priced;
 pub mod queue;
 mod rows;
+mod table;
 
 pub use error::JobError;
-pub use job::{Form, Job};
+pub use form::Form;
+pub use job::Job;
 pub use plan::Plan;
 pub use priced::{Priced, price};
 pub use queue::Queue;

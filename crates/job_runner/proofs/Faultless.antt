@@ -8,7 +8,8 @@ use Rattle.csr_store.specs.Mask.{rows_under}
 use Rattle.csr_store.proofs.Order.{both_true}
 use Rattle.job_forms.specs.Forms as entry
 use Rattle.job_plan.specs.declared.error.JobError.TheVariants.{WrongKind, WrongShapes, WrongMask, ResultTooLarge, PriceTooHigh}
-use Rattle.job_plan.specs.Job.{Job, Form, Apply, Select, Union, Both, Product, Reduce}
+use Rattle.job_plan.specs.Job.{Form, Job}
+use Rattle.job_plan.specs.declared.form.Form.TheVariants.{Apply, Select, Union, Both, Product, Reduce}
 use Rattle.job_plan.specs.Forms.{operation}
 use Rattle.job_plan.specs.Costing.{costing}
 use Rattle.job_plan.specs.Kept.{IsForm}
@@ -65,19 +66,19 @@ form_entries : (form : Form) (mask : Option Grid) → IsForm form → (operation
     → (costing form).entries mask ≤ limit
     → entries_in form mask ≤ limit
 form_entries (Apply f thunk a) mask h s e =
-    let w = within_one a mask (entry.apply_at f thunk a) a.rows h.1 (applied_count f thunk a) in let l = h.1.entries_small in
+    let w = within_one a mask (entry.apply_at f thunk a) a.rows h.1.0 (applied_count f thunk a) in let l = h.1.0.entries_small in
     omega (arith, w, l)
 form_entries (Select f thunk a) mask h s e =
-    let w = within_one a mask (entry.select_at f thunk a) a.rows h.1 (selected_count f thunk a) in let l = h.1.entries_small in
+    let w = within_one a mask (entry.select_at f thunk a) a.rows h.1.0 (selected_count f thunk a) in let l = h.1.0.entries_small in
     omega (arith, w, l)
 form_entries (Union f a b) mask h s e =
     let same = eqb-true a.columns b.columns (both_true (nat_eq a.rows b.rows) (nat_eq a.columns b.columns) s).1 in
-    let w = within_two a b mask (entry.union_at f a b) a.rows h.1 h.2 same (united_count f a b) in omega (arith, w, e)
+    let w = within_two a b mask (entry.union_at f a b) a.rows h.1.0 h.1.1.0 same (united_count f a b) in omega (arith, w, e)
 form_entries (Both f a b) mask h s e =
-    let w = within_one a mask (entry.both_at f a b) a.rows h.1 (joint_count f a b) in let l = h.1.entries_small in
+    let w = within_one a mask (entry.both_at f a b) a.rows h.1.0 (joint_count f a b) in let l = h.1.0.entries_small in
     omega (arith, w, l)
-form_entries (Product add mul a b) mask h s e = let w = within_mults add mul a b mask a.rows h.3 in omega (arith, w, e)
-form_entries (Reduce f a) mask h s e = let w = within_column mask (entry.reduce_at f a) a.rows in let l = h.1.rows_small in
+form_entries (Product add mul a b) mask h s e = let w = within_mults add mul a b mask a.rows h.1.1.0 in omega (arith, w, e)
+form_entries (Reduce f a) mask h s e = let w = within_column mask (entry.reduce_at f a) a.rows in let l = h.1.0.rows_small in
     omega (arith, w, l)
 
 -- a job's matrix has no more entries than a matrix may have

@@ -4,23 +4,15 @@
 --
 -- A job's matrix and steps are said by `value_of` and `cost_of` of an operator (bpf_run). The theorem names the law that these are
 -- the value and the cost of the machine (bpf_insn), and that a job calls its operators on operands of their kinds.
-use Rattle.std.specs.Prelude.{◌≡◌, ◌≤◌, true, List, [], ◌∷◌}
+use Rattle.std.specs.Prelude.{◌≡◌, ◌≤◌, true, List}
 use Rattle.std.specs.List.{AllByRecursion}
 use Rattle.bpf_verify.specs.Accepted.{Accepted, IsSound}
 use Rattle.bpf_run.specs.Meaning.{AgreesWithMachine}
 use Rattle.job_plan.specs.Forms.{operation}
-use Rattle.job_plan.specs.Job.{Job, Form, Apply, Select, Union, Both, Product, Reduce}
+use Rattle.job_plan.specs.Form.{operators_of}
+use Rattle.job_plan.specs.Job.{Job}
 use Rattle.job_plan.specs.Meaning.{steps_of_job, bound_of_job}
 use Rattle.job_runner.specs.Batch.{Result, AreResultsOf}
-
--- the operators that a form calls
-abbrev pub operators_of : Form → List Accepted
-operators_of (Apply f thunk a) = f ∷ []
-operators_of (Select f thunk a) = f ∷ []
-operators_of (Union f a b) = f ∷ []
-operators_of (Both f a b) = f ∷ []
-operators_of (Product add mul a b) = add ∷ mul ∷ []
-operators_of (Reduce f a) = f ∷ []
 
 -- on all operands of its kind the operator has a value, at a cost of at most its length, and is never stuck
 abbrev pub IsNeverStuck : Accepted → Type 0

@@ -12,7 +12,7 @@ ghost use Rattle.job_runner.specs.inner.Pieces.{AreAll, BeginsWith, listed, runs
 use crate::answer::JobResult;
 use crate::piece::Piece;
 use csr_store::{Matrix, Rows, stack_runs};
-use job_plan::{Form, Job, Plan, Priced, price};
+use job_plan::{Job, Plan, Priced, price};
 use std::alloc::{AllocError, Global};
 use std::sync::Arc;
 use std::vec::IntoIter;
@@ -99,21 +99,12 @@ fn sizes(job: &Job) -> (u64, u64)
     ensures rows { result.0 ≡ row_count job.now }
     ensures columns { result.1 ≡ column_count job.now }
 {
-    match job.form() {
-        Form::Apply { operand, .. } | Form::Select { operand, .. } => {
-            (operand.rows(), operand.columns())
-        }
-        Form::Union { left, .. } | Form::Both { left, .. } => (left.rows(), left.columns()),
-        Form::Product { left, right, .. } => (left.rows(), right.columns()),
-        Form::Reduce { operand, .. } => (operand.rows(), 1),
-    }
+    let form = job.form();
+    (form.rows(), form.columns())
 }
 
 /// The first operand of a job. What apply makes of it without a mask has its entries at the same positions.
 fn first_operand(job: &Job) -> &Matrix {
-    match job.form() {
-        Form::Apply { operand, .. } | Form::Select { operand, .. } | Form::Reduce { operand, .. } =>
-            operand,
-        Form::Union { left, .. } | Form::Both { left, .. } | Form::Product { left, .. } => left,
-    }
+    let (first, _) = job.form().matrices();
+    first
 }

@@ -1,7 +1,7 @@
 use Rattle.std.proofs.Common.{length, ap, arith}
 use Rattle.bpf_verify.specs.Accepted.{Accepted}
 use Rattle.bpf_run.proofs.Calling.{few_steps}
-use Rattle.job_plan.proofs.form.length.Goals as goal
+use Rattle.job_plan.proofs.table.length.Goals as goal
 
 pub returns-clause-few : goal.returns-clause-few
 returns-clause-few c =

@@ -1,0 +1,266 @@
+//! The table of the six forms, in code.
+ghost use Rattle.std.specs.Prelude.{◌≡◌, ◌≤◌, ◌-◌, length, true};
+ghost use Rattle.bpf_verify.specs.Accepted.{IsAccepted};
+ghost use Rattle.csr_store.specs.Along.{summed};
+ghost use Rattle.csr_store.specs.Grid.{limit, IsGrid};
+ghost use Rattle.csr_store.specs.Mask.{mask_of, HasShape};
+ghost use Rattle.job_forms.specs.Product.{mults_under};
+ghost use Rattle.job_plan.specs.Kept.{form_of, IsForm, IsMask};
+ghost use Rattle.job_plan.specs.Forms.{is_of, kind_with, operation, same_shape};
+ghost use Rattle.job_plan.specs.Costing.{costing};
+ghost use Rattle.job_plan.specs.Refusal.{has_shape};
+
+use crate::form::Form;
+use crate::rows::{count_in, folds_in, folds_under, least_in, lesser_in};
+use bpf_insn::Kind;
+use bpf_run::Prepared;
+use csr_store::Matrix;
+use job_forms::{mult_count, mult_count_in};
+use std::ops::Range;
+
+/// What a form computes, but for the values.
+#[derive(Clone, Copy)]
+pub(crate) struct Operation {
+    /// Whether the operators are of the kinds that the form takes.
+    pub kinds: bool,
+    /// Whether the matrices' shapes fit one another.
+    pub shapes: bool,
+    /// The sizes of the result.
+    pub rows: u64,
+    pub columns: u64,
+}
+
+impl Form {
+    /// What holds of operators and matrices, whatever they are. Only the prover looks at it.
+    pub(crate) fn recall(&self)
+        ensures { IsForm (form_of self.now) }
+    {
+        match self {
+            Form::Apply {
+                operator,
+                operand,
+                ..
+            }
+            | Form::Select {
+                operator,
+                operand,
+                ..
+            }
+            | Form::Reduce { operator, operand } => recall(operator, operand),
+            Form::Union {
+                operator,
+                left,
+                right,
+            }
+            | Form::Both {
+                operator,
+                left,
+                right,
+            } => {
+                recall(operator, left);
+                recall(operator, right);
+            }
+            Form::Product {
+                add,
+                mul,
+                left,
+                right,
+            } => {
+                recall(add, left);
+                recall(mul, right);
+            }
+        }
+    }
+
+    /// The line of the form.
+    pub(crate) fn operation(&self) -> Operation
+        ensures kinds { result.kinds ≡ (operation (form_of self.now)).kinds }
+        ensures shapes { result.shapes ≡ (operation (form_of self.now)).shapes }
+        ensures rows { result.rows ≡ (operation (form_of self.now)).rows }
+        ensures columns { result.columns ≡ (operation (form_of self.now)).columns }
+    {
+        match self {
+            Form::Apply {
+                operator,
+                thunk,
+                operand,
+            } => Operation {
+                kinds: is_of(kind_with(*thunk), operator),
+                shapes: true,
+                rows: operand.rows(),
+                columns: operand.columns(),
+            },
+            Form::Select {
+                operator,
+                operand,
+                ..
+            } => Operation {
+                kinds: is_of(Kind::Index, operator),
+                shapes: true,
+                rows: operand.rows(),
+                columns: operand.columns(),
+            },
+            Form::Union {
+                operator,
+                left,
+                right,
+            }
+            | Form::Both {
+                operator,
+                left,
+                right,
+            } => Operation {
+                kinds: is_of(Kind::Binary, operator),
+                shapes: same_shape(left, right),
+                rows: left.rows(),
+                columns: left.columns(),
+            },
+            Form::Product {
+                add,
+                mul,
+                left,
+                right,
+            } => Operation {
+                kinds: is_of(Kind::Binary, add) && is_of(Kind::Binary, mul),
+                shapes: left.columns() == right.rows(),
+                rows: left.rows(),
+                columns: right.columns(),
+            },
+            Form::Reduce { operator, operand } => Operation {
+                kinds: is_of(Kind::Binary, operator),
+                shapes: true,
+                rows: operand.rows(),
+                columns: 1,
+            },
+        }
+    }
+
+    /// The number of rows of the result.
+    pub fn rows(&self) -> u64
+        ensures rows { result ≡ (operation (form_of self.now)).rows }
+        ensures few { result ≤ limit }
+    {
+        self.recall();
+        self.operation().rows
+    }
+
+    /// The number of columns of the result.
+    pub fn columns(&self) -> u64
+        ensures { result ≡ (operation (form_of self.now)).columns }
+    {
+        self.operation().columns
+    }
+
+    /// How many entries the result can have, of a form in which that may be more than a matrix holds; else 0.
+    pub(crate) fn entries(&self, mask: Option<&Matrix>) -> u64
+        requires shapes { (operation (form_of self.now)).shapes ≡ true }
+        requires mask { has_shape (operation (form_of self.now)).rows (operation (form_of self.now)).columns (mask_of mask) ≡ true }
+        ensures { result ≡ (costing (form_of self.now)).entries (mask_of mask.entry) }
+    {
+        match self {
+            Form::Union { left, right, .. } => left.entries() + right.entries(),
+            Form::Product { left, right, .. } => mult_count(left, right, mask),
+            Form::Apply { .. } | Form::Select { .. } | Form::Both { .. } | Form::Reduce { .. } => 0,
+        }
+    }
+
+    /// How many instructions the operators of a round have.
+    pub(crate) fn round(&self) -> u64
+        ensures round { result ≡ (costing (form_of self.now)).round }
+        ensures few { result ≤ 8192 }
+    {
+        let (operator, other) = self.operators();
+        match other {
+            None => length(operator),
+            Some(other) => length(operator) + length(other),
+        }
+    }
+
+    /// How many rounds of calls some rows take at most.
+    pub(crate) fn rounds(&self, mask: Option<&Matrix>, range: Range<u64>) -> u64
+        requires shapes { (operation (form_of self.now)).shapes ≡ true }
+        requires mask { has_shape (operation (form_of self.now)).rows (operation (form_of self.now)).columns (mask_of mask) ≡ true }
+        requires within { range.end ≤ (operation (form_of self.now)).rows }
+        ensures { result ≡ summed ((costing (form_of self.now)).rounds (mask_of mask.entry)) range.start
+            (range.end - range.start) }
+    {
+        match (self, mask) {
+            (Form::Apply { operand, .. }, None) => count_in(operand, range),
+            (Form::Apply { operand, .. }, Some(mask)) => lesser_in(operand, mask, range),
+            (Form::Select { operand, .. }, None) => count_in(operand, range),
+            (Form::Select { operand, .. }, Some(mask)) => lesser_in(operand, mask, range),
+            (Form::Union { left, right, .. }, None) => lesser_in(left, right, range),
+            (Form::Union { left, right, .. }, Some(mask)) => least_in(left, right, mask, range),
+            (Form::Both { left, right, .. }, None) => lesser_in(left, right, range),
+            (Form::Both { left, right, .. }, Some(mask)) => least_in(left, right, mask, range),
+            (Form::Product { left, right, .. }, _) => mults_in(left, right, mask, range),
+            (Form::Reduce { operand, .. }, None) => folds_in(operand, range),
+            (Form::Reduce { operand, .. }, Some(mask)) => folds_under(operand, mask, range),
+        }
+    }
+}
+
+/// The kind of operator that `apply` takes: an index operator where there is a thunk, else a unary one.
+fn kind_with(thunk: Option<u64>) -> Kind
+    ensures { result ≡ kind_with thunk }
+{
+    match thunk {
+        None => Kind::Unary,
+        Some(_) => Kind::Index,
+    }
+}
+
+/// What holds of any operator and of any matrix. Only the prover looks at it.
+fn recall(operator: &Prepared, operand: &Matrix)
+    ensures operator { IsAccepted operator.now }
+    ensures operand { IsGrid operand.now }
+{
+    let _ = operator.operator().program();
+    let _ = operand.rows();
+}
+
+/// Whether an operator is of a kind.
+fn is_of(kind: Kind, operator: &Prepared) -> bool
+    ensures { result ≡ is_of kind operator.now }
+{
+    operator.kind() == kind
+}
+
+/// How many instructions an operator has.
+fn length(operator: &Prepared) -> u64
+    ensures length { result ≡ length operator.now.insns }
+    ensures few { result ≤ 4096 }
+{
+    let _ = operator.operator().program();
+    operator.len()
+}
+
+fn same_shape(a: &Matrix, b: &Matrix) -> bool
+    ensures { result ≡ same_shape a.now b.now }
+{
+    a.rows() == b.rows() && a.columns() == b.columns()
+}
+
+/// Whether a mask has these sizes, or there is none.
+pub(crate) fn has_shape(rows: u64, columns: u64, mask: Option<&Matrix>) -> bool
+    ensures shape { result ≡ has_shape rows columns (mask_of mask.entry) }
+    ensures mask { IsMask (mask_of mask.entry) }
+{
+    match mask {
+        Some(mask) => mask.rows() == rows && mask.columns() == columns,
+        None => true,
+    }
+}
+
+/// How many multiplications some rows of a product take.
+fn mults_in(a: &Matrix, b: &Matrix, mask: Option<&Matrix>, range: Range<u64>) -> u64
+    requires shapes { a.now.columns ≡ b.now.rows }
+    requires mask { HasShape a.now.rows b.now.columns (mask_of mask) }
+    requires within { range.end ≤ a.now.rows }
+    ensures { result ≡ mults_under (mask_of mask.entry) a.now b.now range.start (range.end - range.start) }
+{
+    if range.end <= range.start {
+        return 0;
+    }
+    mult_count_in(a, b, mask, range)
+}
