@@ -1,37 +1,33 @@
 -- What the parser of a line answers, as what the line asks for (this project's own).
-use denote.Ref.{Bor}
-use Rattle.std.specs.Prelude.{ℕ, List, Option}
+use Rattle.std.specs.Prelude.{ℕ, List}
 use Rattle.std.specs.Option.{option_map}
 use Rattle.command_text.specs.Requests.{Command, Header, Request, MatrixHeader, OpHeader, AsmHeader, Plain, Body, Fatal}
 use Rattle.command_text.specs.Requests as is
 use Rattle.command_text.specs.declared.request as code
-use Rattle.command_text.specs.declared.submission as submitted
-use Rattle.command_text.specs.declared.submission.Form.TheVariants as f
+use Rattle.command_text.specs.declared.name.Name.{Name}
+use Rattle.command_text.specs.declared.submission.Submission.{Submission}
+use Rattle.job_plan.specs.Form.{mapped}
+use Rattle.job_plan.specs.declared.form.Form as forms
 use Rattle.command_text.specs.declared.request.Command.TheVariants as c
 use Rattle.command_text.specs.declared.request.Header.TheVariants as h
 use Rattle.command_text.specs.declared.request.Request.TheVariants as r
 
-abbrev pub form_of : submitted.Form.Form → is.Form
-form_of (f.Apply operator operand thunk) = is.Apply operator.now operand.now thunk
-form_of (f.Select operator operand thunk) = is.Select operator.now operand.now thunk
-form_of (f.Union operator left right) = is.Union operator.now left.now right.now
-form_of (f.Both operator left right) = is.Both operator.now left.now right.now
-form_of (f.Product add mul left right) = is.Product add.now mul.now left.now right.now
-form_of (f.Reduce operator operand) = is.Reduce operator.now operand.now
+abbrev pub name_of : Name → List ℕ
+name_of name = name.text.now
 
-abbrev pub lent_name : Option (Bor (List ℕ)) → Option (List ℕ)
-lent_name name = option_map (λ (n : Bor (List ℕ)). n.now) name
+abbrev pub form_of : forms.Form Name Name → is.Form
+form_of = mapped name_of name_of
 
-abbrev pub submission_of : submitted.Submission.Submission → is.Submission
-submission_of s = record { output = s.output.now; form = form_of s.form; mask = lent_name s.mask }
+abbrev pub submission_of : Submission → is.Submission
+submission_of s = record { output = name_of s.output; form = form_of s.form; mask = option_map name_of s.mask }
 
 abbrev pub command_of : code.Command.Command → Command
 command_of c.Blank = is.Blank
 command_of (c.Submit submission) = is.Submit (submission_of submission)
 command_of c.Run = is.Run
-command_of (c.Show name) = is.Show name.now
-command_of (c.Types name) = is.Types name.now
-command_of (c.Dis name) = is.Dis name.now
+command_of (c.Show name) = is.Show (name_of name)
+command_of (c.Types name) = is.Types (name_of name)
+command_of (c.Dis name) = is.Dis (name_of name)
 command_of c.Budget = is.Budget
 command_of c.Quit = is.Quit
 command_of (c.Refuse rule) = is.Refuse rule

@@ -1,23 +1,21 @@
 -- What a command line asks for (this project's own).
-use Rattle.std.specs.Prelude.{ℕ, nat_lt, if◌then◌else◌, List, [], ◌∷◌, Option, None, Some, codes}
+use Rattle.std.specs.Prelude.{ℕ, nat_lt, if◌then◌else◌, List, [], ◌∷◌, Option, None, Some, Result, Ok, Err, ok_or, codes}
 use Rattle.std.specs.Str.{bytes_eq}
 use Rattle.matrix_market.specs.Values.{value_word}
-use Rattle.command_text.specs.Words.{length_of}
+use Rattle.job_plan.specs.Form.{found, mask_found}
+use Rattle.job_plan.specs.declared.form.Form as forms
+use Rattle.job_plan.specs.declared.form.Form.TheVariants.{Apply, Select, Union, Both, Product, Reduce}
+use Rattle.command_text.specs.Words.{is_name, length_of}
 use Rattle.command_text.specs.declared.request.Verb.{Verb}
 use Rattle.command_text.specs.declared.request.Verb.TheVariants as verbs
 use Rattle.command_text.specs.declared.rules.SessionRule.{SessionRule}
-use Rattle.command_text.specs.declared.rules.SessionRule.TheVariants.{UnknownCommand, MalformedWords}
+use Rattle.command_text.specs.declared.rules.SessionRule.TheVariants.{UnknownCommand, MalformedWords, MalformedName}
 use Rattle.command_text.specs.declared.rules.FatalRule.{FatalRule}
 use Rattle.command_text.specs.declared.rules.FatalRule.TheVariants as fatal
 
--- A job by the names that it gives, its operators first; a thunk is a word:
-pub data Form : Type 0 where
-  Apply : (operator operand : List ℕ) → (thunk : Option ℕ) → Form
-  Select : (operator operand : List ℕ) → (thunk : ℕ) → Form
-  Union : (operator left right : List ℕ) → Form
-  Both : (operator left right : List ℕ) → Form
-  Product : (add mul left right : List ℕ) → Form
-  Reduce : (operator operand : List ℕ) → Form
+-- a form of words, or of the names of operators and matrices
+abbrev pub Form : Type 0
+Form = forms.Form (List ℕ) (List ℕ)
 
 -- a job that is to be queued: the name that it will bind, and the mask's name, if it has one
 pub record Submission : Type 0 where
@@ -69,7 +67,36 @@ abbrev pub with_length : Header → Option ℕ → Request
 with_length header None = Fatal fatal.MalformedWords
 with_length header (Some len) = if nat_lt (body_limit header) len then Fatal fatal.BodyTooLong else Body header len
 
+-- ---- names
+
+-- a word as a name, if it is one
+abbrev pub named : List ℕ → Option (List ℕ)
+named word = if is_name word then Some word else None
+
+-- the only word as a name, or the rule that it breaks
+abbrev pub only_name : List (List ℕ) → Result (List ℕ) SessionRule
+only_name (word ∷ []) = ok_or (named word) MalformedName
+only_name _ = Err MalformedWords
+
+abbrev pub of_name : (List ℕ → Command) → Result (List ℕ) SessionRule → Request
+of_name command (Ok name) = Plain (command name)
+of_name command (Err rule) = Plain (Refuse rule)
+
 -- ---- jobs
+
+abbrev pub joined : Option (List ℕ) → Option Form → Option (Option (List ℕ)) → Option Submission
+joined (Some output) (Some form) (Some mask) = Some (record { output = output; form = form; mask = mask })
+joined (Some output) (Some form) None = None
+joined (Some output) None mask = None
+joined None form mask = None
+
+-- the job of these words, if each is a name
+abbrev pub job_named : List ℕ → Form → Option (List ℕ) → Option Submission
+job_named output form mask = joined (named output) (found named named form) (mask_found named mask)
+
+abbrev pub submitted : Option Submission → Request
+submitted None = Plain (Refuse MalformedName)
+submitted (Some submission) = Plain (Submit submission)
 
 -- the words behind a job's own: none, or `mask` and a name; what else stands there is malformed
 abbrev pub mask_asked : List (List ℕ) → Option (Option (List ℕ))
@@ -79,23 +106,23 @@ mask_asked _ = None
 
 abbrev pub with_mask : List ℕ → Form → Option (Option (List ℕ)) → Request
 with_mask output form None = Plain (Refuse MalformedWords)
-with_mask output form (Some mask) = Plain (Submit (record { output = output; form = form; mask = mask }))
+with_mask output form (Some mask) = submitted (job_named output form mask)
 
 -- `OUT OP A` and `OUT OP A THUNK`, for apply
 abbrev pub apply_asked : List ℕ → List ℕ → List ℕ → Option ℕ → List (List ℕ) → Request
 apply_asked output operator operand None rest = Plain (Refuse MalformedWords)
-apply_asked output operator operand (Some thunk) rest = with_mask output (Apply operator operand (Some thunk)) (mask_asked rest)
+apply_asked output operator operand (Some thunk) rest = with_mask output (Apply operator (Some thunk) operand) (mask_asked rest)
 
 abbrev pub select_asked : List ℕ → List ℕ → List ℕ → Option ℕ → List (List ℕ) → Request
 select_asked output operator operand None rest = Plain (Refuse MalformedWords)
-select_asked output operator operand (Some thunk) rest = with_mask output (Select operator operand thunk) (mask_asked rest)
+select_asked output operator operand (Some thunk) rest = with_mask output (Select operator thunk operand) (mask_asked rest)
 
 -- What a job's command asks for with the words behind it. Two words behind the operand of `apply` are a mask; else the first of
 -- them is a thunk.
 abbrev pub job_asked : Verb → List (List ℕ) → Request
-job_asked verbs.Apply (output ∷ operator ∷ operand ∷ []) = with_mask output (Apply operator operand None) (Some None)
+job_asked verbs.Apply (output ∷ operator ∷ operand ∷ []) = with_mask output (Apply operator None operand) (Some None)
 job_asked verbs.Apply (output ∷ operator ∷ operand ∷ word ∷ name ∷ []) =
-    with_mask output (Apply operator operand None) (mask_asked (word ∷ name ∷ []))
+    with_mask output (Apply operator None operand) (mask_asked (word ∷ name ∷ []))
 job_asked verbs.Apply (output ∷ operator ∷ operand ∷ thunk ∷ rest) =
     apply_asked output operator operand (value_word thunk) rest
 job_asked verbs.Select (output ∷ operator ∷ operand ∷ thunk ∷ rest) =
@@ -119,14 +146,11 @@ asked verbs.Op (name ∷ kind ∷ len ∷ []) = with_length (OpHeader name kind)
 asked verbs.Op _ = Fatal fatal.MalformedWords
 asked verbs.Asm (name ∷ kind ∷ len ∷ []) = with_length (AsmHeader name kind) (length_of len)
 asked verbs.Asm _ = Fatal fatal.MalformedWords
-asked verbs.Dis (name ∷ []) = Plain (Dis name)
-asked verbs.Dis _ = Plain (Refuse MalformedWords)
+asked verbs.Dis words = of_name Dis (only_name words)
 asked verbs.Run [] = Plain Run
 asked verbs.Run _ = Plain (Refuse MalformedWords)
-asked verbs.Show (name ∷ []) = Plain (Show name)
-asked verbs.Show _ = Plain (Refuse MalformedWords)
-asked verbs.Types (name ∷ []) = Plain (Types name)
-asked verbs.Types _ = Plain (Refuse MalformedWords)
+asked verbs.Show words = of_name Show (only_name words)
+asked verbs.Types words = of_name Types (only_name words)
 asked verbs.Budget [] = Plain Budget
 asked verbs.Budget _ = Plain (Refuse MalformedWords)
 asked verbs.Quit [] = Plain Quit

@@ -19,7 +19,7 @@ mod submission;
 mod words;
 
 pub use hexadecimal::{HexFault, unhex};
-pub use name::as_name;
+pub use name::{Name, as_name};
 pub use refusal::Refusal;
 pub use replies::{
     JobLine, accept_matrix, accept_operator, add_job, begin_run, bye, list, queued, refuse, show,
@@ -28,5 +28,5 @@ pub use replies::{
 pub use reply::Reply;
 pub use request::{Command, Header, Request, Verb, parse};
 pub use rules::{FatalRule, SessionRule};
-pub use submission::{Form, Submission};
-pub use words::{is_name, parse_kind};
+pub use submission::Submission;
+pub use words::parse_kind;

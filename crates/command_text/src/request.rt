@@ -1,9 +1,10 @@
 //! What a command line asks for.
-ghost use Rattle.std.specs.Prelude.{◌≡◌, ℕ, List, [], ◌∷◌};
+ghost use Rattle.std.specs.Prelude.{◌≡◌, ℕ, List, [], ◌∷◌, Ok, Err, MatchResult};
 ghost use Rattle.command_text.specs.Words as text;
 ghost use Rattle.command_text.specs.Requests as spec;
-ghost use Rattle.command_text.specs.Readings.{command_of, header_of, request_of};
+ghost use Rattle.command_text.specs.Readings.{command_of, header_of, name_of, request_of};
 
+use crate::name::Name;
 use crate::rules::{FatalRule, SessionRule};
 use crate::submission::{
     Submission, apply_request, both_request, product_request, reduce_request, select_request,
@@ -41,11 +42,11 @@ pub enum Command<'a> {
     /// `run`
     Run,
     /// `show NAME`
-    Show { name: &'a [u8] },
+    Show { name: Name<'a> },
     /// `types NAME`
-    Types { name: &'a [u8] },
+    Types { name: Name<'a> },
     /// `dis NAME`
-    Dis { name: &'a [u8] },
+    Dis { name: Name<'a> },
     /// `budget`
     Budget,
     /// `quit`
@@ -206,13 +207,22 @@ fn assembly_request(rest: &[u8]) -> Request<'_>
     }
 }
 
+/// The only word of a text as a name, or the rule that it breaks.
+fn only_name(rest: &[u8]) -> Result<Name<'_>, SessionRule>
+    ensures { MatchResult result (λ name. spec.only_name (text.words rest.now) ≡ Ok (name_of name))
+        (λ rule. spec.only_name (text.words rest.now) ≡ Err rule) }
+{
+    let word = only_word(rest).ok_or(SessionRule::MalformedWords)?;
+    Name::new(word).ok_or(SessionRule::MalformedName)
+}
+
 /// What follows the word `show`.
 fn show_request(rest: &[u8]) -> Request<'_>
     ensures { request_of result ≡ spec.asked Verb.Show (text.words rest.now) }
 {
-    match only_word(rest) {
-        Some(name) => Request::Plain(Command::Show { name }),
-        None => refuse(SessionRule::MalformedWords),
+    match only_name(rest) {
+        Ok(name) => Request::Plain(Command::Show { name }),
+        Err(rule) => refuse(rule),
     }
 }
 
@@ -220,9 +230,9 @@ fn show_request(rest: &[u8]) -> Request<'_>
 fn types_request(rest: &[u8]) -> Request<'_>
     ensures { request_of result ≡ spec.asked Verb.Types (text.words rest.now) }
 {
-    match only_word(rest) {
-        Some(name) => Request::Plain(Command::Types { name }),
-        None => refuse(SessionRule::MalformedWords),
+    match only_name(rest) {
+        Ok(name) => Request::Plain(Command::Types { name }),
+        Err(rule) => refuse(rule),
     }
 }
 
@@ -230,9 +240,9 @@ fn types_request(rest: &[u8]) -> Request<'_>
 fn disassembly_request(rest: &[u8]) -> Request<'_>
     ensures { request_of result ≡ spec.asked Verb.Dis (text.words rest.now) }
 {
-    match only_word(rest) {
-        Some(name) => Request::Plain(Command::Dis { name }),
-        None => refuse(SessionRule::MalformedWords),
+    match only_name(rest) {
+        Ok(name) => Request::Plain(Command::Dis { name }),
+        Err(rule) => refuse(rule),
     }
 }
 

@@ -1,63 +1,29 @@
 //! What the line of a job asks for.
 ghost use Rattle.std.specs.Prelude.{◌≡◌, ℕ, List, [], ◌∷◌, Some, MatchOption};
+ghost use Rattle.std.specs.Option.{option_map};
 ghost use Rattle.command_text.specs.Words.{words};
-ghost use Rattle.command_text.specs.inner.Words.{HasFewer, is_one};
+ghost use Rattle.command_text.specs.inner.Words.{HasFewer, is_one, lent_word, words_of};
 ghost use Rattle.command_text.specs.Requests as spec;
-ghost use Rattle.command_text.specs.Readings.{request_of, form_of, lent_name};
+ghost use Rattle.command_text.specs.Readings.{form_of, request_of, submission_of};
+ghost use Rattle.job_plan.specs.Form.{found};
 
+use crate::name::Name;
 use crate::request::{Command, Request, Verb, refuse};
 use crate::rules::SessionRule;
 use crate::words::first_word;
+use job_plan::Form;
 use matrix_market::parse_value;
-
-/// The form of a job, with the names that it gives.
-#[derive(Clone, Copy)]
-pub enum Form<'a> {
-    /// `apply OUT OP A`, `apply OUT OP A THUNK`
-    Apply {
-        operator: &'a [u8],
-        operand: &'a [u8],
-        thunk: Option<u64>,
-    },
-    /// `select OUT OP A THUNK`
-    Select {
-        operator: &'a [u8],
-        operand: &'a [u8],
-        thunk: u64,
-    },
-    /// `union OUT OP A B`
-    Union {
-        operator: &'a [u8],
-        left: &'a [u8],
-        right: &'a [u8],
-    },
-    /// `both OUT OP A B`
-    Both {
-        operator: &'a [u8],
-        left: &'a [u8],
-        right: &'a [u8],
-    },
-    /// `product OUT ADD MUL A B`
-    Product {
-        add: &'a [u8],
-        mul: &'a [u8],
-        left: &'a [u8],
-        right: &'a [u8],
-    },
-    /// `reduce OUT OP A`
-    Reduce {
-        operator: &'a [u8],
-        operand: &'a [u8],
-    },
-}
 
 /// A job that is to be queued: the name that it will bind, its form, and the name of its mask, if it has one.
 #[derive(Clone, Copy)]
 pub struct Submission<'a> {
-    pub output: &'a [u8],
-    pub form: Form<'a>,
-    pub mask: Option<&'a [u8]>,
+    pub output: Name<'a>,
+    pub form: Form<Name<'a>, Name<'a>>,
+    pub mask: Option<Name<'a>>,
 }
+
+/// A form by the words of its line.
+type Words<'a> = Form<&'a [u8], &'a [u8]>;
 
 /// The three words that stand first in a text, and what follows them.
 fn first_three(text: &[u8]) -> Option<(&[u8], &[u8], &[u8], &[u8])>
@@ -71,8 +37,8 @@ fn first_three(text: &[u8]) -> Option<(&[u8], &[u8], &[u8], &[u8])>
 }
 
 /// The submission of a form whose words are followed by these: none, or `mask` and a name.
-fn with_mask<'a>(output: &'a [u8], form: Form<'a>, rest: &'a [u8]) -> Request<'a>
-    ensures { request_of result ≡ spec.with_mask output.now (form_of form.entry) (spec.mask_asked (words rest.now)) }
+fn with_mask<'a>(output: &'a [u8], form: Words<'a>, rest: &'a [u8]) -> Request<'a>
+    ensures { request_of result ≡ spec.with_mask output.now (words_of form.entry) (spec.mask_asked (words rest.now)) }
 {
     let Some((word, rest)) = first_word(rest) else {
         return submit(output, form, None);
@@ -89,10 +55,34 @@ fn with_mask<'a>(output: &'a [u8], form: Form<'a>, rest: &'a [u8]) -> Request<'a
     }
 }
 
-fn submit<'a>(output: &'a [u8], form: Form<'a>, mask: Option<&'a [u8]>) -> Request<'a>
-    ensures { request_of result ≡ spec.with_mask output.now (form_of form.entry) (Some (lent_name mask.entry)) }
+/// The submission of a form, if each word is a name.
+fn submit<'a>(output: &'a [u8], form: Words<'a>, mask: Option<&'a [u8]>) -> Request<'a>
+    ensures { request_of result ≡ spec.with_mask output.now (words_of form.entry) (Some (lent_word mask.entry)) }
 {
-    Request::Plain(Command::Submit(Submission { output, form, mask }))
+    match name_job(output, form, mask) {
+        Some(submission) => Request::Plain(Command::Submit(submission)),
+        None => refuse(SessionRule::MalformedName),
+    }
+}
+
+/// The job of these words, if each is a name.
+fn name_job<'a>(output: &'a [u8], form: Words<'a>, mask: Option<&'a [u8]>) -> Option<Submission<'a>>
+    ensures { option_map submission_of result ≡ spec.job_named output.now (words_of form.entry) (lent_word mask.entry) }
+{
+    let output = Name::new(output)?;
+    let form = name_form(form)?;
+    let mask = match mask {
+        None => None,
+        Some(word) => Some(Name::new(word)?),
+    };
+    Some(Submission { output, form, mask })
+}
+
+fn name_form<'a>(form: Words<'a>) -> Option<Form<Name<'a>, Name<'a>>>
+    ensures { option_map form_of result ≡ found spec.named spec.named (words_of form.entry) }
+{
+    form.map(|word| Name::new(word), |word| Name::new(word))
+        .transpose()
 }
 
 /// What follows the word `apply`.
@@ -104,8 +94,8 @@ pub fn apply_request(rest: &[u8]) -> Request<'_>
     };
     let plain = Form::Apply {
         operator,
-        operand,
         thunk: None,
+        operand,
     };
     let Some((word, behind)) = first_word(rest) else {
         return submit(output, plain, None);
@@ -118,8 +108,8 @@ pub fn apply_request(rest: &[u8]) -> Request<'_>
             output,
             Form::Apply {
                 operator,
-                operand,
                 thunk: Some(thunk),
+                operand,
             },
             behind,
         ),
@@ -152,8 +142,8 @@ pub fn select_request(rest: &[u8]) -> Request<'_>
             output,
             Form::Select {
                 operator,
-                operand,
                 thunk,
+                operand,
             },
             rest,
         ),

@@ -20,7 +20,7 @@ use Rattle.job_plan.specs.declared.error.JobError.{JobError}
 use Rattle.job_runner.specs.Batch as batch
 use Rattle.job_runner.specs.Batch.{AreResultsOf}
 use Rattle.workspace.specs.State.{State}
-use Rattle.workspace.specs.Found.{is_named, job_found}
+use Rattle.workspace.specs.Found.{job_found}
 use Rattle.workspace.specs.Turn.{Turn, TakesMatrix, TakesOperator, TakesDigits, TakesKind, Submits, Prices, Finds, Shows, TellsTypes, TakesProgram, TakesAssembly, TakesKindOfAssembly, TellsAssembly, RunTurn, Refuses, Replies, settled, charged, released}
 use Rattle.bpf_insn.specs.declared.insn.Insn.{Insn}
 use Rattle.session.specs.Next.{Next}
@@ -185,27 +185,11 @@ module _ (s t : State) (ds : List Dealing) where
     | inl w ↦ said _ reply w
     | inr w ↦ kind_of_assembly_matched name body reply (kind_of_word kind) w
   ]
-  turn_matched (Dis name) reply h =
-      elim (is_name name) as (λ v. MatchBool v (TellsAssembly s (s.operators name) ds reply t) (Refuses (no.Session MalformedName) s ds reply t) → IsMatched s ds t) [
-        | true ↦ λ x. assembly_told_matched reply (s.operators name) x
-        | false ↦ λ x. said _ reply x
-      ] h
-  turn_matched (Submit submission) reply h =
-      elim (is_named submission) as (λ v. MatchBool v (Finds s (job_found s submission) ds reply t) (Refuses (no.Session MalformedName) s ds reply t) → IsMatched s ds t) [
-        | true ↦ λ x. found_matched reply (job_found s submission) x
-        | false ↦ λ x. said _ reply x
-      ] h
+  turn_matched (Dis name) reply h = assembly_told_matched reply (s.operators name) h
+  turn_matched (Submit submission) reply h = found_matched reply (job_found s submission) h
   turn_matched Run reply h = run_matched reply h
-  turn_matched (Show name) reply h =
-      elim (is_name name) as (λ v. MatchBool v (Shows s (s.matrices name) ds reply t) (Refuses (no.Session MalformedName) s ds reply t) → IsMatched s ds t) [
-        | true ↦ λ x. shows_matched reply (s.matrices name) x
-        | false ↦ λ x. said _ reply x
-      ] h
-  turn_matched (Types name) reply h =
-      elim (is_name name) as (λ v. MatchBool v (TellsTypes s (s.operators name) ds reply t) (Refuses (no.Session MalformedName) s ds reply t) → IsMatched s ds t) [
-        | true ↦ λ x. types_matched reply (s.operators name) x
-        | false ↦ λ x. said _ reply x
-      ] h
+  turn_matched (Show name) reply h = shows_matched reply (s.matrices name) h
+  turn_matched (Types name) reply h = types_matched reply (s.operators name) h
   turn_matched Budget reply h = let q : t.queue ≡ s.queue = ap (λ (x : State). x.queue) h.3 in rw (h.1, q) (append_nil (map price_of s.queue))
   turn_matched Quit reply h = said _ reply h
   turn_matched (Refuse rule) reply h = said _ reply h

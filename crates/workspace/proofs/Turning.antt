@@ -7,10 +7,10 @@ use Rattle.matrix_market.specs.Market.{IsTextOf}
 use Rattle.matrix_market.specs.Refusal.{HasSizes}
 use Rattle.command_text.specs.Words.{is_name, kind_of_word}
 use Rattle.workspace.specs.State.{State, bound}
-use Rattle.workspace.specs.Found.{is_named, form_named, mask_named, form_found, mask_found, joined, job_found}
+use Rattle.workspace.specs.Found.{job_found}
 use Rattle.job_plan.specs.Job.{Job}
 use Rattle.job_plan.specs.Price.{price_of, total_price}
-use Rattle.job_plan.specs.Refusal.{job_fault, answered}
+use Rattle.job_plan.specs.Refusal.{answered}
 use Rattle.job_plan.specs.declared.error.JobError.{JobError}
 use Rattle.command_text.specs.Requests.{Submission, Header, MatrixHeader, OpHeader, AsmHeader, with_body}
 use Rattle.command_text.specs.Replies.{matrix_text, refusal_text, queued_text}
@@ -26,7 +26,7 @@ use Rattle.step_purse.specs.declared.dealings.Dealing.{Dealing}
 use Rattle.step_purse.specs.declared.dealings.Dealing.TheVariants.{Reserved}
 use Rattle.step_purse.specs.declared.dealings.Reply.TheVariants.{Took, NotEnough}
 use Rattle.command_text.specs.declared.refusal.Refusal.TheVariants as no
-use Rattle.std.proofs.Common.{Ok, Err, Some, None, Option, Result, Bool, false, IsTrue, ◌&&◌, nat_lt}
+use Rattle.std.proofs.Common.{Ok, Err, Some, None, Option, Result, Bool, false, IsTrue, nat_lt}
 use Rattle.std.proofs.lemmas.Bool.Decides.{nat_tests}
 use Rattle.std.proofs.lemmas.List.{append-nil}
 use Rattle.std.specs.Prelude.{MatchBool, ◌⊎◌}
@@ -115,33 +115,18 @@ pub priced_wrong : (old : State) (job back : Job) (named : JobError) (reply : Li
     → reply ≡ refusal_text (no.Job named) → Prices old job fault [] reply old
 priced_wrong old job back named reply fault e r = rw (answered_wrong job back named fault e) (refl, r, refl)
 
--- a submission whose job was found, where there is room
-pub submit_turn : (old new : State) (s : Submission) (job : Job) (ds : List Dealing) (reply : List ℕ)
-    → is_named s ≡ true → job_found old s ≡ Some job → nat_lt (length old.queue) 64 ≡ true
-    → Prices old job (job_fault job) ds reply new → SubmitTurn old s ds reply new
-submit_turn old new s job ds reply named found room p = rw (named, found, room) (inr p)
-
--- the same where no room is left
-pub submit_full : (old : State) (s : Submission) (job : Job) (b r : Bool) (reply : List ℕ)
-    → is_name s.output ≡ true → b ≡ form_named s.form && mask_named s.mask → b ≡ true
-    → Some job ≡ joined s.output (form_found old s.form) (mask_found old s.mask)
+-- a submission whose job was found, where there is no room
+pub submit_full : (old : State) (s : Submission) (job : Job) (r : Bool) (reply : List ℕ) → Some job ≡ job_found old s
     → (length old.queue < 64 → IsTrue r) → r ≡ false → reply ≡ refusal_text no.QueueFull → SubmitTurn old s [] reply old
-submit_full old s job b r reply n e t found room is said =
-    let others : form_named s.form && mask_named s.mask ≡ true = sym e ∙ t in
+submit_full old s job r reply found room is said =
     let full : nat_lt (length old.queue) 64 ≡ false = not_below (length old.queue) r room is in
-    rw (n, others, sym found, full) (refl, said, refl)
+    rw (sym found, full) (refl, said, refl)
   where
     not_below : (n : ℕ) (r : Bool) → (n < 64 → IsTrue r) → r ≡ false → nat_lt n 64 ≡ false
     not_below n r room is = elim (nat_lt n 64) as (λ x. nat_lt n 64 ≡ x → x ≡ false) [
       | true ↦ λ e. let bad : false ≡ true = subst IsTrue is (room (grind (arith, nat_tests))) in absurd (cc)
       | false ↦ λ e. refl
     ] refl
-
--- the same for want of memory
-pub submit_memory : (old : State) (s : Submission) (job : Job) (reply : List ℕ)
-    → is_named s ≡ true → job_found old s ≡ Some job → nat_lt (length old.queue) 64 ≡ true
-    → reply ≡ refusal_text no.Memory → SubmitTurn old s [] reply old
-submit_memory old s job reply named found room r = rw (named, found, room) (inl (refl, r, refl))
 
 -- an operator's code was taken, of the kind and under the name that the words say
 pub operator_taken : (old new : State) (word kind_word name body code reply : List ℕ) (kind : Kind) → Some kind ≡ kind_of_word kind_word → is_name word ≡ true → name ≡ word → decode_of (without_gaps body) ≡ Ok code

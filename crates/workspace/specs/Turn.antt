@@ -55,7 +55,7 @@ use Rattle.step_purse.specs.declared.dealings.Dealing.{Dealing}
 use Rattle.step_purse.specs.declared.dealings.Dealing.TheVariants.{Reserved, Settled, Told}
 use Rattle.workspace.specs.State.{State, bound}
 use Rattle.workspace.specs.Types.{types_text}
-use Rattle.workspace.specs.Found.{is_named, job_found}
+use Rattle.workspace.specs.Found.{job_found}
 use Rattle.job_plan.specs.Job.{Job}
 use Rattle.job_plan.specs.Price.{price_of}
 use Rattle.job_plan.specs.Refusal.{job_fault}
@@ -195,10 +195,7 @@ Finds old (Some job) dealings reply new =
     (Refuses no.QueueFull old dealings reply new)
 
 abbrev pub SubmitTurn : State → Submission → List Dealing → List ℕ → State → Type 0
-SubmitTurn old s dealings reply new =
-    MatchBool (is_named s)
-    (Finds old (job_found old s) dealings reply new)
-    (Refuses (no.Session MalformedName) old dealings reply new)
+SubmitTurn old s = Finds old (job_found old s)
 
 -- ---- `run`
 
@@ -261,10 +258,7 @@ Shows old (Some g) dealings reply new =
     Refuses no.Memory old dealings reply new ⊎ Replies (show_text (canonical_text g)) old dealings reply new
 
 abbrev pub ShowTurn : State → List ℕ → List Dealing → List ℕ → State → Type 0
-ShowTurn old name dealings reply new =
-    MatchBool (is_name name)
-    (Shows old (old.matrices name) dealings reply new)
-    (Refuses (no.Session MalformedName) old dealings reply new)
+ShowTurn old name = Shows old (old.matrices name)
 
 -- ---- `types NAME`
 
@@ -275,10 +269,7 @@ TellsTypes old (Some operator) dealings reply new =
     ⊎ Replies (list_text (codes "types") (length operator.insns) (types_text operator)) old dealings reply new
 
 abbrev pub TypesTurn : State → List ℕ → List Dealing → List ℕ → State → Type 0
-TypesTurn old name dealings reply new =
-    MatchBool (is_name name)
-    (TellsTypes old (old.operators name) dealings reply new)
-    (Refuses (no.Session MalformedName) old dealings reply new)
+TypesTurn old name = TellsTypes old (old.operators name)
 
 -- ---- `dis NAME`
 
@@ -290,10 +281,7 @@ TellsAssembly old (Some operator) dealings reply new =
     ⊎ Replies (list_text (codes "dis") (length operator.insns) (assembly_text operator.insns)) old dealings reply new
 
 abbrev pub DisassemblyTurn : State → List ℕ → List Dealing → List ℕ → State → Type 0
-DisassemblyTurn old name dealings reply new =
-    MatchBool (is_name name)
-    (TellsAssembly old (old.operators name) dealings reply new)
-    (Refuses (no.Session MalformedName) old dealings reply new)
+DisassemblyTurn old name = TellsAssembly old (old.operators name)
 
 -- ---- `budget`
 

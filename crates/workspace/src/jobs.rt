@@ -10,10 +10,10 @@ ghost use Rattle.step_purse.specs.declared.dealings.Dealing.{Dealing};
 ghost use Rattle.workspace.specs.Workspace.{state_of};
 ghost use Rattle.workspace.specs.Turn.{SubmitTurn, BudgetTurn, Prices, Submits};
 
-use crate::found::{are_names, find};
+use crate::found::find;
 use crate::share::share;
 use crate::workspace::Workspace;
-use command_text::{Refusal, Reply, SessionRule, Submission, as_name, queued, refuse, tell_budget};
+use command_text::{Refusal, Reply, SessionRule, Submission, queued, refuse, tell_budget};
 use job_plan::{Job, Priced, price};
 use std::alloc::Global;
 use std::sync::Wait;
@@ -100,19 +100,13 @@ pub fn submit<T: Steps, H: Wait>(
     ensures owed { total_price (state_of workspace.new).queue + T.owes steps.old ≡
         total_price (state_of workspace.old).queue + T.owes steps.new }
 {
-    let Some(output) = as_name(submission.output) else {
-        return refuse(reply, Refusal::Session(SessionRule::MalformedName));
-    };
-    if !are_names(submission.form, submission.mask) {
-        return refuse(reply, Refusal::Session(SessionRule::MalformedName));
-    }
-    let Some(found) = find(workspace, submission.form, submission.mask) else {
+    let Some(found) = find(workspace, submission) else {
         return refuse(reply, Refusal::Session(SessionRule::UnknownName));
     };
     if !workspace.queue.has_room() {
         return refuse(reply, Refusal::QueueFull);
     }
-    match share(alloc, found, output) {
+    match share(alloc, found, submission.output.as_str()) {
         Ok(job) => submit_job(rt, workspace, job, steps, reply),
         Err(_) => refuse(reply, Refusal::Memory),
     }

@@ -5,69 +5,24 @@ ghost use Rattle.std.specs.Arc.{arc_value};
 ghost use Rattle.job_plan.specs.Kept.{form_of};
 ghost use Rattle.workspace.specs.inner.Lent.{lent_form, lent_mask, lent_job};
 
-use crate::found::{FoundForm, FoundJob};
+use crate::found::FoundJob;
+use bpf_run::Prepared;
 use csr_store::Version;
 use job_plan::{Form, Job};
 use std::alloc::{AllocError, Global};
 use std::sync::Arc;
 
-/// The form of a job, as a further owner of its operators and operands.
-fn share_form(found: FoundForm<'_>) -> Result<Form, AllocError>
+/// A form, as a further owner of its operators and matrices.
+fn share_form(found: Form<&Arc<Prepared>, &Version>) -> Result<Form, AllocError>
     ensures { IfOk result (λ form. form_of form ≡ lent_form found.entry) }
 {
-    match found {
-        FoundForm::Apply {
-            operator,
-            thunk,
-            operand,
-        } => Ok(Form::Apply {
-            operator: Arc::try_clone(operator)?,
-            thunk,
-            operand: Arc::try_clone(operand)?,
-        }),
-        FoundForm::Select {
-            operator,
-            thunk,
-            operand,
-        } => Ok(Form::Select {
-            operator: Arc::try_clone(operator)?,
-            thunk,
-            operand: Arc::try_clone(operand)?,
-        }),
-        FoundForm::Union {
-            operator,
-            left,
-            right,
-        } => Ok(Form::Union {
-            operator: Arc::try_clone(operator)?,
-            left: Arc::try_clone(left)?,
-            right: Arc::try_clone(right)?,
-        }),
-        FoundForm::Both {
-            operator,
-            left,
-            right,
-        } => Ok(Form::Both {
-            operator: Arc::try_clone(operator)?,
-            left: Arc::try_clone(left)?,
-            right: Arc::try_clone(right)?,
-        }),
-        FoundForm::Product {
-            add,
-            mul,
-            left,
-            right,
-        } => Ok(Form::Product {
-            add: Arc::try_clone(add)?,
-            mul: Arc::try_clone(mul)?,
-            left: Arc::try_clone(left)?,
-            right: Arc::try_clone(right)?,
-        }),
-        FoundForm::Reduce { operator, operand } => Ok(Form::Reduce {
-            operator: Arc::try_clone(operator)?,
-            operand: Arc::try_clone(operand)?,
-        }),
-    }
+    found
+        .map(
+            |operator| Arc::try_clone(operator).ok(),
+            |matrix| Arc::try_clone(matrix).ok(),
+        )
+        .transpose()
+        .ok_or(AllocError)
 }
 
 fn share_mask(found: Option<&Version>) -> Result<Option<Version>, AllocError>

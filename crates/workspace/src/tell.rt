@@ -1,5 +1,6 @@
 //! The commands `show`, `types` and `dis`, which write what a name stands for.
 ghost use Rattle.std.specs.Prelude.{◌≡◌, []};
+ghost use Rattle.command_text.specs.Readings.{name_of};
 ghost use Rattle.command_text.specs.ReplyText.{whole};
 ghost use Rattle.workspace.specs.Workspace.{state_of};
 ghost use Rattle.workspace.specs.Turn.{ShowTurn, TypesTurn, DisassemblyTurn};
@@ -7,17 +8,14 @@ ghost use Rattle.workspace.specs.Turn.{ShowTurn, TypesTurn, DisassemblyTurn};
 use crate::types::types_text;
 use crate::workspace::Workspace;
 use bpf_text::disassemble;
-use command_text::{Refusal, Reply, SessionRule, as_name, list, refuse, show as show_text};
+use command_text::{Name, Refusal, Reply, SessionRule, list, refuse, show as show_text};
 use matrix_market::write;
 use std::alloc::Global;
 
 /// `show NAME`: the matrix text of a matrix.
-pub fn show(alloc: Global, workspace: &Workspace, name: &[u8], reply: &mut Reply)
-    ensures { ShowTurn (state_of workspace.now) name.now [] (whole reply.new) (state_of workspace.now) }
+pub fn show(alloc: Global, workspace: &Workspace, name: Name<'_>, reply: &mut Reply)
+    ensures { ShowTurn (state_of workspace.now) (name_of name.entry) [] (whole reply.new) (state_of workspace.now) }
 {
-    let Some(name) = as_name(name) else {
-        return refuse(reply, Refusal::Session(SessionRule::MalformedName));
-    };
     let Some(matrix) = workspace.matrix(name) else {
         return refuse(reply, Refusal::Session(SessionRule::UnknownName));
     };
@@ -28,12 +26,9 @@ pub fn show(alloc: Global, workspace: &Workspace, name: &[u8], reply: &mut Reply
 }
 
 /// `types NAME`: what the verifier knows of the registers at each instruction of an operator.
-pub fn types(alloc: Global, workspace: &Workspace, name: &[u8], reply: &mut Reply)
-    ensures { TypesTurn (state_of workspace.now) name.now [] (whole reply.new) (state_of workspace.now) }
+pub fn types(alloc: Global, workspace: &Workspace, name: Name<'_>, reply: &mut Reply)
+    ensures { TypesTurn (state_of workspace.now) (name_of name.entry) [] (whole reply.new) (state_of workspace.now) }
 {
-    let Some(name) = as_name(name) else {
-        return refuse(reply, Refusal::Session(SessionRule::MalformedName));
-    };
     let Some(operator) = workspace.operator(name) else {
         return refuse(reply, Refusal::Session(SessionRule::UnknownName));
     };
@@ -44,12 +39,9 @@ pub fn types(alloc: Global, workspace: &Workspace, name: &[u8], reply: &mut Repl
 }
 
 /// `dis NAME`: the program of an operator as assembly text.
-pub fn disassembly(alloc: Global, workspace: &Workspace, name: &[u8], reply: &mut Reply)
-    ensures { DisassemblyTurn (state_of workspace.now) name.now [] (whole reply.new) (state_of workspace.now) }
+pub fn disassembly(alloc: Global, workspace: &Workspace, name: Name<'_>, reply: &mut Reply)
+    ensures { DisassemblyTurn (state_of workspace.now) (name_of name.entry) [] (whole reply.new) (state_of workspace.now) }
 {
-    let Some(name) = as_name(name) else {
-        return refuse(reply, Refusal::Session(SessionRule::MalformedName));
-    };
     let Some(operator) = workspace.operator(name) else {
         return refuse(reply, Refusal::Session(SessionRule::UnknownName));
     };

@@ -1,15 +1,15 @@
 //! What a session holds between two commands.
-ghost use Rattle.std.specs.Prelude.{◌≡◌, ◌≤◌, ◌<◌, ◌+◌, ◌++◌, ◌∷◌, [], true, length, IfOk, OnOk, OnErr, option_copied};
+ghost use Rattle.std.specs.Prelude.{◌≡◌, ◌≤◌, ◌<◌, ◌+◌, ◌++◌, ◌∷◌, [], length, IfOk, OnOk, OnErr, option_copied};
 ghost use Rattle.std.specs.Option.{option_map};
 ghost use Rattle.std.specs.Arc.{arc_value};
-ghost use Rattle.command_text.specs.Words.{is_name};
+ghost use Rattle.command_text.specs.Readings.{name_of};
 ghost use Rattle.workspace.specs.State.{empty, bound};
 ghost use Rattle.workspace.specs.Queued.{AreNamed};
 
 use crate::names::Names;
 use bpf_run::Prepared;
 use bpf_verify::Operator;
-use command_text::as_name;
+use command_text::Name;
 use csr_store::{Matrix, Version};
 use job_plan::{Priced, Queue};
 use std::alloc::{AllocError, Global};
@@ -43,33 +43,17 @@ impl Workspace {
     }
 
     /// The matrix of a name.
-    pub fn matrix(&self, name: &str) -> Option<&Version>
-        ensures { option_map arc_value (option_copied result) ≡ (state_of self.now).matrices name.now }
+    pub fn matrix(&self, name: Name<'_>) -> Option<&Version>
+        ensures { option_map arc_value (option_copied result) ≡ (state_of self.now).matrices (name_of name.entry) }
     {
-        self.matrices.find(name)
+        self.matrices.find(name.as_str())
     }
 
     /// The operator of a name.
-    pub fn operator(&self, name: &str) -> Option<&Arc<Prepared>>
-        ensures { option_map arc_value (option_copied result) ≡ (state_of self.now).operators name.now }
+    pub fn operator(&self, name: Name<'_>) -> Option<&Arc<Prepared>>
+        ensures { option_map arc_value (option_copied result) ≡ (state_of self.now).operators (name_of name.entry) }
     {
-        self.operators.find(name)
-    }
-
-    /// The matrix of a well-formed name.
-    pub fn matrix_of(&self, word: &[u8]) -> Option<&Version>
-        requires { is_name word.now ≡ true }
-        ensures { option_map arc_value (option_copied result) ≡ (state_of self.now).matrices word.now }
-    {
-        self.matrix(as_name(word)?)
-    }
-
-    /// The operator of a well-formed name.
-    pub fn operator_of(&self, word: &[u8]) -> Option<&Arc<Prepared>>
-        requires { is_name word.now ≡ true }
-        ensures { option_map arc_value (option_copied result) ≡ (state_of self.now).operators word.now }
-    {
-        self.operator(as_name(word)?)
+        self.operators.find(name.as_str())
     }
 
     /// Binds a name to a matrix, in place of any that stood there.

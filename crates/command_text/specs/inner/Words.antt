@@ -1,6 +1,21 @@
 -- What stands beside specs/Words.antt for this crate's own modules and proofs.
-use Rattle.std.specs.Prelude.{ℕ, ◌≡◌, ◌-◌, Bool, true, false, List, [], ◌∷◌}
+use denote.Ref.{Bor}
+use Rattle.std.specs.Prelude.{ℕ, ◌≡◌, Bool, true, false, List, [], ◌∷◌, Option}
+use Rattle.std.specs.Option.{option_map}
+use Rattle.job_plan.specs.Form.{mapped}
+use Rattle.job_plan.specs.declared.form.Form as forms
+use Rattle.command_text.specs.Requests.{Form}
 use Rattle.command_text.specs.Words.{is_blank, words}
+
+-- words that are lent
+abbrev pub lent : Bor (List ℕ) → List ℕ
+lent word = word.now
+
+abbrev pub words_of : forms.Form (Bor (List ℕ)) (Bor (List ℕ)) → Form
+words_of = mapped lent lent
+
+abbrev pub lent_word : Option (Bor (List ℕ)) → Option (List ℕ)
+lent_word = option_map lent
 
 -- a text that is empty or begins with a word
 abbrev pub IsAtWord : List ℕ → Type 0

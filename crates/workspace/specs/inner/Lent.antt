@@ -6,22 +6,23 @@ use Rattle.std.specs.declared.sync.Arc.{Arc}
 use Rattle.std.specs.declared.alloc.Global.{Global}
 use denote.Ref.{Bor}
 use Rattle.csr_store.specs.Grid.{Grid}
-use Rattle.job_plan.specs.Job.{Form, Job, Apply, Select, Union, Both, Product, Reduce}
-use Rattle.workspace.specs.declared.found.FoundForm.{FoundForm}
-use Rattle.workspace.specs.declared.found.FoundForm.TheVariants as f
+use Rattle.bpf_verify.specs.Accepted.{Accepted}
+use Rattle.job_plan.specs.Form.{mapped}
+use Rattle.job_plan.specs.Job.{Form, Job}
+use Rattle.job_plan.specs.declared.form.Form as forms
 use Rattle.workspace.specs.declared.found.FoundJob.{FoundJob}
 
-abbrev pub lent_form : FoundForm → Form
-lent_form (f.Apply operator thunk operand) = Apply (arc_value operator.now) thunk (arc_value operand.now)
-lent_form (f.Select operator thunk operand) = Select (arc_value operator.now) thunk (arc_value operand.now)
-lent_form (f.Union operator left right) = Union (arc_value operator.now) (arc_value left.now) (arc_value right.now)
-lent_form (f.Both operator left right) = Both (arc_value operator.now) (arc_value left.now) (arc_value right.now)
-lent_form (f.Product add mul left right) =
-    Product (arc_value add.now) (arc_value mul.now) (arc_value left.now) (arc_value right.now)
-lent_form (f.Reduce operator operand) = Reduce (arc_value operator.now) (arc_value operand.now)
+abbrev pub lent_operator : Bor (Arc Accepted Global) → Accepted
+lent_operator lent = arc_value lent.now
+
+abbrev pub lent_matrix : Bor (Arc Grid Global) → Grid
+lent_matrix lent = arc_value lent.now
+
+abbrev pub lent_form : forms.Form (Bor (Arc Accepted Global)) (Bor (Arc Grid Global)) → Form
+lent_form = mapped lent_operator lent_matrix
 
 abbrev pub lent_mask : Option (Bor (Arc Grid Global)) → Option Grid
-lent_mask lent = option_map (λ (m : Bor (Arc Grid Global)). arc_value m.now) lent
+lent_mask = option_map lent_matrix
 
 abbrev pub lent_job : List ℕ → FoundJob → Job
 lent_job output found = record { form = lent_form found.form; mask = lent_mask found.mask; output = output }

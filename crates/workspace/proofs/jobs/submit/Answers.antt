@@ -8,7 +8,7 @@ pub returns-then-not-has_room-clause-turn : goal.returns-then-not-has_room-claus
 returns-then-not-has_room-clause-turn g c =
     let s = submission_of c.args.submission.now in (
       [],
-      submit_full (state_of c.args.workspace.now) s _ c.are_names.result c.has_room.result _ c.in-Some.ensures.0 c.are_names.ensures
-          c.if-not-are_names.false (c.in-Some-find.ensures s.output) c.has_room.ensures.1 c.if-not-has_room.true c.refuse-then-not-has_room.ensures,
+      submit_full (state_of c.args.workspace.now) s _ c.has_room.result _ c.in-Some.ensures c.has_room.ensures.1 c.if-not-has_room.true
+          c.refuse-then-not-has_room.ensures,
       refl,
     )
