@@ -3,9 +3,9 @@ use Rattle.std.proofs.Common.{◌≡◌, ◌≤◌, ◌<◌, ◌+◌, ◌-◌, �
 use Rattle.std.specs.Prelude.{nat_eq, is_some}
 use Rattle.std.specs.FinMap.{get}
 use Rattle.std.specs.Map.{lookup}
-use Rattle.csr_store.specs.Along.{along, cell_at, row_by}
+use Rattle.csr_store.specs.Along.{along, cell_at}
 use Rattle.csr_store.specs.Grid.{Grid, Cell, Position, row_of}
-use Rattle.csr_store.specs.Mask.{passes, cut, cut_list, mask_of, row_under, rows_under, listed_under, all_listed_under}
+use Rattle.csr_store.specs.Mask.{passes, cut, cut_list, mask_of, rows_under, all_listed_under}
 use Rattle.csr_store.specs.Run.{Row}
 use Rattle.csr_store.proofs.ByRow.{lookup-row_of}
 use Rattle.bpf_verify.specs.Accepted.{Accepted}
