@@ -7,4 +7,5 @@ pub mod Price
 pub mod Refusal
 pub mod Chunks
 pub mod Kept
+pub mod Copies
 pub mod inner

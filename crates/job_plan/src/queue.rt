@@ -87,7 +87,8 @@ impl Queue {
         self.jobs.clear();
     }
 
-    /// Makes a plan of the jobs, and is then empty, with room for 64.
+    /// Makes a plan of the jobs, and is then empty, with room for 64. Columns of products by one are copied, as far as there is
+    /// memory.
     ///
     /// # Errors
     ///
@@ -99,6 +100,17 @@ impl Queue {
     {
         let room = Vec::with_capacity(self.alloc, ROOM)?;
         let chunks = cut(self.alloc, &self.jobs)?;
-        Ok(Plan::new(mem::replace(&mut self.jobs, room), chunks))
+        let mut jobs = mem::replace(&mut self.jobs, room);
+        copy_columns(self.alloc, &mut jobs);
+        Ok(Plan::new(jobs, chunks))
+    }
+}
+
+/// Copies the columns of products by one, as far as there is memory.
+fn copy_columns(alloc: Global, jobs: &mut Vec<Priced>)
+    ensures { jobs.new.items ≡ jobs.old.items }
+{
+    for place in 0..jobs.len() {
+        jobs[place].copy_column(alloc);
     }
 }

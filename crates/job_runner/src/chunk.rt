@@ -2,11 +2,13 @@
 ghost use Rattle.std.specs.Prelude.{◌<◌, ◌≤◌, ◌-◌, [], length};
 ghost use Rattle.job_forms.specs.Region.{IsMade};
 ghost use Rattle.job_plan.specs.Chunks.{plan_chunks};
+ghost use Rattle.job_plan.specs.Copies.{IsCopyFor};
 ghost use Rattle.job_plan.specs.Meaning.{row_count, column_count, rows_in, calls_in};
 ghost use Rattle.job_plan.specs.Refusal.{IsPriced};
 ghost use Rattle.job_runner.specs.Chunk.{run_of, calls_of};
 
 use bpf_run::Calls;
+use csr_store::Column;
 use entry_ops::{apply_rows, both_rows, reduce_rows, select_rows, union_rows};
 use job_forms::{Made, Region};
 use job_plan::{Form, Job, Plan};
@@ -39,12 +41,20 @@ pub fn compute(alloc: Global, scratch: &mut Scratch, plan: &Plan, chunk: u64) ->
 {
     let (job, range, _price) = plan.chunk(chunk);
     let jobs = plan.jobs();
-    compute_rows(alloc, scratch, jobs[job as usize].job(), range)
+    let priced = &jobs[job as usize];
+    compute_rows(alloc, scratch, priced.job(), priced.column(), range)
 }
 
-/// Some rows of a job's matrix: the six forms, each by its operation.
-fn compute_rows(alloc: Global, scratch: &mut Scratch, job: &Job, range: Range<u64>) -> Made
+/// Some rows of a job's matrix: the six forms, each by its operation. A copy may be lent of the column of a product by one.
+fn compute_rows(
+    alloc: Global,
+    scratch: &mut Scratch,
+    job: &Job,
+    column: Option<&Column>,
+    range: Range<u64>,
+) -> Made
     requires priced { IsPriced job.now }
+    requires column { IsCopyFor job.now.form column }
     requires range { range.start ≤ range.end }
     requires within { range.end ≤ row_count job.now }
     ensures { IsMade (record {
@@ -91,7 +101,7 @@ fn compute_rows(alloc: Global, scratch: &mut Scratch, job: &Job, range: Range<u6
                 mul,
                 a: left,
                 b: right,
-                column: None,
+                column,
             };
             product_rows(alloc, row, &factors, region)
         }
