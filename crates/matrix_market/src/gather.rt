@@ -124,14 +124,15 @@ fn gather_run(
     Ok(Run { given, next })
 }
 
-/// Gathers the next entry line, whatever its form, and says what follows it. Where it breaks a rule, nothing is added, and its fault
-/// is told.
+/// Gathers the next entry line, whatever its form, and says what follows it. Where it breaks a rule, nothing is added, and its
+/// fault is told.
 fn gather_line<'a>(
     list: &mut EntryList,
     header: Header,
     place: Place<'a>,
 ) -> Result<Result<Place<'a>, MarketError>, AllocError>
-    ensures added { IfOk result (λ r. IfOk r (λ p. Adds header list.old list.new place.entry.rest.now place.entry.at 1 p.rest.now p.at)) }
+    ensures added { IfOk result (λ r. IfOk r (λ p.
+        Adds header list.old list.new place.entry.rest.now place.entry.at 1 p.rest.now p.at)) }
     ensures kept { IfOk result (λ r. OnErr r (list.new ≡ list.old)) }
     ensures fault { IfOk result (λ r. IfErr r (IsFaultAt header place.entry)) }
 {
