@@ -155,6 +155,10 @@ with spmat.Session() as s:
 
 
 class Interrupts(unittest.TestCase):
+    def setUp(self):
+        # a shell starts what runs in the background with SIGINT ignored, and Python then leaves it so
+        self.addCleanup(signal.signal, signal.SIGINT, signal.signal(signal.SIGINT, signal.default_int_handler))
+
     @contextlib.contextmanager
     def amid_a_run(self, script):
         """A client that waits for its run, and its program, which was stopped before it."""
