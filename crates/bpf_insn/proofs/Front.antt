@@ -10,7 +10,8 @@ use Rattle.std.proofs.lemmas.List.{take-append-drop}
 begins_at : (bytes front : List ℕ) (n : ℕ) → front ≡ take (8 * n) bytes → bytes ≡ front ++ drop (8 * n) bytes
 begins_at bytes front n e = sym (ap (λ f. f ++ drop (8 * n) bytes) e ∙ take-append-drop (8 * n) bytes)
 
-pub begins : (bytes : List ℕ) (i : Insn) (s : Slot) → slot_bytes s ≡ take 8 bytes → spelling i ≡ slot_bytes s → slots_of i ≡ 1 → Fits i → 8 ≤ length bytes → BeginsWith bytes i
+pub begins : (bytes : List ℕ) (i : Insn) (s : Slot) → slot_bytes s ≡ take 8 bytes → spelling i ≡ slot_bytes s
+    → slots_of i ≡ 1 → Fits i → 8 ≤ length bytes → BeginsWith bytes i
 begins bytes i s read e one fits long =
     let front : spelling i ≡ take (8 * slots_of i) bytes = rw one (e ∙ read) in
     record {

@@ -1,5 +1,6 @@
 -- The fields of a first slot tell its instruction, and bytes tell the fields.
-use Rattle.std.proofs.Common.{◌≡◌, ◌≢◌, ◌<◌, ◌+◌, ◌*◌, ◌/◌, ◌%◌, ◌^◌, ℕ, arith, List, ◌++◌, sym, ◌∙◌, ap, refl}
+use Rattle.std.proofs.Common.{◌≡◌, ◌≢◌, ◌<◌, ◌+◌, ◌*◌, ◌/◌, ◌%◌, ◌^◌, ℕ, arith, List}
+use Rattle.std.proofs.Common.{◌++◌, sym, ◌∙◌, ap, refl}
 use Rattle.std.specs.Prelude.{ℤ, ◌==◌, if◌then◌else◌}
 use Rattle.std.specs.Int.{cast_signed, cast_unsigned, w16, w32}
 use Rattle.std.specs.Int.RustNames.{FitsSigned}
@@ -24,7 +25,9 @@ use Rattle.bpf_insn.specs.declared.opcode.Source.TheVariants.{K, X}
 use Rattle.bpf_insn.specs.declared.opcode.Opcode.{Opcode}
 use Rattle.bpf_insn.specs.declared.opcode.Opcode.TheVariants.{Alu, Neg, End, Ja, Ja32, Jump, Exit, Ldx, Ldsx, Stx, St, Wide}
 use Rattle.bpf_insn.specs.Opcode.{number_of}
-use Rattle.bpf_insn.specs.Spelling.{number_of_reg, code_of_op, offset_of_op, opcode_of_extension, offset_of_extension, imm_of_end, source_of, source_field, imm_field, first_slot, slot_bytes, second_slot, Fits, FitsSlot, OperandFits}
+use Rattle.bpf_insn.specs.Spelling.{number_of_reg, code_of_op, offset_of_op, opcode_of_extension, offset_of_extension, imm_of_end}
+use Rattle.bpf_insn.specs.Spelling.{source_of, source_field, imm_field, first_slot, slot_bytes, second_slot, Fits, FitsSlot}
+use Rattle.bpf_insn.specs.Spelling.{OperandFits}
 use Rattle.bpf_insn.proofs.Opcodes.{number_of-injective}
 
 abbrev reg_at : ℕ → Reg
@@ -117,7 +120,8 @@ pub numbered : (i : Insn) → (first_slot i).opcode ≡ number_of (opcode_of_ins
 numbered i = grind arith
 
 -- two instructions of one first slot are one, but for a wide load
-pub first_slot-injective : (i j : Insn) → Fits i → Fits j → opcode_of_insn i ≢ Wide → first_slot i ≡ first_slot j → i ≡ j
+pub first_slot-injective : (i j : Insn) → Fits i → Fits j → opcode_of_insn i ≢ Wide → first_slot i ≡ first_slot j
+    → i ≡ j
 first_slot-injective i j f g h e =
     let o : opcode_of_insn i ≡ opcode_of_insn j = number_of-injective _ _ (sym (numbered i) ∙ ap (λ s. s.opcode) e ∙ numbered j) in
     let hj : opcode_of_insn j ≢ Wide = λ w. h (o ∙ w) in
@@ -126,12 +130,14 @@ first_slot-injective i j f g h e =
 abbrev slot_with : ℕ → ℕ → ℕ → ℕ → ℕ → Slot
 slot_with o d r off imm = record { opcode = o; dst = d; src = r; offset = off; imm = imm }
 
-pub slot_same : (s t : Slot) → s.opcode ≡ t.opcode → s.dst ≡ t.dst → s.src ≡ t.src → s.offset ≡ t.offset → s.imm ≡ t.imm → s ≡ t
+pub slot_same : (s t : Slot) → s.opcode ≡ t.opcode → s.dst ≡ t.dst → s.src ≡ t.src → s.offset ≡ t.offset
+    → s.imm ≡ t.imm → s ≡ t
 slot_same s t a b c d e =
     let g : slot_with s.opcode s.dst s.src s.offset s.imm ≡ slot_with t.opcode t.dst t.src t.offset t.imm = rw (a, b, c, d, e) refl in g
 
 -- one slot's bytes are its fields'
-pub same_fields : (s t : Slot) (x y : List ℕ) → FitsSlot s → FitsSlot t → slot_bytes s ++ x ≡ slot_bytes t ++ y → (s ≡ t) × (x ≡ y)
+pub same_fields : (s t : Slot) (x y : List ℕ) → FitsSlot s → FitsSlot t → slot_bytes s ++ x ≡ slot_bytes t ++ y
+    → (s ≡ t) × (x ≡ y)
 same_fields s t x y a b h =
     let h0 : s.opcode ≡ t.opcode = cc in
     let h1 : s.dst + 16 * s.src ≡ t.dst + 16 * t.src = cc in
@@ -175,18 +181,23 @@ imm_small (Imm n) f = bits_32 n f
 imm_small (Register r) f = omega arith
 
 pub first_slot_fits : (i : Insn) → Fits i → FitsSlot (first_slot i)
-first_slot_fits (insns.Alu w op d s) f = record { dst = reg_small d; src = source_small s; offset = op_small op; imm = imm_small s f }
+first_slot_fits (insns.Alu w op d s) f =
+    record { dst = reg_small d; src = source_small s; offset = op_small op; imm = imm_small s f }
 first_slot_fits (insns.Neg w d) f = record { dst = reg_small d; src = omega arith; offset = omega arith; imm = omega arith }
-first_slot_fits (insns.Movsx e d s) f = record { dst = reg_small d; src = reg_small s; offset = extension_small e; imm = omega arith }
+first_slot_fits (insns.Movsx e d s) f =
+    record { dst = reg_small d; src = reg_small s; offset = extension_small e; imm = omega arith }
 first_slot_fits (insns.End o z d) f = record { dst = reg_small d; src = omega arith; offset = omega arith; imm = end_small z }
 first_slot_fits (insns.Ja off) f = record { dst = omega arith; src = omega arith; offset = bits_16 off f; imm = omega arith }
 first_slot_fits (insns.Ja32 off) f = record { dst = omega arith; src = omega arith; offset = omega arith; imm = bits_32 off f }
-first_slot_fits (insns.Jump w c l r off) f = record { dst = reg_small l; src = source_small r; offset = bits_16 off f.1; imm = imm_small r f.0 }
+first_slot_fits (insns.Jump w c l r off) f =
+    record { dst = reg_small l; src = source_small r; offset = bits_16 off f.1; imm = imm_small r f.0 }
 first_slot_fits insns.Exit f = record { dst = omega arith; src = omega arith; offset = omega arith; imm = omega arith }
 first_slot_fits (insns.Ldx z d b off) f = record { dst = reg_small d; src = reg_small b; offset = bits_16 off f; imm = omega arith }
-first_slot_fits (insns.Ldsx z d b off) f = record { dst = reg_small d; src = reg_small b; offset = bits_16 off f; imm = omega arith }
+first_slot_fits (insns.Ldsx z d b off) f =
+    record { dst = reg_small d; src = reg_small b; offset = bits_16 off f; imm = omega arith }
 first_slot_fits (insns.Stx z b off s) f = record { dst = reg_small b; src = reg_small s; offset = bits_16 off f; imm = omega arith }
-first_slot_fits (insns.St z b off n) f = record { dst = reg_small b; src = omega arith; offset = bits_16 off f.0; imm = bits_32 n f.1 }
+first_slot_fits (insns.St z b off n) f =
+    record { dst = reg_small b; src = omega arith; offset = bits_16 off f.0; imm = bits_32 n f.1 }
 first_slot_fits (insns.Wide d v) f = record { dst = reg_small d; src = omega arith; offset = omega arith; imm = omega arith }
 
 pub second_slot_fits : (v : ℕ) → v < 2 ^ 64 → FitsSlot (second_slot v)

@@ -1,5 +1,6 @@
 -- The slots of instructions, laid out one instruction after the other.
-use Rattle.std.proofs.Common.{◌≡◌, ◌≢◌, ◌<◌, ◌≤◌, ◌+◌, ℕ, arith, List, [], ◌∷◌, ◌++◌, length, take, get_or, sym, ◌∙◌, ap, refl, subst, zero, suc}
+use Rattle.std.proofs.Common.{◌≡◌, ◌≢◌, ◌<◌, ◌≤◌, ◌+◌, ℕ, arith, List, [], ◌∷◌, ◌++◌, length}
+use Rattle.std.proofs.Common.{take, get_or, sym, ◌∙◌, ap, refl, subst, zero, suc}
 use Rattle.std.specs.Prelude.{pos}
 use Rattle.std.specs.List.{AllByRecursion}
 use Rattle.std.proofs.lemmas.List.{take_more}
@@ -18,13 +19,16 @@ use Rattle.bpf_insn.proofs.Layouts.{slot_count-one, slots_of-some, layout-one, i
 abbrev pub past_end : Insn
 past_end = Alu W32 Add R0 (Imm (pos 0))
 
-pub slot_count-take : (is : List Insn) (n : ℕ) → n < length is → slot_count (take (n + 1) is) ≡ slot_count (take n is) + slots_of (get_or is n past_end)
+pub slot_count-take : (is : List Insn) (n : ℕ) → n < length is
+    → slot_count (take (n + 1) is) ≡ slot_count (take n is) + slots_of (get_or is n past_end)
 slot_count-take is n h = ap slot_count (take_more is n past_end h) ∙ slot_count-one (take n is) (get_or is n past_end)
 
-pub layout-take : (is : List Insn) (n : ℕ) → n < length is → layout (take (n + 1) is) ≡ layout (take n is) ++ cells_of (get_or is n past_end)
+pub layout-take : (is : List Insn) (n : ℕ) → n < length is
+    → layout (take (n + 1) is) ≡ layout (take n is) ++ cells_of (get_or is n past_end)
 layout-take is n h = ap layout (take_more is n past_end h) ∙ layout-one (take n is) (get_or is n past_end)
 
-pub fits-take : (is : List Insn) (n : ℕ) → n < length is → AllByRecursion Fits (take n is) → Fits (get_or is n past_end) → AllByRecursion Fits (take (n + 1) is)
+pub fits-take : (is : List Insn) (n : ℕ) → n < length is → AllByRecursion Fits (take n is) → Fits (get_or is n past_end)
+    → AllByRecursion Fits (take (n + 1) is)
 fits-take is n h all one =
     let P : List Insn → Type 0 = AllByRecursion Fits in
     subst P (sym (take_more is n past_end h)) (all-append (take n is) (get_or is n past_end ∷ []) all (one, tt))

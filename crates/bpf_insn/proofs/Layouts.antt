@@ -1,5 +1,6 @@
 -- Instructions, their slots and their code, put one after the other.
-use Rattle.std.proofs.Common.{◌≡◌, ◌≤◌, ◌+◌, ◌*◌, arith, List, [], ◌∷◌, ◌++◌, length, sym, ◌∙◌, ap, refl, append_assoc, length-append}
+use Rattle.std.proofs.Common.{◌≡◌, ◌≤◌, ◌+◌, ◌*◌, arith, List, [], ◌∷◌, ◌++◌, length, sym, ◌∙◌}
+use Rattle.std.proofs.Common.{ap, refl, append_assoc, length-append}
 use Rattle.std.proofs.lemmas.List.{append-nil}
 use Rattle.std.specs.Prelude.{Option, Some, None}
 use Rattle.std.specs.List.{AllByRecursion}
@@ -48,7 +49,8 @@ slot_count-append (i ∷ a) b = omega (arith, slot_count-append a b)
 
 pub code_of-append : (a b : List Insn) → code_of (a ++ b) ≡ code_of a ++ code_of b
 code_of-append [] b = refl
-code_of-append (i ∷ a) b = ap (λ x. spelling i ++ x) (code_of-append a b) ∙ sym (append_assoc (spelling i) (code_of a) (code_of b))
+code_of-append (i ∷ a) b =
+    ap (λ x. spelling i ++ x) (code_of-append a b) ∙ sym (append_assoc (spelling i) (code_of a) (code_of b))
 
 pub layout-append : (a b : List Insn) → layout (a ++ b) ≡ layout a ++ layout b
 layout-append [] b = refl

@@ -1,5 +1,6 @@
 -- Code is that of one program at most, or has one fault.
-use Rattle.std.proofs.Common.{◌≡◌, ◌≤◌, ◌*◌, ℕ, arith, Bool, true, false, List, [], ◌∷◌, ◌++◌, length, sym, ◌∙◌, ap, refl, append_assoc, length-append, inl, inr, subst}
+use Rattle.std.proofs.Common.{◌≡◌, ◌≤◌, ◌*◌, ℕ, arith, Bool, true, false, List, [], ◌∷◌, ◌++◌, length}
+use Rattle.std.proofs.Common.{sym, ◌∙◌, ap, refl, append_assoc, length-append, inl, inr, subst}
 use Rattle.std.specs.Prelude.{Result, Ok, Err, IfOk, IfErr, MatchResult}
 use Rattle.std.specs.List.{AllByRecursion}
 use Rattle.bpf_insn.specs.declared.slot.Slot.{Slot}
@@ -21,7 +22,9 @@ use Rattle.bpf_insn.proofs.Unbroken.{spelled-unbroken}
 
 -- no instruction is spelled by no bytes
 spelled-some : (i : Insn) (x : List ℕ) → [] ≡ spelling i ++ x → ⊥
-spelled-some i x e = let n : 0 ≡ length (spelling i ++ x) = ap length e in absurd (omega (arith, length-append (spelling i) x, length-spelling i, slots_of-some i))
+spelled-some i x e =
+    let n : 0 ≡ length (spelling i ++ x) = ap length e in
+    absurd (omega (arith, length-append (spelling i) x, length-spelling i, slots_of-some i))
 
 code_of-injective : (a b : List Insn) → AllByRecursion Fits a → AllByRecursion Fits b → code_of a ≡ code_of b → a ≡ b
 code_of-injective [] [] f g e = refl
@@ -40,10 +43,14 @@ Spells-one code a b s t = code_of-injective a b s.program.fits t.program.fits (s
 broken-some : (rule : CodeRule) → IsBrokenAtFront [] rule → ⊥
 broken-some rule b = let e = b.read in cc
 
-spelled-no_fault : (is before : List Insn) (rest : List ℕ) (rule : CodeRule) → AllByRecursion Fits is → AllByRecursion Fits before → code_of is ≡ code_of before ++ rest → IsBrokenAtFront rest rule → ⊥
-spelled-no_fault [] [] rest rule f g e b = let P : List ℕ → Type 0 = λ z. IsBrokenAtFront z rule in broken-some rule (subst P (sym e) b)
-spelled-no_fault (i ∷ is) [] rest rule f g e b = let P : List ℕ → Type 0 = λ z. IsBrokenAtFront z rule in spelled-unbroken i (code_of is) rule f.0 (subst P (sym e) b)
-spelled-no_fault [] (j ∷ before) rest rule f g e b = spelled-some j (code_of before ++ rest) (e ∙ append_assoc (spelling j) (code_of before) rest)
+spelled-no_fault : (is before : List Insn) (rest : List ℕ) (rule : CodeRule) → AllByRecursion Fits is
+    → AllByRecursion Fits before → code_of is ≡ code_of before ++ rest → IsBrokenAtFront rest rule → ⊥
+spelled-no_fault [] [] rest rule f g e b =
+    let P : List ℕ → Type 0 = λ z. IsBrokenAtFront z rule in broken-some rule (subst P (sym e) b)
+spelled-no_fault (i ∷ is) [] rest rule f g e b =
+    let P : List ℕ → Type 0 = λ z. IsBrokenAtFront z rule in spelled-unbroken i (code_of is) rule f.0 (subst P (sym e) b)
+spelled-no_fault [] (j ∷ before) rest rule f g e b =
+    spelled-some j (code_of before ++ rest) (e ∙ append_assoc (spelling j) (code_of before) rest)
 spelled-no_fault (i ∷ is) (j ∷ before) rest rule f g e b =
     let h = spelling-injective i j (code_of is) (code_of before ++ rest) f.0 g.0 (e ∙ append_assoc (spelling j) (code_of before) rest) in
     spelled-no_fault is before rest rule f.1 g.1 h.1 b
@@ -52,7 +59,8 @@ good_length : (n : ℕ) → 1 ≤ n → n ≤ 4096 → has_bad_length (8 * n) �
 good_length n h k = grind arith
 
 pub spelled-length : (code : List ℕ) (is : List Insn) → Spells code is → has_bad_length (length code) ≡ false
-spelled-length code is s = ap has_bad_length (ap length s.same ∙ length-code_of is) ∙ good_length (slot_count is) s.program.some s.program.few
+spelled-length code is s =
+    ap has_bad_length (ap length s.same ∙ length-code_of is) ∙ good_length (slot_count is) s.program.some s.program.few
 
 not_both : (b : Bool) → b ≡ true → b ≡ false → ⊥
 not_both b e f = cc
@@ -71,8 +79,11 @@ front-one bytes q r a b =
     let P : Slot → Type 0 = λ s. IsLowest (SlotBreaks s bytes) r in
     lowest-one (SlotBreaks a.slot bytes) q r a.fault (subst P same b.fault)
 
-broken-one : (a b : List Insn) (x y : List ℕ) (q r : CodeRule) → AllByRecursion Fits a → AllByRecursion Fits b → code_of a ++ x ≡ code_of b ++ y → IsBrokenAtFront x q → IsBrokenAtFront y r → (slot_count a ≡ slot_count b) × (q ≡ r)
-broken-one [] [] x y q r f g e s t = let P : List ℕ → Type 0 = λ z. IsBrokenAtFront z r in (refl, front-one x q r s (subst P (sym e) t))
+broken-one : (a b : List Insn) (x y : List ℕ) (q r : CodeRule) → AllByRecursion Fits a → AllByRecursion Fits b
+    → code_of a ++ x ≡ code_of b ++ y → IsBrokenAtFront x q → IsBrokenAtFront y r
+    → (slot_count a ≡ slot_count b) × (q ≡ r)
+broken-one [] [] x y q r f g e s t =
+    let P : List ℕ → Type 0 = λ z. IsBrokenAtFront z r in (refl, front-one x q r s (subst P (sym e) t))
 broken-one [] (j ∷ b) x y q r f g e s t =
     let P : List ℕ → Type 0 = λ z. IsBrokenAtFront z q in
     absurd (spelled-unbroken j (code_of b ++ y) q g.0 (subst P (e ∙ append_assoc (spelling j) (code_of b) y) s))
@@ -106,14 +117,17 @@ pub one_reading : (code : List ℕ) → HasOneReading code
 one_reading code = record { one_program = Spells-one code; no_fault = Spells-no_fault code; one_fault = IsCodeFault-one code }
 
 pub Spells-only : (code : List ℕ) (is : List Insn) → Spells code is → IsOnlyCodeOf code is
-Spells-only code is s = record { spells = s; one_program = λ other t. Spells-one code other is t s; one_code = λ other t. t.same ∙ sym s.same }
+Spells-only code is s =
+    record { spells = s; one_program = λ other t. Spells-one code other is t s; one_code = λ other t. t.same ∙ sym s.same }
 
 -- where the code is that of a program, it is refused where memory is out, and only there
-pub refused-memory : (code : List ℕ) (is : List Insn) (e : DecodeError) → Spells code is → ExplainsRefusal code e → e ≡ errors.Memory
+pub refused-memory : (code : List ℕ) (is : List Insn) (e : DecodeError) → Spells code is → ExplainsRefusal code e
+    → e ≡ errors.Memory
 refused-memory code is (errors.Fault f) s x = absurd (Spells-no_fault code is f s x)
 refused-memory code is errors.Memory s x = refl
 
 -- of code that spells a program the answer is that program, or Memory
-pub read_exact : (code : List ℕ) (p : List Insn) (r : Result (List Insn) DecodeError) → Spells code p → IfOk r (Spells code) → IfErr r (ExplainsRefusal code) → MatchResult r (λ q. q ≡ p) (λ e. e ≡ errors.Memory)
+pub read_exact : (code : List ℕ) (p : List Insn) (r : Result (List Insn) DecodeError) → Spells code p → IfOk r (Spells code)
+    → IfErr r (ExplainsRefusal code) → MatchResult r (λ q. q ≡ p) (λ e. e ≡ errors.Memory)
 read_exact code p (Ok q) s ok err = Spells-one code q p ok s
 read_exact code p (Err e) s ok err = refused-memory code p e s err

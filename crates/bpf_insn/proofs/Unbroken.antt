@@ -1,9 +1,11 @@
 -- A slot that begins an instruction breaks no rule.
-use Rattle.std.proofs.Common.{◌≡◌, ◌≢◌, ◌<◌, ◌%◌, nat_lt, ℕ, arith, Bool, true, false, List, [], ◌∷◌, ◌++◌, take, drop, sym, ◌∙◌, ap, refl, subst}
+use Rattle.std.proofs.Common.{◌≡◌, ◌≢◌, ◌<◌, ◌%◌, nat_lt, ℕ, arith, Bool, true, false, List, [], ◌∷◌}
+use Rattle.std.proofs.Common.{◌++◌, take, drop, sym, ◌∙◌, ap, refl, subst}
 use Rattle.bpf_insn.specs.declared.slot.Slot.{Slot}
 use Rattle.bpf_insn.specs.declared.reg.Reg.{Reg}
 use Rattle.bpf_insn.specs.declared.rule.CodeRule.{CodeRule}
-use Rattle.bpf_insn.specs.declared.rule.CodeRule.TheVariants.{UnknownOpcode, OutsideProfile, RegisterAboveTen, UnusedField, BrokenWideLoad}
+use Rattle.bpf_insn.specs.declared.rule.CodeRule.TheVariants.{UnknownOpcode, OutsideProfile, RegisterAboveTen, UnusedField}
+use Rattle.bpf_insn.specs.declared.rule.CodeRule.TheVariants.{BrokenWideLoad}
 use Rattle.bpf_insn.specs.declared.insn.Width.{Width}
 use Rattle.bpf_insn.specs.declared.insn.Insn.{Insn}
 use Rattle.bpf_insn.specs.declared.insn.Insn.TheVariants as insns
@@ -37,9 +39,12 @@ alu_no_call c s w e = grind arith
 jump_no_call : (c : Cond) (s : Source) (w : Width) → operation (cond_number c) (source_bit s) (jump_class w) ≢ 0x85
 jump_no_call c s w e = grind arith
 
-inside_number : (o : Opcode) (s : Slot) → number_of o ≡ s.opcode → (o ≡ Wide → s.src ≡ 0) → is_outside_profile s ≡ false
-inside_number (Alu w c x) s e h = inside_by_class s (rw (← e) (alu_class_above (code_number c) x w)) (λ f. alu_no_call (code_number c) x w (e ∙ f))
-inside_number (Jump w c x) s e h = inside_by_class s (rw (← e) (jump_class_above (cond_number c) x w)) (λ f. jump_no_call c x w (e ∙ f))
+inside_number : (o : Opcode) (s : Slot) → number_of o ≡ s.opcode → (o ≡ Wide → s.src ≡ 0)
+    → is_outside_profile s ≡ false
+inside_number (Alu w c x) s e h =
+    inside_by_class s (rw (← e) (alu_class_above (code_number c) x w)) (λ f. alu_no_call (code_number c) x w (e ∙ f))
+inside_number (Jump w c x) s e h =
+    inside_by_class s (rw (← e) (jump_class_above (cond_number c) x w)) (λ f. jump_no_call c x w (e ∙ f))
 inside_number Wide s e h = let src = h refl in grind arith
 inside_number o s e h = grind arith
 

@@ -1,10 +1,12 @@
 -- What is wrong with a slot. The rules and their order are this project's own; the forms that lie outside the profile are
 -- calls (RFC 9669, section 4.3), atomic operations (5.3), legacy packet access (5.5) and wide loads of other things
 -- than a number (5.4).
-use Rattle.std.specs.Prelude.{ℕ, ◌≡◌, ◌≢◌, List, [], ◌∷◌, Bool, true, false, take, drop, ◌==◌, ◌||◌, ◌&&◌, not, nat_lt}
+use Rattle.std.specs.Prelude.{ℕ, ◌≡◌, ◌≢◌, List, [], ◌∷◌, Bool, true, false, take, drop, ◌==◌, ◌||◌}
+use Rattle.std.specs.Prelude.{◌&&◌, not, nat_lt}
 use Rattle.bpf_insn.specs.declared.slot.Slot.{Slot}
 use Rattle.bpf_insn.specs.declared.rule.CodeRule.{CodeRule}
-use Rattle.bpf_insn.specs.declared.rule.CodeRule.TheVariants.{UnknownOpcode, OutsideProfile, RegisterAboveTen, UnusedField, BrokenWideLoad}
+use Rattle.bpf_insn.specs.declared.rule.CodeRule.TheVariants.{UnknownOpcode, OutsideProfile, RegisterAboveTen, UnusedField}
+use Rattle.bpf_insn.specs.declared.rule.CodeRule.TheVariants.{BrokenWideLoad}
 use Rattle.bpf_insn.specs.declared.opcode.Opcode.{Opcode}
 use Rattle.bpf_insn.specs.Rule.{IsLowest}
 use Rattle.bpf_insn.specs.Opcode.{number_of}

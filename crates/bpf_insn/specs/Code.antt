@@ -1,6 +1,7 @@
 -- Which bytes are the code of which program, and where bytes are at fault. RFC 9669, section 3, has code as slots in a row;
 -- the limit of 4,096 slots, and how a fault is named, are this project's own.
-use Rattle.std.specs.Prelude.{ℕ, ◌≡◌, ◌/◌, ◌%◌, List, ◌++◌, length, min, Bool, true, false, ◌==◌, ◌||◌, not, nat_lt, ◌⊎◌}
+use Rattle.std.specs.Prelude.{ℕ, ◌≡◌, ◌/◌, ◌%◌, List, ◌++◌, length, min, Bool, true, false, ◌==◌, ◌||◌}
+use Rattle.std.specs.Prelude.{not, nat_lt, ◌⊎◌}
 use Rattle.std.specs.List.{AllByRecursion, flat_map}
 use Rattle.bpf_insn.specs.declared.insn.Insn.{Insn}
 use Rattle.bpf_insn.specs.declared.rule.CodeRule.{CodeRule}

@@ -1,7 +1,10 @@
 -- The names and the order of the rules of code. They are this project's own.
 use Rattle.std.specs.Prelude.{ℕ, ◌<◌, List, codes}
 use Rattle.bpf_insn.specs.declared.rule.CodeRule.{CodeRule}
-use Rattle.bpf_insn.specs.declared.rule.CodeRule.TheVariants.{BadLength, UnknownOpcode, OutsideProfile, RegisterAboveTen, UnusedField, BrokenWideLoad, JumpsBack, JumpsNowhere, StackTopWritten, NoExitAtEnd, UnsetRead, MixedRead, NumberWanted, PlaceWanted, OutsideStack, UnstoredRead}
+use Rattle.bpf_insn.specs.declared.rule.CodeRule.TheVariants.{BadLength, UnknownOpcode, OutsideProfile, RegisterAboveTen}
+use Rattle.bpf_insn.specs.declared.rule.CodeRule.TheVariants.{UnusedField, BrokenWideLoad, JumpsBack, JumpsNowhere, StackTopWritten}
+use Rattle.bpf_insn.specs.declared.rule.CodeRule.TheVariants.{NoExitAtEnd, UnsetRead, MixedRead, NumberWanted, PlaceWanted}
+use Rattle.bpf_insn.specs.declared.rule.CodeRule.TheVariants.{OutsideStack, UnstoredRead}
 
 -- how the product writes a rule
 abbrev pub rule_name : CodeRule → List ℕ

@@ -1,8 +1,8 @@
 -- What a step of the tagged machine answers, and what it leaves. The answers are this project's own.
 use Rattle.std.specs.Prelude.{◌≡◌, ◌≤◌, true, List, Some}
 use Rattle.bpf_insn.specs.declared.insn.Insn.{Insn}
-use Rattle.bpf_insn.specs.declared.stepped.Stepped.{Stepped}
-use Rattle.bpf_insn.specs.declared.stepped.Stepped.TheVariants.{Went, Done, Stuck}
+use Rattle.bpf_insn.specs.declared.machine.stepped.Stepped.{Stepped}
+use Rattle.bpf_insn.specs.declared.machine.stepped.Stepped.TheVariants.{Went, Done, Stuck}
 use Rattle.bpf_insn.specs.Program.{slot_count}
 use Rattle.bpf_insn.specs.Machine.{State, slot_of, IsStep, IsStuckBy, is_at_insn}
 use Rattle.bpf_insn.specs.Machine as machine

@@ -1,9 +1,13 @@
 //! The instruction of a slot whose fields are right.
-ghost use Rattle.std.specs.Prelude.{◌==◌, ◌||◌, IsTrue, IfSome, IfNone, ◌≡◌, ℕ, ◌+◌, ◌*◌, ◌<◌, ◌≤◌, ◌≢◌, ◌^◌, true, false};
+ghost use Rattle.std.specs.Prelude.{◌==◌, ◌||◌, IsTrue, IfSome, IfNone, ◌≡◌, ℕ, ◌+◌, ◌*◌, ◌<◌};
+ghost use Rattle.std.specs.Prelude.{◌≤◌, ◌≢◌, ◌^◌, true, false};
 ghost use Rattle.bpf_insn.specs.Opcode.{number_of};
 ghost use Rattle.bpf_insn.specs.Fields.{allows_alu_offset, allows_offset};
-ghost use Rattle.bpf_insn.specs.Spelling.{number_of_reg, first_slot, second_slot, code_of_op, offset_of_op, opcode_of_extension, offset_of_extension, imm_of_end, source_of, source_field, imm_field, OperandFits, spelling, slot_bytes, Fits};
+ghost use Rattle.bpf_insn.specs.Spelling.{number_of_reg, first_slot, second_slot, code_of_op, offset_of_op, opcode_of_extension};
+ghost use Rattle.bpf_insn.specs.Spelling.{offset_of_extension, imm_of_end, source_of, source_field, imm_field, OperandFits};
+ghost use Rattle.bpf_insn.specs.Spelling.{spelling, slot_bytes, Fits};
 ghost use Rattle.bpf_insn.specs.Program.{slots_of};
+ghost use Rattle.bpf_insn.specs.inner.Code.{IsRight, IsOfSlot};
 ghost use Rattle.bpf_insn.specs.declared.reg.Reg.{Reg};
 ghost use Rattle.bpf_insn.specs.Broken.{has_bad_register, has_bad_field};
 
@@ -87,8 +91,8 @@ fn operand_of(source: Source, slot: Slot) -> Operand
     requires { source ≡ Source.X → slot.src < 11 }
     ensures source { source_of result ≡ source }
     ensures fits { OperandFits result }
-    ensures register { source ≡ Source.X → (source_field result ≡ slot.src) × (imm_field result ≡ 0) }
-    ensures imm { source ≡ Source.K → (source_field result ≡ 0) × (imm_field result ≡ slot.imm) }
+    ensures fields { (source ≡ Source.X → (source_field result ≡ slot.src) × (imm_field result ≡ 0))
+        × (source ≡ Source.K → (source_field result ≡ 0) × (imm_field result ≡ slot.imm)) }
 {
     match source {
         Source::K => Operand::Imm(slot.imm.cast_signed()),
@@ -98,14 +102,9 @@ fn operand_of(source: Source, slot: Slot) -> Operand
 
 /// The instruction of a first slot. A wide load's second slot is read before.
 pub fn insn_of(opcode: Opcode, slot: Slot) -> Insn
-    requires opcode { number_of opcode ≡ slot.opcode }
+    requires right { IsRight opcode slot }
     requires no_wide { opcode ≢ Opcode.Wide }
-    requires registers { has_bad_register opcode slot ≡ false }
-    requires fields { has_bad_field opcode slot ≡ false }
-    ensures spelled { first_slot result ≡ slot }
-    ensures fits { Fits result }
-    ensures slots { spelling result ≡ slot_bytes slot }
-    ensures one { slots_of result ≡ 1 }
+    ensures { IsOfSlot result slot }
 {
     let offset = slot.offset.cast_signed();
     let imm = slot.imm.cast_signed();
@@ -160,13 +159,8 @@ pub fn insn_of(opcode: Opcode, slot: Slot) -> Insn
 
 /// The operation of two operands, or the MOVSX, of a slot.
 fn alu_insn(width: Width, code: AluCode, source: Source, slot: Slot) -> Insn
-    requires opcode { number_of (Opcode.Alu width code source) ≡ slot.opcode }
-    requires registers { has_bad_register (Opcode.Alu width code source) slot ≡ false }
-    requires fields { has_bad_field (Opcode.Alu width code source) slot ≡ false }
-    ensures spelled { first_slot result ≡ slot }
-    ensures fits { Fits result }
-    ensures slots { spelling result ≡ slot_bytes slot }
-    ensures one { slots_of result ≡ 1 }
+    requires { IsRight (Opcode.Alu width code source) slot }
+    ensures { IsOfSlot result slot }
 {
     let dst = reg(slot.dst);
     if let (AluCode::Mov, Source::X) = (code, source) {

@@ -2,7 +2,7 @@
 ghost use Rattle.std.specs.Prelude.{◌≡◌, ℕ, false, List, IfOk, IfErr};
 ghost use Rattle.bpf_insn.specs.Rule.{IsLowest};
 ghost use Rattle.bpf_insn.specs.Broken.{is_outside_profile, SlotBreaks, has_bad_register, has_bad_field};
-ghost use Rattle.bpf_insn.specs.Opcode.{number_of};
+ghost use Rattle.bpf_insn.specs.inner.Code.{IsRight};
 
 use crate::fields::{allows_imm, allows_offset, uses_dst, uses_src};
 use crate::opcode::{Opcode, opcode_of};
@@ -38,10 +38,8 @@ fn has_bad_field(opcode: Opcode, slot: Slot) -> bool
 /// load is looked at elsewhere.
 #[tactic(auto, using(crate::proofs::Faults::bad_register_is_lowest, crate::proofs::Faults::bad_field_is_lowest))]
 pub fn check(slot: Slot) -> Result<Opcode, CodeRule>
-    ensures opcode { IfOk result (λ o. number_of o ≡ slot.opcode) }
+    ensures right { IfOk result (λ o. IsRight o slot) }
     ensures inside { IfOk result (λ o. is_outside_profile slot ≡ false) }
-    ensures registers { IfOk result (λ o. has_bad_register o slot ≡ false) }
-    ensures fields { IfOk result (λ o. has_bad_field o slot ≡ false) }
     ensures lowest { IfErr result (λ rule. (bytes : List ℕ) → IsLowest (SlotBreaks slot bytes) rule) }
 {
     if is_outside_profile(slot) {

@@ -1,5 +1,7 @@
 //! The decoder: from the bytes of code to a program.
-ghost use Rattle.std.specs.Prelude.{◌+◌, ◌++◌, is_some, ◌≡◌, ◌≢◌, ℕ, ◌*◌, ◌/◌, ◌%◌, ◌≤◌, ◌⊎◌, false, List, take, length, IfOk, IfErr, MatchResult, IfSome, IfNone, [], ◌∷◌, vec_len, vec_capacity};
+ghost use Rattle.std.specs.Prelude.{◌+◌, ◌++◌, is_some, ◌≡◌, ◌≢◌, ℕ, ◌*◌, ◌/◌, ◌%◌, ◌≤◌};
+ghost use Rattle.std.specs.Prelude.{◌⊎◌, false, List, take, length, IfOk, IfErr, MatchResult, IfSome, IfNone, [], ◌∷◌};
+ghost use Rattle.std.specs.Prelude.{vec_len, vec_capacity};
 ghost use Rattle.std.specs.Int.{w32, to_le_bytes};
 ghost use Rattle.bpf_insn.specs.declared.insn.Insn.{Insn};
 ghost use Rattle.bpf_insn.specs.Broken.{IsBrokenAtFront};

@@ -8,39 +8,35 @@
 //!
 //! Read `reg` and `insn` (what an instruction is), `rule` and `fault` (what can be wrong), `program`;
 //! `opcode`, `fields` and `slot` (the tables), `spell` and `encoder`, `check`, `build` and `decoder`;
-//! then the machine: `content`, `frame` and `operands` (its state), `reads`, `memory` and `alu` (what
-//! an instruction reads, loads, stores and computes), `jumps`, `rules` and `execute` (a step),
-//! `stepped`, `tagged` and `run`.
+//! then what an instruction means: `operands`, `content` and `frame` (what stands in the machine), `reads`
+//! and `bounds` (what an instruction reads, writes and accesses), `arithmetic` (what it computes). The
+//! machine in code is `machine`, which only tests run.
 //! What it all means stands in specs/: Rule, Opcode, Fields, Spelling, Broken, Program, Code, then
 //! Arithmetic, Reads, Effects, Machine, Stepping, Run.
 #![tactic(auto)]
 
-mod alu;
+pub mod arithmetic;
+mod bounds;
 mod build;
 mod check;
 mod content;
 mod decoder;
 mod encoder;
-mod execute;
 mod fault;
 mod fields;
 mod frame;
 mod insn;
-mod jumps;
-mod memory;
+mod machine;
 mod opcode;
 mod operands;
 mod program;
 mod reads;
 mod reg;
 mod rule;
-mod rules;
-mod run;
 mod slot;
 mod spell;
-mod stepped;
-mod tagged;
 
+pub use bounds::is_outside_stack;
 pub use content::Content;
 pub use decoder::decode;
 pub use encoder::encode;
@@ -48,12 +44,11 @@ pub use fault::{DecodeError, Fault, InsnsError};
 pub use insn::{
     AluOp, ByteOrder, Cond, EndSize, Extension, Insn, Operand, SignedSize, Size, Width,
 };
-pub use memory::is_outside_stack;
+pub use machine::run::{Ran, run_tagged};
+pub use machine::stepped::Stepped;
+pub use machine::tagged::Tagged;
 pub use operands::{Kind, Operands};
 pub use program::{MOST_SLOTS, Program};
-pub use reads::{Access, Reads};
+pub use reads::{Access, Reads, Registers};
 pub use reg::Reg;
 pub use rule::CodeRule;
-pub use run::{Ran, run_tagged};
-pub use stepped::Stepped;
-pub use tagged::Tagged;

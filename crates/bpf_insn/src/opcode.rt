@@ -1,6 +1,7 @@
 //! The table of opcodes: what each byte says.
 ghost use Rattle.std.specs.Prelude.{◌≡◌, ◌≢◌, ℕ, ◌+◌, ◌*◌, ◌<◌, IfSome, IfNone};
-ghost use Rattle.bpf_insn.specs.Opcode.{number_of, operation, source_bit, alu_class, jump_class, code_number, cond_number, size_number};
+ghost use Rattle.bpf_insn.specs.Opcode.{number_of, operation, source_bit, alu_class, jump_class, code_number, cond_number};
+ghost use Rattle.bpf_insn.specs.Opcode.{size_number};
 ghost use Rattle.bpf_insn.specs.declared.opcode.Opcode.{Opcode};
 
 use crate::insn::{ByteOrder, Cond, SignedSize, Size, Width};

@@ -1,5 +1,6 @@
 //! Programs: the instructions of code, by the slots in which they begin.
-ghost use Rattle.std.specs.Prelude.{◌≡◌, ◌+◌, ◌<◌, ◌≤◌, ◌++◌, [], length, vec_len, vec_capacity, None, unwrap_or, slice_get, option_copied, IfOk, IfErr, IfSome, IfNone};
+ghost use Rattle.std.specs.Prelude.{◌≡◌, ◌+◌, ◌<◌, ◌≤◌, ◌++◌, [], length, vec_len, vec_capacity, None};
+ghost use Rattle.std.specs.Prelude.{unwrap_or, slice_get, option_copied, IfOk, IfErr, IfSome, IfNone};
 ghost use Rattle.std.specs.List.{AllByRecursion};
 ghost use Rattle.bpf_insn.specs.Program.{slots_of, slot_count, insn_at, insns_of, IsProgram, ExplainsInsnsRefusal};
 ghost use Rattle.bpf_insn.specs.inner.Program.{cells_of, layout, IsLaid};

@@ -1,9 +1,10 @@
 //! Which registers an instruction reads and writes, and which bytes of the stack it accesses.
 ghost use Rattle.std.specs.Prelude.{◌≡◌};
-ghost use Rattle.bpf_insn.specs.Reads.{reads, access, load_access, store_access, written_reg};
+ghost use Rattle.bpf_insn.specs.Reads.{listed, registers_of, numbers_of, places_of, reads, access, load_access, store_access};
+ghost use Rattle.bpf_insn.specs.Reads.{written_reg};
 
+use crate::bounds::{byte_count, signed_byte_count};
 use crate::insn::{AluOp, Insn, Operand, Width};
-use crate::memory::{byte_count, signed_byte_count};
 use crate::reg::Reg;
 
 /// The registers that an instruction reads, by what is wanted in them.
@@ -32,6 +33,64 @@ pub struct Access {
     pub offset: i16,
     /// How many bytes: 1, 2, 4 or 8.
     pub bytes: u8,
+}
+
+/// Up to two registers.
+#[derive(Clone, Copy)]
+pub enum Registers {
+    Nothing,
+    One([Reg; 1]),
+    Two([Reg; 2]),
+}
+
+impl Registers {
+    /// The registers, one after the other.
+    pub fn as_slice(&self) -> &[Reg]
+        ensures { result.now ≡ listed self.now }
+    {
+        match self {
+            Registers::Nothing => &[],
+            Registers::One(one) => one,
+            Registers::Two(two) => two,
+        }
+    }
+}
+
+impl Reads {
+    /// The registers that are read.
+    pub fn registers(self) -> Registers
+        ensures { listed result ≡ registers_of self }
+    {
+        match self {
+            Reads::Nothing => Registers::Nothing,
+            Reads::AsNumber(reg) | Reads::AsContent(reg) | Reads::AsPlace(reg) => {
+                Registers::One([reg])
+            }
+            Reads::AsNumbers(first, second) => Registers::Two([first, second]),
+            Reads::AsPlaceAndNumber(base, src) => Registers::Two([src, base]),
+        }
+    }
+
+    /// Those in which a number is wanted.
+    pub fn numbers(self) -> Registers
+        ensures { listed result ≡ numbers_of self }
+    {
+        match self {
+            Reads::AsNumbers(first, second) => Registers::Two([first, second]),
+            Reads::AsNumber(reg) | Reads::AsPlaceAndNumber(_, reg) => Registers::One([reg]),
+            _ => Registers::Nothing,
+        }
+    }
+
+    /// Those in which a place is wanted.
+    pub fn places(self) -> Registers
+        ensures { listed result ≡ places_of self }
+    {
+        match self {
+            Reads::AsPlace(base) | Reads::AsPlaceAndNumber(base, _) => Registers::One([base]),
+            _ => Registers::Nothing,
+        }
+    }
 }
 
 impl Insn {

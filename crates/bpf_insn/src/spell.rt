@@ -1,7 +1,8 @@
 //! The fields that spell an instruction.
 ghost use Rattle.std.specs.Prelude.{◌≡◌, ◌<◌};
 ghost use Rattle.std.specs.Int.{cast_unsigned, w16, w32};
-ghost use Rattle.bpf_insn.specs.Spelling.{number_of_reg, fields, first_slot, second_slot, code_of_op, offset_of_op, opcode_of_extension, offset_of_extension, imm_of_end, source_of, source_field, imm_field};
+ghost use Rattle.bpf_insn.specs.Spelling.{number_of_reg, fields, first_slot, second_slot, code_of_op, offset_of_op};
+ghost use Rattle.bpf_insn.specs.Spelling.{opcode_of_extension, offset_of_extension, imm_of_end, source_of, source_field, imm_field};
 
 use crate::insn::{AluOp, EndSize, Extension, Insn, Operand, Width};
 use crate::opcode::{AluCode, Opcode, Source};

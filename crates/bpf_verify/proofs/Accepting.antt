@@ -1,5 +1,6 @@
 -- An exact table makes a program without slot faults an accepted operator.
-use Rattle.std.proofs.Common.{◌≡◌, ◌≢◌, ◌≤◌, ℕ, arith, Bool, true, false, List, [], ◌∷◌, length, sym, ◌∙◌, ap, refl, subst}
+use Rattle.std.proofs.Common.{◌≡◌, ◌≢◌, ◌≤◌, ℕ, arith, Bool, true, false, List, [], ◌∷◌, length, sym}
+use Rattle.std.proofs.Common.{◌∙◌, ap, refl, subst}
 use Rattle.std.specs.Prelude.{Option, Some, None, pos}
 use Rattle.bpf_insn.specs.declared.insn.Insn.{Insn}
 use Rattle.bpf_insn.specs.declared.operands.Kind.{Kind}
@@ -32,18 +33,22 @@ use Rattle.bpf_verify.proofs.Sound.{NeverBreaks, way_of, tags_long, begins_some,
 -- ---- typing
 
 -- each path has something known along it
-known_along : (insns : List Insn) (entry : List Tag) (path : List ℕ) (slot : ℕ) → NeverBreaks insns entry → IsPath insns path slot → (k : Known) × IsKnown insns entry path k
+known_along : (insns : List Insn) (entry : List Tag) (path : List ℕ) (slot : ℕ) → NeverBreaks insns entry
+    → IsPath insns path slot → (k : Known) × IsKnown insns entry path k
 known_along insns entry [] slot never h = (record { tags = entry; stored = λ byte. false }, refl)
 known_along insns entry (from ∷ path) slot never (h, m) =
     let w = known_along insns entry path from never h in
     (after w.0 m.insn, (w.0, w.1, record { insn = m.insn; here = m.here; unbroken = never from m.insn w.0 m.here (record { path = path; leads = h; known = w.1 }); same = refl }))
 
-leads_to_insn : (insns : List Insn) (path : List ℕ) (slot : ℕ) → IsClean insns → 1 ≤ slot_count insns → IsPath insns path slot → begins insns slot ≡ true
+leads_to_insn : (insns : List Insn) (path : List ℕ) (slot : ℕ) → IsClean insns → 1 ≤ slot_count insns
+    → IsPath insns path slot → begins insns slot ≡ true
 leads_to_insn insns [] slot clean some h = ap (begins insns) h ∙ begins_first insns some
 leads_to_insn insns (from ∷ path) slot clean some h = (target_of insns from slot clean h.1).1
 
-typing_is : (insns : List Insn) (entry : List Tag) (slot : ℕ) (o : Option Known) → IsClean insns → 1 ≤ slot_count insns → NeverBreaks insns entry → TellsSlot o (IsWay insns entry slot) → IsTyping insns entry slot o
-typing_is insns entry slot None clean some never h = λ path l. let w = known_along insns entry path slot never l in h w.0 (record { path = path; leads = l; known = w.1 })
+typing_is : (insns : List Insn) (entry : List Tag) (slot : ℕ) (o : Option Known) → IsClean insns → 1 ≤ slot_count insns
+    → NeverBreaks insns entry → TellsSlot o (IsWay insns entry slot) → IsTyping insns entry slot o
+typing_is insns entry slot None clean some never h =
+    λ path l. let w = known_along insns entry path slot never l in h w.0 (record { path = path; leads = l; known = w.1 })
 typing_is insns entry slot (Some k) clean some never h = (h, leads_to_insn insns h.some.1.path slot clean some h.some.1.leads)
 
 -- ---- what is known of all ways holds where what is known of one does
@@ -57,7 +62,8 @@ tells_agrees Number t P c h p g = subst (λ u. Agrees u c) (h.1 t p) g
 tells_agrees (Place o) t P c h p g = subst (λ u. Agrees u c) (h.1 t p) g
 tells_agrees Mixed t P c h p g = set_of t c g (λ e. h.0 (subst P e p))
 
-byte_holds : (b : Bool) (W : Known → Type 0) (byte : ℕ) (w : Known) → TellsByte b (Marks W byte) → W w → b ≡ true → w.stored byte ≡ true
+byte_holds : (b : Bool) (W : Known → Type 0) (byte : ℕ) (w : Known) → TellsByte b (Marks W byte) → W w → b ≡ true
+    → w.stored byte ≡ true
 byte_holds true W byte w h v e = h.1 (w.stored byte) (w, v, refl)
 byte_holds false W byte w h v e = absurd (cc)
 
@@ -69,13 +75,15 @@ holds_of_all W k w f h v a = record {
   whole = a.whole;
 }
 
-holds_at : (W : Known → Type 0) (w : Known) (f : Frame) (o : Option Known) → TellsSlot o W → W w → HoldsOf w f → (k : Known) × (o ≡ Some k) × HoldsOf k f
+holds_at : (W : Known → Type 0) (w : Known) (f : Frame) (o : Option Known) → TellsSlot o W → W w → HoldsOf w f
+    → (k : Known) × (o ≡ Some k) × HoldsOf k f
 holds_at W w f None h v a = absurd (h w v)
 holds_at W w f (Some k) h v a = (k, refl, holds_of_all W k w f h v a)
 
 -- ---- what is known after an instruction is covered where it may lead
 
-covered_tag : (a b : Tag) (P Q : Tag → Type 0) → TellsTag a P → TellsTag b Q → ((t : Tag) → P t → Q t) → (c : Content) → Agrees a c → Agrees b c
+covered_tag : (a b : Tag) (P Q : Tag → Type 0) → TellsTag a P → TellsTag b Q → ((t : Tag) → P t → Q t) → (c : Content)
+    → Agrees a c → Agrees b c
 covered_tag a Unset P Q h l f c g = tt
 covered_tag Unset Number P Q h l f c g = let e = l.1 Unset (f Unset h) in absurd (cc)
 covered_tag Unset (Place o) P Q h l f c g = let e = l.1 Unset (f Unset h) in absurd (cc)
@@ -90,38 +98,46 @@ covered_tag Mixed Number P Q h l f c g = absurd (h.5 (l.1 h.1 (f h.1 h.3) ∙ sy
 covered_tag Mixed (Place o) P Q h l f c g = absurd (h.5 (l.1 h.1 (f h.1 h.3) ∙ sym (l.1 h.2 (f h.2 h.4))))
 covered_tag Mixed Mixed P Q h l f c g = g
 
-covered_byte : (a b : Bool) (P Q : Bool → Type 0) → TellsByte a P → TellsByte b Q → ((t : Bool) → P t → Q t) → b ≡ true → a ≡ true
+covered_byte : (a b : Bool) (P Q : Bool → Type 0) → TellsByte a P → TellsByte b Q → ((t : Bool) → P t → Q t)
+    → b ≡ true → a ≡ true
 covered_byte true b P Q h l f e = refl
 covered_byte false true P Q h l f e = l.1 false (f false h)
 covered_byte false false P Q h l f e = e
 
-covered : (W V : Known → Type 0) (k there : Known) → Tells k W → Tells there V → ((w : Known) → W w → V w) → IsCovered k there
+covered : (W V : Known → Type 0) (k there : Known) → Tells k W → Tells there V → ((w : Known) → W w → V w)
+    → IsCovered k there
 covered W V k there h l f = record {
   tags = λ r c g. covered_tag (tag k.tags r) (tag there.tags r) (Leaves W r) (Leaves V r) (h.each r) (l.each r) (λ t x. (x.0, f x.0 x.1, x.2)) c g;
   bytes = λ byte e. covered_byte (k.stored byte) (there.stored byte) (Marks W byte) (Marks V byte) (h.bytes byte) (l.bytes byte) (λ t x. (x.0, f x.0 x.1, x.2)) e;
 }
 
 -- a way, one instruction on
-way_on : (insns : List Insn) (entry : List Tag) (slot to : ℕ) (i : Insn) → NeverBreaks insns entry → insn_at insns slot ≡ Some i → IsIn (pos to) (targets slot i) → (w : Known) → After i (IsWay insns entry slot) w → IsWay insns entry to w
+way_on : (insns : List Insn) (entry : List Tag) (slot to : ℕ) (i : Insn) → NeverBreaks insns entry
+    → insn_at insns slot ≡ Some i → IsIn (pos to) (targets slot i) → (w : Known) → After i (IsWay insns entry slot) w
+    → IsWay insns entry to w
 way_on insns entry slot to i never at target w (old, y, same) = record {
   path = slot ∷ y.path;
   leads = (y.leads, record { insn = i; here = at; target = target });
   known = (old, y.known, record { insn = i; here = at; unbroken = never slot i old at y; same = same });
 }
 
-covered_at : (W V : Known → Type 0) (k : Known) (o : Option Known) → Tells k W → TellsSlot o V → ((w : Known) → W w → V w) → (there : Known) × (o ≡ Some there) × IsCovered k there
+covered_at : (W V : Known → Type 0) (k : Known) (o : Option Known) → Tells k W → TellsSlot o V
+    → ((w : Known) → W w → V w) → (there : Known) × (o ≡ Some there) × IsCovered k there
 covered_at W V k None h l f = absurd (l h.some.0 (f h.some.0 h.some.1))
 covered_at W V k (Some there) h l f = (there, refl, covered W V k there h l f)
 
 -- ---- accepted
 
-long_ways : (insns : List Insn) (kind : Kind) (slot : ℕ) (w : Known) → IsWay insns (entry_tags kind) slot w → length w.tags ≡ 11
+long_ways : (insns : List Insn) (kind : Kind) (slot : ℕ) (w : Known) → IsWay insns (entry_tags kind) slot w
+    → length w.tags ≡ 11
 long_ways insns kind slot w y = eleven_on insns (entry_tags kind) y.path w (tags_long kind) y.known
 
-told_at : (insns : List Insn) (entry : List Tag) (table : List (Option Facts)) (slot : ℕ) (k : Known) → IsExact insns entry table → known_at table slot ≡ Some k → Tells k (IsWay insns entry slot)
+told_at : (insns : List Insn) (entry : List Tag) (table : List (Option Facts)) (slot : ℕ) (k : Known)
+    → IsExact insns entry table → known_at table slot ≡ Some k → Tells k (IsWay insns entry slot)
 told_at insns entry table slot k x e = subst (λ o. TellsSlot o (IsWay insns entry slot)) e (x.tells slot)
 
-pub accepted : (kind : Kind) (insns : List Insn) (table : List (Option Facts)) → IsProgram insns → HasNoSlotFault insns → IsExact insns (entry_tags kind) table → IsAccepted (record { kind = kind; insns = insns; table = table })
+pub accepted : (kind : Kind) (insns : List Insn) (table : List (Option Facts)) → IsProgram insns → HasNoSlotFault insns
+    → IsExact insns (entry_tags kind) table → IsAccepted (record { kind = kind; insns = insns; table = table })
 accepted kind insns table program no_fault x =
     let clean = clean_of insns no_fault in
     record {
@@ -147,6 +163,7 @@ accepted kind insns table program no_fault x =
 
 -- ---- refused
 
-pub explained : (kind : Kind) (insns : List Insn) (error : VerifyError) → HasNoSlotFault insns → ExplainsTyping insns (entry_tags kind) error → ExplainsRefusal kind insns error
+pub explained : (kind : Kind) (insns : List Insn) (error : VerifyError) → HasNoSlotFault insns
+    → ExplainsTyping insns (entry_tags kind) error → ExplainsRefusal kind insns error
 explained kind insns (errors.Fault fault) clean e = OfPaths clean e
 explained kind insns errors.Memory clean e = clean

@@ -12,7 +12,9 @@ use Rattle.bpf_verify.proofs.Telling.{all_same, slot_same, merged_slot}
 same_place : (m n : ℕ) → pos m ≡ pos n → m ≡ n
 same_place m n e = cc
 
-adds_one : (F : ℕ → Known → Type 0) (V : Known → Type 0) (to : ℤ) (k : Known) (old new : List (Option Facts)) → ((n : ℕ) → TellsSlot (known_at old n) (F n)) → Tells k V → Adds to k old new → (n : ℕ) → TellsSlot (known_at new n) (λ w. F n w ⊎ ((pos n ≡ to) × V w))
+adds_one : (F : ℕ → Known → Type 0) (V : Known → Type 0) (to : ℤ) (k : Known) (old new : List (Option Facts))
+    → ((n : ℕ) → TellsSlot (known_at old n) (F n)) → Tells k V → Adds to k old new → (n : ℕ)
+    → TellsSlot (known_at new n) (λ w. F n w ⊎ ((pos n ≡ to) × V w))
 adds_one F V to k old new h v a n = elim (cases_eq n a.place) [
   | inl e ↦
       let m : IsMerged (known_at old n) k a.there = subst (λ j. IsMerged (known_at old j) k a.there) (sym e) a.merged in
@@ -28,7 +30,9 @@ adds_one F V to k old new h v a n = elim (cases_eq n a.place) [
       (known_at old n) (h n))
 ]
 
-pub adds_all : (tos : List ℤ) (F : ℕ → Known → Type 0) (V : Known → Type 0) (k : Known) (old new : List (Option Facts)) → ((n : ℕ) → TellsSlot (known_at old n) (F n)) → Tells k V → AddsAll tos k old new → (n : ℕ) → TellsSlot (known_at new n) (λ w. F n w ⊎ (IsIn (pos n) tos × V w))
+pub adds_all : (tos : List ℤ) (F : ℕ → Known → Type 0) (V : Known → Type 0) (k : Known) (old new : List (Option Facts))
+    → ((n : ℕ) → TellsSlot (known_at old n) (F n)) → Tells k V → AddsAll tos k old new → (n : ℕ)
+    → TellsSlot (known_at new n) (λ w. F n w ⊎ (IsIn (pos n) tos × V w))
 adds_all [] F V k old new h v a n =
     subst (λ t. TellsSlot (known_at t n) (λ w. F n w ⊎ (⊥ × V w))) (sym a)
     (slot_same (F n) (λ w. F n w ⊎ (⊥ × V w)) (λ w f. inl f) (λ w x. elim x [ inl f ↦ f | inr y ↦ absurd y.0 ]) (known_at old n) (h n))

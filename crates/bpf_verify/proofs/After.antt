@@ -1,5 +1,6 @@
 -- What is known after an instruction, of the ways that lead to it.
-use Rattle.std.proofs.Common.{◌≡◌, ◌≢◌, ◌<◌, ℕ, arith, Bool, true, false, List, [], ◌∷◌, ◌++◌, length, sym, ◌∙◌, ap, refl, subst, ◌⊎◌, inl, inr, ◌||◌, get_or-set_same, get_or-set_other}
+use Rattle.std.proofs.Common.{◌≡◌, ◌≢◌, ◌<◌, ℕ, arith, Bool, true, false, List, [], ◌∷◌, ◌++◌, length}
+use Rattle.std.proofs.Common.{sym, ◌∙◌, ap, refl, subst, ◌⊎◌, inl, inr, ◌||◌, get_or-set_same, get_or-set_other}
 use Rattle.std.specs.Prelude.{Option, Some, None, ℤ, slice_set, nat_eq}
 use Rattle.std.specs.List.{list_any}
 use Rattle.std.proofs.lemmas.Bool.{cases_eq}
@@ -12,10 +13,12 @@ use Rattle.bpf_insn.specs.declared.insn.Insn.{Insn}
 use Rattle.bpf_insn.specs.declared.insn.Insn.TheVariants.{Alu, Ldx, Ldsx, Stx, St}
 use Rattle.bpf_insn.specs.declared.rule.CodeRule.TheVariants.{UnsetRead, MixedRead}
 use Rattle.bpf_insn.specs.Spelling.{number_of_reg}
-use Rattle.bpf_insn.specs.Reads.{written_reg, all_reads, number_reads, content_reads, place_reads, load_access, store_access, byte_count, signed_byte_count}
+use Rattle.bpf_insn.specs.Reads.{written_reg, all_reads, number_reads, content_reads, place_reads, load_access, store_access}
+use Rattle.bpf_insn.specs.Reads.{byte_count, signed_byte_count}
 use Rattle.bpf_verify.specs.declared.tag.Tag.{Tag}
 use Rattle.bpf_verify.specs.declared.tag.Tag.TheVariants.{Unset, Number, Place, Mixed}
-use Rattle.bpf_verify.specs.Tags.{Known, tag, is_unset_tag, is_mixed_tag, breaks, moved_tag, written_tag, new_tags, bytes_of, bytes_from, first_byte, stores, after}
+use Rattle.bpf_verify.specs.Tags.{Known, tag, is_unset_tag, is_mixed_tag, breaks, moved_tag, written_tag, new_tags, bytes_of}
+use Rattle.bpf_verify.specs.Tags.{bytes_from, first_byte, stores, after}
 use Rattle.bpf_verify.specs.Paths.{IsIn, TellsTag, TellsByte, Tells}
 use Rattle.bpf_verify.specs.inner.Pass.{IsAfter}
 use Rattle.bpf_verify.proofs.Telling.{tag_same, byte_same, Leaves, Marks}
@@ -45,7 +48,8 @@ none_in p x xs e h = step (p x) refl where
   step true k = let y = in_any p x xs h k in absurd (cc)
   step false k = refl
 
-pub any_alike : {A : Type 0} (p q : A → Bool) (xs : List A) → ((x : A) → IsIn x xs → p x ≡ q x) → list_any p xs ≡ list_any q xs
+pub any_alike : {A : Type 0} (p q : A → Bool) (xs : List A) → ((x : A) → IsIn x xs → p x ≡ q x)
+    → list_any p xs ≡ list_any q xs
 any_alike p q [] f = refl
 any_alike p q (x ∷ xs) f = rw (f x (inl refl), any_alike p q xs (λ y h. f y (inr h))) refl
 
@@ -74,7 +78,8 @@ pub record IsSettled (k : Known) (i : Insn) : Type 0 where
   pub set : breaks k i UnsetRead ≡ false
   pub one : breaks k i MixedRead ≡ false
 
-settled_tag : (a : Tag) (P : Tag → Type 0) → is_unset_tag a ≡ false → is_mixed_tag a ≡ false → TellsTag a P → (t : Tag) → P t → t ≡ a
+settled_tag : (a : Tag) (P : Tag → Type 0) → is_unset_tag a ≡ false → is_mixed_tag a ≡ false → TellsTag a P
+    → (t : Tag) → P t → t ≡ a
 settled_tag Number P e f h t p = h.1 t p
 settled_tag (Place o) P e f h t p = h.1 t p
 settled_tag Unset P e f h t p = absurd (cc)
@@ -84,7 +89,8 @@ pub same_reads : (W : Known → Type 0) (k w : Known) (i : Insn) → IsSettled k
 same_reads W k w i s h v = λ r read. settled_tag (tag k.tags r) (Leaves W r) (none_in (λ q. is_unset_tag (tag k.tags q)) r (all_reads i) s.set read) (none_in (λ q. is_mixed_tag (tag k.tags q)) r (all_reads i) s.one read) (h.each r) (tag w.tags r) (w, v, refl)
 
 -- the bytes of loads and stores are the same
-pub same_loads : (w k : Known) (i : Insn) → SameReads w k i → bytes_of w.tags (load_access i) ≡ bytes_of k.tags (load_access i)
+pub same_loads : (w k : Known) (i : Insn) → SameReads w k i
+    → bytes_of w.tags (load_access i) ≡ bytes_of k.tags (load_access i)
 same_loads w k (Ldx z d b off) s = ap (λ t. bytes_from (first_byte t off) (byte_count z)) (s b (inl refl))
 same_loads w k (Ldsx z d b off) s = ap (λ t. bytes_from (first_byte t off) (signed_byte_count z)) (s b (inl refl))
 same_loads w k _ s = refl
@@ -108,32 +114,38 @@ reg_injective r q e = grind arith
 pub same_or_not : (r q : Reg) → (r ≡ q) ⊎ (number_of_reg r ≢ number_of_reg q)
 same_or_not r q = elim (cases_eq (number_of_reg r) (number_of_reg q)) [ inl e ↦ inl (reg_injective r q e) | inr n ↦ inr n ]
 
-pub set_here : (ts : List Tag) (d r : Reg) (u : Tag) → length ts ≡ 11 → r ≡ d → tag (slice_set ts (number_of_reg d) u) r ≡ u
+pub set_here : (ts : List Tag) (d r : Reg) (u : Tag) → length ts ≡ 11 → r ≡ d
+    → tag (slice_set ts (number_of_reg d) u) r ≡ u
 set_here ts d r u long e =
     let below : number_of_reg d < length ts = omega (arith, number_below d) in
     rw e (get_or-set_same ts (number_of_reg d) u Unset below)
 
-pub set_there : (ts : List Tag) (d r : Reg) (u : Tag) → number_of_reg r ≢ number_of_reg d → tag (slice_set ts (number_of_reg d) u) r ≡ tag ts r
+pub set_there : (ts : List Tag) (d r : Reg) (u : Tag) → number_of_reg r ≢ number_of_reg d
+    → tag (slice_set ts (number_of_reg d) u) r ≡ tag ts r
 set_there ts d r u n = get_or-set_other ts (number_of_reg d) (number_of_reg r) u Unset n
 
 pub length_new : (ts : List Tag) (o : Option Reg) (t : Tag) → length (new_tags ts o t) ≡ length ts
 length_new ts None t = refl
 length_new ts (Some d) t = length-set ts (number_of_reg d) t
 
-moved_tells : (W : Known → Type 0) (d : Reg) (n : ℤ) (a : Tag) → is_unset_tag a ≡ false → is_mixed_tag a ≡ false → TellsTag a (Leaves W d) → TellsTag (moved_tag a n) (λ t. (w : Known) × W w × (moved_tag (tag w.tags d) n ≡ t))
+moved_tells : (W : Known → Type 0) (d : Reg) (n : ℤ) (a : Tag) → is_unset_tag a ≡ false → is_mixed_tag a ≡ false
+    → TellsTag a (Leaves W d) → TellsTag (moved_tag a n) (λ t. (w : Known) × W w × (moved_tag (tag w.tags d) n ≡ t))
 moved_tells W d n Number e f h = ((h.0.0, h.0.1, ap (λ s. moved_tag s n) h.0.2), λ t x. sym x.2 ∙ ap (λ s. moved_tag s n) (h.1 (tag x.0.tags d) (x.0, x.1, refl)))
 moved_tells W d n (Place o) e f h = ((h.0.0, h.0.1, ap (λ s. moved_tag s n) h.0.2), λ t x. sym x.2 ∙ ap (λ s. moved_tag s n) (h.1 (tag x.0.tags d) (x.0, x.1, refl)))
 moved_tells W d n Unset e f h = absurd (cc)
 moved_tells W d n Mixed e f h = absurd (cc)
 
 -- the tag of what is written
-written_tells : (i : Insn) (k : Known) (W : Known → Type 0) → Tells k W → IsSettled k i → TellsTag (written_tag k.tags i) (λ t. (w : Known) × W w × (written_tag w.tags i ≡ t))
+written_tells : (i : Insn) (k : Known) (W : Known → Type 0) → Tells k W → IsSettled k i
+    → TellsTag (written_tag k.tags i) (λ t. (w : Known) × W w × (written_tag w.tags i ≡ t))
 written_tells (Alu W64 Add d (Imm n)) k W h s = moved_tells W d n (tag k.tags d) (none_in (λ q. is_unset_tag (tag k.tags q)) d (d ∷ []) s.set (inl refl)) (none_in (λ q. is_mixed_tag (tag k.tags q)) d (d ∷ []) s.one (inl refl)) (h.each d)
 written_tells (Alu W64 Mov d (Register q)) k W h s = h.each q
 written_tells _ k W h s = ((h.some.0, h.some.1, refl), λ t x. sym x.2)
 
 -- the tag of a register, after a write of f's tag
-new_tells : (o : Option Reg) (f : List Tag → Tag) (k : Known) (W : Known → Type 0) (r : Reg) → Tells k W → ((w : Known) → W w → length w.tags ≡ 11) → TellsTag (f k.tags) (λ t. (w : Known) × W w × (f w.tags ≡ t)) → TellsTag (tag (new_tags k.tags o (f k.tags)) r) (λ t. (w : Known) × W w × (tag (new_tags w.tags o (f w.tags)) r ≡ t))
+new_tells : (o : Option Reg) (f : List Tag → Tag) (k : Known) (W : Known → Type 0) (r : Reg) → Tells k W
+    → ((w : Known) → W w → length w.tags ≡ 11) → TellsTag (f k.tags) (λ t. (w : Known) × W w × (f w.tags ≡ t))
+    → TellsTag (tag (new_tags k.tags o (f k.tags)) r) (λ t. (w : Known) × W w × (tag (new_tags w.tags o (f w.tags)) r ≡ t))
 new_tells None f k W r h long u = h.each r
 new_tells (Some d) f k W r h long u = elim (same_or_not r d) [
   | inl e ↦ subst (λ a. TellsTag a (λ t. (w : Known) × W w × (tag (new_tags w.tags (Some d) (f w.tags)) r ≡ t))) (sym (set_here k.tags d r (f k.tags) h.eleven e))
@@ -157,10 +169,14 @@ or_none true = refl
 or_none false = refl
 
 -- the mark of a byte, after a store that all ways make alike
-byte_tells : (k : Known) (W : Known → Type 0) (g : Known → Bool) (byte : ℕ) (b : Bool) → Tells k W → ((w : Known) → W w → g w ≡ b) → TellsByte (k.stored byte || b) (λ t. (w : Known) × W w × ((w.stored byte || g w) ≡ t))
-byte_tells k W g byte true h e = subst (λ a. TellsByte a (λ t. (w : Known) × W w × ((w.stored byte || g w) ≡ t))) (sym (or_true (k.stored byte)))
+byte_tells : (k : Known) (W : Known → Type 0) (g : Known → Bool) (byte : ℕ) (b : Bool) → Tells k W
+    → ((w : Known) → W w → g w ≡ b)
+    → TellsByte (k.stored byte || b) (λ t. (w : Known) × W w × ((w.stored byte || g w) ≡ t))
+byte_tells k W g byte true h e =
+    subst (λ a. TellsByte a (λ t. (w : Known) × W w × ((w.stored byte || g w) ≡ t))) (sym (or_true (k.stored byte)))
     ((h.some.0, h.some.1, ap (λ b. h.some.0.stored byte || b) (e h.some.0 h.some.1) ∙ or_true (h.some.0.stored byte)), λ t x. sym x.2 ∙ ap (λ b. x.0.stored byte || b) (e x.0 x.1) ∙ or_true (x.0.stored byte))
-byte_tells k W g byte false h e = subst (λ a. TellsByte a (λ t. (w : Known) × W w × ((w.stored byte || g w) ≡ t))) (sym (or_none (k.stored byte)))
+byte_tells k W g byte false h e =
+    subst (λ a. TellsByte a (λ t. (w : Known) × W w × ((w.stored byte || g w) ≡ t))) (sym (or_none (k.stored byte)))
     (byte_same (Marks W byte) (λ t. (w : Known) × W w × ((w.stored byte || g w) ≡ t))
     (λ t x. (x.0, x.1, ap (λ b. x.0.stored byte || b) (e x.0 x.1) ∙ or_none (x.0.stored byte) ∙ x.2))
     (λ t x. (x.0, x.1, sym (ap (λ b. x.0.stored byte || b) (e x.0 x.1) ∙ or_none (x.0.stored byte)) ∙ x.2))
@@ -170,7 +186,8 @@ byte_tells k W g byte false h e = subst (λ a. TellsByte a (λ t. (w : Known) ×
 abbrev pub After : Insn → (Known → Type 0) → Known → Type 0
 After i W k = (old : Known) × W old × (k ≡ after old i)
 
-pub after_all : (i : Insn) (k new : Known) (W : Known → Type 0) → Tells k W → ((w : Known) → W w → length w.tags ≡ 11) → IsSettled k i → IsAfter k i new → Tells new (After i W)
+pub after_all : (i : Insn) (k new : Known) (W : Known → Type 0) → Tells k W → ((w : Known) → W w → length w.tags ≡ 11)
+    → IsSettled k i → IsAfter k i new → Tells new (After i W)
 after_all i k new W h long s e = record {
   eleven = ap length e.tags ∙ length_new k.tags (written_reg i) (written_tag k.tags i) ∙ h.eleven;
   some = (after h.some.0 i, (h.some.0, h.some.1, refl));

@@ -1,5 +1,7 @@
 -- What is known of a running machine, from one instruction to the next.
-use Rattle.std.proofs.Common.{◌≡◌, ◌≢◌, ◌<◌, ◌≤◌, ◌+◌, ℕ, arith, Bool, true, false, not, List, [], ◌∷◌, length, sym, ◌∙◌, ap, refl, subst, ◌⊎◌, inl, inr, ◌||◌, get_or-set_same, get_or-set_other}
+use Rattle.std.proofs.Common.{◌≡◌, ◌≢◌, ◌<◌, ◌≤◌, ◌+◌, ℕ, arith, Bool, true, false, not, List, []}
+use Rattle.std.proofs.Common.{◌∷◌, length, sym, ◌∙◌, ap, refl, subst, ◌⊎◌, inl, inr, ◌||◌, get_or-set_same}
+use Rattle.std.proofs.Common.{get_or-set_other}
 use Rattle.std.specs.Prelude.{Option, Some, None, ℤ, ◌+ℤ◌, slice_set, is_some, is_none, slice_index_or, nat_eq}
 use Rattle.std.specs.List.{list_any}
 use Rattle.std.specs.Int.{to_le_bytes, cast_unsigned, w64}
@@ -12,18 +14,23 @@ use Rattle.bpf_insn.specs.declared.insn.Size.{Size}
 use Rattle.bpf_insn.specs.declared.insn.Size.TheVariants as sizes
 use Rattle.bpf_insn.specs.declared.insn.Insn.{Insn}
 use Rattle.bpf_insn.specs.declared.insn.Insn.TheVariants.{Alu, Neg, Movsx, End, Ldx, Ldsx, Stx, St, Wide}
-use Rattle.bpf_insn.specs.declared.rule.CodeRule.TheVariants.{UnsetRead, MixedRead, NumberWanted, PlaceWanted, OutsideStack, UnstoredRead}
+use Rattle.bpf_insn.specs.declared.rule.CodeRule.TheVariants.{UnsetRead, MixedRead, NumberWanted, PlaceWanted, OutsideStack}
+use Rattle.bpf_insn.specs.declared.rule.CodeRule.TheVariants.{UnstoredRead}
 use Rattle.bpf_insn.specs.declared.content.Content.{Content}
 use Rattle.bpf_insn.specs.declared.content.Content.TheVariants as contents
 use Rattle.bpf_insn.specs.declared.frame.Frame.{Frame}
 use Rattle.bpf_insn.specs.Spelling.{number_of_reg}
-use Rattle.bpf_insn.specs.Reads.{content, is_unset, is_number, is_place, any_stands, is_outside_stack, moves_outside, leaves_stack, byte_count, signed_byte_count, load_access, store_access, written_reg, all_reads, number_reads, place_reads}
+use Rattle.bpf_insn.specs.Reads.{content, is_unset, is_number, is_place, any_stands, is_outside_stack, moves_outside, leaves_stack}
+use Rattle.bpf_insn.specs.Reads.{byte_count, signed_byte_count, load_access, store_access, written_reg, all_reads, number_reads}
+use Rattle.bpf_insn.specs.Reads.{place_reads}
 use Rattle.bpf_insn.specs.Reads as machine
-use Rattle.bpf_insn.specs.Effects.{number, moved, written, new_registers, new_stack, stack_index, bytes_at, is_unstored, stored, width_of}
+use Rattle.bpf_insn.specs.Effects.{number, moved, written, new_registers, new_stack, stack_index, bytes_at, is_unstored, stored}
+use Rattle.bpf_insn.specs.Effects.{width_of}
 use Rattle.bpf_verify.specs.declared.tag.Tag.{Tag}
 use Rattle.bpf_verify.specs.declared.tag.Tag.TheVariants.{Unset, Number, Place, Mixed}
 use Rattle.bpf_verify.specs.Tags as tags
-use Rattle.bpf_verify.specs.Tags.{Known, tag, is_unset_tag, is_number_tag, is_place_tag, is_mixed_tag, breaks, BreaksNone, moved_tag, written_tag, new_tags, first_byte, bytes_from, stores, after}
+use Rattle.bpf_verify.specs.Tags.{Known, tag, is_unset_tag, is_number_tag, is_place_tag, is_mixed_tag, breaks, BreaksNone}
+use Rattle.bpf_verify.specs.Tags.{moved_tag, written_tag, new_tags, first_byte, bytes_from, stores, after}
 use Rattle.bpf_verify.specs.Paths.{IsIn}
 use Rattle.bpf_verify.specs.Holds.{Agrees, HoldsOf}
 use Rattle.bpf_verify.proofs.After.{none_in, number_read, place_read, number_below, same_or_not, set_here, set_there}
@@ -31,10 +38,12 @@ use Rattle.bpf_verify.proofs.Stack.{load_finds, store_keeps, store_length, byte_
 
 -- ---- one register
 
-number_left : (t : Tag) → is_unset_tag t ≡ false → is_mixed_tag t ≡ false → is_place_tag t ≡ false → is_number_tag t ≡ true
+number_left : (t : Tag) → is_unset_tag t ≡ false → is_mixed_tag t ≡ false → is_place_tag t ≡ false
+    → is_number_tag t ≡ true
 number_left t a b c = grind arith
 
-place_left : (t : Tag) → is_unset_tag t ≡ false → is_mixed_tag t ≡ false → is_number_tag t ≡ false → is_place_tag t ≡ true
+place_left : (t : Tag) → is_unset_tag t ≡ false → is_mixed_tag t ≡ false → is_number_tag t ≡ false
+    → is_place_tag t ≡ true
 place_left t a b c = grind arith
 
 set_known : (t : Tag) (c : Content) → Agrees t c → is_unset_tag t ≡ false → is_unset c ≡ false
@@ -47,13 +56,16 @@ place_no_number : (t : Tag) (c : Content) → Agrees t c → is_place_tag t ≡ 
 place_no_number t c a e = grind arith
 
 -- where a place is known, an access reaches outside as the tag says, and begins at the byte that it says
-access_alike : (t : Tag) (c : Content) (off : ℤ) (n : ℕ) → Agrees t c → is_place_tag t ≡ true → machine.reaches_outside c off n ≡ tags.reaches_outside t off n
+access_alike : (t : Tag) (c : Content) (off : ℤ) (n : ℕ) → Agrees t c → is_place_tag t ≡ true
+    → machine.reaches_outside c off n ≡ tags.reaches_outside t off n
 access_alike t c off n a e = grind arith
 
-index_alike : (t : Tag) (c : Content) (off : ℤ) → Agrees t c → is_place_tag t ≡ true → stack_index c off ≡ first_byte t off
+index_alike : (t : Tag) (c : Content) (off : ℤ) → Agrees t c → is_place_tag t ≡ true
+    → stack_index c off ≡ first_byte t off
 index_alike t c off a e = grind arith
 
-move_alike : (t : Tag) (c : Content) (n : ℤ) → Agrees t c → is_unset_tag t ≡ false → is_mixed_tag t ≡ false → moves_outside c n ≡ tags.reaches_outside t n 0
+move_alike : (t : Tag) (c : Content) (n : ℤ) → Agrees t c → is_unset_tag t ≡ false → is_mixed_tag t ≡ false
+    → moves_outside c n ≡ tags.reaches_outside t n 0
 move_alike t c n a e f = grind arith
 
 -- ---- all registers that are read
@@ -94,12 +106,17 @@ stays_inside k f (Stx z b off q) h e = access_alike (tag k.tags b) (content f.re
 stays_inside k f (St z b off n) h e = access_alike (tag k.tags b) (content f.registers b) off (byte_count z) (h.registers b) (a_place k f (St z b off n) h e b (inl refl)) ∙ e OutsideStack
 stays_inside k f _ h e = refl
 
-finds_all : (k : Known) (f : Frame) (b : Reg) (off : ℤ) (n : ℕ) → HoldsOf k f → is_place_tag (tag k.tags b) ≡ true → list_any (λ x. not (k.stored x)) (bytes_from (first_byte (tag k.tags b) off) n) ≡ false → list_any is_none (bytes_at f.stack (stack_index (content f.registers b) off) n) ≡ false
+finds_all : (k : Known) (f : Frame) (b : Reg) (off : ℤ) (n : ℕ) → HoldsOf k f → is_place_tag (tag k.tags b) ≡ true
+    → list_any (λ x. not (k.stored x)) (bytes_from (first_byte (tag k.tags b) off) n) ≡ false
+    → list_any is_none (bytes_at f.stack (stack_index (content f.registers b) off) n) ≡ false
 finds_all k f b off n h p e = ap (λ x. list_any is_none (bytes_at f.stack x n)) (index_alike (tag k.tags b) (content f.registers b) off (h.registers b) p) ∙ load_finds f.stack (first_byte (tag k.tags b) off) n k.stored h.bytes e
 
-pub loads_stored : (k : Known) (f : Frame) (i : Insn) → HoldsOf k f → BreaksNone k i → is_unstored f.registers f.stack (load_access i) ≡ false
-loads_stored k f (Ldx z d b off) h e = finds_all k f b off (byte_count z) h (a_place k f (Ldx z d b off) h e b (inl refl)) (e UnstoredRead)
-loads_stored k f (Ldsx z d b off) h e = finds_all k f b off (signed_byte_count z) h (a_place k f (Ldsx z d b off) h e b (inl refl)) (e UnstoredRead)
+pub loads_stored : (k : Known) (f : Frame) (i : Insn) → HoldsOf k f → BreaksNone k i
+    → is_unstored f.registers f.stack (load_access i) ≡ false
+loads_stored k f (Ldx z d b off) h e =
+    finds_all k f b off (byte_count z) h (a_place k f (Ldx z d b off) h e b (inl refl)) (e UnstoredRead)
+loads_stored k f (Ldsx z d b off) h e =
+    finds_all k f b off (signed_byte_count z) h (a_place k f (Ldsx z d b off) h e b (inl refl)) (e UnstoredRead)
 loads_stored k f _ h e = refl
 
 -- ---- what is written
@@ -110,7 +127,8 @@ WrittenAgree None t (Some c) = ⊥
 WrittenAgree (Some d) t None = ⊥
 WrittenAgree (Some d) t (Some c) = (d ≡ c.0) × Agrees t c.1
 
-moved_agree : (t : Tag) (c : Content) (n : ℤ) → Agrees t c → is_unset_tag t ≡ false → is_mixed_tag t ≡ false → Agrees (moved_tag t n) (moved c n)
+moved_agree : (t : Tag) (c : Content) (n : ℤ) → Agrees t c → is_unset_tag t ≡ false → is_mixed_tag t ≡ false
+    → Agrees (moved_tag t n) (moved c n)
 moved_agree Number (contents.Number m) n a e g = tt
 moved_agree Number contents.Unset n a e g = absurd a
 moved_agree Number (contents.Place p) n a e g = absurd a
@@ -120,7 +138,8 @@ moved_agree (Place o) (contents.Number m) n a e g = absurd a
 moved_agree Unset c n a e g = absurd (cc)
 moved_agree Mixed c n a e g = absurd (cc)
 
-written_agree : (k : Known) (f : Frame) (i : Insn) → HoldsOf k f → BreaksNone k i → WrittenAgree (written_reg i) (written_tag k.tags i) (written f.registers f.stack i)
+written_agree : (k : Known) (f : Frame) (i : Insn) → HoldsOf k f → BreaksNone k i
+    → WrittenAgree (written_reg i) (written_tag k.tags i) (written f.registers f.stack i)
 written_agree k f (Alu W64 Add d (Imm n)) h e = (refl, moved_agree (tag k.tags d) (content f.registers d) n (h.registers d) (set_read k f (Alu W64 Add d (Imm n)) h e d (inl refl)) (one_read k f (Alu W64 Add d (Imm n)) h e d (inl refl)))
 written_agree k f (Alu W64 Mov d (Register q)) h e = (refl, h.registers q)
 written_agree k f (Alu w op d q) h e = (refl, tt)
@@ -132,12 +151,15 @@ written_agree k f (Ldsx z d b off) h e = (refl, tt)
 written_agree k f (Wide d v) h e = (refl, tt)
 written_agree k f _ h e = tt
 
-content_here : (regs : List Content) (d r : Reg) (c : Content) → length regs ≡ 11 → r ≡ d → content (slice_set regs (number_of_reg d) c) r ≡ c
+content_here : (regs : List Content) (d r : Reg) (c : Content) → length regs ≡ 11 → r ≡ d
+    → content (slice_set regs (number_of_reg d) c) r ≡ c
 content_here regs d r c long e =
     let below : number_of_reg d < length regs = omega (arith, number_below d) in
     rw e (get_or-set_same regs (number_of_reg d) c contents.Unset below)
 
-new_agree : (ts : List Tag) (regs : List Content) (o : Option Reg) (t : Tag) (c : Option (Reg × Content)) → length ts ≡ 11 → length regs ≡ 11 → ((r : Reg) → Agrees (tag ts r) (content regs r)) → WrittenAgree o t c → (r : Reg) → Agrees (tag (new_tags ts o t) r) (content (new_registers regs c) r)
+new_agree : (ts : List Tag) (regs : List Content) (o : Option Reg) (t : Tag) (c : Option (Reg × Content)) → length ts ≡ 11
+    → length regs ≡ 11 → ((r : Reg) → Agrees (tag ts r) (content regs r)) → WrittenAgree o t c → (r : Reg)
+    → Agrees (tag (new_tags ts o t) r) (content (new_registers regs c) r)
 new_agree ts regs None t None lt lr a w r = a r
 new_agree ts regs None t (Some c) lt lr a w r = absurd w
 new_agree ts regs (Some d) t None lt lr a w r = absurd w
@@ -161,7 +183,8 @@ length_bytes sizes.B32 n = refl
 length_bytes sizes.B64 n = refl
 
 -- an access that is inside ends within the stack
-ends_within : (t : Tag) (off : ℤ) (n : ℕ) → is_place_tag t ≡ true → tags.reaches_outside t off n ≡ false → first_byte t off + n ≤ 512
+ends_within : (t : Tag) (off : ℤ) (n : ℕ) → is_place_tag t ≡ true → tags.reaches_outside t off n ≡ false
+    → first_byte t off + n ≤ 512
 ends_within t off n p e = grind arith
 
 stored_after : (k : Known) (f : Frame) (z : Size) (b : Reg) (off : ℤ) (n : ℕ) → HoldsOf k f → is_place_tag (tag k.tags b) ≡ true → tags.reaches_outside (tag k.tags b) off (byte_count z) ≡ false → ((x : ℕ) → (k.stored x || list_any (nat_eq x) (bytes_from (first_byte (tag k.tags b) off) (byte_count z))) ≡ true → is_some (slice_index_or (stored z f.stack (stack_index (content f.registers b) off) n) x None) ≡ true) × (length (stored z f.stack (stack_index (content f.registers b) off) n) ≡ 512)
@@ -184,12 +207,16 @@ or_none true e = refl
 or_none false e = e
 
 stack_after : (k : Known) (f : Frame) (i : Insn) → HoldsOf k f → BreaksNone k i → ((x : ℕ) → (k.stored x || stores k.tags i x) ≡ true → is_some (slice_index_or (new_stack f.registers f.stack i) x None) ≡ true) × (length (new_stack f.registers f.stack i) ≡ 512)
-stack_after k f (Stx z b off q) h e = stored_after k f z b off (number (content f.registers q)) h (a_place k f (Stx z b off q) h e b (inl refl)) (e OutsideStack)
-stack_after k f (St z b off n) h e = stored_after k f z b off (cast_unsigned w64 n) h (a_place k f (St z b off n) h e b (inl refl)) (e OutsideStack)
+stack_after k f (Stx z b off q) h e =
+    stored_after k f z b off (number (content f.registers q)) h (a_place k f (Stx z b off q) h e b (inl refl)) (e OutsideStack)
+stack_after k f (St z b off n) h e =
+    stored_after k f z b off (cast_unsigned w64 n) h (a_place k f (St z b off n) h e b (inl refl)) (e OutsideStack)
 stack_after k f _ h e = (λ x s. h.bytes x (or_none (k.stored x) s), h.whole)
 
 -- what is known after the instruction holds of the frame after it
-pub holds_after : (k : Known) (f g : Frame) (i : Insn) → length k.tags ≡ 11 → HoldsOf k f → BreaksNone k i → g.registers ≡ new_registers f.registers (written f.registers f.stack i) → g.stack ≡ new_stack f.registers f.stack i → HoldsOf (after k i) g
+pub holds_after : (k : Known) (f g : Frame) (i : Insn) → length k.tags ≡ 11 → HoldsOf k f → BreaksNone k i
+    → g.registers ≡ new_registers f.registers (written f.registers f.stack i) → g.stack ≡ new_stack f.registers f.stack i
+    → HoldsOf (after k i) g
 holds_after k f g i long h e regs mem =
     let m = stack_after k f i h e in
     record {

@@ -1,5 +1,7 @@
 -- Marks, as the bits of eight words.
-use Rattle.std.proofs.Common.{◌≡◌, ◌≢◌, ◌<◌, ◌≤◌, ◌+◌, ◌/◌, ◌%◌, ◌^◌, ◌-◌, ℕ, suc, arith, Bool, true, false, not, List, ◌∷◌, length, sym, ◌∙◌, ap, refl, ◌||◌, ◌&&◌, inl, inr, get_or-set_same, get_or-set_other}
+use Rattle.std.proofs.Common.{◌≡◌, ◌≢◌, ◌<◌, ◌≤◌, ◌+◌, ◌/◌, ◌%◌, ◌^◌, ◌-◌, ℕ, suc}
+use Rattle.std.proofs.Common.{arith, Bool, true, false, not, List, ◌∷◌, length, sym, ◌∙◌, ap, refl, ◌||◌, ◌&&◌}
+use Rattle.std.proofs.Common.{inl, inr, get_or-set_same, get_or-set_other}
 use Rattle.std.specs.Prelude.{nat_eq, slice_set, slice_index_or, bit_or, bit_and, max, min}
 use Rattle.std.specs.Int.{bit_at}
 use Rattle.std.specs.List.{list_any}
@@ -32,10 +34,12 @@ max_zero : (a : ℕ) → max a 0 ≡ a
 max_zero a = omega arith
 
 same_bit : (w i : ℕ) → nat_eq (bit_at (bit_or w (2 ^ i)) i) 1 ≡ true
-same_bit w i = nat_eq_same _ 1 (bit_at_or w (2 ^ i) i ∙ ap (max (bit_at w i)) (bit_at-pow_same i) ∙ max_one (bit_at w i) (bit_at-lt w i))
+same_bit w i =
+    nat_eq_same _ 1 (bit_at_or w (2 ^ i) i ∙ ap (max (bit_at w i)) (bit_at-pow_same i) ∙ max_one (bit_at w i) (bit_at-lt w i))
 
 other_bit : (w j i : ℕ) → i ≢ j → nat_eq (bit_at (bit_or w (2 ^ j)) i) 1 ≡ nat_eq (bit_at w i) 1
-other_bit w j i n = ap (λ x. nat_eq x 1) (bit_at_or w (2 ^ j) i ∙ ap (max (bit_at w i)) (bit_at-pow_other j i n) ∙ max_zero (bit_at w i))
+other_bit w j i n =
+    ap (λ x. nat_eq x 1) (bit_at_or w (2 ^ j) i ∙ ap (max (bit_at w i)) (bit_at-pow_other j i n) ∙ max_zero (bit_at w i))
 
 apart : (a b c d : ℕ) → a / 64 ≢ b / 64 → a ≢ b
 apart a b c d n e = n (ap (λ x. x / 64) e)
@@ -67,8 +71,10 @@ next_byte : (byte : ℕ) → suc byte ≡ byte + 1
 next_byte byte = omega arith
 
 -- the first of them, and the others
-pub first_on : (byte end : ℕ) → byte < end → bytes_from byte (end - byte) ≡ byte ∷ bytes_from (byte + 1) (end - (byte + 1))
-first_on byte end h = ap (bytes_from byte) (less_one byte end h) ∙ ap (λ b. byte ∷ bytes_from b (end - (byte + 1))) (next_byte byte)
+pub first_on : (byte end : ℕ) → byte < end
+    → bytes_from byte (end - byte) ≡ byte ∷ bytes_from (byte + 1) (end - (byte + 1))
+first_on byte end h =
+    ap (bytes_from byte) (less_one byte end h) ∙ ap (λ b. byte ∷ bytes_from b (end - (byte + 1))) (next_byte byte)
 
 or_assoc : (a b c : Bool) → ((a || b) || c) ≡ (a || (b || c))
 or_assoc true b c = refl
@@ -82,11 +88,15 @@ more_marked byte end other old new h e = rw (e, first_on byte end h) (or_assoc o
 pub not_missed : (marked : ℕ → Bool) (byte end : ℕ) → byte < end → marked byte ≡ true → list_any (λ b. not (marked b)) (bytes_from (byte + 1) (end - (byte + 1))) ≡ list_any (λ b. not (marked b)) (bytes_from byte (end - byte))
 not_missed marked byte end h e = rw (first_on byte end h) (rw e refl)
 
-pub is_missed : (marked : ℕ → Bool) (byte end : ℕ) → byte < end → marked byte ≡ false → list_any (λ b. not (marked b)) (bytes_from byte (end - byte)) ≡ true
+pub is_missed : (marked : ℕ → Bool) (byte end : ℕ) → byte < end → marked byte ≡ false
+    → list_any (λ b. not (marked b)) (bytes_from byte (end - byte)) ≡ true
 is_missed marked byte end h e = rw (first_on byte end h) (rw e refl)
 
 -- words, each the bits that two words have in common
-pub and_words : (a b new : List ℕ) (byte : ℕ) → length a ≡ 8 → ((k : ℕ) → k < 8 → slice_index_or new k 0 ≡ bit_and (slice_index_or a k 0) (slice_index_or b k 0)) → ((k : ℕ) → 8 ≤ k → slice_index_or new k 0 ≡ 0) → at_bit new (byte / 64) (byte % 64) ≡ (at_bit a (byte / 64) (byte % 64) && at_bit b (byte / 64) (byte % 64))
+pub and_words : (a b new : List ℕ) (byte : ℕ) → length a ≡ 8
+    → ((k : ℕ) → k < 8 → slice_index_or new k 0 ≡ bit_and (slice_index_or a k 0) (slice_index_or b k 0))
+    → ((k : ℕ) → 8 ≤ k → slice_index_or new k 0 ≡ 0)
+    → at_bit new (byte / 64) (byte % 64) ≡ (at_bit a (byte / 64) (byte % 64) && at_bit b (byte / 64) (byte % 64))
 and_words a b new byte long low high = elim (cases_lt (byte / 64) 8) [
   | inl h ↦ rw (low (byte / 64) h) (both_bits (slice_index_or a (byte / 64) 0) (slice_index_or b (byte / 64) 0) (byte % 64))
   | inr h ↦ rw (high (byte / 64) h, get_or_past a (byte / 64) 0 (omega (arith, long, h)), bit_at-zero (byte % 64)) refl

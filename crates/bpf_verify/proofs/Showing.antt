@@ -1,5 +1,6 @@
 -- What is known of all ways to a slot, and what they show there.
-use Rattle.std.proofs.Common.{◌≡◌, ◌<◌, ◌≤◌, ℕ, arith, Bool, true, false, not, List, sym, ◌∙◌, ap, refl, subst, inl, inr}
+use Rattle.std.proofs.Common.{◌≡◌, ◌<◌, ◌≤◌, ℕ, arith, Bool, true, false, not, List, sym, ◌∙◌, ap, refl}
+use Rattle.std.proofs.Common.{subst, inl, inr}
 use Rattle.std.specs.Prelude.{Option, Some}
 use Rattle.std.specs.List.{list_any}
 use Rattle.bpf_insn.specs.declared.insn.Width.TheVariants.{W64}
@@ -8,16 +9,19 @@ use Rattle.bpf_insn.specs.declared.insn.Operand.TheVariants.{Imm}
 use Rattle.bpf_insn.specs.declared.insn.Insn.{Insn}
 use Rattle.bpf_insn.specs.declared.insn.Insn.TheVariants.{Alu, Ldx, Ldsx, Stx, St}
 use Rattle.bpf_insn.specs.declared.rule.CodeRule.{CodeRule}
-use Rattle.bpf_insn.specs.declared.rule.CodeRule.TheVariants.{UnsetRead, MixedRead, NumberWanted, PlaceWanted, OutsideStack, UnstoredRead}
+use Rattle.bpf_insn.specs.declared.rule.CodeRule.TheVariants.{UnsetRead, MixedRead, NumberWanted, PlaceWanted, OutsideStack}
+use Rattle.bpf_insn.specs.declared.rule.CodeRule.TheVariants.{UnstoredRead}
 use Rattle.bpf_insn.specs.Rule.{rule_number, IsLowest}
 use Rattle.bpf_insn.specs.Program.{insn_at}
 use Rattle.bpf_insn.specs.Reads.{all_reads, number_reads, place_reads, byte_count, signed_byte_count, load_access}
 use Rattle.bpf_verify.specs.declared.tag.Tag.{Tag}
 use Rattle.bpf_verify.specs.declared.tag.Tag.TheVariants.{Unset, Number, Place, Mixed}
-use Rattle.bpf_verify.specs.Tags.{Known, tag, is_unset_tag, is_mixed_tag, is_number_tag, is_place_tag, reaches_outside, leaves_stack, bytes_of, breaks, BreaksNone}
+use Rattle.bpf_verify.specs.Tags.{Known, tag, is_unset_tag, is_mixed_tag, is_number_tag, is_place_tag, reaches_outside}
+use Rattle.bpf_verify.specs.Tags.{leaves_stack, bytes_of, breaks, BreaksNone}
 use Rattle.bpf_verify.specs.Paths.{IsIn, TellsTag, TellsByte, Tells, IsWay, ShowsOne, ShowsTwo, IsShown}
 use Rattle.bpf_verify.proofs.Telling.{Leaves, Marks}
-use Rattle.bpf_verify.proofs.After.{any_in, in_any, none_in, any_alike, number_read, place_read, SameReads, IsSettled, same_reads, same_loads}
+use Rattle.bpf_verify.proofs.After.{any_in, in_any, none_in, any_alike, number_read, place_read, SameReads, IsSettled, same_reads}
+use Rattle.bpf_verify.proofs.After.{same_loads}
 
 stack_same : (w k : Known) (i : Insn) → SameReads w k i → leaves_stack w.tags i ≡ leaves_stack k.tags i
 stack_same w k (Alu W64 Add d (Imm n)) s = ap (λ t. reaches_outside t n 0) (s d (inl refl))
@@ -32,7 +36,8 @@ abbrev is_of_tags : CodeRule → Bool
 is_of_tags UnstoredRead = false
 is_of_tags _ = true
 
-alike : (rule : CodeRule) (w k : Known) (i : Insn) → is_of_tags rule ≡ true → SameReads w k i → breaks w i rule ≡ breaks k i rule
+alike : (rule : CodeRule) (w k : Known) (i : Insn) → is_of_tags rule ≡ true → SameReads w k i
+    → breaks w i rule ≡ breaks k i rule
 alike UnsetRead w k i o s = any_alike (λ r. is_unset_tag (tag w.tags r)) (λ r. is_unset_tag (tag k.tags r)) (all_reads i) (λ r h. ap is_unset_tag (s r h))
 alike MixedRead w k i o s = any_alike (λ r. is_mixed_tag (tag w.tags r)) (λ r. is_mixed_tag (tag k.tags r)) (all_reads i) (λ r h. ap is_mixed_tag (s r h))
 alike NumberWanted w k i o s = any_alike (λ r. is_place_tag (tag w.tags r)) (λ r. is_place_tag (tag k.tags r)) (number_reads i) (λ r h. ap is_place_tag (s r (number_read r i h)))
@@ -43,7 +48,8 @@ alike _ w k i o s = refl
 
 -- ---- bytes
 
-byte_told : (W : Known → Type 0) (b : Bool) (byte : ℕ) → TellsByte b (Marks W byte) → b ≡ true → (w : Known) → W w → w.stored byte ≡ true
+byte_told : (W : Known → Type 0) (b : Bool) (byte : ℕ) → TellsByte b (Marks W byte) → b ≡ true → (w : Known) → W w
+    → w.stored byte ≡ true
 byte_told W true byte h e w v = h.1 (w.stored byte) (w, v, refl)
 byte_told W false byte h e w v = absurd (cc)
 
@@ -56,7 +62,8 @@ not_true true e = absurd (cc)
 not_true false e = refl
 
 -- what all ways have stored, each has
-each_stored : (W : Known → Type 0) (k w : Known) (bytes : List ℕ) → Tells k W → W w → list_any (λ b. not (k.stored b)) bytes ≡ false → list_any (λ b. not (w.stored b)) bytes ≡ false
+each_stored : (W : Known → Type 0) (k w : Known) (bytes : List ℕ) → Tells k W → W w
+    → list_any (λ b. not (k.stored b)) bytes ≡ false → list_any (λ b. not (w.stored b)) bytes ≡ false
 each_stored W k w bytes h v e = any_alike (λ b. not (w.stored b)) (λ b. not (k.stored b)) bytes (λ b here. let m : k.stored b ≡ true = not_false (k.stored b) (none_in (λ c. not (k.stored c)) b bytes e here) in ap not (byte_told W (k.stored b) b (h.bytes b) m w v ∙ sym m)) ∙ e
 
 unstored_way : (W : Known → Type 0) (b : Bool) (byte : ℕ) → TellsByte b (Marks W byte) → b ≡ false → Marks W byte false

@@ -1,5 +1,6 @@
 -- A program of which nothing is shown is never stuck: its run follows a path, and what is known along it holds.
-use Rattle.std.proofs.Common.{◌≡◌, ◌<◌, ◌≤◌, ◌+◌, ℕ, zero, suc, arith, Bool, true, false, not, List, [], ◌∷◌, length, sym, ◌∙◌, ap, refl, subst, ◌⊎◌, inl, inr, if◌then◌else◌}
+use Rattle.std.proofs.Common.{◌≡◌, ◌<◌, ◌≤◌, ◌+◌, ℕ, zero, suc, arith, Bool, true, false, not, List, []}
+use Rattle.std.proofs.Common.{◌∷◌, length, sym, ◌∙◌, ap, refl, subst, ◌⊎◌, inl, inr, if◌then◌else◌}
 use Rattle.std.specs.Prelude.{Option, Some, None, ℤ, pos, ◌+ℤ◌, is_some, replicate}
 use Rattle.std.specs.List.{AllByRecursion}
 use Rattle.bpf_insn.specs.declared.reg.Reg.{Reg}
@@ -7,20 +8,22 @@ use Rattle.bpf_insn.specs.declared.reg.Reg.TheVariants.{R0, R1, R10}
 use Rattle.bpf_insn.specs.declared.insn.Insn.{Insn}
 use Rattle.bpf_insn.specs.declared.insn.Insn.TheVariants.{Ja, Ja32, Jump, Exit, Wide}
 use Rattle.bpf_insn.specs.declared.rule.CodeRule.{CodeRule}
-use Rattle.bpf_insn.specs.declared.rule.CodeRule.TheVariants.{JumpsBack, JumpsNowhere, StackTopWritten, UnsetRead, NumberWanted, PlaceWanted, OutsideStack, UnstoredRead}
+use Rattle.bpf_insn.specs.declared.rule.CodeRule.TheVariants.{JumpsBack, JumpsNowhere, StackTopWritten, UnsetRead, NumberWanted}
+use Rattle.bpf_insn.specs.declared.rule.CodeRule.TheVariants.{PlaceWanted, OutsideStack, UnstoredRead}
 use Rattle.bpf_insn.specs.declared.operands.Kind.{Kind}
 use Rattle.bpf_insn.specs.declared.operands.Kind.TheVariants as kinds
 use Rattle.bpf_insn.specs.declared.operands.Operands.{Operands}
 use Rattle.bpf_insn.specs.declared.operands.Operands.TheVariants.{Unary, Binary, Index}
 use Rattle.bpf_insn.specs.declared.frame.Frame.{Frame}
 use Rattle.bpf_insn.specs.declared.fault.Fault.{Fault}
-use Rattle.bpf_insn.specs.declared.run.Ran.TheVariants as outcomes
+use Rattle.bpf_insn.specs.declared.machine.run.Ran.TheVariants as outcomes
 use Rattle.bpf_insn.specs.Program.{insn_at, slot_count}
 use Rattle.bpf_insn.specs.Arithmetic.{holds}
 use Rattle.bpf_insn.specs.Reads.{content, are_numbers, number_reads}
 use Rattle.bpf_insn.specs.Effects.{number, operand, next_slot, written, new_registers, new_stack}
 use Rattle.bpf_insn.specs.Machine as machine
-use Rattle.bpf_insn.specs.Machine.{State, Running, Done, kind_of, enter, entry_registers, goes_back, goes_nowhere, begins, IsAfter, IsStep}
+use Rattle.bpf_insn.specs.Machine.{State, Running, Done, kind_of, enter, entry_registers, goes_back, goes_nowhere, begins, IsAfter}
+use Rattle.bpf_insn.specs.Machine.{IsStep}
 use Rattle.bpf_insn.specs.Run.{Leads}
 use Rattle.bpf_insn.proofs.Steps.{no_next}
 use Rattle.bpf_insn.proofs.Steps as steps
@@ -43,7 +46,8 @@ use Rattle.bpf_verify.proofs.Agreeing.{reads_set, reads_numbers, reads_places, s
 one_target : (x to : ℤ) (xs : List ℤ) → IsIn x xs → Some x ≡ Some to → IsIn to xs
 one_target x to xs h e = let same : x ≡ to = cc in subst (λ y. IsIn y xs) same h
 
-jump_target : (b h : Bool) (x y to : ℤ) → (if b then (if h then Some y else Some x) else None) ≡ Some to → IsIn to (x ∷ y ∷ [])
+jump_target : (b h : Bool) (x y to : ℤ) → (if b then (if h then Some y else Some x) else None) ≡ Some to
+    → IsIn to (x ∷ y ∷ [])
 jump_target true true x y to e = one_target y to (x ∷ y ∷ []) (inr (inl refl)) e
 jump_target true false x y to e = one_target x to (x ∷ y ∷ []) (inl refl) e
 jump_target false h x y to e = absurd (cc)
@@ -61,11 +65,13 @@ in_all P x [] a h = absurd h
 in_all P x (y ∷ ys) a (inl e) = subst P (sym e) a.0
 in_all P x (y ∷ ys) a (inr h) = in_all P x ys a.1 h
 
-back_none : (insns : List Insn) (slot : ℕ) (o : Option ℤ) → ((to : ℤ) → o ≡ Some to → IsGoodTarget insns slot to) → goes_back slot o ≡ false
+back_none : (insns : List Insn) (slot : ℕ) (o : Option ℤ) → ((to : ℤ) → o ≡ Some to → IsGoodTarget insns slot to)
+    → goes_back slot o ≡ false
 back_none insns slot None g = refl
 back_none insns slot (Some to) g = let t = g to refl in rw t.is_place (let h = t.above in grind arith)
 
-nowhere_none : (insns : List Insn) (slot : ℕ) (o : Option ℤ) → ((to : ℤ) → o ≡ Some to → IsGoodTarget insns slot to) → goes_nowhere insns o ≡ false
+nowhere_none : (insns : List Insn) (slot : ℕ) (o : Option ℤ) → ((to : ℤ) → o ≡ Some to → IsGoodTarget insns slot to)
+    → goes_nowhere insns o ≡ false
 nowhere_none insns slot None g = refl
 nowhere_none insns slot (Some to) g = let t = g to refl in rw t.is_place (ap not t.begin)
 
@@ -78,7 +84,8 @@ begins_at insns slot i e = rw e refl
 
 -- along no way an instruction breaks a rule
 abbrev pub NeverBreaks : List Insn → List Tag → Type 0
-NeverBreaks insns entry = (slot : ℕ) (i : Insn) (k : Known) → insn_at insns slot ≡ Some i → IsWay insns entry slot k → tags.BreaksNone k i
+NeverBreaks insns entry =
+    (slot : ℕ) (i : Insn) (k : Known) → insn_at insns slot ≡ Some i → IsWay insns entry slot k → tags.BreaksNone k i
 
 -- a running machine has come along a path, and what is known along it holds of it
 pub record IsAlong (insns : List Insn) (entry : List Tag) (f : Frame) : Type 0 where
@@ -163,19 +170,21 @@ module _ (insns : List Insn) (entry : List Tag) (long : length entry ≡ 11) (cl
 
 -- ---- the entry
 
-entry_agrees : (operands : Operands) (kind : Kind) → kind_of operands ≡ kind → (r : Reg) → Agrees (tag (entry_tags kind) r) (content (entry_registers operands) r)
-entry_agrees operands kind e = subst (λ q. (r : Reg) → Agrees (tag (entry_tags q) r) (content (entry_registers operands) r)) e (step operands) where
-  step : (operands : Operands) (r : Reg) → Agrees (tag (entry_tags (kind_of operands)) r) (content (entry_registers operands) r)
-  step (Unary x) R0 = tt
-  step (Unary x) R1 = tt
-  step (Unary x) R10 = refl
-  step (Unary x) _ = tt
-  step (Binary x y) R0 = tt
-  step (Binary x y) R1 = tt
-  step (Binary x y) R10 = refl
-  step (Binary x y) _ = tt
-  step (Index x row column thunk) R10 = refl
-  step (Index x row column thunk) _ = tt
+entry_agrees : (operands : Operands) (kind : Kind) → kind_of operands ≡ kind → (r : Reg)
+    → Agrees (tag (entry_tags kind) r) (content (entry_registers operands) r)
+entry_agrees operands kind e =
+    subst (λ q. (r : Reg) → Agrees (tag (entry_tags q) r) (content (entry_registers operands) r)) e (step operands) where
+      step : (operands : Operands) (r : Reg) → Agrees (tag (entry_tags (kind_of operands)) r) (content (entry_registers operands) r)
+      step (Unary x) R0 = tt
+      step (Unary x) R1 = tt
+      step (Unary x) R10 = refl
+      step (Unary x) _ = tt
+      step (Binary x y) R0 = tt
+      step (Binary x y) R1 = tt
+      step (Binary x y) R10 = refl
+      step (Binary x y) _ = tt
+      step (Index x row column thunk) R10 = refl
+      step (Index x row column thunk) _ = tt
 
 entry_long : (operands : Operands) → length (entry_registers operands) ≡ 11
 entry_long (Unary x) = refl
@@ -185,7 +194,8 @@ entry_long (Index x row column thunk) = refl
 abbrev entry_frame : Operands → Frame
 entry_frame operands = record { slot = 0; registers = entry_registers operands; stack = replicate 512 None }
 
-along_entry : (insns : List Insn) (kind : Kind) (operands : Operands) → kind_of operands ≡ kind → IsAlong insns (entry_tags kind) (entry_frame operands)
+along_entry : (insns : List Insn) (kind : Kind) (operands : Operands) → kind_of operands ≡ kind
+    → IsAlong insns (entry_tags kind) (entry_frame operands)
 along_entry insns kind operands e = record {
   path = [];
   leads = refl;
@@ -202,7 +212,8 @@ tags_long kinds.Index = refl
 done_not_stuck : (v n : ℕ) (fault : Fault) → outcomes.Stuck fault ≡ outcomes.Done v n → ⊥
 done_not_stuck v n fault e = cc
 
-pub sound : (kind : Kind) (insns : List Insn) → 1 ≤ slot_count insns → IsClean insns → NeverBreaks insns (entry_tags kind) → IsSound kind insns
+pub sound : (kind : Kind) (insns : List Insn) → 1 ≤ slot_count insns → IsClean insns → NeverBreaks insns (entry_tags kind)
+    → IsSound kind insns
 sound kind insns some clean never = λ operands e.
     let a = along_entry insns kind operands e in
     let r = ends insns (entry_tags kind) (tags_long kind) clean never (slot_count insns) (entry_frame operands) a (begins_first insns some) (omega arith) in (
@@ -210,5 +221,8 @@ sound kind insns some clean never = λ operands e.
       λ fault s. done_not_stuck r.0 r.1 fault (one_outcome insns operands (outcomes.Done r.0 r.1) (outcomes.Stuck fault) r.2 s),
     )
 
-pub along_all : (kind : Kind) (insns : List Insn) → IsClean insns → NeverBreaks insns (entry_tags kind) → (operands : Operands) (n : ℕ) (f : Frame) → kind_of operands ≡ kind → Leads insns n (enter operands) (Running f) → IsAlong insns (entry_tags kind) f
-along_all kind insns clean never operands n f e l = along_run insns (entry_tags kind) (tags_long kind) clean never n (entry_frame operands) f (along_entry insns kind operands e) l
+pub along_all : (kind : Kind) (insns : List Insn) → IsClean insns → NeverBreaks insns (entry_tags kind)
+    → (operands : Operands) (n : ℕ) (f : Frame) → kind_of operands ≡ kind → Leads insns n (enter operands) (Running f)
+    → IsAlong insns (entry_tags kind) f
+along_all kind insns clean never operands n f e l =
+    along_run insns (entry_tags kind) (tags_long kind) clean never n (entry_frame operands) f (along_entry insns kind operands e) l

@@ -1,5 +1,6 @@
 -- The table that tells of the ways from below a slot, one slot more.
-use Rattle.std.proofs.Common.{◌≡◌, ◌≢◌, ◌<◌, ◌+◌, ℕ, arith, Bool, true, false, List, [], ◌∷◌, length, sym, ◌∙◌, ap, refl, subst, ◌⊎◌, inl, inr}
+use Rattle.std.proofs.Common.{◌≡◌, ◌≢◌, ◌<◌, ◌+◌, ℕ, arith, Bool, true, false, List, [], ◌∷◌, length}
+use Rattle.std.proofs.Common.{sym, ◌∙◌, ap, refl, subst, ◌⊎◌, inl, inr}
 use Rattle.std.specs.Prelude.{Option, Some, None, ℤ, pos}
 use Rattle.std.specs.List.{AllByRecursion}
 use Rattle.std.proofs.lemmas.Bool.{cases_eq}
@@ -10,7 +11,10 @@ use Rattle.bpf_insn.specs.declared.insn.Operand.TheVariants.{Imm, Register}
 use Rattle.bpf_insn.specs.declared.insn.Insn.{Insn}
 use Rattle.bpf_insn.specs.declared.insn.Insn.TheVariants.{Alu}
 use Rattle.bpf_insn.specs.declared.rule.CodeRule.{CodeRule}
-use Rattle.bpf_insn.specs.declared.rule.CodeRule.TheVariants.{BadLength, UnknownOpcode, OutsideProfile, RegisterAboveTen, UnusedField, BrokenWideLoad, JumpsBack, JumpsNowhere, StackTopWritten, NoExitAtEnd, UnsetRead, MixedRead, NumberWanted, PlaceWanted, OutsideStack, UnstoredRead}
+use Rattle.bpf_insn.specs.declared.rule.CodeRule.TheVariants.{BadLength, UnknownOpcode, OutsideProfile, RegisterAboveTen}
+use Rattle.bpf_insn.specs.declared.rule.CodeRule.TheVariants.{UnusedField, BrokenWideLoad, JumpsBack, JumpsNowhere, StackTopWritten}
+use Rattle.bpf_insn.specs.declared.rule.CodeRule.TheVariants.{NoExitAtEnd, UnsetRead, MixedRead, NumberWanted, PlaceWanted}
+use Rattle.bpf_insn.specs.declared.rule.CodeRule.TheVariants.{OutsideStack, UnstoredRead}
 use Rattle.bpf_insn.specs.Rule.{IsLowest}
 use Rattle.bpf_insn.specs.Program.{insn_at}
 use Rattle.bpf_insn.specs.Reads.{written_reg, all_reads}
@@ -19,7 +23,8 @@ use Rattle.bpf_verify.specs.declared.tag.Tag.{Tag}
 use Rattle.bpf_verify.specs.declared.tag.Tag.TheVariants.{Unset, Number, Place, Mixed}
 use Rattle.bpf_verify.specs.declared.facts.Facts.{Facts}
 use Rattle.bpf_verify.specs.Tags.{Known, tag, is_mixed_tag, moved_tag, breaks, BreaksNone, new_tags, written_tag, after}
-use Rattle.bpf_verify.specs.Paths.{IsIn, targets, MayLead, IsPath, IsKnown, IsWay, IsShown, NothingShown, TellsTag, TellsByte, Tells}
+use Rattle.bpf_verify.specs.Paths.{IsIn, targets, MayLead, IsPath, IsKnown, IsWay, IsShown, NothingShown, TellsTag, TellsByte}
+use Rattle.bpf_verify.specs.Paths.{Tells}
 use Rattle.bpf_verify.specs.Table.{known_at}
 use Rattle.bpf_verify.specs.Pass.{IsGoodTarget}
 use Rattle.bpf_verify.specs.inner.Pass.{
@@ -50,24 +55,30 @@ pub same_insn : (o : Option Insn) (i j : Insn) → o ≡ Some i → o ≡ Some j
 same_insn o i j e f = cc
 
 -- a target is above, and begins an instruction
-pub target_of : (insns : List Insn) (from to : ℕ) → IsClean insns → MayLead insns from to → (from < to) × (begins insns to ≡ true)
+pub target_of : (insns : List Insn) (from to : ℕ) → IsClean insns → MayLead insns from to
+    → (from < to) × (begins insns to ≡ true)
 target_of insns from to clean m =
     let g = in_all (IsGoodTarget insns from) (pos to) (targets from m.insn) (clean from m.insn m.here).targets_good m.target in
     let e : to ≡ g.place = same_place to g.place g.is_place in
     (omega (arith, g.above, e), ap (begins insns) e ∙ g.begin)
 
-last_below : (insns : List Insn) (path : List ℕ) (slot : ℕ) → IsClean insns → IsPath insns path slot → IsLastBelow slot path
+last_below : (insns : List Insn) (path : List ℕ) (slot : ℕ) → IsClean insns → IsPath insns path slot
+    → IsLastBelow slot path
 last_below insns [] slot clean h = tt
 last_below insns (from ∷ path) slot clean h = (target_of insns from slot clean h.1).0
 
-way_below : (insns : List Insn) (entry : List Tag) (slot : ℕ) (k : Known) → IsClean insns → IsWay insns entry slot k → IsWayBelow slot insns entry slot k
-way_below insns entry slot k clean w = record { path = w.path; leads = w.leads; known = w.known; last = last_below insns w.path slot clean w.leads }
+way_below : (insns : List Insn) (entry : List Tag) (slot : ℕ) (k : Known) → IsClean insns → IsWay insns entry slot k
+    → IsWayBelow slot insns entry slot k
+way_below insns entry slot k clean w =
+    record { path = w.path; leads = w.leads; known = w.known; last = last_below insns w.path slot clean w.leads }
 
-way_of : (n : ℕ) (insns : List Insn) (entry : List Tag) (slot : ℕ) (k : Known) → IsWayBelow n insns entry slot k → IsWay insns entry slot k
+way_of : (n : ℕ) (insns : List Insn) (entry : List Tag) (slot : ℕ) (k : Known) → IsWayBelow n insns entry slot k
+    → IsWay insns entry slot k
 way_of n insns entry slot k w = record { path = w.path; leads = w.leads; known = w.known }
 
 -- eleven tags along each path
-pub eleven_on : (insns : List Insn) (entry : List Tag) (path : List ℕ) (k : Known) → length entry ≡ 11 → IsKnown insns entry path k → length k.tags ≡ 11
+pub eleven_on : (insns : List Insn) (entry : List Tag) (path : List ℕ) (k : Known) → length entry ≡ 11
+    → IsKnown insns entry path k → length k.tags ≡ 11
 eleven_on insns entry [] k long e = ap (λ w. length w.tags) e ∙ long
 eleven_on insns entry (from ∷ path) k long (before, h, g) = ap (λ w. length w.tags) g.same ∙ length_new before.tags (written_reg g.insn) (written_tag before.tags g.insn) ∙ eleven_on insns entry path before long h
 
@@ -84,14 +95,16 @@ plain_written ts (Alu W64 Add d (Imm n)) f = plain_moved (tag ts d) n (f d)
 plain_written ts (Alu W64 Mov d (Register q)) f = f q
 plain_written ts _ f = λ e. cc
 
-plain_new : (ts : List Tag) (o : Option Reg) (t : Tag) → length ts ≡ 11 → ((r : Reg) → tag ts r ≢ Mixed) → t ≢ Mixed → (r : Reg) → tag (new_tags ts o t) r ≢ Mixed
+plain_new : (ts : List Tag) (o : Option Reg) (t : Tag) → length ts ≡ 11 → ((r : Reg) → tag ts r ≢ Mixed) → t ≢ Mixed
+    → (r : Reg) → tag (new_tags ts o t) r ≢ Mixed
 plain_new ts None t long f n r = f r
 plain_new ts (Some d) t long f n r = elim (same_or_not r d) [
   | inl e ↦ λ m. n (sym (set_here ts d r t long e) ∙ m)
   | inr d' ↦ λ m. f r (sym (set_there ts d r t d') ∙ m)
 ]
 
-plain_on : (insns : List Insn) (entry : List Tag) (path : List ℕ) (k : Known) → IsEntry entry → IsKnown insns entry path k → (r : Reg) → tag k.tags r ≢ Mixed
+plain_on : (insns : List Insn) (entry : List Tag) (path : List ℕ) (k : Known) → IsEntry entry → IsKnown insns entry path k
+    → (r : Reg) → tag k.tags r ≢ Mixed
 plain_on insns entry [] k fit e r = λ m. fit.plain r (ap (λ w. tag w.tags r) (sym e) ∙ m)
 plain_on insns entry (from ∷ path) k fit (before, h, g) r =
     let plain = λ (q : Reg). plain_on insns entry path before fit h q in
@@ -101,14 +114,16 @@ is_mixed_means : (t : Tag) → is_mixed_tag t ≡ true → t ≡ Mixed
 is_mixed_means t e = grind arith
 
 plain_reads : (k : Known) (i : Insn) → ((r : Reg) → tag k.tags r ≢ Mixed) → breaks k i MixedRead ≡ true → ⊥
-plain_reads k i f b = let x = any_in (λ r. is_mixed_tag (tag k.tags r)) (all_reads i) b in f x.0 (is_mixed_means (tag k.tags x.0) x.2)
+plain_reads k i f b =
+    let x = any_in (λ r. is_mixed_tag (tag k.tags r)) (all_reads i) b in f x.0 (is_mixed_means (tag k.tags x.0) x.2)
 
 false_unless : (b : Bool) → (b ≡ true → ⊥) → b ≡ false
 false_unless true f = absurd (f refl)
 false_unless false f = refl
 
 -- the instruction at a slot where something is shown
-shown_at : (insns : List Insn) (entry : List Tag) (slot : ℕ) (rule : CodeRule) → IsShown insns entry slot rule → (i : Insn) × (insn_at insns slot ≡ Some i) × (k : Known) × IsWay insns entry slot k
+shown_at : (insns : List Insn) (entry : List Tag) (slot : ℕ) (rule : CodeRule) → IsShown insns entry slot rule
+    → (i : Insn) × (insn_at insns slot ≡ Some i) × (k : Known) × IsWay insns entry slot k
 shown_at insns entry slot MixedRead s = (s.insn, s.here, s.left, s.left_way)
 shown_at insns entry slot _ s = (s.insn, s.here, s.way, s.is_way)
 
@@ -244,41 +259,44 @@ module _ (n : ℕ) (insns : List Insn) (entry : List Tag) (table : List (Option 
 
 -- ---- before the first slot
 
-pub exact_start : (insns : List Insn) (entry : List Tag) (table : List (Option Facts)) (first : Known) → IsEntry entry → known_at table 0 ≡ Some first → first.tags ≡ entry → ((byte : ℕ) → first.stored byte ≡ false) → ((slot : ℕ) (k : Known) → slot ≢ 0 → known_at table slot ≡ Some k → ⊥) → IsExactBelow 0 insns entry table
-exact_start insns entry table first fit start tags bytes rest = record { tells = λ slot. tells_at slot (cases_eq slot 0); nothing = λ slot rule h. absurd (omega arith) } where
-  begun : Known
-  begun = record { tags = entry; stored = λ byte. false }
+pub exact_start : (insns : List Insn) (entry : List Tag) (table : List (Option Facts)) (first : Known) → IsEntry entry
+    → known_at table 0 ≡ Some first → first.tags ≡ entry → ((byte : ℕ) → first.stored byte ≡ false)
+    → ((slot : ℕ) (k : Known) → slot ≢ 0 → known_at table slot ≡ Some k → ⊥) → IsExactBelow 0 insns entry table
+exact_start insns entry table first fit start tags bytes rest =
+    record { tells = λ slot. tells_at slot (cases_eq slot 0); nothing = λ slot rule h. absurd (omega arith) } where
+      begun : Known
+      begun = record { tags = entry; stored = λ byte. false }
 
-  only : (slot : ℕ) (k : Known) (w : IsWayBelow 0 insns entry slot k) → (slot ≡ 0) × (k ≡ begun)
-  only slot k w = step w.path w.leads w.known w.last where
-    step : (p : List ℕ) → IsPath insns p slot → IsKnown insns entry p k → IsLastBelow 0 p → (slot ≡ 0) × (k ≡ begun)
-    step [] h e l = (h, e)
-    step (from ∷ p) h e l = absurd (omega arith)
+      only : (slot : ℕ) (k : Known) (w : IsWayBelow 0 insns entry slot k) → (slot ≡ 0) × (k ≡ begun)
+      only slot k w = step w.path w.leads w.known w.last where
+        step : (p : List ℕ) → IsPath insns p slot → IsKnown insns entry p k → IsLastBelow 0 p → (slot ≡ 0) × (k ≡ begun)
+        step [] h e l = (h, e)
+        step (from ∷ p) h e l = absurd (omega arith)
 
-  starts : IsWayBelow 0 insns entry 0 begun
-  starts = record { path = []; leads = refl; known = refl; last = tt }
+      starts : IsWayBelow 0 insns entry 0 begun
+      starts = record { path = []; leads = refl; known = refl; last = tt }
 
-  none : (slot : ℕ) (o : Option Known) → known_at table slot ≡ o → slot ≢ 0 → TellsSlot o (IsWayBelow 0 insns entry slot)
-  none slot (Some k) e n = absurd (rest slot k n e)
-  none slot None e n = λ w y. n (only slot w y).0
+      none : (slot : ℕ) (o : Option Known) → known_at table slot ≡ o → slot ≢ 0 → TellsSlot o (IsWayBelow 0 insns entry slot)
+      none slot (Some k) e n = absurd (rest slot k n e)
+      none slot None e n = λ w y. n (only slot w y).0
 
-  W : Known → Type 0
-  W = IsWayBelow 0 insns entry 0
+      W : Known → Type 0
+      W = IsWayBelow 0 insns entry 0
 
-  tells_entry : (a : Tag) (r : Reg) → tag entry r ≡ a → TellsTag a (Leaves W r)
-  tells_entry Unset r e = (begun, starts, e)
-  tells_entry Number r e = ((begun, starts, e), λ t x. sym x.2 ∙ ap (λ y. tag y.tags r) (only 0 x.0 x.1).1 ∙ e)
-  tells_entry (Place o) r e = ((begun, starts, e), λ t x. sym x.2 ∙ ap (λ y. tag y.tags r) (only 0 x.0 x.1).1 ∙ e)
-  tells_entry Mixed r e = absurd (fit.plain r e)
+      tells_entry : (a : Tag) (r : Reg) → tag entry r ≡ a → TellsTag a (Leaves W r)
+      tells_entry Unset r e = (begun, starts, e)
+      tells_entry Number r e = ((begun, starts, e), λ t x. sym x.2 ∙ ap (λ y. tag y.tags r) (only 0 x.0 x.1).1 ∙ e)
+      tells_entry (Place o) r e = ((begun, starts, e), λ t x. sym x.2 ∙ ap (λ y. tag y.tags r) (only 0 x.0 x.1).1 ∙ e)
+      tells_entry Mixed r e = absurd (fit.plain r e)
 
-  tells_first : Tells first W
-  tells_first = record {
-    eleven = ap length tags ∙ fit.eleven;
-    some = (begun, starts);
-    each = λ r. tells_entry (tag first.tags r) r (ap (λ ts. tag ts r) (sym tags));
-    bytes = λ byte. subst (λ b. TellsByte b (Marks W byte)) (sym (bytes byte)) (begun, starts, refl);
-  }
+      tells_first : Tells first W
+      tells_first = record {
+        eleven = ap length tags ∙ fit.eleven;
+        some = (begun, starts);
+        each = λ r. tells_entry (tag first.tags r) r (ap (λ ts. tag ts r) (sym tags));
+        bytes = λ byte. subst (λ b. TellsByte b (Marks W byte)) (sym (bytes byte)) (begun, starts, refl);
+      }
 
-  tells_at : (slot : ℕ) → (slot ≡ 0) ⊎ (slot ≢ 0) → TellsSlot (known_at table slot) (IsWayBelow 0 insns entry slot)
-  tells_at slot (inl e) = subst (λ m. TellsSlot (known_at table m) (IsWayBelow 0 insns entry m)) (sym e) (subst (λ o. TellsSlot o W) (sym start) tells_first)
-  tells_at slot (inr n) = none slot (known_at table slot) refl n
+      tells_at : (slot : ℕ) → (slot ≡ 0) ⊎ (slot ≢ 0) → TellsSlot (known_at table slot) (IsWayBelow 0 insns entry slot)
+      tells_at slot (inl e) = subst (λ m. TellsSlot (known_at table m) (IsWayBelow 0 insns entry m)) (sym e) (subst (λ o. TellsSlot o W) (sym start) tells_first)
+      tells_at slot (inr n) = none slot (known_at table slot) refl n

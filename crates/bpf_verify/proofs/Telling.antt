@@ -1,5 +1,6 @@
 -- What is known of some ways, as ways are added and as an instruction is taken.
-use Rattle.std.proofs.Common.{◌≡◌, ◌≢◌, ℕ, Bool, true, false, sym, ◌∙◌, ap, refl, subst, cond, ◌⊎◌, inl, inr, ◌&&◌}
+use Rattle.std.proofs.Common.{◌≡◌, ◌≢◌, ℕ, Bool, true, false, sym, ◌∙◌, ap, refl, subst, cond, ◌⊎◌, inl}
+use Rattle.std.proofs.Common.{inr, ◌&&◌}
 use Rattle.std.specs.Prelude.{Option, Some, None, ℤ}
 use Rattle.std.specs.Ordering.{int_eq}
 use Rattle.std.proofs.lemmas.Bool.Decides.{Decides-int_eq}
@@ -48,13 +49,15 @@ byte_joined P Q false b h k = inl h
 
 -- ---- families that are one
 
-pub tag_same : (P Q : Tag → Type 0) → ((t : Tag) → P t → Q t) → ((t : Tag) → Q t → P t) → (a : Tag) → TellsTag a P → TellsTag a Q
+pub tag_same : (P Q : Tag → Type 0) → ((t : Tag) → P t → Q t) → ((t : Tag) → Q t → P t) → (a : Tag) → TellsTag a P
+    → TellsTag a Q
 tag_same P Q f g Unset h = f Unset h
 tag_same P Q f g Number h = (f Number h.0, λ t q. h.1 t (g t q))
 tag_same P Q f g (Place o) h = (f (Place o) h.0, λ t q. h.1 t (g t q))
 tag_same P Q f g Mixed h = ((λ q. h.0 (g Unset q)), h.1, h.2, f h.1 h.3, f h.2 h.4, h.5)
 
-pub byte_same : (P Q : Bool → Type 0) → ((t : Bool) → P t → Q t) → ((t : Bool) → Q t → P t) → (a : Bool) → TellsByte a P → TellsByte a Q
+pub byte_same : (P Q : Bool → Type 0) → ((t : Bool) → P t → Q t) → ((t : Bool) → Q t → P t) → (a : Bool)
+    → TellsByte a P → TellsByte a Q
 byte_same P Q f g true h = (f true h.0, λ t q. h.1 t (g t q))
 byte_same P Q f g false h = f false h
 
@@ -65,7 +68,8 @@ Leaves W r t = (w : Known) × W w × (tag w.tags r ≡ t)
 abbrev pub Marks : (Known → Type 0) → ℕ → Bool → Type 0
 Marks W byte b = (w : Known) × W w × (w.stored byte ≡ b)
 
-pub all_same : (W V : Known → Type 0) → ((w : Known) → W w → V w) → ((w : Known) → V w → W w) → (k : Known) → Tells k W → Tells k V
+pub all_same : (W V : Known → Type 0) → ((w : Known) → W w → V w) → ((w : Known) → V w → W w) → (k : Known)
+    → Tells k W → Tells k V
 all_same W V f g k h = record {
   eleven = h.eleven;
   some = (h.some.0, f h.some.0 h.some.1);
@@ -73,13 +77,15 @@ all_same W V f g k h = record {
   bytes = λ byte. byte_same (Marks W byte) (Marks V byte) (λ t x. (x.0, f x.0 x.1, x.2)) (λ t x. (x.0, g x.0 x.1, x.2)) (k.stored byte) (h.bytes byte);
 }
 
-pub slot_same : (W V : Known → Type 0) → ((w : Known) → W w → V w) → ((w : Known) → V w → W w) → (o : Option Known) → TellsSlot o W → TellsSlot o V
+pub slot_same : (W V : Known → Type 0) → ((w : Known) → W w → V w) → ((w : Known) → V w → W w) → (o : Option Known)
+    → TellsSlot o W → TellsSlot o V
 slot_same W V f g (Some k) h = all_same W V f g k h
 slot_same W V f g None h = λ w v. h w (g w v)
 
 -- ---- two families
 
-union_all : (W V : Known → Type 0) (j k new : Known) → Tells j W → Tells k V → IsJoined j k new → Tells new (λ w. W w ⊎ V w)
+union_all : (W V : Known → Type 0) (j k new : Known) → Tells j W → Tells k V → IsJoined j k new
+    → Tells new (λ w. W w ⊎ V w)
 union_all W V j k new h l e = record {
   eleven = e.eleven;
   some = (h.some.0, inl h.some.1);
@@ -98,8 +104,10 @@ union_all W V j k new h l e = record {
 }
 
 union_none : (W V : Known → Type 0) (k : Known) → ((w : Known) → W w → ⊥) → Tells k V → Tells k (λ w. W w ⊎ V w)
-union_none W V k none h = all_same V (λ w. W w ⊎ V w) (λ w v. inr v) (λ w x. elim x [ inl y ↦ absurd (none w y) | inr v ↦ v ]) k h
+union_none W V k none h =
+    all_same V (λ w. W w ⊎ V w) (λ w v. inr v) (λ w x. elim x [ inl y ↦ absurd (none w y) | inr v ↦ v ]) k h
 
-pub merged_slot : (W V : Known → Type 0) (o : Option Known) (k new : Known) → TellsSlot o W → Tells k V → IsMerged o k new → Tells new (λ w. W w ⊎ V w)
+pub merged_slot : (W V : Known → Type 0) (o : Option Known) (k new : Known) → TellsSlot o W → Tells k V → IsMerged o k new
+    → Tells new (λ w. W w ⊎ V w)
 merged_slot W V (Some old) k new h l m = union_all W V old k new h l m
 merged_slot W V None k new h l m = subst (λ x. Tells x (λ w. W w ⊎ V w)) (sym m) (union_none W V k h l)

@@ -1,5 +1,6 @@
 -- Paths through a program, what is known along them, and the faults that they show. They are this project's own.
-use Rattle.std.specs.Prelude.{◌≡◌, ◌≢◌, ◌<◌, ℕ, ◌+◌, ℤ, pos, ◌+ℤ◌, Bool, true, false, List, [], ◌∷◌, Some, length, ◌⊎◌}
+use Rattle.std.specs.Prelude.{◌≡◌, ◌≢◌, ◌<◌, ℕ, ◌+◌, ℤ, pos, ◌+ℤ◌, Bool, true, false, List, []}
+use Rattle.std.specs.Prelude.{◌∷◌, Some, length, ◌⊎◌}
 use Rattle.bpf_insn.specs.declared.reg.Reg.{Reg}
 use Rattle.bpf_insn.specs.declared.insn.Insn.{Insn}
 use Rattle.bpf_insn.specs.declared.insn.Insn.TheVariants.{Ja, Ja32, Jump, Exit}

@@ -1,6 +1,7 @@
 -- Tags: what is known of a register before a program runs, and of each byte of the stack whether it was stored. What an
 -- instruction makes of them, and which rules it breaks by them. They are this project's own.
-use Rattle.std.specs.Prelude.{◌≡◌, ℕ, zero, suc, ℤ, ◌+ℤ◌, Bool, true, false, ◌||◌, not, List, [], ◌∷◌, Option, Some, None, slice_index_or, slice_set, nat_eq}
+use Rattle.std.specs.Prelude.{◌≡◌, ℕ, zero, suc, ℤ, ◌+ℤ◌, Bool, true, false, ◌||◌, not, List, [], ◌∷◌}
+use Rattle.std.specs.Prelude.{Option, Some, None, slice_index_or, slice_set, nat_eq}
 use Rattle.std.specs.List.{list_any}
 use Rattle.bpf_insn.specs.declared.reg.Reg.{Reg}
 use Rattle.bpf_insn.specs.declared.insn.Width.TheVariants.{W64}
@@ -10,9 +11,11 @@ use Rattle.bpf_insn.specs.declared.insn.Insn.{Insn}
 use Rattle.bpf_insn.specs.declared.insn.Insn.TheVariants.{Alu}
 use Rattle.bpf_insn.specs.declared.reads.Access.{Access}
 use Rattle.bpf_insn.specs.declared.rule.CodeRule.{CodeRule}
-use Rattle.bpf_insn.specs.declared.rule.CodeRule.TheVariants.{UnsetRead, MixedRead, NumberWanted, PlaceWanted, OutsideStack, UnstoredRead}
+use Rattle.bpf_insn.specs.declared.rule.CodeRule.TheVariants.{UnsetRead, MixedRead, NumberWanted, PlaceWanted, OutsideStack}
+use Rattle.bpf_insn.specs.declared.rule.CodeRule.TheVariants.{UnstoredRead}
 use Rattle.bpf_insn.specs.Spelling.{number_of_reg}
-use Rattle.bpf_insn.specs.Reads.{is_outside_stack, access, load_access, store_access, number_reads, place_reads, all_reads, written_reg}
+use Rattle.bpf_insn.specs.Reads.{is_outside_stack, access, load_access, store_access, number_reads, place_reads, all_reads}
+use Rattle.bpf_insn.specs.Reads.{written_reg}
 use Rattle.bpf_insn.specs.Effects.{byte_at}
 use Rattle.bpf_verify.specs.declared.tag.Tag.{Tag}
 use Rattle.bpf_verify.specs.declared.tag.Tag.TheVariants.{Unset, Number, Place, Mixed}

@@ -9,7 +9,7 @@ ghost use Rattle.bpf_verify.specs.inner.Pass.{joined, IsAfter, IsJoined};
 
 use crate::marks::Marks;
 use crate::tag::Tag;
-use bpf_insn::{AluOp, CodeRule, Insn, Operand, Reads, Reg, Width};
+use bpf_insn::{AluOp, CodeRule, Insn, Operand, Reg, Width};
 
 /// What is known at a slot, of all the paths that lead there: a tag for each register, and which
 /// bytes of the stack were stored.
@@ -66,53 +66,44 @@ impl Facts {
     fn reads_unset(&self, insn: Insn) -> bool
         ensures { result ≡ breaks (known self.now) insn CodeRule.UnsetRead }
     {
-        match insn.reads() {
-            Reads::Nothing => false,
-            Reads::AsNumber(reg) | Reads::AsContent(reg) | Reads::AsPlace(reg) => {
-                self.tag(reg).is_unset()
-            }
-            Reads::AsNumbers(first, second) | Reads::AsPlaceAndNumber(first, second) => {
-                self.tag(first).is_unset() || self.tag(second).is_unset()
-            }
-        }
+        insn.reads()
+            .registers()
+            .as_slice()
+            .iter()
+            .any(|reg| self.tag(*reg).is_unset())
     }
 
     /// Whether paths set a register that the instruction reads differently.
     fn reads_mixed(&self, insn: Insn) -> bool
         ensures { result ≡ breaks (known self.now) insn CodeRule.MixedRead }
     {
-        match insn.reads() {
-            Reads::Nothing => false,
-            Reads::AsNumber(reg) | Reads::AsContent(reg) | Reads::AsPlace(reg) => {
-                self.tag(reg).is_mixed()
-            }
-            Reads::AsNumbers(first, second) | Reads::AsPlaceAndNumber(first, second) => {
-                self.tag(first).is_mixed() || self.tag(second).is_mixed()
-            }
-        }
+        insn.reads()
+            .registers()
+            .as_slice()
+            .iter()
+            .any(|reg| self.tag(*reg).is_mixed())
     }
 
     /// Whether a place stands where the instruction wants a number.
     fn reads_place_as_number(&self, insn: Insn) -> bool
         ensures { result ≡ breaks (known self.now) insn CodeRule.NumberWanted }
     {
-        match insn.reads() {
-            Reads::AsNumber(reg) | Reads::AsPlaceAndNumber(_, reg) => self.tag(reg).is_place(),
-            Reads::AsNumbers(first, second) => {
-                self.tag(first).is_place() || self.tag(second).is_place()
-            }
-            Reads::Nothing | Reads::AsContent(_) | Reads::AsPlace(_) => false,
-        }
+        insn.reads()
+            .numbers()
+            .as_slice()
+            .iter()
+            .any(|reg| self.tag(*reg).is_place())
     }
 
     /// Whether a number stands where the instruction wants a place.
     fn reads_number_as_place(&self, insn: Insn) -> bool
         ensures { result ≡ breaks (known self.now) insn CodeRule.PlaceWanted }
     {
-        match insn.reads() {
-            Reads::AsPlace(base) | Reads::AsPlaceAndNumber(base, _) => self.tag(base).is_number(),
-            _ => false,
-        }
+        insn.reads()
+            .places()
+            .as_slice()
+            .iter()
+            .any(|reg| self.tag(*reg).is_number())
     }
 
     /// Whether an access, or a moved place, lies outside the stack.

@@ -1,6 +1,8 @@
 //! Operators: programs that were verified.
-ghost use Rattle.std.specs.Prelude.{◌≡◌, ◌≤◌, ◌<◌, ℕ, ℤ, negsuc, pos, ◌≤ℤ◌, ◌<ℤ◌, length, Option, Some, None, IfOk, IfErr, IfSome, IfNone};
-ghost use Rattle.bpf_verify.specs.Accepted.{Accepted, IsAccepted, IsAcceptable, IsSound, ExplainsRefusal, IsTyping, typing, entry_tags};
+ghost use Rattle.std.specs.Prelude.{◌≡◌, ◌≤◌, ◌<◌, ℕ, ℤ, negsuc, pos, ◌≤ℤ◌, ◌<ℤ◌, length, Option};
+ghost use Rattle.std.specs.Prelude.{Some, None, IfOk, IfErr, IfSome, IfNone};
+ghost use Rattle.bpf_verify.specs.Accepted.{Accepted, IsAccepted, IsAcceptable, IsSound, ExplainsRefusal, IsTyping, typing};
+ghost use Rattle.bpf_verify.specs.Accepted.{entry_tags};
 ghost use Rattle.bpf_insn.specs.Effects.{byte_at};
 ghost use Rattle.bpf_verify.specs.Table.{known_in};
 ghost use Rattle.bpf_verify.specs.Tags.{Known};

@@ -3,7 +3,8 @@ ghost use Rattle.std.specs.Prelude.{◌≡◌, ◌<◌, ◌≤◌, ◌+◌, ℕ,
 ghost use Rattle.bpf_insn.specs.Program.{slots_of, IsProgram};
 ghost use Rattle.bpf_insn.specs.Machine.{goes_back, goes_nowhere};
 ghost use Rattle.bpf_insn.specs.Reads.{is_r10, written_reg};
-ghost use Rattle.bpf_verify.specs.Slots.{jump_target, is_exit, ends_without_exit, slot_rule, IsSlotFault, HasNoSlotFault, HasNoSlotFaultBelow};
+ghost use Rattle.bpf_verify.specs.Slots.{jump_target, is_exit, ends_without_exit, slot_rule, IsSlotFault, HasNoSlotFault};
+ghost use Rattle.bpf_verify.specs.Slots.{HasNoSlotFaultBelow};
 ghost use Rattle.bpf_verify.specs.inner.Pass.{IsClean};
 
 use bpf_insn::{CodeRule, Fault, Insn, Program, Reg};

@@ -1,6 +1,7 @@
 //! What is known of a register.
 ghost use Rattle.std.specs.Prelude.{◌≡◌, false};
-ghost use Rattle.bpf_verify.specs.Tags.{is_unset_tag, is_number_tag, is_place_tag, is_mixed_tag, reaches_outside, first_byte, moved_tag};
+ghost use Rattle.bpf_verify.specs.Tags.{is_unset_tag, is_number_tag, is_place_tag, is_mixed_tag, reaches_outside, first_byte};
+ghost use Rattle.bpf_verify.specs.Tags.{moved_tag};
 ghost use Rattle.bpf_verify.specs.inner.Pass.{joined};
 
 use bpf_insn::is_outside_stack;

@@ -1,6 +1,5 @@
 //! The pass that finds what is known at each slot: one visit a slot, in ascending order.
-ghost use Rattle.std.specs.Prelude.{◌≡◌, ◌<◌, ◌≤◌, ◌+◌, ℕ, List, vec_len, pos, IfOk, IfErr, Some, None};
-ghost use Rattle.std.specs.List.{AllByRecursion};
+ghost use Rattle.std.specs.Prelude.{◌≡◌, ◌+◌, ℕ, List, vec_len, pos, IfOk, IfErr, Some, None};
 ghost use Rattle.bpf_insn.specs.Program.{slot_count};
 ghost use Rattle.bpf_insn.specs.Rule.{IsLowest};
 ghost use Rattle.bpf_verify.specs.declared.tag.Tag.{Tag};
@@ -8,6 +7,7 @@ ghost use Rattle.bpf_verify.specs.Paths.{targets, IsShown};
 ghost use Rattle.bpf_verify.specs.Table.{known, known_in};
 ghost use Rattle.bpf_verify.specs.Pass.{IsGoodTarget};
 ghost use Rattle.bpf_verify.specs.inner.Pass.{IsMerged, IsEntry, IsClean, IsExact, IsExactBelow, ExplainsTyping, Adds, AddsAll};
+ghost use Rattle.bpf_verify.specs.inner.Pass.{IsVisit, IsLeading};
 
 use crate::error::VerifyError;
 use crate::facts::Facts;
@@ -43,10 +43,7 @@ pub(crate) fn typed(
 /// Looks at one slot. Where some path leads there, what is known after its instruction goes to the
 /// slots that may follow, or the instruction breaks a rule, of which the lowest is answered.
 fn visit(program: &Program, table: &mut Vec<Option<Facts>>, slot: u64) -> Result<(), CodeRule>
-    requires len { vec_len table.old ≡ slot_count program.now }
-    requires within { slot < slot_count program.now }
-    requires few { slot_count program.now ≤ 4096 }
-    requires clean { IsClean program.now }
+    requires { IsVisit program.now (vec_len table.old) slot }
     ensures len { vec_len table.new ≡ vec_len table.old }
     ensures exact { IfOk result (λ _. (entry : List Tag) → IsEntry entry →
         IsExactBelow slot program.now entry table.old.items → IsExactBelow (slot + 1) program.now entry table.new.items) }
@@ -68,9 +65,7 @@ fn visit(program: &Program, table: &mut Vec<Option<Facts>>, slot: u64) -> Result
 
 /// Joins what is known after an instruction to what is known at each slot that may follow.
 fn lead_on(program: &Program, table: &mut Vec<Option<Facts>>, slot: u64, insn: Insn, facts: &Facts)
-    requires len { vec_len table.old ≡ slot_count program.now }
-    requires few { slot < 4096 }
-    requires good { AllByRecursion (IsGoodTarget program.now slot) (targets slot insn) }
+    requires { IsLeading program.now (vec_len table.old) slot insn }
     ensures len { vec_len table.new ≡ vec_len table.old }
     ensures adds { AddsAll (targets slot insn) (known facts.now) table.old.items table.new.items }
 {

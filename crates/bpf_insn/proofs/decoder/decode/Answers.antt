@@ -5,4 +5,5 @@ pub returns-then-has_bad_length-clause-exact : goal.returns-then-has_bad_length-
 returns-then-has_bad_length-clause-exact c = λ p s. let good = spelled-length c.args.code.now p s in cc
 
 pub returns-clause-exact : goal.returns-clause-exact
-returns-clause-exact c = λ p s. read_exact c.args.code.now p c.read_program.result s c.read_program.ensures.ok c.read_program.ensures.err
+returns-clause-exact c =
+    λ p s. read_exact c.args.code.now p c.read_program.result s c.read_program.ensures.ok c.read_program.ensures.err

@@ -1,4 +1,5 @@
-use Rattle.std.proofs.Common.{◌≡◌, ◌∙◌, ◌*◌, ◌++◌, ◌∷◌, [], sym, subst, arith, ap, drop, length, length-append}
+use Rattle.std.proofs.Common.{◌≡◌, ◌∙◌, ◌*◌, ◌++◌, ◌∷◌, [], sym, subst, arith, ap, drop, length}
+use Rattle.std.proofs.Common.{length-append}
 use Rattle.bpf_insn.specs.Program.{slots_of}
 use Rattle.bpf_insn.specs.Code.{Spells}
 use Rattle.bpf_insn.proofs.Cutting.{IsCut-more, IsCut-end, kept-room, kept-more, kept-back, kept-laid}

@@ -10,4 +10,5 @@ pub returns-in-Some-clause-some : goal.returns-in-Some-clause-some
 returns-in-Some-clause-some c = next_fault c.args.program.now c.args.slot c.in-Some.insn.now c.slot_rule.result (sym c.insn_at.ensures ∙ ap option_copied c.in-Some.is) c.slot_rule.ensures
 
 pub returns-in-None-clause-none : goal.returns-in-None-clause-none
-returns-in-None-clause-none c = next_skipped c.args.program.now c.args.slot (sym c.insn_at.ensures ∙ ap option_copied c.in-None.is)
+returns-in-None-clause-none c =
+    next_skipped c.args.program.now c.args.slot (sym c.insn_at.ensures ∙ ap option_copied c.in-None.is)

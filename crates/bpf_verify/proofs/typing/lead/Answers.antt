@@ -9,13 +9,18 @@ use Rattle.bpf_verify.proofs.typing.lead.Goals as goal
 
 -- the slot is the target's
 place_is : (c : goal.After-unsigned_abs-to) → c.unsigned_abs-to.result ≡ c.requires.good.place
-place_is c = c.unsigned_abs-to.ensures.value ∙ ap nat_abs (to_z-of_z w64 c.args.to (search rules)) ∙ ap nat_abs c.requires.good.is_place
+place_is c =
+    c.unsigned_abs-to.ensures.value ∙ ap nat_abs (to_z-of_z w64 c.args.to (search rules)) ∙ ap nat_abs c.requires.good.is_place
 
 within : (c : goal.After-unsigned_abs-to) → c.unsigned_abs-to.result < length c.args.table.now.items
-within c = let h = begins_inside c.args.program.now c.requires.good.place c.requires.good.begin in omega (arith, h, place_is c, c.requires.len)
+within c =
+    let h = begins_inside c.args.program.now c.requires.good.place c.requires.good.begin in
+    omega (arith, h, place_is c, c.requires.len)
 
 pub index-requires : goal.index-requires
-index-requires c = let h = begins_inside c.args.program.now c.requires.good.place c.requires.good.begin in omega (arith, h, place_is c, c.requires.len)
+index-requires c =
+    let h = begins_inside c.args.program.now c.requires.good.place c.requires.good.begin in
+    omega (arith, h, place_is c, c.requires.len)
 
 pub index_mut-requires : goal.index_mut-requires
 index_mut-requires c =

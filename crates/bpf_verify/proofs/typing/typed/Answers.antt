@@ -21,7 +21,8 @@ loop-slot-init c =
     )
 
 pub returns-in-Err-clause-refused : goal.returns-in-Err-clause-refused
-returns-in-Err-clause-refused c = record { shown = c.in-Err.ensures.refused c.args.entry c.loop-slot.invariant.1; before = c.loop-slot.invariant.1.nothing }
+returns-in-Err-clause-refused c =
+    record { shown = c.in-Err.ensures.refused c.args.entry c.loop-slot.invariant.1; before = c.loop-slot.invariant.1.nothing }
 
 pub returns-clause-exact : goal.returns-clause-exact
 returns-clause-exact c = exact_all c.loop-slot.slot c.args.program.now c.args.entry c.loop-slot.table.items (λ slot i at. let h = inside c.args.program.now slot i at in omega (arith, h)) c.loop-slot.invariant.1 c.requires.entry

@@ -23,8 +23,10 @@ returns-in-Some-refusal-clause-refused c = λ entry x.
 pub after-requires : goal.after-requires
 after-requires c = c.in_default-refusal.ensures.none OutsideStack
 
-pub lead_on-requires-clause-good : goal.lead_on-requires-clause-good
-lead_on-requires-clause-good c = (c.requires.clean c.args.slot c.in-Some.insn.now (sym c.insn_at.ensures ∙ ap option_copied c.in-Some.is)).targets_good
+pub lead_on-requires : goal.lead_on-requires
+lead_on-requires c =
+    let slot = c.requires.clean c.args.slot c.in-Some.insn.now (sym c.insn_at.ensures ∙ ap option_copied c.in-Some.is) in
+    record { len = c.requires.len; few = omega (arith, c.requires.within, c.requires.few); good = slot.targets_good }
 
 pub returns-clause-exact : goal.returns-clause-exact
 returns-clause-exact c = λ entry fit x.

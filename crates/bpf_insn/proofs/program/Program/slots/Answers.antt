@@ -7,4 +7,6 @@ pub returns-clause-count : goal.returns-clause-count
 returns-clause-count c = let e = ap length c.self.invariant.0.same ∙ length-layout (insns_of c.self.inside.cells.items) ∙ ap slot_count c.self.view_is in omega (arith, e)
 
 pub returns-clause-few : goal.returns-clause-few
-returns-clause-few c = let e = ap length c.self.invariant.0.same ∙ length-layout (insns_of c.self.inside.cells.items) in omega (arith, e, c.self.invariant.0.program.few)
+returns-clause-few c =
+    let e = ap length c.self.invariant.0.same ∙ length-layout (insns_of c.self.inside.cells.items) in
+    omega (arith, e, c.self.invariant.0.program.few)

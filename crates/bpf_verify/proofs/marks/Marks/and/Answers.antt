@@ -1,4 +1,5 @@
-use Rattle.std.proofs.Common.{arith, rules, ◌≡◌, ◌≢◌, ◌∙◌, length, bit_and, get_or, get_or-set_other, get_or-set_same, below_more}
+use Rattle.std.proofs.Common.{arith, rules, ◌≡◌, ◌≢◌, ◌∙◌, length, bit_and, get_or, get_or-set_other}
+use Rattle.std.proofs.Common.{get_or-set_same, below_more}
 use Rattle.std.proofs.lemmas.List.{length-set}
 use Rattle.bpf_verify.proofs.Bits.{and_words}
 use Rattle.bpf_verify.proofs.marks.Marks.and.Goals as goal

@@ -1,6 +1,0 @@
-use Rattle.std.proofs.Common.{arith}
-use Rattle.std.proofs.lemmas.Grind.{common_steps}
-use Rattle.bpf_insn.proofs.execute.moved.Goals as goal
-
-pub returns-in-Place : goal.returns-in-Place
-returns-in-Place c = grind (arith, common_steps)

@@ -1,0 +1,102 @@
+//! Which slot follows an instruction (RFC 9669, section 4.3), and whether a program may go on there.
+ghost use Rattle.std.specs.Prelude.{◌≡◌, ◌<◌, true, false, Some, IfOk, IfErr, pos};
+ghost use Rattle.std.specs.Bool.{OnTrue};
+ghost use Rattle.std.specs.Option.{option_map};
+ghost use Rattle.bpf_insn.specs.Program.{insn_at};
+ghost use Rattle.bpf_insn.specs.Reads.{are_numbers, number_reads};
+ghost use Rattle.bpf_insn.specs.Effects.{next_slot};
+ghost use Rattle.bpf_insn.specs.Machine.{begins, goes_back, goes_nowhere};
+
+use crate::arithmetic::holds;
+use crate::frame::Frame;
+use crate::insn::Insn;
+use crate::program::Program;
+use crate::rule::CodeRule;
+
+impl Frame {
+    /// The slot that follows the instruction, if one does.
+    pub fn next_slot(&self, insn: Insn) -> Option<i64>
+        ensures { result ≡ next_slot self.now.registers self.now.slot insn }
+    {
+        let after = i64::from(self.slot) + 1;
+        match insn {
+            Insn::Exit => None,
+            Insn::Ja { offset } => Some(after + i64::from(offset)),
+            Insn::Ja32 { offset } => Some(after + i64::from(offset)),
+            Insn::Jump {
+                width,
+                cond,
+                left,
+                right,
+                offset,
+            } => {
+                if !self.are_numbers(insn) {
+                    return None;
+                }
+                if holds(width, cond, self.number(left), self.operand(right)) {
+                    Some(after + i64::from(offset))
+                } else {
+                    Some(after)
+                }
+            }
+            Insn::Wide { .. } => Some(after + 1),
+            _ => Some(after),
+        }
+    }
+
+    /// Whether numbers stand where the instruction wants them.
+    fn are_numbers(&self, insn: Insn) -> bool
+        ensures { result ≡ are_numbers self.now.registers (number_reads insn) }
+    {
+        insn.reads()
+            .numbers()
+            .as_slice()
+            .iter()
+            .all(|reg| self.content(*reg).is_number())
+    }
+}
+
+/// Whether an instruction of the program begins at the slot.
+pub fn begins(program: &Program, slot: u64) -> bool
+    ensures value { result ≡ begins program.now slot }
+    ensures within { OnTrue result (slot < 4096) }
+{
+    slot < program.slots() && program.insn_at(slot).is_some()
+}
+
+/// The instruction that begins at the slot.
+pub fn fetch(program: &Program, slot: u64) -> Insn
+    requires { begins program.now slot ≡ true }
+    ensures { insn_at program.now slot ≡ Some result }
+{
+    let Some(insn) = program.insn_at(slot) else {
+        unreachable!();
+    };
+    *insn
+}
+
+/// Whether the next slot is this one or one before it.
+pub fn goes_back(slot: u32, next: Option<i64>) -> bool
+    ensures { result ≡ goes_back slot next }
+{
+    match next {
+        Some(to) => to <= i64::from(slot),
+        None => false,
+    }
+}
+
+/// The next slot, if there is one, or `V8` where no instruction of the program begins there.
+pub fn landing(program: &Program, next: Option<i64>) -> Result<Option<u32>, CodeRule>
+    ensures slot { IfOk result (λ slot. next ≡ option_map pos slot) }
+    ensures begins { IfOk result (λ slot. goes_nowhere program.now next ≡ false) }
+    ensures rule { IfErr result (λ rule. rule ≡ CodeRule.JumpsNowhere) }
+    ensures nowhere { IfErr result (λ rule. goes_nowhere program.now next ≡ true) }
+{
+    let Some(to) = next else {
+        return Ok(None);
+    };
+    if to < 0 || !begins(program, to as u64) {
+        return Err(CodeRule::JumpsNowhere);
+    }
+    Ok(Some(to as u32))
+}
