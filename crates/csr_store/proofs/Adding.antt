@@ -1,11 +1,11 @@
 -- How a filler gets ready for an entry, and takes it.
 use Rattle.std.proofs.Common.{◌≡◌, ◌≤◌, ◌<◌, ◌+◌, ◌^◌, ℕ, List, [], ◌∷◌, ◌++◌, length, refl, sym, ap, ◌∙◌, subst, arith}
-use Rattle.std.specs.FinMap.{entries, insert, from_entries, is_sorted}
+use Rattle.std.specs.FinMap.{insert, from_entries, is_sorted}
 use Rattle.csr_store.specs.Grid.{Grid, IsGrid, pos_cmp, Cell, limit}
 use Rattle.csr_store.specs.ByRows.{grid}
 use Rattle.csr_store.specs.ByRows.{by_rows, ends_of}
 use Rattle.csr_store.specs.inner.ByRows.{Within, Closes, Starts, AreStarts, IsFilling}
-use Rattle.csr_store.proofs.Filling.{Ready, ready_there, filling_there, filling_sorted, same_grid, filling_more, added, behind}
+use Rattle.csr_store.proofs.Filling.{Ready, ready_there, filling_there, filling_sorted, same_grid, filling_more, added}
 
 abbrev pub grid_of : ℕ → ℕ → List ℕ → List Cell → Grid
 grid_of rows columns ends cells = grid rows columns (by_rows ends cells)
@@ -49,12 +49,6 @@ module _ (rows columns : ℕ) (ends : List ℕ) (cells : List Cell) (new_rows ne
       (added rows columns new cells column word j.ready r column_in room fits
       ∙ (ap (λ (g : Grid). let h : Grid = record { rows = rows; columns = columns; cells = insert g.cells (length new, column) word } in h) j.grid_same
       ∙ ap (λ k. let h : Grid = record { rows = rows; columns = columns; cells = insert (from_entries (by_rows ends cells)) (k, column) word } in h) j.row_open))
-
-  pub joined_behind : entries (from_entries {R = pos_cmp} (by_rows new more)) ≡ entries (from_entries {R = pos_cmp} (by_rows ends cells)) ++ ((row, column), word) ∷ []
-  joined_behind =
-      ap (λ cs. entries (from_entries {R = pos_cmp} (by_rows new cs))) pushed
-      ∙ (behind rows columns new cells column word j.ready r column_in room fits
-      ∙ (ap (λ (g : Grid). entries g.cells ++ ((length new, column), word) ∷ []) j.grid_same ∙ ap (λ k. entries (from_entries {R = pos_cmp} (by_rows ends cells)) ++ ((k, column), word) ∷ []) j.row_open))
 
 -- rows were closed up to one that is inside
 pub closed_filling : (rows columns : ℕ) (ends new : List ℕ) (cells : List Cell) (next end row : ℕ) → IsFilling rows columns ends cells next → Closes ends end new → end ≡ length cells → length new ≤ row → row < rows

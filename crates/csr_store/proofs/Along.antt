@@ -126,11 +126,6 @@ module _ {T : Type 0} where
       → along (λ k. g k (at cs k)) 0 n ≡ each g cs
   along-each g blank n low cs h = each-go g blank n low cs h
 
-  pub each-append : (g : ℕ → Option ℕ → List T) (xs ys : List Cell) → each g (xs ++ ys) ≡ each g xs ++ each g ys
-  each-append g [] ys = refl
-  each-append g (x ∷ xs) ys = ap (λ zs. g x.0 (Some x.1) ++ zs) (each-append g xs ys)
-      ∙ sym (append_assoc (g x.0 (Some x.1)) (each g xs) (each g ys))
-
 each-cells : (cs : List Cell) → each cell_at cs ≡ cs
 each-cells [] = refl
 each-cells (c ∷ cs) = ap (λ ds. c ∷ ds) (each-cells cs)

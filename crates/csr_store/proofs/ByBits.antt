@@ -103,14 +103,6 @@ copied_is g words bits full h =
 
 -- ---- one row more
 
-pub copying_starts : (g : Grid) (words bits : List ℕ) → length words ≡ 0 → ((k : ℕ) → bit_of bits k ≡ 0) → Copying g 0 words bits true
-copying_starts g words bits n h = record {
-  rows = n;
-  slots_are = λ k l. absurd (omega (arith, l));
-  clear = λ k l. h k;
-  all = λ t k l. absurd (omega (arith, l));
-}
-
 and_first : (a b : Bool) → a && b ≡ true → a ≡ true
 and_first true b e = refl
 and_first false b e = e

@@ -181,10 +181,6 @@ no_cells g i (c ∷ row) e h l =
     let row_inside = inside.0 in
     absurd (omega arith)
 
--- no row stands behind the last
-pub row_of-outside : (g : Grid) (i : ℕ) → IsGrid g → g.rows ≤ i → row_of g i ≡ []
-row_of-outside g i h l = no_cells g i (row_of g i) refl h l
-
 -- All rows together.
 
 filter_whole : (p : Entry → Bool) (es : List Entry) → ((k : ℕ) (d : Entry) → k < length es → p (get_or es k d) ≡ true) → filter p es ≡ es

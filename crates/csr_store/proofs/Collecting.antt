@@ -1,5 +1,5 @@
 -- What a builder keeps, as one map.
-use Rattle.std.proofs.Common.{◌≡◌, ◌≤◌, ◌<◌, ◌+◌, ◌^◌, ℕ, Bool, true, false, cond, List, [], ◌∷◌, ◌++◌, Option, None, Some, is_some, length, append-nil, refl, sym, ap, ◌∙◌, arith}
+use Rattle.std.proofs.Common.{◌≡◌, ◌≤◌, ◌<◌, ◌+◌, ◌^◌, ℕ, Bool, true, false, cond, List, [], ◌∷◌, ◌++◌, Option, None, Some, is_some, length, append-nil, append_assoc, refl, sym, ap, ◌∙◌, arith}
 use Rattle.std.specs.Prelude.{nat_le}
 use Rattle.std.proofs.lemmas.Bool.{lt-ltb, le-leb}
 use Rattle.std.specs.List.Sorted.{IsStrictlySortedBy}
@@ -15,7 +15,8 @@ use Rattle.csr_store.specs.declared.error.StoreError.TheVariants.{PositionGivenT
 use Rattle.csr_store.specs.Grid.{Grid, Position, Entry, IsInside, pos_cmp, limit}
 use Rattle.csr_store.specs.Refusal.{put_fault}
 use Rattle.csr_store.specs.ByRows.{grid}
-use Rattle.csr_store.specs.inner.Collected.{IsCollected}
+use Rattle.csr_store.specs.Listed.{Listed}
+use Rattle.csr_store.specs.inner.Collected.{IsCollected, with_entries}
 use Rattle.csr_store.proofs.Order.{pos_total, pos_exact, sorted_from_keys}
 use Rattle.csr_store.proofs.Laws.{Fits, is_none, same_values, entries-from_entries, entries-empty, from_entries-entries, len-insert_new, insert-is_grid, empty-is_grid}
 
@@ -170,3 +171,28 @@ collected_none g es r c e f =
       is_grid = rw alone (let k : g ≡ record { rows = g.rows; columns = g.columns; cells = empty } = ap (λ m. let x : Grid = record { rows = g.rows; columns = g.columns; cells = m } in x) e in rw k (empty-is_grid g.rows g.columns r c));
       apart = ap (λ (x : Grid). len x.cells) alone ∙ omega arith;
     }
+
+-- ---- the list of all entries
+
+listed_again : (l : Listed) (es fs : List Entry) → es ≡ fs → with_entries es l ≡ with_entries fs l
+listed_again l es fs e = ap (λ (xs : List Entry). with_entries xs l) e
+
+pub listed_none : (l : Listed) (es : List Entry) → es ≡ [] → l ≡ with_entries es l
+listed_none l es e = ap (λ (xs : List Entry). record l { entries = xs }) (sym (append-nil l.entries)) ∙ listed_again l [] es (sym e)
+
+-- some entries more
+pub listed_more : (l m n : Listed) (es fs gs : List Entry) → m ≡ with_entries es l → n ≡ with_entries fs m → gs ≡ es ++ fs
+    → n ≡ with_entries gs l
+listed_more l m n es fs gs a b g =
+    b ∙ (ap (with_entries fs) a ∙ (ap (λ (xs : List Entry). record l { entries = xs }) (append_assoc l.entries es fs)
+    ∙ listed_again l (es ++ fs) gs (sym g)))
+
+-- the next of those that are left
+pub listed_next : (l m : Listed) (left later : List Entry) (e : Entry) (all : Listed) → left ≡ e ∷ later → m ≡ with_entries (e ∷ []) l
+    → with_entries left l ≡ all → with_entries later m ≡ all
+listed_next l m left later e all c b h =
+    ap (with_entries later) b ∙ (ap (λ (xs : List Entry). record l { entries = xs }) (append_assoc l.entries (e ∷ []) later)
+    ∙ (listed_again l (e ∷ later) left (sym c) ∙ h))
+
+pub listed_all : (l : Listed) (left : List Entry) (all : Listed) → left ≡ [] → with_entries left l ≡ all → l ≡ all
+listed_all l left all e h = listed_none l left e ∙ h

@@ -10,9 +10,6 @@ use Rattle.csr_store.proofs.Valuing.{AreSet, set_more, set_all, valued_here, val
 use Rattle.std.specs.List.{AllByRecursion}
 use Rattle.csr_store.specs.inner.Run.{AreRows}
 
-pub none_copied : (written source : Row) → written ≡ [] → copied_cells written source ≡ source
-none_copied written source e = ap (λ (w : Row). copied_cells w source) e
-
 pub copied_length : (written source : Row) → length written ≤ length source → length (copied_cells written source) ≡ length source
 copied_length written source l = omega (arith, length-append written (drop (length written) source), length-drop (length written) source, l)
 

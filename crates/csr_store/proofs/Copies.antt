@@ -1,5 +1,5 @@
 -- Rows of a matrix as rows of a run: their ends and their cells, behind those of the rows before them.
-use Rattle.std.proofs.Common.{◌≡◌, ◌≤◌, ◌<◌, ◌+◌, ◌-◌, ◌^◌, ℕ, zero, suc, List, [], ◌∷◌, ◌++◌, length, map, take, drop, get_or, refl, sym, ap, ◌∙◌, subst, arith, length-drop}
+use Rattle.std.proofs.Common.{◌≡◌, ◌≤◌, ◌<◌, ◌+◌, ◌-◌, ◌%◌, ◌^◌, ℕ, zero, suc, List, [], ◌∷◌, ◌++◌, length, map, take, drop, get_or, refl, sym, ap, ◌∙◌, subst, arith, length-drop}
 use Rattle.std.specs.List.{AllByRecursion}
 use Rattle.std.proofs.lemmas.List.{take-take, drop-take, drop-drop, drop_more, length-take-le, take-append-drop}
 use Rattle.csr_store.specs.Grid.{Grid, IsGrid, Cell, row_of}
@@ -7,6 +7,8 @@ use Rattle.csr_store.specs.Along.{along}
 use Rattle.csr_store.specs.ByRows.{grid, by_rows, ends_of}
 use Rattle.csr_store.specs.inner.ByRows.{AreStarts}
 use Rattle.csr_store.specs.inner.Run.{IsRow, AreRows, AreEnds, ended_rows, open_row}
+use Rattle.csr_store.specs.inner.Moved.{moved}
+use Rattle.csr_store.proofs.Moved.{moved_back}
 use Rattle.csr_store.proofs.Slicing.{start_within, row_between, length_starts}
 use Rattle.csr_store.proofs.ByRow.{row_ascends, cell_inside, cell_word}
 use Rattle.csr_store.proofs.Runs.{row_none, run}
@@ -97,16 +99,20 @@ module _ (rows columns : ℕ) (starts : List ℕ) (cells : List Cell) (h : AreSt
       let z : k + 1 + m ≡ k + suc m = omega arith in
       rw (ends_next base k m (omega arith)) (omega arith, ends_ascend base (k + 1) m most (omega arith) (omega arith) (rw z t))
 
-  pub not_below : (base k m : ℕ) → base ≤ start k → k + m ≤ rows → AllByRecursion (λ e. base ≤ e) (take m (drop (k + 1) starts))
-  not_below base k zero b l = tt
-  not_below base k (suc m) b l =
-      let n = length_starts rows starts cells h in
-      let s : start k ≤ start (k + 1) = starts_rise k 1 (omega arith) in
-      rw (drop_more starts (k + 1) 0 (omega (arith, n))) (omega arith, not_below base (k + 1) m (omega arith) (omega arith))
-
   pub start_below : (k : ℕ) → k ≤ rows → start k ≤ length cells
   start_below zero l = let z = ap (λ (xs : List ℕ). get_or xs 0 0) h.begin in omega (arith, z)
   start_below (suc k) l = let z : k + 1 ≡ suc k = omega arith in let b = (start_within rows columns starts cells h k (omega arith)).1 in rw z at b
+
+  -- the same ends by words that were moved back
+  ends_moved : (distance base k m : ℕ) → (distance + base) % 2 ^ 64 ≡ 0 → base ≤ start k → k + m ≤ rows → length cells < 2 ^ 64
+      → map (moved distance) (take m (drop (k + 1) starts)) ≡ ends_at base k m
+  ends_moved distance base k zero d b l w = refl
+  ends_moved distance base k (suc m) d b l w =
+      let n = length_starts rows starts cells h in
+      let s : start k ≤ start (k + 1) = starts_rise k 1 (omega arith) in
+      let t = start_below (k + 1) (omega arith) in
+      rw (drop_more starts (k + 1) 0 (omega (arith, n)), moved_back distance base (start (k + 1)) d (omega arith) (omega arith))
+      (ap (λ es. (start (k + 1) - base) ∷ es) (ends_moved distance base (k + 1) m d (omega arith) (omega arith) w))
 
   abbrev pub the_grid : Grid
   the_grid = grid rows columns (by_rows (ends_of starts) cells)
@@ -144,8 +150,12 @@ module _ (rows columns : ℕ) (starts : List ℕ) (cells : List Cell) (h : AreSt
   copied_run k m ends copied l e c =
       rw (e, c) (rw (rw (none_before k) at (copied_rows (start k) k m (omega arith) l), rw (none_before k) at (none_open (start k) k m (omega arith) l)) refl)
 
-  pub ends_are : (base from to : ℕ) (xs : List ℕ) → base ≡ start from → xs ≡ starts → map (λ e. e - base) (take (to + 1 - (from + 1)) (drop (from + 1) xs)) ≡ ends_at (start from) from (to - from)
-  ends_are base from to xs b e = let n : to + 1 - (from + 1) ≡ to - from = omega arith in rw (b, e, n) refl
+  pub ends_are : (distance base from to : ℕ) (xs : List ℕ) → (distance + base) % 2 ^ 64 ≡ 0 → base ≡ start from → xs ≡ starts
+      → from ≤ to → to ≤ rows → length cells < 2 ^ 64
+      → map (moved distance) (take (to + 1 - (from + 1)) (drop (from + 1) xs)) ≡ ends_at (start from) from (to - from)
+  ends_are distance base from to xs d b e o l w =
+      let n : to + 1 - (from + 1) ≡ to - from = omega arith in
+      rw (e, n) (ends_moved distance (start from) from (to - from) (ap (λ k. (distance + k) % 2 ^ 64) (sym b) ∙ d) (omega arith) (omega arith) w)
 
   pub cells_are : (b t from to : ℕ) (xs : List Cell) → from ≤ to → b ≡ start from → t ≡ start to → xs ≡ cells → take (t - b) (drop b xs) ≡ cells_at from (to - from)
   cells_are b t from to xs l p q e =

@@ -5,7 +5,7 @@ use Rattle.std.specs.Prelude.{Result, Ok, Err, OnErr}
 use Rattle.std.specs.declared.cmp.Ordering.{Ordering}
 use Rattle.std.specs.declared.cmp.Ordering.TheVariants.{Less, Equal, Greater}
 use Rattle.std.specs.Ordering.{is_lt}
-use Rattle.std.specs.FinMap.{entries, get, len, insert, from_entries, is_sorted, len-entries}
+use Rattle.std.specs.FinMap.{get, len, insert, from_entries, is_sorted, len-entries}
 use Rattle.std.specs.FinMap.Entries.{below_all}
 use Rattle.std.proofs.lemmas.Bool.{cases_lt}
 use Rattle.std.proofs.lemmas.Bool.Decides.{nat_tests}
@@ -226,12 +226,6 @@ module _ (rows columns : ℕ) (ends : List ℕ) (cells : List Cell) (column word
 
   pub added : grid rows columns (by_rows ends (cells ++ (column, word) ∷ [])) ≡ record (grid rows columns (by_rows ends cells)) { cells = insert (from_entries (by_rows ends cells)) (length ends, column) word }
   added = ap (grid rows columns) pushed ∙ ap (λ m. let g : Grid = record { rows = rows; columns = columns; cells = m } in g) (put_behind (by_rows ends cells) (length ends, column) word sorted)
-
-  pub behind : entries (from_entries {R = pos_cmp} (by_rows ends (cells ++ (column, word) ∷ []))) ≡ entries (from_entries {R = pos_cmp} (by_rows ends cells)) ++ ((length ends, column), word) ∷ []
-  behind =
-      ap (λ (es : List Entry). entries (from_entries {R = pos_cmp} es)) pushed
-      ∙ (entries-from_entries (by_rows ends cells ++ ((length ends, column), word) ∷ []) sorted
-      ∙ ap (λ (es : List Entry). es ++ ((length ends, column), word) ∷ []) (sym (entries-from_entries (by_rows ends cells) (fewer_sorted (length ends, column) word (by_rows ends cells) sorted))))
 
   pub filling_more : IsFilling rows columns ends (cells ++ (column, word) ∷ []) (column + 1)
   filling_more =

@@ -6,11 +6,11 @@ use Rattle.std.proofs.Math.Logic.{⊎_elim}
 use Rattle.std.specs.Global.{Vec}
 use Rattle.csr_store.specs.Grid.{Cell, at_row, limit}
 use Rattle.csr_store.specs.ByRows.{ends_of}
-use Rattle.csr_store.specs.Run.{Run, Row, AreEven, numbered, all_ended}
+use Rattle.csr_store.specs.Run.{Run, Row, AreEven, IsInRun, numbered, all_ended}
 use Rattle.csr_store.specs.Valued.{entries_in}
 use Rattle.csr_store.specs.inner.ByRows.{AreStarts}
 use Rattle.csr_store.specs.inner.Run.{AreEnds, AreClosed, ended_rows, open_row}
-use Rattle.csr_store.specs.inner.Cells.{joined, joined_cells, cells_before, AreRuns, IsPart, AreParts, AreBases, Stacks}
+use Rattle.csr_store.specs.inner.Cells.{joined, joined_cells, cells_before, IsPart, AreParts, AreBases, Stacks}
 use Rattle.csr_store.specs.declared.cells.Cells.{Cells}
 use Rattle.csr_store.specs.declared.cells.Cells.TheVariants.{Whole, Runs}
 use Rattle.csr_store.proofs.Joining.{inner_ends, inner_end}
@@ -157,7 +157,7 @@ run_parts rows columns starts runs h bases cover i l =
 
 -- the cells of rows that stand in one list
 pub stretch_part : (rows columns : ℕ) (starts : List ℕ) (cells : Cells) (from to : ℕ) → AreStarts rows starts (joined_cells cells) → AreParts rows starts cells → from < to → to ≤ rows
-    → (AreRuns cells → to ≤ from / 256 * 256 + 256) → IsPart cells (from / 256) (get_or starts (from / 256 * 256) 0) (get_or starts from 0) (get_or starts to 0)
+    → IsInRun from to → IsPart cells (from / 256) (get_or starts (from / 256 * 256) 0) (get_or starts from 0) (get_or starts to 0)
 stretch_part rows columns starts (Whole cells) from to h parts l w near =
     let z : from + (to - from) ≡ to = omega arith in
     let up = starts_rise rows columns starts cells.items h from (to - from) (omega arith) in
@@ -168,8 +168,7 @@ stretch_part rows columns starts (Runs runs) from to h parts l w near =
     let up = starts_rise rows columns starts (joined runs.items) h from (to - from) (omega arith) in
     let up2 : get_or starts from 0 ≤ get_or starts to 0 = rw z at up in
     let first = parts from (omega arith) in
-    let n = near tt in
-    let same : (to - 1) / 256 ≡ from / 256 = omega (arith, n, l) in
+    let same : (to - 1) / 256 ≡ from / 256 = omega (arith, near, l) in
     let next : to - 1 + 1 ≡ to = omega arith in
     let last = (parts (to - 1) (omega arith)).4 in
     let last2 : get_or starts to 0 ≤ cells_before runs.items (from / 256 + 1) = rw (same, next) at last in

@@ -152,11 +152,6 @@ pub ends_fit : (base from most : ℕ) (ends : List ℕ) → AreEnds from ends mo
 ends_fit base from most [] h l = tt
 ends_fit base from most (to ∷ ends) h l = ((let b = ends_below to ends most h.1 in omega arith), ends_fit base to most ends h.1 l)
 
-pub fits_at : (base k : ℕ) (ends : List ℕ) → AllByRecursion (λ e. base + e < 2 ^ 64) ends → k < length ends → base + get_or ends k 0 < 2 ^ 64
-fits_at base k [] h l = absurd (omega arith)
-fits_at base zero (e ∷ ends) h l = h.0
-fits_at base (suc k) (e ∷ ends) h l = fits_at base k ends h.1 (omega arith)
-
 -- ---- the whole
 
 entries_parts : (i from : ℕ) (ends : List ℕ) (cs : Row) → entries_from i from ends cs ≡ numbered i (ended_rows from ends cs) ++ at_row (i + length ends) (open_row from ends cs)

@@ -1,5 +1,5 @@
 -- Cells of whole rows kept by their answers.
-use Rattle.std.proofs.Common.{◌≡◌, ◌≤◌, ◌<◌, ◌+◌, ◌-◌, ◌^◌, ℕ, suc, Bool, true, false, nat_eq, if◌then◌else◌, List, [], ◌∷◌, ◌++◌, length, take, drop, refl, sym, ap, ◌∙◌, subst, arith, length-append, length-drop, append_assoc, append-nil}
+use Rattle.std.proofs.Common.{◌≡◌, ◌≤◌, ◌<◌, ◌+◌, ◌-◌, ◌^◌, ℕ, suc, Bool, true, false, nat_eq, if◌then◌else◌, List, [], ◌∷◌, ◌++◌, length, take, drop, refl, sym, ap, ◌∙◌, subst, arith, length-append, length-drop, append_assoc}
 use Rattle.std.specs.List.{AllByRecursion}
 use Rattle.std.proofs.lemmas.List.{take-append-drop, length-take-le}
 use Rattle.csr_store.specs.Grid.{Cell, Grid, IsGrid, row_of}
@@ -70,8 +70,8 @@ module _ (a : Grid) (first end : ℕ) (answers : List ℕ) (start : List Row) (i
   counted : kept_count left ≡ kept_count now + kept_count later
   counted = ap kept_count (parts (length row) left now later f b) ∙ kept_count-append now later
 
-  pub row_fits : 0 < length now → length cells + kept_count now < room
-  row_fits u = let t = there in let e = even in let q = h.fits (omega (arith, t, e, u)) in let m = counted in omega (arith, q, m)
+  pub row_fits : (length now ≡ length row) × (0 < length now → length cells + kept_count now < room)
+  row_fits = (even, λ u. let t = there in let e = even in let q = h.fits (omega (arith, t, e, u)) in let m = counted in omega (arith, q, m))
 
   next : kept_rows a left i (end - i) ≡ kept_where row now ∷ kept_rows a later (i + 1) (end - (i + 1))
   next =
@@ -113,9 +113,3 @@ module _ (a : Grid) (first end : ℕ) (answers : List ℕ) (start : List Row) (i
           omega (arith, q, e, s, k, m, v);
       fits_ends = let q = h.fits_ends in let e = ap length pushed in let s = length-append ends (n ∷ []) in omega (arith, q, e, s, l, u);
     }
-
-pub rows_kept_ends : (a : Grid) (first end : ℕ) (answers : List ℕ) (start : List Row) (i : ℕ) (left : List ℕ) (ends : List ℕ) (cells : Row) (room most : ℕ)
-    → AreRowsKept a first end answers start i left ends cells room most → end ≤ i → ended_rows 0 ends cells ≡ start ++ kept_rows a answers first (end - first)
-rows_kept_ends a first end answers start i left ends cells room most h l =
-    let z : end - i ≡ 0 = omega (arith, l) in
-    sym (append-nil (ended_rows 0 ends cells)) ∙ ap (λ n. ended_rows 0 ends cells ++ kept_rows a left i n) (sym z) ∙ h.same

@@ -1,19 +1,15 @@
 -- The laws of grids, for every crate that works with matrices.
-use Rattle.std.proofs.Common.{T, subst, zero, suc, ◌≡◌, ◌≢◌, ◌≤◌, ◌<◌, ◌+◌, ◌^◌, ℕ, Bool, true, false, ◌&&◌, cond, List, [], ◌∷◌, ◌++◌, map, length, take, get_or, Option, None, Some, IsSome, is_some, refl, sym, ap, ◌∙◌, arith}
-use Rattle.std.specs.Option.{option_map}
-use Rattle.std.specs.Prelude.{not, nat_lt, nat_le}
-use Rattle.std.proofs.lemmas.List.{length-map}
-use Rattle.std.proofs.lemmas.Bool.{lt-ltb, lt-leb, leb-false}
-use borrow.Author.Tests.{ltb-true}
+use Rattle.std.proofs.Common.{T, subst, zero, suc, ◌≡◌, ◌≢◌, ◌≤◌, ◌<◌, ◌+◌, ◌^◌, ℕ, Bool, true, false, ◌&&◌, cond, List, [], ◌∷◌, ◌++◌, length, take, get_or, Option, None, Some, IsSome, is_some, refl, sym, ap, ◌∙◌, arith}
+use Rattle.std.specs.Prelude.{not, nat_le}
+use Rattle.std.proofs.lemmas.Bool.{lt-ltb, lt-leb}
 use Rattle.std.specs.declared.cmp.Ordering.{Ordering}
 use Rattle.std.specs.declared.cmp.Ordering.TheVariants.{Less, Equal, Greater}
 use Rattle.std.specs.Ordering.{ordering_reverse, is_eq, is_lt}
-use Rattle.std.specs.FinMap.{FinMap, entries, get, insert, len, empty, from_entries, from_sorted, is_sorted, contains_key, entries_sorted, entries-insert, entries-from_sorted, get-entries, get-insert, get-empty, get-from_entries, get-from_sorted, len-insert, len-empty, len-entries, same_map, same_entries_map}
+use Rattle.std.specs.FinMap.{FinMap, entries, get, insert, len, empty, from_entries, from_sorted, is_sorted, entries_sorted, entries-insert, entries-from_sorted, get-entries, get-insert, get-empty, get-from_entries, get-from_sorted, len-insert, len-empty, same_map, same_entries_map}
 use Rattle.std.specs.Cmp.{tied_itself}
 use Rattle.csr_store.specs.declared.error.StoreError.TheVariants.{IndexOutOfRange, PositionGivenTwice, TooManyEntries}
 use Rattle.std.specs.FinMap.Entries.{below_all, find, put}
 use Rattle.csr_store.specs.Grid.{Grid, Position, Entry, IsInside, IsGrid, pos_cmp, limit}
-use Rattle.csr_store.specs.inner.Grid.{map_entry, map_cells}
 use Rattle.csr_store.specs.Refusal.{put_fault}
 use Rattle.csr_store.proofs.Order.{pos_total, pos_exact, both_true}
 
@@ -48,16 +44,10 @@ from_entries-entries m = same_entries _ _ (entries-from_entries (entries m) (ent
 
 -- What `insert` changes.
 
-pub get-insert_same : (m : FinMap pos_cmp ℕ) (p : Position) (v : ℕ) → get (insert m p v) p ≡ Some v
-get-insert_same m p v = get-insert pos_total m p v p ∙ ap (λ o. cond (is_eq o) (Some v) (get m p)) (tied_itself pos_total p)
-
 apart : (p q : Position) (o : Ordering) → pos_cmp q p ≡ o → q ≢ p → is_eq o ≡ false
 apart p q Less e n = refl
 apart p q Equal e n = absurd (n (pos_exact q p e))
 apart p q Greater e n = refl
-
-pub get-insert_other : (m : FinMap pos_cmp ℕ) (p q : Position) (v : ℕ) → q ≢ p → get (insert m p v) q ≡ get m q
-get-insert_other m p q v n = get-insert pos_total m p v q ∙ ap (λ b. cond b (Some v) (get m q)) (apart p q (pos_cmp q p) refl n)
 
 pub len-insert_new : (m : FinMap pos_cmp ℕ) (p : Position) (v : ℕ) → get m p ≡ None → len (insert m p v) ≡ len m + 1
 len-insert_new m p v n = len-insert pos_total m p v ∙ ap (λ o. cond (is_some o) (len m) (len m + 1)) n
@@ -129,35 +119,6 @@ take_ascend zero es h = refl
 take_ascend (suc n) [] h = refl
 take_ascend (suc n) (e ∷ es) h = let t = both_true (below_all pos_cmp e.0 es) (is_sorted pos_cmp es) h in rw (below_take e.0 n es t.0, take_ascend n es t.1) refl
 
--- What `map_cells` keeps.
-
-below_mapped : (f : Position → ℕ → ℕ) (x : Position) (es : List Entry) → below_all pos_cmp x (map (map_entry f) es) ≡ below_all pos_cmp x es
-below_mapped f x [] = refl
-below_mapped f x (e ∷ es) = ap (λ b. is_lt (pos_cmp x e.0) && b) (below_mapped f x es)
-
--- other values at the same positions ascend alike
-pub mapped_ascend : (f : Position → ℕ → ℕ) (es : List Entry) → is_sorted pos_cmp (map (map_entry f) es) ≡ is_sorted pos_cmp es
-mapped_ascend f [] = refl
-mapped_ascend f (e ∷ es) = rw (below_mapped f e.0 es, mapped_ascend f es) refl
-
-pub entries-map_cells : (f : Position → ℕ → ℕ) (g : Grid) → entries (map_cells f g).cells ≡ map (map_entry f) (entries g.cells)
-entries-map_cells f g = entries-from_entries _ (mapped_ascend f (entries g.cells) ∙ entries_ascend g.cells)
-
-pub len-map_cells : (f : Position → ℕ → ℕ) (g : Grid) → len (map_cells f g).cells ≡ len g.cells
-len-map_cells f g = len-entries _ ∙ ap length (entries-map_cells f g) ∙ length-map (entries g.cells) (map_entry f) ∙ sym (len-entries _)
-
-mapped_value : (f : Position → ℕ → ℕ) (p : Position) (e : Entry) (o : Ordering) (a b : Option ℕ) → pos_cmp p e.0 ≡ o → a ≡ option_map (f p) b → cond (is_eq o) (Some (f e.0 e.1)) a ≡ option_map (f p) (cond (is_eq o) (Some e.1) b)
-mapped_value f p e Less a b h rest = rest
-mapped_value f p e Equal a b h rest = ap (λ q. Some (f q e.1)) (sym (pos_exact p e.0 h))
-mapped_value f p e Greater a b h rest = rest
-
-find-mapped : (f : Position → ℕ → ℕ) (p : Position) (es : List Entry) → find pos_cmp p (map (map_entry f) es) ≡ option_map (f p) (find pos_cmp p es)
-find-mapped f p [] = refl
-find-mapped f p (e ∷ es) = mapped_value f p e (pos_cmp p e.0) (find pos_cmp p (map (map_entry f) es)) (find pos_cmp p es) refl (find-mapped f p es)
-
-pub get-map_cells : (f : Position → ℕ → ℕ) (g : Grid) (p : Position) → get (map_cells f g).cells p ≡ option_map (f p) (get g.cells p)
-get-map_cells f g p = get-from_entries pos_total _ p ∙ find-mapped f p (entries g.cells) ∙ ap (option_map (f p)) (sym (get-entries g.cells p))
-
 -- What `put_fault` says.
 
 -- nothing stands against an entry
@@ -184,15 +145,6 @@ pub is_none : (o : Option ℕ) → is_some o ≡ false → o ≡ None
 is_none None h = refl
 is_none (Some v) h = absurd (cc)
 
-pub put_fault-fits : (g : Grid) (p : Position) → put_fault g p ≡ None → Fits g p
-put_fault-fits g p h =
-    let t = no_fault (nat_lt p.0 g.rows) (nat_lt p.1 g.columns) (contains_key g.cells p) (nat_le limit (len g.cells)) h in
-    record {
-      inside = (ltb-true p.0 g.rows t.0, ltb-true p.1 g.columns t.1);
-      absent = is_none (get g.cells p) t.2;
-      room = leb-false limit (len g.cells) t.3;
-    }
-
 -- What every matrix keeps.
 
 pub empty-is_grid : (rows columns : ℕ) → rows ≤ limit → columns ≤ limit → IsGrid (record { rows = rows; columns = columns; cells = empty })
@@ -213,25 +165,6 @@ inside_more g p q v Greater e i f s = f s
 words_more : (m : FinMap pos_cmp ℕ) (q : Position) (v w : ℕ) (b : Bool) → v < 2 ^ 64 → (get m q ≡ Some w → w < 2 ^ 64) → cond b (Some v) (get m q) ≡ Some w → w < 2 ^ 64
 words_more m q v w true h f e = let same : v ≡ w = cc in omega arith
 words_more m q v w false h f e = f e
-
-mapped_inside : (g : Grid) (f : Position → ℕ → ℕ) (p : Position) (o : Option ℕ) → (IsSome o → IsInside g p) → IsSome (option_map (f p) o) → IsInside g p
-mapped_inside g f p None h s = absurd (cc)
-mapped_inside g f p (Some v) h s = h refl
-
-mapped_word : (f : Position → ℕ → ℕ) (p : Position) (w : ℕ) (o : Option ℕ) → ((v : ℕ) → f p v < 2 ^ 64) → option_map (f p) o ≡ Some w → w < 2 ^ 64
-mapped_word f p w None h e = absurd (cc)
-mapped_word f p w (Some v) h e = let b = h v in let same : f p v ≡ w = cc in omega arith
-
--- words in place of the values keep it
-pub map_cells-is_grid : (f : Position → ℕ → ℕ) (g : Grid) → ((p : Position) (v : ℕ) → f p v < 2 ^ 64) → IsGrid g → IsGrid (map_cells f g)
-map_cells-is_grid f g w h =
-    record {
-      rows_small = h.rows_small;
-      columns_small = h.columns_small;
-      entries_small = let n = len-map_cells f g in let l = h.entries_small in omega arith;
-      inside = λ p s. mapped_inside g f p (get g.cells p) (h.inside p) (subst IsSome (get-map_cells f g p) s);
-      words = λ p v e. mapped_word f p v (get g.cells p) (w p) (sym (get-map_cells f g p) ∙ e);
-    }
 
 -- each entry of a matrix is inside, and its value a word
 pub entry_inside : (g : Grid) (k : ℕ) (d : Entry) → IsGrid g → k < length (entries g.cells) → IsInside g (get_or (entries g.cells) k d).0

@@ -1,7 +1,6 @@
 pub mod Order
 pub mod Laws
 pub mod ByRow
-pub mod Copying
 pub mod InRow
 pub mod Filling
 pub mod Adding
@@ -11,7 +10,6 @@ pub mod Repeating
 pub mod Shuffled
 pub mod Slicing
 pub mod Collecting
-pub mod Merging
 pub mod Runs
 pub mod Copies
 pub mod Valuing
@@ -20,7 +18,7 @@ pub mod Joining
 pub mod Along
 pub mod Starting
 pub mod Appending
-pub mod Blocks
+pub mod Moved
 pub mod Keeping
 pub mod InRuns
 pub mod Copied

@@ -81,15 +81,6 @@ entries_with_value k v run = omega (arith, entries_valued k v run.ended, by_plac
     by_place true = refl
     by_place false = length-valued (k - entries_in run.ended) v run.opened
 
--- the columns of the open row stand
-pub below_with_value : (low k v : ℕ) (run : Run) → AllByRecursion (λ (c : Cell). c.0 < low) run.opened
-    → AllByRecursion (λ (c : Cell). c.0 < low) (with_value k v run).opened
-below_with_value low k v run h = by_place (nat_lt k (entries_in run.ended))
-  where
-    by_place : (b : Bool) → AllByRecursion (λ (c : Cell). c.0 < low) (if b then run.opened else valued (k - entries_in run.ended) v run.opened)
-    by_place true = h
-    by_place false = below_valued low (k - entries_in run.ended) v run.opened h
-
 pub below_without_value : (low k v : ℕ) (run : Run) → AllByRecursion (λ (c : Cell). c.0 < low) (with_value k v run).opened
     → AllByRecursion (λ (c : Cell). c.0 < low) run.opened
 below_without_value low k v run h = by_place (nat_lt k (entries_in run.ended)) h

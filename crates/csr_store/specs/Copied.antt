@@ -9,4 +9,5 @@ pub record Copied : Type 0 where
   pub written : ℕ
 
 abbrev pub copied_code : Coded Copied
-copied_code = code_by (Run × ℕ) (coded× run_code coded_ℕ) (λ c. (c.run, c.written)) (λ p. record { run = p.0; written = p.1 }) (λ _. refl)
+copied_code =
+    code_by (Run × ℕ) (coded× run_code coded_ℕ) (λ c. (c.run, c.written)) (λ p. record { run = p.0; written = p.1 }) (λ _. refl)

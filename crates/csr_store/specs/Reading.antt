@@ -9,4 +9,5 @@ pub record Reading : Type 0 where
   pub row : ℕ
 
 abbrev pub reading_code : Coded Reading
-reading_code = code_by (Grid × ℕ) (coded× grid_code coded_ℕ) (λ r. (r.grid, r.row)) (λ p. record { grid = p.0; row = p.1 }) (λ _. refl)
+reading_code =
+    code_by (Grid × ℕ) (coded× grid_code coded_ℕ) (λ r. (r.grid, r.row)) (λ p. record { grid = p.0; row = p.1 }) (λ _. refl)

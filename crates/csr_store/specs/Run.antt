@@ -1,5 +1,5 @@
 -- A run of rows that follow one another: the ended ones, and the one that is open. This project's own.
-use Rattle.std.specs.Prelude.{◌≡◌, ◌≤◌, ℕ, ◌+◌, List, [], ◌∷◌, ◌++◌, flat_map, refl, length}
+use Rattle.std.specs.Prelude.{◌≡◌, ◌≤◌, ℕ, ◌+◌, ◌*◌, ◌/◌, List, [], ◌∷◌, ◌++◌, flat_map, refl, length}
 use Rattle.std.specs.Coded.{Coded, code_by, coded×, coded_ℕ, coded_list}
 use Rattle.csr_store.specs.Grid.{Cell, Entry, at_row}
 
@@ -42,3 +42,7 @@ abbrev pub AreEven : List Run → Type 0
 AreEven [] = Unit {0}
 AreEven (r ∷ []) = length r.ended ≤ 256
 AreEven (r ∷ s ∷ rs) = (length r.ended ≡ 256) × AreEven (s ∷ rs)
+
+-- rows from one up to another that are all of one run, where each run has 256
+abbrev pub IsInRun : ℕ → ℕ → Type 0
+IsInRun from to = to ≤ from / 256 * 256 + 256

@@ -3,7 +3,7 @@ pub mod ByRows
 pub mod Collected
 pub mod Grid
 pub mod Kept
-pub mod Merged
+pub mod Moved
 pub mod Packed
 pub mod Repeated
 pub mod Run

@@ -1,19 +1,18 @@
 //! A matrix in the making.
 ghost use Rattle.std.specs.Prelude.{◌≡◌, ◌≤◌, ◌++◌, length, None, unwrap_or, OnOk, OnErr, IfOk, IfErr};
 ghost use Rattle.std.specs.FinMap as map;
-ghost use Rattle.csr_store.specs.Grid.{limit};
+ghost use Rattle.csr_store.specs.Grid.{limit, at_row};
 ghost use Rattle.csr_store.specs.Refusal.{put_fault};
+ghost use Rattle.csr_store.specs.inner.Collected.{with_entries};
 
+use crate::entry_list::EntryList;
 use crate::error::StoreError;
 use crate::filler::Filler;
-use crate::matrix::Matrix;
-use crate::merge::merged;
+use crate::limits::MOST_ENTRIES;
+use crate::matrix::{Cell, Matrix};
 use std::alloc::{AllocError, Global};
 use std::collections::BTreeMap;
 use std::marker::Model;
-
-/// The most rows, columns and entries that a matrix may have.
-pub const LIMIT: u64 = 16_777_216;
 
 /// Collects the entries of a matrix, in any order, each position once.
 ///
@@ -85,7 +84,7 @@ impl Builder {
         if self.others.contains_key(&(row, column)) {
             return Err(StoreError::PositionGivenTwice);
         }
-        if self.ascending.entries() + self.others.len() as u64 >= LIMIT {
+        if self.ascending.entries() + self.others.len() as u64 >= MOST_ENTRIES {
             return Err(StoreError::TooManyEntries);
         }
         match self.ascending.add(row, column, value) {
@@ -106,7 +105,7 @@ impl Builder {
         ensures err { IfErr result (λ b. b ≡ self) }
     {
         if !self.others.is_empty() {
-            return match merged(self.alloc, &self.ascending, &self.others) {
+            return match self.merged() {
                 Ok(matrix) => Ok(matrix),
                 Err(_) => Err(self),
             };
@@ -120,4 +119,47 @@ impl Builder {
             }),
         }
     }
+
+    /// The matrix of all entries, which are brought into order.
+    fn merged(&self) -> Result<Matrix, StoreError>
+        ensures { IfOk result (λ m. m ≡ self.now) }
+    {
+        let rows = self.ascending.rows();
+        let mut list = EntryList::new(self.alloc, rows, self.ascending.columns());
+        let many = (self.ascending.entries() as usize).saturating_add(self.others.len());
+        list.reserve(many).map_err(|_| StoreError::Memory)?;
+        push_rows(&mut list, &self.ascending)?;
+        push_others(&mut list, &self.others)?;
+        list.finish()
+    }
+}
+
+/// Adds the entries of a filler.
+fn push_rows(list: &mut EntryList, filler: &Filler) -> Result<(), StoreError>
+    ensures { OnOk result (list.new ≡ with_entries (map.entries filler.now.cells) list.old) }
+{
+    for row in 0..filler.rows() {
+        push_row(list, row, filler.row(row))?;
+    }
+    Ok(())
+}
+
+/// Adds the entries of a row.
+fn push_row(list: &mut EntryList, row: u64, cells: &[Cell]) -> Result<(), StoreError>
+    ensures { OnOk result (list.new ≡ with_entries (at_row row cells.now) list.old) }
+{
+    for (column, word) in cells {
+        list.push(row, *column, *word)?;
+    }
+    Ok(())
+}
+
+/// Adds the entries of a map.
+fn push_others(list: &mut EntryList, others: &BTreeMap<(u64, u64), u64>) -> Result<(), StoreError>
+    ensures { OnOk result (list.new ≡ with_entries others.now.entries list.old) }
+{
+    for (position, word) in others.iter() {
+        list.push(position.0, position.1, *word)?;
+    }
+    Ok(())
 }

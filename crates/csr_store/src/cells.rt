@@ -1,12 +1,10 @@
 //! The cells of a matrix: in one list, or in runs of rows.
-ghost use Rattle.std.specs.Prelude.{◌≡◌, ◌<◌, ◌*◌, ◌↔◌, IsTrue, length, get_or, slice_range};
-ghost use Rattle.csr_store.specs.inner.Cells.{AreRuns, IsPart, joined_cells};
+ghost use Rattle.std.specs.Prelude.{◌≡◌, ◌<◌, ◌*◌, length, get_or, slice_range};
+ghost use Rattle.csr_store.specs.inner.Cells.{IsPart, joined_cells};
 
+use crate::limits::RUN_ROWS;
 use crate::matrix::Cell;
 use crate::row::cells_between;
-
-/// So many rows has each run but the last, which has no more.
-pub const HEIGHT: u64 = 256;
 
 /// The cells of a matrix, row after row.
 #[derive(Drop)]
@@ -18,14 +16,6 @@ pub enum Cells {
 }
 
 impl Cells {
-    /// Whether they stand in runs.
-    #[inline(always)]
-    pub fn are_runs(&self) -> bool
-        ensures { IsTrue result ↔ AreRuns self.now }
-    {
-        matches!(self, Cells::Runs(_))
-    }
-
     /// The cells from one place up to another, both counted from the first cell of all. Where there are runs these cells
     /// stand in one of them, whose first row tells how many cells are before it.
     #[inline(always)]
@@ -37,7 +27,7 @@ impl Cells {
         match self {
             Cells::Whole(cells) => cells_between(cells, from as usize, to as usize),
             Cells::Runs(runs) => {
-                let before = starts[(run * HEIGHT) as usize];
+                let before = starts[(run * RUN_ROWS) as usize];
                 cells_between(
                     &runs[run as usize],
                     (from - before) as usize,

@@ -44,7 +44,13 @@ impl Column {
         let rows = column.rows() as usize;
         let mut words = Vec::with_capacity(alloc, rows)?;
         let mut bits = vec![in alloc; 0; rows.div_ceil(64)]?;
-        let full = copy(column, &mut words, &mut bits);
+        let mut full = true;
+        for k in 0..column.rows() {
+            let (word, stands) = column.word_in_column(k);
+            words.push_reserved(word);
+            set_bit(&mut bits, k, stands);
+            full &= stands;
+        }
         Ok(Column { words, bits, full })
     }
 
@@ -62,26 +68,6 @@ impl Column {
         let bits = self.bits[(k / 64) as usize];
         (word, bits >> (k % 64) & 1 == 1)
     }
-}
-
-/// Lists the words of a column, and sets the bits of the rows that have one, where no bit is set. Answers whether all have.
-fn copy(column: &Matrix, words: &mut Vec<u64>, bits: &mut Vec<u64>) -> bool
-    requires column { column.now.columns ≡ 1 }
-    requires none { length words.old.items ≡ 0 }
-    requires room { column.now.rows ≤ vec_capacity words.old }
-    requires wide { column.now.rows ≤ 64 * length bits.old.items }
-    requires clear { (k : ℕ) → bit_of bits.old.items k ≡ 0 }
-    ensures copied { IsCopied column.now words.new.items bits.new.items result }
-    ensures wide { length bits.new.items ≡ length bits.old.items }
-{
-    let mut full = true;
-    for k in 0..column.rows() {
-        let (word, stands) = column.word_in_column(k);
-        words.push_reserved(word);
-        set_bit(bits, k, stands);
-        full &= stands;
-    }
-    full
 }
 
 /// Sets the bit of a row, if it has a word.

@@ -3,16 +3,15 @@ ghost use Rattle.std.specs.Prelude.{◌≡◌, ◌<◌, ◌≤◌, ◌+◌, ◌^
 ghost use Rattle.std.specs.List.{AllByRecursion};
 ghost use Rattle.std.specs.List.Sorted.{IsNonDecreasing};
 
+use crate::limits::MOST_SIDE;
+use crate::moving::push_moved;
 use std::alloc::{AllocError, Global};
 use std::marker::Model;
-
-/// So many rows in front are counted at most. More than a matrix has are listed.
-const MOST: u64 = 16_777_216;
 
 /// Where rows end, one after the other. A contract sees the list.
 #[derive(Drop)]
 pub(crate) struct RowEnds {
-    /// How many rows in front end at 0. They take no memory.
+    /// How many rows in front end at 0, `MOST_SIDE` at most: more than a matrix has are listed. They take no memory.
     blank: u64,
     /// Where the others end.
     listed: Vec<u64>,
@@ -79,14 +78,12 @@ impl RowEnds {
         ensures ended { OnOk result (self.new ≡ self.old ++ replicate count end) }
         ensures kept { OnErr result (self.new ≡ self.old) }
     {
-        if end == 0 && self.listed.is_empty() && count <= MOST - self.blank {
+        if end == 0 && self.listed.is_empty() && count <= MOST_SIDE - self.blank {
             self.blank += count;
             return Ok(());
         }
-        match self.listed.len().checked_add(count as usize) {
-            Some(len) => self.listed.resize(len, end),
-            None => Err(AllocError),
-        }
+        self.listed.reserve(count as usize)?;
+        self.listed.resize(self.listed.len() + count as usize, end)
     }
 
     /// Adds these ends to a list, each counted from `base` on.
@@ -96,7 +93,7 @@ impl RowEnds {
     {
         let len = starts.len() + self.blank as usize;
         starts.resize(len, base)?;
-        push_ends(starts, &self.listed, base)
+        push_moved(starts, &self.listed, base)
     }
 
     /// Whether starts that don't fall begin with these ends, each counted from `base` on. Of the rows in front of all cells only
@@ -137,47 +134,4 @@ fn are_ahead(ends: &[u64], starts: &[u64], base: u64) -> bool
         next += 1;
     }
     true
-}
-
-/// So many ends are added at once.
-const BLOCK: usize = 16;
-
-/// Adds ends, counted from `base` on.
-fn push_ends(starts: &mut Vec<u64>, ends: &[u64], base: u64) -> Result<(), AllocError>
-    requires { AllByRecursion (λ e. base + e < 2 ^ 64) ends.now }
-    ensures { OnOk result (starts.new.items ≡ starts.old.items ++ map (λ e. base + e) ends.now) }
-{
-    let mut rest = ends;
-    while rest.len() >= BLOCK {
-        let (block, others) = rest.split_at(BLOCK);
-        starts.extend_from_slice(&block_ahead(block, base))?;
-        rest = others;
-    }
-    push_each(starts, rest, base)
-}
-
-/// The same, one end after the other.
-#[inline(always)]
-fn push_each(starts: &mut Vec<u64>, ends: &[u64], base: u64) -> Result<(), AllocError>
-    requires { AllByRecursion (λ e. base + e < 2 ^ 64) ends.now }
-    ensures { OnOk result (starts.new.items ≡ starts.old.items ++ map (λ e. base + e) ends.now) }
-{
-    for end in ends {
-        starts.push(base + *end)?;
-    }
-    Ok(())
-}
-
-/// The same of a block.
-#[inline(always)]
-fn block_ahead(ends: &[u64], base: u64) -> [u64; BLOCK]
-    requires block { length ends.now ≡ 16 }
-    requires base { AllByRecursion (λ e. base + e < 2 ^ 64) ends.now }
-    ensures { result ≡ map (λ e. base + e) ends.now }
-{
-    let mut ahead = [0; BLOCK];
-    for place in 0..BLOCK {
-        ahead[place] = base + ends[place];
-    }
-    ahead
 }

@@ -1,7 +1,8 @@
 //! Rows that are filled in ascending order.
-ghost use Rattle.std.specs.Prelude.{◌≡◌, ◌<◌, ◌≤◌, ◌∷◌, ◌++◌, [], true, false, length, is_some, slice_index, IfOk, IfErr, OnOk, OnErr, IsTrue};
+ghost use Rattle.std.specs.Prelude.{◌≡◌, ◌<◌, ◌≤◌, ◌∷◌, true, false, length, is_some, slice_index};
+ghost use Rattle.std.specs.Prelude.{IfOk, IfErr, OnOk, OnErr, IsTrue};
 ghost use Rattle.std.specs.FinMap as map;
-ghost use Rattle.csr_store.specs.Grid.{IsGrid, limit, row_cells, row_of};
+ghost use Rattle.csr_store.specs.Grid.{IsGrid, IsInside, limit, row_cells, row_of};
 ghost use Rattle.csr_store.specs.ByRows.{by_rows};
 ghost use Rattle.csr_store.specs.inner.ByRows.{Closes, Starts, Within};
 
@@ -113,13 +114,9 @@ impl Filler {
     /// Adds an entry, where it lies behind all others; says whether it did.
     #[inline(always)]
     pub fn add(&mut self, row: u64, column: u64, word: u64) -> Result<bool, AllocError>
-        requires row { row < self.old.rows }
-        requires column { column < self.old.columns }
-        requires room { map.len self.old.cells < limit }
+        requires { IsInside self.old (row, column) × (map.len self.old.cells < limit) }
         ensures added { IfOk result (λ b. b ≡ true
             → self.new ≡ record self.old { cells = map.insert self.old.cells (row, column) word }) }
-        ensures behind { IfOk result (λ b. b ≡ true
-            → map.entries self.new.cells ≡ map.entries self.old.cells ++ ((row, column), word) ∷ []) }
         ensures left { IfOk result (λ b. b ≡ false → self.new ≡ self.old) }
         ensures kept { OnErr result (self.new ≡ self.old) }
     {

@@ -1,14 +1,11 @@
 //! Cells of which some are kept: those whose answer is not 0.
-ghost use Rattle.std.specs.Prelude.{◌≡◌, ◌<◌, ◌≤◌, ◌+◌, ◌-◌, ◌^◌, ◌++◌, ◌∷◌, [], length, nat_eq, if◌then◌else◌, vec_capacity};
+ghost use Rattle.std.specs.Prelude.{◌≡◌, ◌<◌, ◌≤◌, ◌+◌, ◌^◌, ◌++◌, ◌∷◌, [], length, nat_eq, if◌then◌else◌, vec_capacity};
 ghost use Rattle.std.specs.List.{AllByRecursion};
-ghost use Rattle.csr_store.specs.Grid.{Cell, row_of};
-ghost use Rattle.csr_store.specs.Added.{kept_where, kept_rows};
-ghost use Rattle.csr_store.specs.Along.{along};
+ghost use Rattle.csr_store.specs.Grid.{Cell};
+ghost use Rattle.csr_store.specs.Added.{kept_where};
 ghost use Rattle.csr_store.specs.inner.Kept.{kept_count};
-ghost use Rattle.csr_store.specs.inner.Run.{AreRows, ended_rows, open_row};
 
-use crate::matrix::{Cell, Matrix};
-use std::ops::Range;
+use crate::matrix::Cell;
 
 /// Room for the cells that some answers keep. Where there are any answers it has a place more, in which a cell stands until its
 /// answer is looked at.
@@ -37,9 +34,9 @@ fn count_kept(answers: &[u64]) -> usize
 
 /// Adds those of some cells whose answer is not 0 to a list that has room for them, and for one more.
 #[inline(always)]
-fn add_where(kept: &mut Vec<Cell>, cells: &[Cell], answers: &[u64])
-    requires answers { length answers.now ≡ length cells.now }
-    requires room { 0 < length answers.now → length kept.old.items + kept_count answers.now < vec_capacity kept.old }
+pub fn add_where(kept: &mut Vec<Cell>, cells: &[Cell], answers: &[u64])
+    requires { (length answers.now ≡ length cells.now)
+        × (0 < length answers.now → length kept.old.items + kept_count answers.now < vec_capacity kept.old) }
     ensures added { kept.new.items ≡ kept.old.items ++ kept_where cells.now answers.now }
     ensures words { AllByRecursion (λ (c : Cell). c.1 < 2 ^ 64) cells.now }
     ensures room { vec_capacity kept.old ≤ vec_capacity kept.new }
@@ -64,39 +61,5 @@ fn push_if(kept: &mut Vec<Cell>, column: u64, word: u64, answer: u64)
     kept.push_reserved((column, word));
     if answer == 0 {
         let _ = kept.take_last();
-    }
-}
-
-/// Adds those of the cells of a matrix's rows whose answer is not 0, and where each row ends then, to lists that have room for
-/// them, and the first for one more.
-#[inline(always)]
-pub fn add_rows_where(
-    cells: &mut Vec<Cell>,
-    ends: &mut Vec<u64>,
-    a: &Matrix,
-    rows: Range<u64>,
-    answers: &[u64],
-)
-    requires range { rows.start ≤ rows.end }
-    requires within { rows.end ≤ a.now.rows }
-    requires answers { length answers.now ≡ length (along (row_of a.now) rows.start (rows.end - rows.start)) }
-    requires room { 0 < length answers.now → length cells.old.items + kept_count answers.now < vec_capacity cells.old }
-    requires room_of_ends { length ends.old.items + (rows.end - rows.start) ≤ vec_capacity ends.old }
-    requires rows { AreRows a.now.columns ends.old.items cells.old.items }
-    requires none_open { open_row 0 ends.old.items cells.old.items ≡ [] }
-    ensures rows { AreRows a.now.columns ends.new.items cells.new.items }
-    ensures none_open { open_row 0 ends.new.items cells.new.items ≡ [] }
-    ensures ended { ended_rows 0 ends.new.items cells.new.items
-        ≡ ended_rows 0 ends.old.items cells.old.items ++ kept_rows a.now answers.now rows.start (rows.end - rows.start) }
-{
-    let _ = a.columns();
-    let mut reader = a.rows_from(rows.start);
-    let mut left = answers;
-    while reader.row() < rows.end {
-        let here = reader.next_row();
-        let (now, later) = left.split_at(here.len());
-        add_where(cells, here, now);
-        ends.push_reserved(cells.len() as u64);
-        left = later;
     }
 }

@@ -10,13 +10,12 @@
 //! another matrix's where they are the same; and [`join_rows`] one of any runs that follow one another, by
 //! copying. [`RowReader`] reads rows one after the other, [`RowCopy`] copies rows of a matrix with other
 //! values, and [`Column`] is a copy of a matrix of one column, a word and a bit a row. What callers need to
-//! know of grids is proved in `proofs/Laws.antt` (single entries), `proofs/ByRow.antt` (a grid row by row)
-//! and `proofs/Copying.antt` (a matrix put into a builder, entry by entry).
+//! know of grids is proved in `proofs/Laws.antt` (single entries) and `proofs/ByRow.antt` (a grid row by row).
 //!
 //! Read `specs/Grid.antt` and `specs/Refusal.antt` first, then `error`, `builder`, `matrix`, `rows` and
 //! `stack`; below them `cells` (one list of cells, or many), `starts` (where rows start, in a list that
 //! matrices may share), `growing` (where rows start while runs are stacked), `ends` (where the rows of a run
-//! end), `filler` (rows filled in ascending order), `merge` (two lists of entries as one matrix), `repeat` (the
+//! end), `moving` (ends counted from another place), `filler` (rows filled in ascending order), `repeat` (the
 //! first entry that has the position of an earlier one), `kept` (cells of which some are kept), `reader` (rows
 //! one after the other) and `row` (parts of a list of cells, and searches in a row), over `specs/ByRows.antt`.
 #![tactic(auto)]
@@ -31,8 +30,9 @@ mod filler;
 mod growing;
 mod join;
 mod kept;
+mod limits;
 pub mod matrix;
-mod merge;
+mod moving;
 mod reader;
 mod repeat;
 mod row;
@@ -46,6 +46,7 @@ pub use column::Column;
 pub use entry_list::EntryList;
 pub use error::StoreError;
 pub use join::join_rows;
+pub use limits::{MOST_ENTRIES, MOST_SIDE, RUN_ROWS};
 pub use matrix::{Matrix, Version};
 pub use reader::RowReader;
 pub use row_copy::RowCopy;

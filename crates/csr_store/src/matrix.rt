@@ -1,17 +1,20 @@
 //! A finished matrix.
-ghost use Rattle.std.specs.Prelude.{◌≡◌, ◌<◌, ◌≤◌, ◌+◌, ◌-◌, ◌*◌, ◌/◌, ◌∷◌, ◌++◌, ◌↔◌, [], length, map, IfOk, OnOk, IfSome, IsSome, IsTrue};
-ghost use Rattle.std.specs.List.{range_with_len, AllByRecursion};
+ghost use Rattle.std.specs.Prelude.{◌≡◌, ◌<◌, ◌≤◌, ◌+◌, ◌-◌, ◌*◌, ◌↔◌, [], length, map, IfOk, IsTrue};
+ghost use Rattle.std.specs.List.{range_with_len};
 ghost use Rattle.std.specs.FinMap as fin;
 ghost use Rattle.csr_store.specs.Along.{along};
 ghost use Rattle.csr_store.specs.Grid.{IsGrid, row_of, row_start};
 ghost use Rattle.csr_store.specs.ByRows.{grid, by_rows, ends_of};
+ghost use Rattle.csr_store.specs.Run.{IsInRun};
 ghost use Rattle.csr_store.specs.inner.ByRows.{AreStarts};
 ghost use Rattle.csr_store.specs.Valued.{rows_of};
 ghost use Rattle.csr_store.specs.inner.Cells.{AreBases, joined};
 
 mod column;
 
-use crate::cells::{Cells, HEIGHT};
+use crate::cells::Cells;
+use crate::limits::RUN_ROWS;
+use crate::moving::push_moved;
 use crate::reader::RowReader;
 use crate::row::value_at;
 use crate::row_copy::RowCopy;
@@ -84,9 +87,7 @@ impl Matrix {
     ) -> Self
         requires is_grid { IsGrid (grid rows columns (by_rows (ends_of starts) (joined lists.items))) }
         requires starts { AreStarts rows starts (joined lists.items) }
-        requires bases { AreBases starts lists.items }
-        requires cover { rows ≤ length lists.items * 256 }
-        requires entries { entries ≡ length (joined lists.items) }
+        requires lists { AreBases starts lists.items × (rows ≤ length lists.items * 256) × (entries ≡ length (joined lists.items)) }
         ensures { result ≡ grid rows columns (by_rows (ends_of starts) (joined lists.items)) }
     {
         Matrix {
@@ -96,6 +97,13 @@ impl Matrix {
             starts,
             cells: Cells::Runs(lists),
         }
+    }
+
+    /// What holds of any matrix. Only the prover looks at it.
+    pub fn recall(&self)
+        ensures { IsGrid self.now }
+    {
+        let _ = &self.rows;
     }
 
     /// The number of rows.
@@ -146,7 +154,7 @@ impl Matrix {
         if range.end <= range.start {
             return true;
         }
-        let _ = self.rows();
+        self.recall();
         let starts = self.starts();
         starts[range.start as usize] == starts[range.end as usize]
     }
@@ -159,28 +167,24 @@ impl Matrix {
         let starts = self.starts.list();
         let from = starts[i as usize];
         let to = starts[i as usize + 1];
-        self.cells.part(starts, i / HEIGHT, from, to)
+        self.cells.part(starts, i / RUN_ROWS, from, to)
     }
 
-    /// The cells of the rows from one up to another, where they stand in one list. They do so where these rows are all of
-    /// the same 256, counted from 0.
-    pub fn cells_of(&self, range: Range<u64>) -> Option<&[Cell]>
+    /// The cells of the rows from one up to another, all of one run, counted from 0: these stand in one list.
+    pub fn cells_of(&self, range: Range<u64>) -> &[Cell]
         requires range { range.start ≤ range.end }
         requires within { range.end ≤ self.now.rows }
-        ensures cells { IfSome result (λ cs. cs.now ≡ along (row_of self.now) range.start (range.end - range.start)) }
-        ensures near { range.end ≤ range.start / 256 * 256 + 256 → IsSome result }
+        requires one_run { IsInRun range.start range.end }
+        ensures { result.now ≡ along (row_of self.now) range.start (range.end - range.start) }
     {
         if range.start == range.end {
-            return Some(&[]);
+            return &[];
         }
-        let run = range.start / HEIGHT;
-        if range.end > run * HEIGHT + HEIGHT && self.cells.are_runs() {
-            return None;
-        }
+        let run = range.start / RUN_ROWS;
         let starts = self.starts.list();
         let from = starts[range.start as usize];
         let to = starts[range.end as usize];
-        Some(self.cells.part(starts, run, from, to))
+        self.cells.part(starts, run, from, to)
     }
 
     /// The cells of row `i`, counted from 0, and of those behind it that stand in one list with it; and the row behind these.
@@ -191,9 +195,8 @@ impl Matrix {
         ensures cells { result.0.now ≡ along (row_of self.now) i (result.1 - i) }
     {
         let rows = self.rows();
-        let end = (i / HEIGHT * HEIGHT + HEIGHT).min(rows);
-        let cells = self.cells_of(i..end).unwrap();
-        (cells, end)
+        let end = (i / RUN_ROWS * RUN_ROWS + RUN_ROWS).min(rows);
+        (self.cells_of(i..end), end)
     }
 
     /// The rows one after the other, from one on.
@@ -204,30 +207,28 @@ impl Matrix {
         RowReader::begin(self, row)
     }
 
-    /// The rows from one up to another, to be copied with other values, where they stand in one list. They do so where these
-    /// rows are all of the same 256, counted from 0. Takes the copy's memory.
-    pub fn copying(
-        &self,
-        alloc: Global,
-        range: Range<u64>,
-    ) -> Result<Option<RowCopy<'_>>, AllocError>
+    /// The rows from one up to another, all of one run, to be copied with other values. Takes the copy's memory.
+    pub fn copying(&self, alloc: Global, range: Range<u64>) -> Result<RowCopy<'_>, AllocError>
         requires range { range.start ≤ range.end }
         requires within { range.end ≤ self.now.rows }
-        ensures rows { IfOk result (λ o. IfSome o (λ c. c ≡ record {
+        requires one_run { IsInRun range.start range.end }
+        ensures { IfOk result (λ c. c ≡ record {
           run = rows_of self.now range.start (range.end - range.start);
           written = 0;
-        })) }
-        ensures near { IfOk result (λ o. range.end ≤ range.start / 256 * 256 + 256 → IsSome o) }
+        }) }
     {
         let from = range.start as usize;
         let to = range.end as usize;
-        let Some(source) = self.cells_of(range.start..range.end) else {
-            return Ok(None);
-        };
+        let source = self.cells_of(range.start..range.end);
         let starts = self.starts.list();
-        let ends = ends_behind(alloc, &starts[from + 1..to + 1], starts[from])?;
+        let mut ends = Vec::with_capacity(alloc, to - from)?;
+        push_moved(
+            &mut ends,
+            &starts[from + 1..to + 1],
+            starts[from].wrapping_neg(),
+        )?;
         let written = Vec::with_capacity(alloc, source.len())?;
-        Ok(Some(RowCopy::of_ends(range.start, self.columns, ends, written, source)))
+        Ok(RowCopy::of_ends(range.start, self.columns, ends, written, source))
     }
 
     /// The value at a position, where it has one.
@@ -240,51 +241,6 @@ impl Matrix {
             None
         }
     }
-}
-
-/// So many ends are taken at once.
-const BLOCK: usize = 16;
-
-/// Where rows end behind a place, by where they end.
-fn ends_behind(alloc: Global, ends: &[u64], base: u64) -> Result<Vec<u64>, AllocError>
-    requires { AllByRecursion (λ e. base ≤ e) ends.now }
-    ensures { IfOk result (λ behind. behind.items ≡ map (λ e. e - base) ends.now) }
-{
-    let mut behind = Vec::with_capacity(alloc, ends.len())?;
-    let mut rest = ends;
-    while rest.len() >= BLOCK {
-        let (block, others) = rest.split_at(BLOCK);
-        behind.extend_from_slice(&block_behind(block, base))?;
-        rest = others;
-    }
-    push_behind(&mut behind, rest, base)?;
-    Ok(behind)
-}
-
-/// Adds the same of each.
-#[inline(always)]
-fn push_behind(behind: &mut Vec<u64>, ends: &[u64], base: u64) -> Result<(), AllocError>
-    requires { AllByRecursion (λ e. base ≤ e) ends.now }
-    ensures { OnOk result (behind.new.items ≡ behind.old.items ++ map (λ e. e - base) ends.now) }
-{
-    for end in ends {
-        behind.push(*end - base)?;
-    }
-    Ok(())
-}
-
-/// The same of a block.
-#[inline(always)]
-fn block_behind(ends: &[u64], base: u64) -> [u64; BLOCK]
-    requires block { length ends.now ≡ 16 }
-    requires base { AllByRecursion (λ e. base ≤ e) ends.now }
-    ensures { result ≡ map (λ e. e - base) ends.now }
-{
-    let mut behind = [0; BLOCK];
-    for place in 0..BLOCK {
-        behind[place] = ends[place] - base;
-    }
-    behind
 }
 
 /// A matrix with several owners. `Arc::try_clone` makes a further one.

@@ -43,7 +43,7 @@ impl<'m> RowReader<'m> {
         requires { row ≤ matrix.now.rows }
         ensures { result ≡ record { grid = matrix.now; row = row } }
     {
-        let _ = matrix.rows();
+        matrix.recall();
         RowReader {
             matrix,
             starts: matrix.starts(),

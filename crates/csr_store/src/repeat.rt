@@ -5,11 +5,12 @@ ghost use Rattle.csr_store.specs.Listed.{NoneTwice, IsFirstRepeat};
 ghost use Rattle.csr_store.specs.Packed.{unpacked};
 ghost use Rattle.csr_store.specs.inner.Repeated.{keys_from, IsLeastAgain};
 
+use crate::limits::MOST_ENTRIES;
 use crate::matrix::Cell;
 use std::alloc::{AllocError, Global};
 
 /// So many places has a list of entries at most.
-const PLACES: u128 = 16_777_216;
+const PLACES: u128 = MOST_ENTRIES as u128;
 
 /// The place of the first cell at whose position, as one number, an earlier one stands.
 ///

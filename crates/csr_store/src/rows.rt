@@ -6,12 +6,12 @@ ghost use Rattle.csr_store.specs.Added.{kept_rows};
 ghost use Rattle.csr_store.specs.Along.{along};
 ghost use Rattle.csr_store.specs.ByRows.{ends_of};
 ghost use Rattle.csr_store.specs.Valued.{entries_in, entries_of, with_value, all_cells, valued_from, AreAlike};
-ghost use Rattle.csr_store.specs.inner.Cells.{Stacks, joined};
+ghost use Rattle.csr_store.specs.inner.Cells.{CanStack, Stacks, joined};
 ghost use Rattle.csr_store.specs.inner.Run.{AreClosed, AreRows, IsRow, ended_rows, open_row};
 
 use crate::ends::RowEnds;
 use crate::growing::Growing;
-use crate::kept::{add_rows_where, room_for};
+use crate::kept::{add_where, room_for};
 use crate::matrix::{Cell, Matrix};
 use crate::row::{append, put_values};
 use std::alloc::{AllocError, Global};
@@ -94,12 +94,20 @@ impl Rows {
           opened = [];
         }) }
     {
-        let first = range.start;
         let mut ends = Vec::with_capacity(alloc, (range.end - range.start) as usize)?;
         let mut cells = Vec::with_capacity(alloc, room_for(answers))?;
-        add_rows_where(&mut cells, &mut ends, a, range, answers);
+        let mut reader = a.rows_from(range.start);
+        let mut left = answers;
+        a.recall();
+        while reader.row() < range.end {
+            let here = reader.next_row();
+            let (now, later) = left.split_at(here.len());
+            add_where(&mut cells, here, now);
+            ends.push_reserved(cells.len() as u64);
+            left = later;
+        }
         Ok(Rows {
-            first,
+            first: range.start,
             columns: a.columns(),
             ends: RowEnds::of(ends),
             cells,
@@ -169,7 +177,6 @@ impl Rows {
         ensures alike { AreAlike self.old self.new }
         ensures values { all_cells self.new ≡ valued_from from values.now (all_cells self.old) }
     {
-        let _ = self.entries();
         put_values(&mut self.cells, from, values);
     }
 
@@ -232,10 +239,7 @@ impl Rows {
         starts: &mut Growing<'_>,
         lists: &mut Vec<Vec<Cell>>,
     ) -> Result<u64, AllocError>
-        requires closed { AreClosed starts.old (joined lists.old.items) }
-        requires none_open { self.opened ≡ [] }
-        requires entries { entries ≡ length (joined lists.old.items) }
-        requires few { entries + entries_in self.ended ≤ limit }
+        requires { CanStack self entries starts.old lists.old.items }
         ensures stacked { OnOk result (Stacks self starts.old lists.old.items starts.new lists.new.items) }
         ensures entries { IfOk result (λ n. n ≡ length (joined lists.new.items)) }
         ensures rows { AllByRecursion (λ r. IsRow self.columns r) self.ended }
@@ -254,9 +258,9 @@ impl Rows {
     ) -> Result<(), AllocError>
         requires closed { AreClosed starts.old.items cells.old.items }
         requires none_open { self.now.opened ≡ [] }
-        ensures closed { OnOk result (AreClosed starts.new.items cells.new.items) }
-        ensures joined { OnOk result (ended_rows 0 (ends_of starts.new.items) cells.new.items
-            ≡ ended_rows 0 (ends_of starts.old.items) cells.old.items ++ self.now.ended) }
+        ensures joined { OnOk result (AreClosed starts.new.items cells.new.items
+            × (ended_rows 0 (ends_of starts.new.items) cells.new.items
+            ≡ ended_rows 0 (ends_of starts.old.items) cells.old.items ++ self.now.ended)) }
         ensures rows { AllByRecursion (λ r. IsRow self.now.columns r) self.now.ended }
     {
         self.ends.add_to(starts, cells.len() as u64)?;

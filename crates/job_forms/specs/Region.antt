@@ -1,20 +1,22 @@
--- What is made of a part of a result: rows of a range, under a structural mask (GraphBLAS C API Specification 2.0, "Masks"), with the
--- steps of the calls. That calls have steps, and what want of memory leaves, is this project's own.
-use Rattle.std.specs.Prelude.{◌≡◌, ◌≤◌, ◌+◌, ◌-◌, ◌++◌, ℕ, List, [], Option, Result, Ok, Err, IfOk, OnOk, OnErr}
+-- What is made of a part of a result: rows of a range, under a structural mask (GraphBLAS C API Specification 2.0, "Masks"), with
+-- the steps of the calls. That calls have steps, and what want of memory leaves, is this project's own.
+use Rattle.std.specs.Prelude.{◌≡◌, ◌≤◌, ◌+◌, ◌-◌, ◌++◌, ℕ, List, [], Option}
+use Rattle.std.specs.Prelude.{Result, Ok, Err, IfOk, OnOk, OnErr}
 use Rattle.std.specs.declared.alloc.AllocError.{AllocError}
 use Rattle.csr_store.specs.Grid.{Position}
 use Rattle.csr_store.specs.Mask.{HasShape, mask_of, rows_under, all_listed_under}
-use Rattle.csr_store.specs.Run.{Row, Run}
+use Rattle.csr_store.specs.Run.{Row, Run, IsInRun}
 use Rattle.bpf_run.specs.Calls.{Call, steps_of, Charges}
 use Rattle.job_forms.specs.declared.region.Region.{Region}
 use Rattle.job_forms.specs.declared.region.Made.{Made}
 use Rattle.job_forms.specs.declared.region.Making.{Making}
 
--- the region is one of a result of so many rows and columns
+-- the region is one of a result of so many rows and columns: rows of one run
 pub record IsRegion (rows columns : ℕ) (region : Region) : Type 0 where
   pub mask : HasShape rows columns (mask_of region.mask)
   pub range : region.range.start ≤ region.range.end
   pub within : region.range.end ≤ rows
+  pub one_run : IsInRun region.range.start region.range.end
 
 -- a run of rows with the steps of all calls; or, for want of memory, the steps of some of the calls, each taken at most once
 pub record IsMade (run : Run) (calls : List Call) (made : Made) : Type 0 where

@@ -1,13 +1,15 @@
 //! A part of a result, and what is made of it.
-ghost use Rattle.std.specs.Prelude.{◌≡◌};
-ghost use Rattle.job_forms.specs.Region.{nothing_made, told};
+ghost use Rattle.std.specs.Prelude.{◌≡◌, List};
+ghost use Rattle.bpf_run.specs.Calls.{Call};
+ghost use Rattle.csr_store.specs.Run.{Run};
+ghost use Rattle.job_forms.specs.Region.{nothing_made, told, IsMade};
 
 use csr_store::{Matrix, Rows};
 use std::alloc::{AllocError, Global};
 use std::ops::Range;
 
-/// A part of a result: the rows of a range, under a mask if there is one. A mask is structural (`GrB_STRUCTURE` of the GraphBLAS): a
-/// position passes where it stores something.
+/// A part of a result: rows of one run of it ([`RUN_ROWS`](csr_store::RUN_ROWS)), under a mask if there is one. A mask is
+/// structural (`GrB_STRUCTURE` of the GraphBLAS): a position passes where it stores something.
 #[derive(Drop)]
 pub struct Region<'m> {
     pub range: Range<u64>,
@@ -19,6 +21,18 @@ pub struct Region<'m> {
 pub struct Made {
     pub result: Result<Rows, AllocError>,
     pub steps: u64,
+}
+
+impl Made {
+    /// Want of memory, before any call was made.
+    pub fn refused(error: AllocError) -> Self
+        ensures { (run : Run) (calls : List Call) → IsMade run calls result }
+    {
+        Made {
+            result: Err(error),
+            steps: 0,
+        }
+    }
 }
 
 /// Rows that are being made, with the steps of the calls so far.

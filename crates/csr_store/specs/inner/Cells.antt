@@ -1,7 +1,8 @@
 -- How the cells of a matrix are kept: all in one list, or those of each 256 rows in a list of their own.
 use Rattle.std.specs.Prelude.{◌≡◌, ◌≤◌, ◌<◌, ◌+◌, ◌*◌, ◌/◌, ℕ, List, [], ◌∷◌, ◌++◌, length, take, get_or}
 use Rattle.std.specs.Global.{Vec}
-use Rattle.csr_store.specs.Grid.{Cell}
+use Rattle.csr_store.specs.Grid.{Cell, limit}
+use Rattle.csr_store.specs.Valued.{entries_in}
 use Rattle.csr_store.specs.ByRows.{ends_of}
 use Rattle.csr_store.specs.Run.{Run}
 use Rattle.csr_store.specs.inner.Run.{AreClosed, ended_rows}
@@ -16,10 +17,6 @@ joined (v ∷ vs) = v.items ++ joined vs
 abbrev pub joined_cells : Cells → List Cell
 joined_cells (Whole cells) = cells.items
 joined_cells (Runs runs) = joined runs.items
-
-abbrev pub AreRuns : Cells → Type 0
-AreRuns (Whole cells) = ⊥
-AreRuns (Runs runs) = Unit {0}
 
 -- how many cells the runs before run k have together
 abbrev pub cells_before : List (Vec Cell) → ℕ → ℕ
@@ -50,3 +47,10 @@ pub record Stacks (run : Run) (starts : List ℕ) (runs : List (Vec Cell)) (more
   pub starts_are : more ≡ starts ++ ends
   pub cells : Vec Cell
   pub runs_are : all ≡ runs ++ cells ∷ []
+
+-- a run without an open row can stand behind compressed rows, which have so many entries
+pub record CanStack (run : Run) (entries : ℕ) (starts : List ℕ) (runs : List (Vec Cell)) : Type 0 where
+  pub closed : AreClosed starts (joined runs)
+  pub none_open : run.opened ≡ []
+  pub count : entries ≡ length (joined runs)
+  pub few : entries + entries_in run.ended ≤ limit

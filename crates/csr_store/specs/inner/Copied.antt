@@ -8,4 +8,5 @@ abbrev pub copied_cells : Row → Row → Row
 copied_cells written source = written ++ drop (length written) source
 
 abbrev pub run_by_ends : ℕ → ℕ → List ℕ → Row → Run
-run_by_ends first columns ends cells = record { first = first; columns = columns; ended = ended_rows 0 ends cells; opened = open_row 0 ends cells }
+run_by_ends first columns ends cells =
+    record { first = first; columns = columns; ended = ended_rows 0 ends cells; opened = open_row 0 ends cells }

@@ -4,7 +4,8 @@ ghost use Rattle.std.specs.FinMap as fin;
 ghost use Rattle.csr_store.specs.inner.Column.{first_word};
 
 use super::{Cell, Matrix};
-use crate::cells::{Cells, HEIGHT};
+use crate::cells::Cells;
+use crate::limits::RUN_ROWS;
 
 impl Matrix {
     /// The word at row `k` of a matrix of one column, and whether there is one. Where there is none it is any word, so that a
@@ -27,12 +28,12 @@ impl Matrix {
                 first_between(cells, from as usize, to as usize)
             }
             Cells::Runs(runs) => {
-                let run = k / HEIGHT;
+                let run = k / RUN_ROWS;
                 let cells = &runs[run as usize];
-                if cells.len() as u64 == HEIGHT {
-                    return (cells[(k % HEIGHT) as usize].1, true);
+                if cells.len() as u64 == RUN_ROWS {
+                    return (cells[(k % RUN_ROWS) as usize].1, true);
                 }
-                let before = starts[(run * HEIGHT) as usize];
+                let before = starts[(run * RUN_ROWS) as usize];
                 let from = starts[k as usize] - before;
                 let to = starts[k as usize + 1] - before;
                 first_between(cells, from as usize, to as usize)

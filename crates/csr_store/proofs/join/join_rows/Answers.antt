@@ -17,8 +17,8 @@ loop-piece-preserved c =
     let f = follow_each c.loop-piece.piece-index c.args.columns 0 c.args.rows c.deref-piece-items.result.now c.piece-item.result c.loop-piece-test.true (rw c.deref-piece-items.ensures.value c.requires.follow) in
     let columns : c.piece-item.result.columns ≡ c.args.columns = ap (λ (r : Run). r.columns) c.piece-item.is ∙ f.0 in
     record {
-      closed = c.in_ok-append_to.ensures.closed;
-      listed = c.in_ok-append_to.ensures.joined ∙ ap (λ (rs : List Row). rs ++ c.piece-item.result.ended) c.loop-piece.invariant.listed
+      closed = c.in_ok-append_to.ensures.joined.0;
+      listed = c.in_ok-append_to.ensures.joined.1 ∙ ap (λ (rs : List Row). rs ++ c.piece-item.result.ended) c.loop-piece.invariant.listed
           ∙ sym (ended_more c.loop-piece.piece-index c.deref-piece-items.result.now c.piece-item.result c.loop-piece-test.true c.piece-item.is);
       are_rows = rows_more c.loop-piece.piece-index c.args.columns c.deref-piece-items.result.now c.piece-item.result c.loop-piece-test.true c.piece-item.is c.loop-piece.invariant.are_rows
           (subst (λ (n : ℕ). AllByRecursion (λ q. IsRow n q) c.piece-item.result.ended) columns c.in_ok-append_to.ensures.rows);

@@ -5,12 +5,12 @@ use Rattle.csr_store.proofs.kept.add_where.Goals as goal
 pub loop-column-init : goal.loop-column-init
 loop-column-init c = (
   are_kept_none c.args.cells.now c.args.answers.now c.args.kept.now.items (vec_capacity c.args.kept.now)
-      (λ u. c.requires.room (let a = c.requires.answers in omega (arith, a, u))),
+      (λ u. c.requires.1 (let a = c.requires.0 in omega (arith, a, u))),
   omega arith,
 )
 
 pub bounds-answers-next : goal.bounds-answers-next
-bounds-answers-next c = let a = c.loop-column.invariant.0.at in let t = c.loop-column-test.true in omega (arith, a, t, c.requires.answers)
+bounds-answers-next c = let a = c.loop-column.invariant.0.at in let t = c.loop-column-test.true in omega (arith, a, t, c.requires.0)
 
 pub push_if-requires : goal.push_if-requires
 push_if-requires c = record { room = let f = c.loop-column.invariant.0.fits c.loop-column-test.true in omega (arith, f) }
@@ -18,7 +18,7 @@ push_if-requires c = record { room = let f = c.loop-column.invariant.0.fits c.lo
 pub loop-column-preserved : goal.loop-column-preserved
 loop-column-preserved c = (
   kept_step c.args.cells.now c.args.answers.now c.args.kept.now.items c.loop-column.column-index c.loop-column.next c.loop-column.kept.items
-      (vec_capacity c.loop-column.kept) (0, 0) c.loop-column.invariant.0 c.loop-column-test.true c.requires.answers c.push_if.ensures.word _ _ c.push_if.ensures.added c.push_if.ensures.room,
+      (vec_capacity c.loop-column.kept) (0, 0) c.loop-column.invariant.0 c.loop-column-test.true c.requires.0 c.push_if.ensures.word _ _ c.push_if.ensures.added c.push_if.ensures.room,
   let a = c.loop-column.invariant.1 in let b = c.push_if.ensures.room in omega (arith, a, b),
 )
 

@@ -10,17 +10,17 @@ use Rattle.csr_store.proofs.Joining.{all_append, joined_grid, joined_starts, joi
 use Rattle.csr_store.proofs.stack.stack_runs.Goals as goal
 use Rattle.csr_store.proofs.stack.stack_runs.Goals.{In_default}
 
-pub stack_on-requires-clause-few : goal.stack_on-requires-clause-few
-stack_on-requires-clause-few c =
+pub stack_on-requires : goal.stack_on-requires
+stack_on-requires c =
     let i = c.loop-run.invariant in
     let listed = subst (λ (rs : List Run). ended_rows 0 (ends_of c.loop-run.starts) (joined c.loop-run.lists.items) ++ all_ended rs ≡ all_ended c.args.runs.items) c.in-Some.ensures.items i.listed in
     let r = room_for c.loop-run.starts (joined c.loop-run.lists.items) c.in-Some.run' (into_iter_items c.next.new.self) c.args.runs.items i.closed listed c.requires.small in
-    let e = i.entries in
-    omega (arith, r, e)
-
-pub stack_on-requires-clause-none_open : goal.stack_on-requires-clause-none_open
-stack_on-requires-clause-none_open c =
-    (subst (λ (rs : List Run). Follow c.args.columns (length (ends_of c.loop-run.starts)) c.args.rows rs) c.in-Some.ensures.items c.loop-run.invariant.follow).2
+    record {
+      closed = i.closed;
+      none_open = (subst (λ (rs : List Run). Follow c.args.columns (length (ends_of c.loop-run.starts)) c.args.rows rs) c.in-Some.ensures.items i.follow).2;
+      count = i.entries;
+      few = let e = i.entries in omega (arith, r, e);
+    }
 
 pub loop-run-init : goal.loop-run-init
 loop-run-init c =
@@ -83,12 +83,12 @@ module _ (c : In_default) where
   are_all : AllByRecursion (λ q. IsRow c.args.columns q) (all_ended c.args.runs.items)
   are_all = subst (AllByRecursion (λ q. IsRow c.args.columns q)) all_listed c.loop-run.invariant.are_rows
 
-pub from_lists-requires-clause-cover : goal.from_lists-requires-clause-cover
-from_lists-requires-clause-cover c =
+pub from_lists-requires-clause-lists : goal.from_lists-requires-clause-lists
+from_lists-requires-clause-lists c =
     let d = c.before.before.before in
     let follow = subst (λ (rs : List Run). Follow c.args.columns (length (ends_of c.loop-run.starts)) c.args.rows rs) (gone d) c.loop-run.invariant.follow in
     let fits = fits_end (length (ends_of c.loop-run.starts)) (length c.loop-run.lists.items) (into_iter_items c.loop-run.rest) (gone d) c.loop-run.invariant.fits in
-    omega (arith, follow, fits)
+    (rw c.in_ok-starts.ensures c.loop-run.invariant.bases, omega (arith, follow, fits), c.loop-run.invariant.entries)
 
 pub from_lists-requires-clause-is_grid : goal.from_lists-requires-clause-is_grid
 from_lists-requires-clause-is_grid c =
@@ -101,9 +101,6 @@ from_lists-requires-clause-starts c =
     rw c.in_ok-starts.ensures
     (joined_starts c.args.rows c.args.columns c.loop-run.starts (joined c.loop-run.lists.items) c.args.runs.items c.requires.rows c.requires.columns c.requires.follow c.requires.small
     c.loop-run.invariant.closed (all_listed c.before.before.before) (are_all c.before.before.before))
-
-pub from_lists-requires-clause-bases : goal.from_lists-requires-clause-bases
-from_lists-requires-clause-bases c = rw c.in_ok-starts.ensures c.loop-run.invariant.bases
 
 pub returns : goal.returns
 returns c =

@@ -16,8 +16,8 @@ returns-then-contains_key-clause-refused c =
     let fault = second_twice c.self.inside.ascending c.self.inside.others.entries (c.args.row, c.args.column) c.self.invariant (let r = c.rows.ensures.rows in let s = c.columns.ensures.columns in (omega arith, omega arith)) (cc) in
     ap (λ o. unwrap_or o Memory) (sym fault ∙ ap (λ (g : Grid). put_fault g (c.args.row, c.args.column)) c.self.view_is)
 
-pub returns-then-entries-len-ge-LIMIT-clause-refused : goal.returns-then-entries-len-ge-LIMIT-clause-refused
-returns-then-entries-len-ge-LIMIT-clause-refused c =
+pub returns-then-entries-len-ge-MOST_ENTRIES-clause-refused : goal.returns-then-entries-len-ge-MOST_ENTRIES-clause-refused
+returns-then-entries-len-ge-MOST_ENTRIES-clause-refused c =
     let n = len-from_entries c.self.inside.others.entries c.len.ensures.ordered in
     let m = c.len.ensures.len in let k = c.entries.ensures.entries in
     let fault = too_many c.self.inside.ascending c.self.inside.others.entries (c.args.row, c.args.column) c.self.invariant (let r = c.rows.ensures.rows in let s = c.columns.ensures.columns in (omega arith, omega arith)) (is_none _ (cc)) (is_none _ (cc)) (omega arith) in

@@ -1,14 +1,14 @@
-use Rattle.std.proofs.Common.{◌++◌, ◌∷◌, [], ◌<◌, ◌^◌, ℕ, List, length, ap, refl, ◌∙◌, subst, arith}
-use Rattle.std.specs.FinMap.{entries, insert, len}
+use Rattle.std.proofs.Common.{◌<◌, ◌^◌, ℕ, List, length, ap, refl, ◌∙◌, subst, arith}
+use Rattle.std.specs.FinMap.{insert, len}
 use Rattle.csr_store.specs.Grid.{Grid, Cell, limit}
 use Rattle.csr_store.specs.inner.ByRows.{Closes}
 use Rattle.csr_store.proofs.Filling.{filling_entries, on_err}
-use Rattle.csr_store.proofs.Adding.{Joined, grid_of, joined_closed, joined_filling, joined_added, joined_behind, closed_filling, closed_same}
+use Rattle.csr_store.proofs.Adding.{Joined, grid_of, joined_closed, joined_filling, joined_added, closed_filling, closed_same}
 use Rattle.csr_store.proofs.filler.Filler.add.Goals as goal
 
 pub invariant_of-self : goal.invariant_of-self
 invariant_of-self c =
-    let r = ap (λ (g : Grid). g.rows) c.self.view_is in let l = c.requires.row in
+    let r = ap (λ (g : Grid). g.rows) c.self.view_is in let l = c.requires.0.0 in
     closed_filling c.self.inside.rows c.self.inside.columns c.self.inside.ends.items c.close.new.ends.items c.self.inside.cells.items c.self.inside.next c.len.result c.args.row c.self.invariant c.in_err-close.ensures.closes
     (c.len.ensures ∙ c.self.inside.cells.ok.0) c.in_err-close.ensures.upto (omega arith)
 
@@ -19,7 +19,7 @@ returns-in_err-close-clause-kept c =
 
 pub invariant_of-self-in_err-push : goal.invariant_of-self-in_err-push
 invariant_of-self-in_err-push c =
-    let r = ap (λ (g : Grid). g.rows) c.self.view_is in let l = c.requires.row in
+    let r = ap (λ (g : Grid). g.rows) c.self.view_is in let l = c.requires.0.0 in
     rw c.in_err-push.ensures.items
     (closed_filling c.self.inside.rows c.self.inside.columns c.self.inside.ends.items c.close.new.ends.items c.self.inside.cells.items c.self.inside.next c.len.result c.args.row c.self.invariant c.in_ok-close.ensures.closes
     (c.len.ensures ∙ c.self.inside.cells.ok.0) c.in_ok-close.ensures.upto (omega arith))
@@ -39,16 +39,16 @@ joined c =
     c.in_ok-close.ensures.reached (λ q. c.if-not-comes_behind.ensures.column refl (open_row ∙ q))
 
 row_in : (c : goal.After-self-1) → c.args.row < c.self.inside.rows
-row_in c = let r = ap (λ (g : Grid). g.rows) c.self.view_is in let l = c.requires.row in omega arith
+row_in c = let r = ap (λ (g : Grid). g.rows) c.self.view_is in let l = c.requires.0.0 in omega arith
 
 column_in : (c : goal.After-self-1) → c.args.column < c.self.inside.columns
-column_in c = let r = ap (λ (g : Grid). g.columns) c.self.view_is in let l = c.requires.column in omega arith
+column_in c = let r = ap (λ (g : Grid). g.columns) c.self.view_is in let l = c.requires.0.1 in omega arith
 
 room : (c : goal.After-self-1) → length c.self.inside.cells.items < limit
 room c =
     let n = filling_entries c.self.inside.rows c.self.inside.columns c.self.inside.ends.items c.self.inside.cells.items c.self.inside.next c.self.invariant in
     let s = ap (λ (g : Grid). len g.cells) c.self.view_is in
-    let l = c.requires.room in omega arith
+    let l = c.requires.1 in omega arith
 
 fits : (c : goal.After-self-1) → c.args.word < 2 ^ 64
 fits c = let f = c.ranges.word.fits in omega arith
@@ -60,8 +60,3 @@ pub returns-clause-added : goal.returns-clause-added
 returns-clause-added c =
     λ t. joined_added _ _ _ _ _ _ _ _ c.args.row c.args.column c.args.word c.push.new.self.items (joined c) (row_in c) (column_in c) (room c) (fits c) c.in_ok-push.ensures.items
     ∙ ap (λ (g : Grid). let h : Grid = record { rows = g.rows; columns = g.columns; cells = insert g.cells (c.args.row, c.args.column) c.args.word } in h) c.self.view_is
-
-pub returns-clause-behind : goal.returns-clause-behind
-returns-clause-behind c =
-    λ t. joined_behind _ _ _ _ _ _ _ _ c.args.row c.args.column c.args.word c.push.new.self.items (joined c) (row_in c) (column_in c) (room c) (fits c) c.in_ok-push.ensures.items
-    ∙ ap (λ (g : Grid). entries g.cells ++ ((c.args.row, c.args.column), c.args.word) ∷ []) c.self.view_is

@@ -5,21 +5,16 @@ use Rattle.csr_store.specs.inner.Cells.{joined_cells}
 use Rattle.csr_store.proofs.Copies.{cells_are, cells_along}
 use Rattle.csr_store.proofs.InRuns.{stretch_part}
 use Rattle.csr_store.proofs.matrix.Matrix.cells_of.Goals as goal
-use Rattle.csr_store.proofs.matrix.Matrix.cells_of.Goals.{else-range-run-via-then-range-run+else-are_runs, else-range-run-via-else-range-run}
 
 pub part-requires-clause-part : goal.part-requires-clause-part
 part-requires-clause-part c =
     let r = ap (λ (g : Grid). g.rows) c.self.view_is in let o = c.requires.range in let l = c.requires.within in
     rw c.list-starts.ensures
     (stretch_part c.self.inside.rows c.self.inside.columns c.self.inside.starts c.self.inside.cells c.args.range.start c.args.range.end c.self.invariant.1 c.self.invariant.2
-    (omega (arith, o, c.if-range.false)) (omega (arith, r, l)) (λ runs.
-    elim c.else-range-run.branch [
-      | else-range-run-via-then-range-run+else-are_runs w ↦ let t = w.are_runs.ensures.1 runs in let f = w.if-are_runs.false in absurd (cc)
-      | else-range-run-via-else-range-run w ↦ omega (arith, w.if-range-run.false)
-    ]))
+    (omega (arith, o, c.if-range.false)) (omega (arith, r, l)) c.requires.one_run)
 
-pub returns-clause-cells : goal.returns-clause-cells
-returns-clause-cells c =
+pub returns : goal.returns
+returns c =
     let r = ap (λ (g : Grid). g.rows) c.self.view_is in let o = c.requires.range in let l = c.requires.within in
     let from : get_or c.list-starts.result.now c.args.range.start 0 ≡ get_or c.self.inside.starts c.args.range.start 0 = ap (λ ss. get_or ss c.args.range.start 0) c.list-starts.ensures in
     let to : get_or c.list-starts.result.now c.args.range.end 0 ≡ get_or c.self.inside.starts c.args.range.end 0 = ap (λ ss. get_or ss c.args.range.end 0) c.list-starts.ensures in

@@ -43,25 +43,25 @@ returns-then-len-self c =
     (grid_of _ _ s.starts _ _ c.in-Whole.is c.self.invariant.0) one c.args.k (omega (arith, n, l)) (omega (arith, t, o, e)) c.index.result.now
     ∙ ap (λ (d : Cell). Some d.1) (sym c.index.ensures))
 
-pub returns-then-len-eq-HEIGHT : goal.returns-then-len-eq-HEIGHT
-returns-then-len-eq-HEIGHT c =
+pub returns-then-len-eq-RUN_ROWS : goal.returns-then-len-eq-RUN_ROWS
+returns-then-len-eq-RUN_ROWS c =
     let s = c.self.inside in
     let n = ap (λ (m : Grid). m.rows) c.self.view_is in
     let one = ap (λ (m : Grid). m.columns) c.self.view_is ∙ c.requires.column in
     let l = c.requires.row in
     let v = c.index-cells.result.now in
-    let t = c.if-len-eq-HEIGHT.true in
+    let t = c.if-len-eq-RUN_ROWS.true in
     let o = v.ok.0 in
     let e = c.len-in-Runs.ensures in
     let run = ap (λ u. u.items) c.index-cells.ensures in
     let many = ap length run in
     let j = c.args.k % 256 in
-    let d = c.index-then-len-eq-HEIGHT.result.now in
+    let d = c.index-then-len-eq-RUN_ROWS.result.now in
     word_by _ _ _ s.starts _ _ c.args.k c.in-Runs.is c.self.view_is
     ∙ (word_in_full_run s.rows s.columns s.starts c.in-Runs.runs (starts_by _ _ _ _ c.in-Runs.is c.self.invariant.1)
     (parts_of _ _ _ _ c.in-Runs.is c.self.invariant.2) (grid_of _ _ s.starts _ _ c.in-Runs.is c.self.invariant.0) one c.args.k
     (omega (arith, n, l)) v (omega (arith, t, o, e, many)) d
-    ∙ (ap (λ (us : List Cell). Some (get_or us j d).1) (sym run) ∙ ap (λ (u : Cell). Some u.1) (sym c.index-then-len-eq-HEIGHT.ensures)))
+    ∙ (ap (λ (us : List Cell). Some (get_or us j d).1) (sym run) ∙ ap (λ (u : Cell). Some u.1) (sym c.index-then-len-eq-RUN_ROWS.ensures)))
 
 pub first_between-requires-in-Runs-clause-within : goal.first_between-requires-in-Runs-clause-within
 first_between-requires-in-Runs-clause-within c =
@@ -94,8 +94,8 @@ returns-else-len-self c =
     ∙ (ap (λ us. first_word (take (get_or us (k + 1) 0 - get_or us k 0) (drop (get_or us k 0) c.deref.result.now)))
     (sym c.list-starts.ensures) ∙ c.first_between.ensures)))
 
-pub returns-else-len-eq-HEIGHT : goal.returns-else-len-eq-HEIGHT
-returns-else-len-eq-HEIGHT c =
+pub returns-else-len-eq-RUN_ROWS : goal.returns-else-len-eq-RUN_ROWS
+returns-else-len-eq-RUN_ROWS c =
     let s = c.self.inside in
     let n = ap (λ (m : Grid). m.rows) c.self.view_is in
     let one = ap (λ (m : Grid). m.columns) c.self.view_is ∙ c.requires.column in

@@ -20,21 +20,16 @@ returns-in_err-append-clause-rows c = rw (← c.self.view_is) c.self.invariant.e
 pub returns-clause-rows : goal.returns-clause-rows
 returns-clause-rows c = rw (← c.self.view_is) c.self.invariant.ended_are
 
-pub returns-clause-closed : goal.returns-clause-closed
-returns-clause-closed c =
-    let base = c.len.ensures ∙ c.args.cells.now.ok.0 in
-    let starts : c.add_to.new.starts.items ≡ c.args.starts.now.items ++ map (λ e. length c.args.cells.now.items + e) c.self.inside.ends =
-    c.in_ok-add_to.ensures ∙ ap (λ n. c.args.starts.now.items ++ map (λ e. n + e) c.self.inside.ends) base in
-    let cells : c.append.new.cells.items ≡ c.args.cells.now.items ++ c.self.inside.cells.items = c.in_ok-append.ensures ∙ ap (λ (cs : Row). c.args.cells.now.items ++ cs) c.deref.ensures.value in
-    joined_closed_rows c.args.starts.now.items c.add_to.new.starts.items c.self.inside.ends c.args.cells.now.items c.append.new.cells.items c.self.inside.cells.items c.requires.closed
-    c.self.invariant.ends_rise (ap (λ (r : Run). r.opened) c.self.view_is ∙ c.requires.none_open) starts cells
-
 pub returns-clause-joined : goal.returns-clause-joined
 returns-clause-joined c =
     let base = c.len.ensures ∙ c.args.cells.now.ok.0 in
     let starts : c.add_to.new.starts.items ≡ c.args.starts.now.items ++ map (λ e. length c.args.cells.now.items + e) c.self.inside.ends =
     c.in_ok-add_to.ensures ∙ ap (λ n. c.args.starts.now.items ++ map (λ e. n + e) c.self.inside.ends) base in
     let cells : c.append.new.cells.items ≡ c.args.cells.now.items ++ c.self.inside.cells.items = c.in_ok-append.ensures ∙ ap (λ (cs : Row). c.args.cells.now.items ++ cs) c.deref.ensures.value in
-    joined_rows c.args.starts.now.items c.add_to.new.starts.items c.self.inside.ends c.args.cells.now.items c.append.new.cells.items c.self.inside.cells.items c.requires.closed
-    c.self.invariant.ends_rise (ap (λ (r : Run). r.opened) c.self.view_is ∙ c.requires.none_open) starts cells
-    ∙ ap (λ (r : Run). ended_rows 0 (ends_of c.args.starts.now.items) c.args.cells.now.items ++ r.ended) c.self.view_is
+    let none = ap (λ (r : Run). r.opened) c.self.view_is ∙ c.requires.none_open in (
+      joined_closed_rows c.args.starts.now.items c.add_to.new.starts.items c.self.inside.ends c.args.cells.now.items
+          c.append.new.cells.items c.self.inside.cells.items c.requires.closed c.self.invariant.ends_rise none starts cells,
+      joined_rows c.args.starts.now.items c.add_to.new.starts.items c.self.inside.ends c.args.cells.now.items
+          c.append.new.cells.items c.self.inside.cells.items c.requires.closed c.self.invariant.ends_rise none starts cells
+          ∙ ap (λ (r : Run). ended_rows 0 (ends_of c.args.starts.now.items) c.args.cells.now.items ++ r.ended) c.self.view_is,
+    )

@@ -32,12 +32,12 @@ returns-clause-entries c =
     let m = ap (λ (cs : List Cell). length cs) (ap joined c.in_ok-push.ensures.items ∙ joined_more c.args.lists.now.items c.self.inside.cells) in
     let n = length-append (joined c.args.lists.now.items) c.self.inside.cells.items in
     let k = c.len-count.ensures ∙ c.self.inside.cells.ok.0 in
-    let e = c.requires.entries in
+    let e = c.requires.count in
     omega (arith, m, n, k, e)
 
 pub returns-clause-stacked : goal.returns-clause-stacked
 returns-clause-stacked c =
-    let base = c.requires.entries in
+    let base = c.requires.count in
     let starts : c.add.new.self ≡ c.args.starts.now ++ map (λ e. length (joined c.args.lists.now.items) + e) c.self.inside.ends =
     c.in_ok-add.ensures ∙ ap (λ n. c.args.starts.now ++ map (λ e. n + e) c.self.inside.ends) base in
     let cells : joined c.push.new.self.items ≡ joined c.args.lists.now.items ++ c.self.inside.cells.items = ap joined c.in_ok-push.ensures.items ∙ joined_more c.args.lists.now.items c.self.inside.cells in
