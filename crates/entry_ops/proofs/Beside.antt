@@ -1,5 +1,5 @@
 -- Operands and mask that are read row by row.
-use Rattle.std.proofs.Common.{◌≡◌, ◌≤◌, ◌<◌, ◌+◌, ℕ, Option, None, Some, IfSome, refl, sym, subst}
+use Rattle.std.proofs.Common.{◌≡◌, ◌≤◌, ◌+◌, ℕ, Option, None, Some, IfSome, refl, sym, subst}
 use Rattle.std.specs.Option.{option_map}
 use Rattle.csr_store.specs.Grid.{Grid, IsGrid, row_of}
 use Rattle.csr_store.specs.Mask.{HasShape}
@@ -13,10 +13,6 @@ module _ (i rows columns : ℕ) where
   pub read-from : (g : Option Grid) → HasShape rows columns g → i ≤ rows → IfSome g (λ g. i ≤ g.rows)
   read-from None h l = tt
   read-from (Some g) h l = subst (λ n. i ≤ n) (sym h.0) l
-
-  pub read-within : (g : Option Grid) (r : Option Reading) → r ≡ reading_at g i → HasShape rows columns g → i < rows → IfSome r (λ r. r.row < r.grid.rows)
-  read-within None r e h l = subst (λ (r : Option Reading). IfSome r (λ r. r.row < r.grid.rows)) (sym e) tt
-  read-within (Some g) r e h l = subst (λ (r : Option Reading). IfSome r (λ r. r.row < r.grid.rows)) (sym e) (subst (λ n. i < n) (sym h.0) l)
 
   -- what is read, and what is read next
   pub read-row : (g : Option Grid) → option_map (λ (r : Reading). row_of r.grid r.row) (reading_at g i) ≡ mask_row g i

@@ -7,8 +7,7 @@ use Rattle.csr_store.specs.Along.{along}
 use Rattle.csr_store.specs.Ascending.{at, shows}
 use Rattle.bpf_run.specs.Calls.{Call, steps_of}
 use Rattle.bpf_run.proofs.Charging.{steps-append, cost-few}
-use Rattle.entry_ops.specs.declared.form.Form.{Form}
-use Rattle.entry_ops.specs.declared.form.Form.TheVariants.{Apply, Select, Union, Both}
+use Rattle.entry_ops.specs.inner.Forms.{Form, Apply, Select, Union, Both}
 use Rattle.entry_ops.specs.inner.Walking.{kind_for, form_calls, form_row_calls, form_all_calls, row_or_none, mask_row}
 
 -- lists of so many steps each, joined

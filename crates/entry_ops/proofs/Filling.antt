@@ -1,35 +1,13 @@
 -- The rows of a range, row by row: what is still to come completes the range.
-use Rattle.std.proofs.Common.{
-  ◌≡◌,
-  ◌≤◌,
-  ◌<◌,
-  ◌+◌,
-  ◌-◌,
-  ◌^◌,
-  ℕ,
-  List,
-  [],
-  ◌++◌,
-  Option,
-  Some,
-  refl,
-  sym,
-  ap,
-  ◌∙◌,
-  subst,
-  arith,
-  append_assoc,
-}
-use denote.Ref.{Bor}
+use Rattle.std.proofs.Common.{◌≡◌, ◌≤◌, ◌<◌, ◌+◌, ◌-◌, ◌^◌, ℕ, List, [], ◌++◌, Option, refl, sym, ap, ◌∙◌, subst, arith, append_assoc}
 use Rattle.bpf_verify.specs.Accepted.{Accepted}
 use Rattle.csr_store.specs.Grid.{Grid, IsGrid, Cell, row_of}
 use Rattle.csr_store.specs.Run.{Row, Run}
 use Rattle.csr_store.specs.Ascending.{Ascends, AscendsIn}
-use Rattle.csr_store.specs.Mask.{HasShape, mask_of}
 use Rattle.csr_store.proofs.Along.{along-next, along-over, row_of-ascends, Fills, fills-start, fills-step, fills-end, row_ended}
 use Rattle.bpf_run.specs.Calls.{Call, steps_of, Charges}
 use Rattle.bpf_run.proofs.Charging.{Spends, spends-start, spends-further, spends-stop, steps-append}
-use Rattle.entry_ops.specs.declared.form.Form.{Form}
+use Rattle.entry_ops.specs.inner.Forms.{Form}
 use Rattle.entry_ops.specs.inner.Standing.{Standing, Adds, with_end, with_cells, IsOpen}
 use Rattle.entry_ops.specs.declared.line.Line.{Line}
 use Rattle.entry_ops.specs.inner.Walking.{
@@ -51,14 +29,6 @@ use Rattle.entry_ops.specs.inner.Walking.{
 pub row_ascends : (g : Grid) (i columns : ℕ) (row : List Cell) → IsGrid g → g.columns ≡ columns → row ≡ row_of g i
     → Ascends 0 columns row
 row_ascends g i columns row h e r = subst (λ n. Ascends 0 n row) e (subst (Ascends 0 g.columns) (sym r) (row_of-ascends g i h))
-
-shape_of : (rows columns : ℕ) (lent : Option (Bor Grid)) (g : Bor Grid) → lent ≡ Some g
-    → HasShape rows columns (mask_of lent) → g.now.columns ≡ columns
-shape_of rows columns lent g e h = (subst (λ l. HasShape rows columns (mask_of l)) e h).1
-
-pub lent_row_ascends : (rows columns : ℕ) (lent : Option (Bor Grid)) (g : Bor Grid) (i : ℕ) (row : List Cell) → lent ≡ Some g
-    → HasShape rows columns (mask_of lent) → IsGrid g.now → row ≡ row_of g.now i → Ascends 0 columns row
-lent_row_ascends rows columns lent g i row e h is r = row_ascends g.now i columns row is (shape_of rows columns lent g e h) r
 
 pub line_is : (line : Line) (n : ℕ) → line.columns ≡ n → Ascends 0 n line.left.now → Ascends 0 n line.right.now → AscendsIn n
     (cells_of line.mask)

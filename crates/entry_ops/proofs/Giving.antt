@@ -8,7 +8,7 @@ use Rattle.csr_store.specs.Grid.{Cell}
 use Rattle.bpf_run.specs.Fold.{fold_from, fold_calls_from}
 use Rattle.bpf_run.specs.Calls.{steps_of}
 use Rattle.entry_ops.specs.inner.Folding.{words, Open, in_columns, in_two_columns, ArePlaced, IsAmong, places, LeadsTo, Gives}
-use Rattle.entry_ops.specs.declared.lanes.Lane.{Lane}
+use Rattle.entry_ops.specs.declared.open_rows.Lane.{Lane}
 use Rattle.entry_ops.proofs.OpenRows.{all_gone, among_gone, due_append, columns_push, two_columns_push, same_take, leads_found, gives_then}
 
 -- ---- a row at the end is moved before others

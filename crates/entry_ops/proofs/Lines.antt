@@ -10,7 +10,7 @@ use Rattle.csr_store.specs.Ascending.{Ascends}
 use Rattle.csr_store.proofs.Along.{along-none}
 use Rattle.bpf_run.specs.Meaning.{value_of}
 use Rattle.bpf_run.specs.Calls.{Call, call_of, calls_on, values_on, entries_of}
-use Rattle.entry_ops.specs.declared.form.Form.TheVariants.{Select}
+use Rattle.entry_ops.specs.inner.Forms.{Select}
 use Rattle.entry_ops.specs.inner.Standing.{Standing, Adds, with_cell, with_cells}
 use Rattle.entry_ops.specs.inner.Sifting.{with_kept}
 use Rattle.entry_ops.specs.inner.Walking.{row_cells, row_calls}

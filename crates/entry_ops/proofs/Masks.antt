@@ -35,7 +35,7 @@ use Rattle.csr_store.specs.Along.{along, cell_at}
 use Rattle.csr_store.specs.Ascending.{Ascends, at, shows}
 use Rattle.csr_store.proofs.Along.{along-none, along-first, at-below, at-first, at-after, ascends-weaken}
 use Rattle.bpf_run.specs.Calls.{Call}
-use Rattle.entry_ops.specs.declared.form.Form.{Form}
+use Rattle.entry_ops.specs.inner.Forms.{Form}
 use Rattle.entry_ops.specs.inner.Standing.{CanPush, Standing, Adds, with_cells, IsOpen}
 use Rattle.entry_ops.specs.inner.Walking.{form_at, form_calls, row_cells, row_calls}
 use Rattle.entry_ops.proofs.Merging.{cells_here, calls_here}
@@ -55,13 +55,6 @@ at_head : (n j : ℕ) (x : Cell) (xs : List Cell) → Ascends j n (x ∷ xs) →
 at_head n j x xs h e =
     ap (λ b. cond b (Some x.1) (at xs j)) (ne_eqb j x.0 (λ q. e (sym q))) ∙ at-below (suc x.0) n xs j h.2
     (let b = h.0 in omega arith)
-
-pub begins-here : (n j : ℕ) (cs : List Cell) (c : Cell) → Some c ≡ slice_get cs 0 → Ascends j n cs → c.0 ≡ j → Some c.1 ≡ at cs j
-begins-here n j [] c e h q = absurd (cc)
-begins-here n j (x ∷ xs) c e h q =
-    let same : c ≡ x = cc in
-    let here : x.0 ≡ j = cc in
-    ap (λ (d : Cell). Some d.1) same ∙ (sym (at-first x xs) ∙ ap (at (x ∷ xs)) here)
 
 pub begins-later : (n j : ℕ) (cs : List Cell) (c : Cell) → Some c ≡ slice_get cs 0 → Ascends j n cs → (c.0 ≡ j → ⊥) → None ≡ at cs j
 begins-later n j [] c e h q = absurd (cc)

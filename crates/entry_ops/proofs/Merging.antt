@@ -33,8 +33,7 @@ use Rattle.csr_store.specs.Ascending.{Ascends, at}
 use Rattle.csr_store.proofs.Along.{along-none}
 use Rattle.bpf_run.specs.Calls.{Call}
 use Rattle.job_forms.specs.Forms.{joint, joint_calls}
-use Rattle.entry_ops.specs.declared.form.Form.{Form}
-use Rattle.entry_ops.specs.declared.form.Form.TheVariants.{Apply, Select, Union, Both}
+use Rattle.entry_ops.specs.inner.Forms.{Form, Apply, Select, Union, Both}
 use Rattle.entry_ops.specs.inner.Standing.{CanPush, FollowIn, Standing, Adds, with_cells, IsOpen}
 use Rattle.entry_ops.specs.inner.Walking.{form_at, form_calls, row_cells, row_calls, is_joint, left_over, IsNext}
 use Rattle.entry_ops.proofs.Nexts.{next_left, next_right, next_first}

@@ -2,7 +2,7 @@
 use Rattle.std.proofs.Common.{◌≡◌, ◌⊎◌, ◌≤◌, ◌<◌, ◌+◌, ℕ, zero, suc, List, [], ◌∷◌, ◌++◌, Option, None, Some, length, take, set, get_or, inl, inr, refl, sym, ap, ◌∙◌, subst, arith}
 use Rattle.std.specs.List.{AllByRecursion}
 use Rattle.std.proofs.lemmas.Bool.{cases_eq, cases_lt}
-use Rattle.std.proofs.lemmas.List.{take_all, take_more, length-set, length_push, get_or_append_left, get_or_push, get_or-set_other, get_or-set_same}
+use Rattle.std.proofs.lemmas.List.{take_all, take_more, length-set, length_push, get_or_append_left, get_or-set_other, get_or-set_same}
 use Rattle.bpf_insn.specs.declared.insn.Insn.{Insn}
 use Rattle.bpf_insn.specs.declared.frame.Frame.{Frame}
 use Rattle.bpf_insn.specs.Machine.{Running, Done}
@@ -31,13 +31,9 @@ use Rattle.entry_ops.specs.inner.Folding.{
   Goes,
   Begins,
 }
-use Rattle.entry_ops.specs.declared.lanes.Lane.{Lane}
+use Rattle.entry_ops.specs.declared.open_rows.Lane.{Lane}
 
 -- ---- lists of open rows
-
-pub placed_more : (n m : ℕ) (lanes : List Open) → n ≤ m → ArePlaced n lanes → ArePlaced m lanes
-placed_more n m [] l h = tt
-placed_more n m (x ∷ xs) l h = (let p = h.0 in omega (arith, p, l), placed_more n m xs l h.1)
 
 pub all_push : (P : Open → Type 0) (xs : List Open) (x : Open) → AllByRecursion P xs → P x → AllByRecursion P (xs ++ x ∷ [])
 all_push P [] x h p = (p, tt)
@@ -286,20 +282,6 @@ goes f lanes then rs results found back made steps more old is r g b m =
 
 -- ---- a row begins
 
-leads_known : (f : Accepted) (target : ℕ → Option ℕ) (lanes : List Open) (results : List (Option ℕ)) (r : Option ℕ)
-    → LeadsTo f target lanes results → r ≡ target (length results) → LeadsTo f target lanes (results ++ r ∷ [])
-leads_known f target lanes results r h e = record { opened = h.opened; known = λ k b. here k b (cases_lt k (length results)) } where
-  here : (k : ℕ) → k < length (results ++ r ∷ []) → (k < length results) ⊎ (length results ≤ k)
-      → (get_or (results ++ r ∷ []) k None ≡ target k) ⊎ IsAmong k (places lanes)
-  here k b (inl l) = elim (h.known k l) [
-    | inl q ↦ inl (get_or_append_left results (r ∷ []) None k l ∙ q)
-    | inr a ↦ inr a
-  ]
-  here k b (inr l) =
-      let n = length_push results r in
-      let same : length results ≡ k = omega (arith, n, b, l) in
-      inl (get_or_push results r None k same ∙ e ∙ ap target same)
-
 leads_open : (f : Accepted) (target : ℕ → Option ℕ) (lanes : List Open) (results : List (Option ℕ)) (r : Option ℕ) (x : Open)
     → LeadsTo f target lanes results → x.place ≡ length results → Some (fold_from f x.so_far x.terms) ≡ target (length results)
     → LeadsTo f target (lanes ++ x ∷ []) (results ++ r ∷ [])
@@ -324,19 +306,6 @@ module _ (lanes then : List Open) (results more : List (Option ℕ)) (steps : �
   counted : length more ≡ length results + 1
   counted = ap (λ (rs : List (Option ℕ)). length rs) m ∙ length_push results r
 
-  -- whose result is known at once
-  pub begins_known : then ≡ lanes → (f : Accepted) → r ≡ fold f (words cells) → fold_calls f (words cells) ≡ []
-      → Begins f cells old (record { lanes = then; results = more; steps = steps })
-  begins_known t f e none =
-      let z : steps_of (fold_calls f (words cells)) ≡ 0 = ap steps_of none in
-      let d = ap (due f) t in
-      subst (λ (o : Folding). Begins f cells o (record { lanes = then; results = more; steps = steps })) is (record {
-        rows = counted;
-        leads = λ target h q. subst (λ (ls : List Open). LeadsTo f target ls more) (sym t)
-            (subst (λ (rs : List (Option ℕ)). LeadsTo f target lanes rs) (sym m) (leads_known f target lanes results r h (e ∙ sym q)));
-        costs = omega (arith, z, d);
-      })
-
   -- that has a lane
   pub begins_open : (x : Open) (c : Cell) (rest : List Cell) → then ≡ lanes ++ x ∷ [] → cells ≡ c ∷ rest → x.terms ≡ words rest
       → x.so_far ≡ c.1 → x.place ≡ length results
@@ -359,21 +328,6 @@ module _ (lanes then : List Open) (results more : List (Option ℕ)) (steps : �
       })
 
 -- the open rows still stand among those that were begun
-
-pub placed_known : (lanes : List Open) (results more : List (Option ℕ)) (r : Option ℕ) → ArePlaced (length results) lanes
-    → more ≡ results ++ r ∷ [] → ArePlaced (length more) lanes
-placed_known lanes results more r h m =
-    let n = ap (λ (rs : List (Option ℕ)). length rs) m in
-    let k = length_push results r in
-    placed_more (length results) (length more) lanes (omega (arith, n, k)) h
-
-pub placed_open : (lanes then : List Open) (results more : List (Option ℕ)) (r : Option ℕ) (x : Open) → ArePlaced (length results) lanes
-    → then ≡ lanes ++ x ∷ [] → more ≡ results ++ r ∷ [] → x.place ≡ length results → ArePlaced (length more) then
-placed_open lanes then results more r x h t m p =
-    let n = ap (λ (rs : List (Option ℕ)). length rs) m in
-    let k = length_push results r in
-    subst (ArePlaced (length more)) (sym t) (all_push (λ (l : Open). l.place < length more) lanes x (placed_known lanes results more r h m)
-    (omega (arith, n, k, p)))
 
 pub none_left : (cells : List Cell) → length cells ≡ 0 → cells ≡ []
 none_left [] z = refl

@@ -13,8 +13,7 @@ use Rattle.csr_store.specs.Added.{with_values}
 use Rattle.csr_store.proofs.Along.{row_of-ascends, along-none}
 use Rattle.csr_store.specs.Mask.{mask_of}
 use Rattle.bpf_run.specs.Calls.{Gathered, calls_on, values_on}
-use Rattle.entry_ops.specs.declared.form.Form.{Form}
-use Rattle.entry_ops.specs.declared.form.Form.TheVariants.{Apply, Select, Union, Both}
+use Rattle.entry_ops.specs.inner.Forms.{Form, Apply, Select, Union, Both}
 use Rattle.entry_ops.specs.declared.line.Sources.{Sources}
 use Rattle.entry_ops.specs.inner.Paired.{columns_of, pairs_in, AreInStep, range_pairs, ArePaired}
 use Rattle.job_forms.specs.declared.region.Made.{Made}

@@ -28,8 +28,7 @@ use Rattle.job_forms.specs.Forms.{
 use Rattle.job_forms.specs.Region.{IsMade, IsPartOf}
 use Rattle.job_forms.specs.declared.region.Region.{Region}
 use Rattle.job_forms.specs.declared.region.Made.{Made}
-use Rattle.entry_ops.specs.declared.form.Form.{Form}
-use Rattle.entry_ops.specs.declared.form.Form.TheVariants.{Apply, Select, Union, Both}
+use Rattle.entry_ops.specs.inner.Forms.{Form, Apply, Select, Union, Both}
 use Rattle.entry_ops.specs.inner.Walking.{
   form_at,
   form_calls,

@@ -101,9 +101,6 @@ module _ (f : Accepted) (a : Grid) (mask : Option Grid) where
       pub reducing-closed : now.rows.opened ≡ []
       reducing-closed = r.fills.closed
 
-      pub reducing-columns : start ≡ nothing_made from 1 → now.rows.columns ≡ 1
-      reducing-columns o = ap (λ (u : Run). u.columns) r.fills.run ∙ ap (λ (m : Making). m.rows.columns) o
-
       pub reducing-end : to ≤ i → (x : Unit {0})
           → Adds (rows_under mask 1 (reduce_at f a) from (to - from)) (all_calls from (to - from)) start now (Ok x)
       reducing-end l x = record {

@@ -1,11 +1,15 @@
 -- A region from its beginning to its end.
-use Rattle.std.proofs.Common.{◌≡◌, ◌≤◌, ◌<◌, ◌+◌, ◌-◌, ◌^◌, ℕ, List, [], ◌++◌, Option, ap, ◌∙◌, subst, arith, append-nil}
+use Rattle.std.proofs.Common.{◌≡◌, ◌≤◌, ◌<◌, ◌+◌, ◌-◌, ◌^◌, ℕ, List, [], ◌++◌, Option, Result, Ok, Err, OnOk, OnErr, ap, ◌∙◌, subst, arith, append-nil}
 use Rattle.bpf_verify.specs.Accepted.{Accepted, IsAccepted}
 use Rattle.csr_store.specs.Grid.{Grid, IsGrid}
-use Rattle.csr_store.specs.Run.{Row}
+use Rattle.csr_store.specs.Run.{Row, Run}
 use Rattle.bpf_run.specs.Calls.{Call, steps_of, Charges}
-use Rattle.bpf_run.proofs.Charging.{charges-all}
-use Rattle.entry_ops.specs.declared.form.Form.{Form}
+use Rattle.bpf_run.proofs.Charging.{charges-all, charges-none}
+use Rattle.std.specs.declared.alloc.AllocError.{AllocError}
+use Rattle.job_forms.specs.Region.{IsMade, told}
+use Rattle.job_forms.specs.declared.region.Made.{Made}
+use Rattle.job_forms.specs.declared.region.Making.{Making}
+use Rattle.entry_ops.specs.inner.Forms.{Form}
 use Rattle.entry_ops.specs.inner.Standing.{Standing, Adds}
 use Rattle.entry_ops.specs.inner.Walking.{kind_for, form_all_calls, with_rows}
 use Rattle.entry_ops.proofs.Bounds.{few_in_all}
@@ -35,10 +39,31 @@ module _ (first columns : ℕ) (s : Standing) (rows : s.rows ≡ empty_run first
     whole-spent spent h = let w = whole-costs in charges-all all 0 spent (omega arith)
 
 -- the steps of all calls fit
-pub begin-room : (f p : Accepted) (form : Form) (a : Grid) (b mask : Option Grid) (start to : ℕ) (s : Standing) → s.steps ≡ 0
-    → s.waiting ≡ [] → IsAccepted p → p ≡ f → f.kind ≡ kind_for form → IsGrid a → to ≤ a.rows
+pub begin-room : (f : Accepted) (form : Form) (a : Grid) (b mask : Option Grid) (start to : ℕ) (s : Standing) → s.steps ≡ 0
+    → s.waiting ≡ [] → IsAccepted f → f.kind ≡ kind_for form → IsGrid a → to ≤ a.rows
     → s.steps + (steps_of s.waiting + steps_of (form_all_calls form f a b mask start (to - start))) < 2 ^ 64
-begin-room f p form a b mask start to s z n is same kind grid within =
-    let few = few_in_all f (subst IsAccepted same is) form a b mask start (to - start) kind grid (omega arith) in
+begin-room f form a b mask start to s z n is kind grid within =
+    let few = few_in_all f is form a b mask start (to - start) kind grid (omega arith) in
     let none = ap steps_of n in
     omega arith
+
+-- what was being made is told, unless memory was refused
+pub told_is : (filled : Result (Unit {0}) AllocError) (run : Run) (calls : List Call) (m : Making) (made : Made) → made ≡ told m filled
+    → OnOk filled (m.rows ≡ run) → OnOk filled (m.steps ≡ steps_of calls) → OnErr filled (Charges calls 0 m.steps)
+    → IsMade run calls made
+told_is (Ok x) run calls m made e r s q = rw e (record { rows = r; steps = s; spent = tt })
+told_is (Err x) run calls m made e r s q = rw e (record { rows = tt; steps = tt; spent = q })
+
+-- no call was made
+pub told_none : (filled : Result (Unit {0}) AllocError) (run : Run) (m : Making) (made : Made) → made ≡ told m filled
+    → OnOk filled (m.rows ≡ run) → m.steps ≡ 0 → IsMade run [] made
+told_none filled run m made e r s =
+    told_is filled run [] m made e r (holds filled s) (failed filled (rw s (charges-none [] 0)))
+  where
+    holds : {P : Type 0} (f : Result (Unit {0}) AllocError) → P → OnOk f P
+    holds (Ok x) p = p
+    holds (Err x) p = tt
+
+    failed : {P : Type 0} (f : Result (Unit {0}) AllocError) → P → OnErr f P
+    failed (Ok x) p = tt
+    failed (Err x) p = p

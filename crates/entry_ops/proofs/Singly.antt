@@ -6,7 +6,7 @@ use Rattle.bpf_verify.specs.Accepted.{Accepted, IsAccepted}
 use Rattle.bpf_run.specs.Calls.{steps_of}
 use Rattle.bpf_run.specs.Fold.{fold_from, fold_calls_from}
 use Rattle.entry_ops.specs.inner.Folding.{words, Open, open_of, Folding, ArePlaced, due, LeadsTo, Goes}
-use Rattle.entry_ops.specs.declared.lanes.OpenRow.{OpenRow}
+use Rattle.entry_ops.specs.declared.open_rows.OpenRow.{OpenRow}
 use Rattle.entry_ops.proofs.OpenRows.{all_gone, due_append, leads_found, next_some}
 
 module _ (f : Accepted) (lanes left : List Open) (results : List (Option ℕ)) (steps : ℕ) (old : Folding)

@@ -1,10 +1,9 @@
 -- Copied rows with the values of calls are the rows of a form.
-use Rattle.std.proofs.Common.{◌≡◌, ◌≤◌, ◌<◌, ◌+◌, ◌^◌, ℕ, zero, suc, true, List, [], ◌∷◌, ◌++◌, length, map, Option, None, Some, IfSome, refl, sym, ap, ◌∙◌, subst, arith, length-append, append_assoc, append-nil}
+use Rattle.std.proofs.Common.{◌≡◌, ◌≤◌, ◌<◌, ◌+◌, ◌^◌, ℕ, zero, suc, true, List, [], ◌∷◌, ◌++◌, length, map, Option, None, Some, refl, sym, ap, ◌∙◌, subst, arith, length-append, append_assoc, append-nil}
 use Rattle.bpf_verify.specs.Accepted.{Accepted, IsAccepted}
 use Rattle.csr_store.specs.Grid.{Grid, IsGrid, Cell, row_of}
 use Rattle.csr_store.specs.Along.{along, cell_at}
 use Rattle.csr_store.specs.Ascending.{Ascends}
-use Rattle.csr_store.specs.Copied.{Copied}
 use Rattle.csr_store.specs.Run.{Row, Run}
 use Rattle.csr_store.specs.Added.{with_values}
 use Rattle.csr_store.specs.Valued.{entries_of as entries_in_run, rows_of, cells_in, all_cells, valued, valued_from, AreAlike}
@@ -13,8 +12,7 @@ use Rattle.csr_store.proofs.Valuing.{alike_then, alike_equal, alike_entries, ent
 use Rattle.bpf_run.specs.Calls.{calls_on, values_on, steps_of, words_of}
 use Rattle.bpf_run.proofs.Charging.{values_on-append, calls_on-append}
 use Rattle.bpf_insn.specs.declared.operands.Operands.{Operands}
-use Rattle.entry_ops.specs.declared.form.Form.{Form}
-use Rattle.entry_ops.specs.declared.form.Form.TheVariants.{Apply}
+use Rattle.entry_ops.specs.inner.Forms.{Form, Apply}
 use Rattle.entry_ops.specs.declared.mapping.Mapping.{Mapping}
 use Rattle.job_forms.specs.Forms.{apply_kind}
 use Rattle.entry_ops.specs.inner.Mapped.{row_operands, range_operands, IsFurther}
@@ -198,16 +196,12 @@ copied-words a first n = ap words_of (append-nil (cells a first n)) ∙ joined f
 
 -- ---- a range of rows, from its copy to its values
 
--- what a matrix lends to be copied
-pub copying_is : (o : Option Copied) (x d : Copied) → o ≡ Some x → IfSome o (λ c. c ≡ d) → x ≡ d
-copying_is o x d e h = subst (λ (q : Option Copied). IfSome q (λ c. c ≡ d)) e h
-
-module _ (form : Form) (f p : Accepted) (a : Grid) (b : Option Grid) (os : ℕ → List Operands) (first n : ℕ)
-    (mapped : AreMapped form f a b os first n) (g : IsGrid a) (kind : f.kind ≡ kind_for form) (is : IsAccepted p) (same : p ≡ f)
+module _ (form : Form) (f : Accepted) (a : Grid) (b : Option Grid) (os : ℕ → List Operands) (first n : ℕ)
+    (mapped : AreMapped form f a b os first n) (g : IsGrid a) (kind : f.kind ≡ kind_for form) (is : IsAccepted f)
     (l : n ≤ a.rows) where
   pub whole-room : 0 + steps_of (calls_on f (along os first n)) < 2 ^ 64
   whole-room =
-      let few = few_in_all f (subst IsAccepted same is) form a b None first n kind g l in
+      let few = few_in_all f is form a b None first n kind g l in
       let e = ap steps_of (range-calls form f a b os first n mapped) in
       omega (arith, few, e)
 

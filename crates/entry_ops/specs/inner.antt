@@ -10,3 +10,4 @@ pub mod Placing
 pub mod Sifting
 pub mod Standing
 pub mod Walking
+pub mod Forms

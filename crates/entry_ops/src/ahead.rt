@@ -2,10 +2,11 @@
 ghost use Rattle.std.specs.Prelude.{◌≡◌, ℕ, ◌≤◌, List, Some};
 ghost use Rattle.csr_store.specs.Ascending.{Ascends, at};
 ghost use Rattle.bpf_verify.specs.Accepted.{Accepted};
+ghost use Rattle.entry_ops.specs.inner.Forms.{form_of};
 ghost use Rattle.entry_ops.specs.inner.Heads.{head_column};
 ghost use Rattle.entry_ops.specs.inner.Walking.{row_cells, row_calls};
 
-use crate::form::Form;
+use crate::form::EntryForm;
 use crate::line::Cell;
 
 /// What is left of a row, and the column of the first cell of it: the greatest number where none is left.
@@ -75,15 +76,15 @@ pub fn value_here(row: Remaining, column: u64) -> Option<u64>
 
 /// The row of the second operand, where a form has one.
 #[inline(always)]
-pub fn second_for<'a>(form: Form, right: &'a [Cell]) -> &'a [Cell]
+pub fn second_for<'a>(form: EntryForm, right: &'a [Cell]) -> &'a [Cell]
     ensures ascends { (n : ℕ) → Ascends 0 n right.now → Ascends 0 n result.now }
-    ensures cells { (f : Accepted) (i n : ℕ) (left mask : List (ℕ × ℕ)) → row_cells form f i n left right.now (Some mask)
-        ≡ row_cells form f i n left result.now (Some mask) }
-    ensures calls { (f : Accepted) (i n : ℕ) (left mask : List (ℕ × ℕ)) → row_calls form f i n left right.now (Some mask)
-        ≡ row_calls form f i n left result.now (Some mask) }
+    ensures cells { (f : Accepted) (i n : ℕ) (left mask : List (ℕ × ℕ)) → row_cells (form_of form) f i n left right.now (Some mask)
+        ≡ row_cells (form_of form) f i n left result.now (Some mask) }
+    ensures calls { (f : Accepted) (i n : ℕ) (left mask : List (ℕ × ℕ)) → row_calls (form_of form) f i n left right.now (Some mask)
+        ≡ row_calls (form_of form) f i n left result.now (Some mask) }
 {
     match form {
-        Form::Apply(_) => &[],
+        EntryForm::Apply(_) => &[],
         _ => right,
     }
 }

@@ -5,7 +5,7 @@ ghost use Rattle.job_forms.specs.Forms.{apply_kind, apply_at, apply_calls_at, se
 ghost use Rattle.job_forms.specs.Region.{IsRegion, IsPartOf};
 
 use crate::blank::{blank_region, is_blank, is_shut};
-use crate::form::Form;
+use crate::form::EntryForm;
 use crate::keeping::keep_region;
 use crate::line::Sources;
 use crate::mapping::map_region;
@@ -47,7 +47,7 @@ pub fn apply_rows<'m>(
     fill_region(
         alloc,
         calls,
-        Form::Apply(thunk),
+        EntryForm::Apply(thunk),
         operator,
         sources,
         region.range,

@@ -1,13 +1,13 @@
-//! Regions in which nothing is made, since an operand or the mask has no entry in their rows. That is seen from where rows start, and
-//! no row is looked at: they are ended at once.
+//! Regions in which nothing is made, since an operand or the mask has no entry in their rows. That is seen from where rows start,
+//! and no row is looked at: they are ended at once.
 ghost use Rattle.std.specs.Prelude.{◌≤◌, ◌-◌, ◌∷◌, [], IfSome, IsTrue};
 ghost use Rattle.csr_store.specs.Along.{along};
 ghost use Rattle.csr_store.specs.Mask.{mask_of};
 ghost use Rattle.job_forms.specs.Region.{IsMade};
 ghost use Rattle.entry_ops.specs.inner.Blank.{AreBlank, AreShut};
 
-use csr_store::{Matrix, Rows};
-use job_forms::{Made, Region};
+use csr_store::Matrix;
+use job_forms::{Made, Making, Region};
 use std::alloc::Global;
 use std::ops::Range;
 
@@ -41,16 +41,7 @@ pub fn blank_region(alloc: Global, columns: u64, range: Range<u64>) -> Made
       opened = [];
     }) [] result }
 {
-    let steps = 0;
-    let mut rows = Rows::begin(alloc, range.start, columns);
-    match rows.end_blank(range.end - range.start) {
-        Ok(()) => Made {
-            result: Ok(rows),
-            steps,
-        },
-        Err(error) => Made {
-            result: Err(error),
-            steps,
-        },
-    }
+    let mut making = Making::begin(alloc, range.start, columns);
+    let ended = making.rows.end_blank(range.end - range.start);
+    making.finish(ended)
 }

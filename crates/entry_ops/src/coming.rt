@@ -88,11 +88,10 @@ impl<'m> Coming<'m> {
 /// Gathers the calls on the entries of rows of one column, up to a row, as many as fit in. Answers whether there are any.
 #[inline(always)]
 fn gather_column(reader: &mut RowReader<'_>, end: u64, thunk: u64, calls: &mut Calls) -> bool
-    requires column { IsGrid reader.old.grid × (reader.old.grid.columns ≤ 1) }
-    requires within { end ≤ reader.old.grid.rows }
+    requires column { IsGrid reader.old.grid × (reader.old.grid.columns ≤ 1) × (end ≤ reader.old.grid.rows) }
     requires waits { NoneWaits kinds.Index calls.old }
-    ensures grid { reader.new.grid ≡ reader.old.grid }
-    ensures gathers { Gathers (entries_up_to end thunk reader.old) calls.old (entries_up_to end thunk reader.new) calls.new result }
+    ensures gathers { (reader.new.grid ≡ reader.old.grid)
+        × Gathers (entries_up_to end thunk reader.old) calls.old (entries_up_to end thunk reader.new) calls.new result }
     ensures some { result ≡ nat_lt 0 (length calls.new.operands) }
 {
     while reader.row() < end && calls.len() < MOST_CALLS {

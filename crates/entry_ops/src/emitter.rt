@@ -4,6 +4,7 @@ ghost use Rattle.bpf_insn.specs.Machine.{kind_of};
 ghost use Rattle.bpf_run.specs.Meaning.{value_of};
 ghost use Rattle.bpf_run.specs.Calls.{call_of, calls_on, steps_of};
 ghost use Rattle.csr_store.specs.Valued.{entries_of};
+ghost use Rattle.job_forms.specs.Region.{told};
 ghost use Rattle.entry_ops.specs.inner.Standing.{CanPush, FollowIn, with_cell, with_cells, with_end};
 ghost use Rattle.entry_ops.specs.inner.Placing.{placed, HavePlaces, Rise, Holds, Does, CanAdd, Puts, IsFlushed};
 
@@ -11,6 +12,7 @@ use crate::line::Cell;
 use bpf_insn::Operands;
 use bpf_run::{Calls, MOST_CALLS, Prepared};
 use csr_store::Rows;
+use job_forms::{Made, Making};
 use std::alloc::{AllocError, Global};
 use std::marker::Model;
 
@@ -55,19 +57,17 @@ impl Emitter {
         self.rows.reserve(cells)
     }
 
-    /// The steps of the calls that were made.
-    pub fn steps(&self) -> u64
-        ensures { result ≡ self.now.steps }
+    /// What was made: the rows, unless memory was refused, and the steps. What is left of the room that was made is given back.
+    pub fn finish(self, filled: Result<(), AllocError>) -> Made
+        ensures { result ≡ told (record { rows = self.rows; steps = self.steps }) filled }
     {
-        self.steps
-    }
-
-    /// The rows. What is left of the room that was made is given back.
-    pub fn into_rows(mut self) -> Rows
-        ensures { result ≡ self.rows }
-    {
-        self.rows.trim();
-        self.rows
+        let Emitter {
+            mut rows,
+            steps,
+            ..
+        } = self;
+        rows.trim();
+        Making { rows, steps }.finish(filled)
     }
 
     /// Makes the calls that were gathered, and puts their values in place.

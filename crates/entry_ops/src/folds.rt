@@ -18,8 +18,8 @@ ghost use Rattle.entry_ops.specs.inner.Folding.{
   IsFolded,
 };
 
-use crate::lanes::{Lanes, OpenRow};
 use crate::line::Cell;
+use crate::open_rows::{OpenRow, OpenRows};
 use bpf_insn::Kind;
 use bpf_run::{Calls, MOST_CALLS, Prepared, fold};
 use csr_store::{Matrix, Rows};
@@ -42,7 +42,7 @@ pub struct Block {
 /// The folds of a block of rows, up to 64 of them at once, and the steps of the calls that were made.
 #[derive(Drop)]
 pub struct Folds<'m> {
-    lanes: Lanes<'m>,
+    lanes: OpenRows<'m>,
     /// What each row that was begun comes to. Of an open row it isn't known yet.
     results: Vec<Option<u64>>,
     steps: u64,
@@ -66,7 +66,7 @@ impl<'m> Folds<'m> {
         ensures { IfOk result (λ e. e ≡ record { lanes = []; results = []; steps = 0 }) }
     {
         Ok(Folds {
-            lanes: Lanes::new(alloc)?,
+            lanes: OpenRows::new(alloc)?,
             results: Vec::with_capacity(alloc, BLOCK_ROWS)?,
             steps: 0,
         })
@@ -142,8 +142,7 @@ impl<'m> Folds<'m> {
 
     /// Makes the next calls: those of the lanes together, unless they are few.
     fn go(&mut self, operator: &Prepared, calls: &mut Calls)
-        requires can { CanGo operator.now self.old }
-        requires some { 0 < length self.old.lanes }
+        requires can { CanGo operator.now self.old × (0 < length self.old.lanes) }
         requires waits { NoneWaits kinds.Binary calls.old }
         ensures goes { Goes operator.now self.old self.new × (self.old.steps < self.new.steps) }
         ensures waits { NoneWaits kinds.Binary calls.new }

@@ -2,6 +2,7 @@
 ghost use Rattle.std.specs.Prelude.{◌≡◌};
 ghost use Rattle.csr_store.specs.Along.{cell_at};
 ghost use Rattle.job_forms.specs.Forms.{operands_at};
+ghost use Rattle.entry_ops.specs.inner.Forms.{form_of};
 ghost use Rattle.entry_ops.specs.inner.Standing.{with_cells};
 ghost use Rattle.entry_ops.specs.inner.Placing.{CanAdd, Puts};
 ghost use Rattle.entry_ops.specs.inner.Walking.{Suits, form_at, form_calls};
@@ -13,11 +14,9 @@ use std::alloc::AllocError;
 
 /// An operation entry by entry.
 #[derive(Clone, Copy)]
-pub enum Form {
+pub enum EntryForm {
     /// The operator on each word, and with a thunk on its position too.
     Apply(Option<u64>),
-    /// The words for which the operator's answer is not 0, by this thunk.
-    Select(u64),
     /// The operator where both have a word, and else a copy.
     Union,
     /// The operator where both have a word.
@@ -36,35 +35,34 @@ pub struct Place {
 /// Adds what a form makes of a position: a copy, the value of a call, or nothing.
 #[inline(always)]
 pub fn emit(
-    form: Form,
+    form: EntryForm,
     operator: &Prepared,
     calls: &mut Calls,
     emitter: &mut Emitter,
     place: Place,
 ) -> Result<(), AllocError>
-    requires form { Suits form operator.now }
+    requires form { Suits (form_of form) operator.now }
     requires can { CanAdd operator.now place.column emitter.old calls.old }
-    ensures { Puts operator.now (form_calls form operator.now (place.row, place.column) place.left place.right)
-        (with_cells (cell_at place.column (form_at form operator.now (place.row, place.column) place.left place.right)))
+    ensures { Puts operator.now (form_calls (form_of form) operator.now (place.row, place.column) place.left place.right)
+        (with_cells (cell_at place.column (form_at (form_of form) operator.now (place.row, place.column) place.left place.right)))
         emitter.old calls.old emitter.new calls.new result }
 {
     let column = place.column;
     match form {
-        Form::Apply(thunk) => {
+        EntryForm::Apply(thunk) => {
             let Some(x) = place.left else {
                 return Ok(());
             };
             let operands = operands_of(thunk, place.row, column, x);
             emitter.call(operator, calls, column, operands)
         }
-        Form::Select(_) => Ok(()),
-        Form::Union => match (place.left, place.right) {
+        EntryForm::Union => match (place.left, place.right) {
             (Some(x), Some(y)) => emitter.call(operator, calls, column, Operands::Binary { x, y }),
             (Some(x), None) => emitter.copy(column, x),
             (None, Some(y)) => emitter.copy(column, y),
             (None, None) => Ok(()),
         },
-        Form::Both => match (place.left, place.right) {
+        EntryForm::Both => match (place.left, place.right) {
             (Some(x), Some(y)) => emitter.call(operator, calls, column, Operands::Binary { x, y }),
             _ => Ok(()),
         },

@@ -1,28 +1,54 @@
 //! Union and both of two rows read side by side.
-ghost use Rattle.std.specs.Prelude.{◌≡◌, OnOk, OnErr};
+ghost use Rattle.std.specs.Prelude.{◌≡◌, None, Some, OnOk, OnErr};
+ghost use Rattle.entry_ops.specs.inner.Forms.{form_of};
 ghost use Rattle.entry_ops.specs.inner.Standing.{FollowIn, with_cells};
 ghost use Rattle.entry_ops.specs.inner.Placing.{IsReady, Fills};
 ghost use Rattle.entry_ops.specs.inner.Walking.{Joins, IsWhole, left_over, cells_along, calls_along};
 
 use crate::emitter::Emitter;
-use crate::form::{Form, Place, emit};
+use crate::form::{EntryForm, Place, emit};
 use crate::line::{Cell, Line};
 use bpf_run::{Calls, Prepared};
 use std::alloc::AllocError;
 
 /// Adds what a form makes of the cells that are left of one row where the other has none.
 #[inline(always)]
-fn add_rest(form: Form, emitter: &mut Emitter, cells: &[Cell]) -> Result<(), AllocError>
+fn add_rest(form: EntryForm, emitter: &mut Emitter, cells: &[Cell]) -> Result<(), AllocError>
     requires { FollowIn cells.now emitter.old.rows }
     ensures copied { OnOk result
-        (emitter.new ≡ record emitter.old { rows = with_cells (left_over form cells.now) emitter.old.rows }) }
+        (emitter.new ≡ record emitter.old { rows = with_cells (left_over (form_of form) cells.now) emitter.old.rows }) }
     ensures kept { OnErr result (emitter.new.steps ≡ emitter.old.steps) }
 {
     match form {
-        Form::Union => emitter.copy_all(cells),
-        Form::Both => Ok(()),
-        Form::Apply(_) => Ok(()),
-        Form::Select(_) => Ok(()),
+        EntryForm::Union => emitter.copy_all(cells),
+        EntryForm::Both => Ok(()),
+        EntryForm::Apply(_) => Ok(()),
+    }
+}
+
+/// The place of a cell of the first operand, where the second has none.
+#[inline(always)]
+fn left_alone(row: u64, cell: &Cell) -> Place
+    ensures { result ≡ record { row = row; column = cell.now.0; left = Some cell.now.1; right = None } }
+{
+    Place {
+        row,
+        column: cell.0,
+        left: Some(cell.1),
+        right: None,
+    }
+}
+
+/// The place of a cell of the second operand, where the first has none.
+#[inline(always)]
+fn right_alone(row: u64, cell: &Cell) -> Place
+    ensures { result ≡ record { row = row; column = cell.now.0; left = None; right = Some cell.now.1 } }
+{
+    Place {
+        row,
+        column: cell.0,
+        left: None,
+        right: Some(cell.1),
     }
 }
 
@@ -30,17 +56,17 @@ fn add_rest(form: Form, emitter: &mut Emitter, cells: &[Cell]) -> Result<(), All
 /// are of both, so these have a loop of their own.
 #[inline(always)]
 pub fn fill_joint(
-    form: Form,
+    form: EntryForm,
     operator: &Prepared,
     calls: &mut Calls,
     emitter: &mut Emitter,
     line: Line,
 ) -> Result<(), AllocError>
-    requires form { Joins form operator.now }
+    requires form { Joins (form_of form) operator.now }
     requires line { IsWhole line }
-    requires ready { IsReady operator.now line.columns (calls_along form operator.now line) emitter.old calls.old }
-    ensures { Fills operator.now (calls_along form operator.now line.entry) (with_cells (cells_along form operator.now line.entry))
-        emitter.old calls.old emitter.new calls.new result }
+    requires ready { IsReady operator.now line.columns (calls_along (form_of form) operator.now line) emitter.old calls.old }
+    ensures { Fills operator.now (calls_along (form_of form) operator.now line.entry)
+        (with_cells (cells_along (form_of form) operator.now line.entry)) emitter.old calls.old emitter.new calls.new result }
 {
     let mut lefts = line.left;
     let mut rights = line.right;
@@ -49,22 +75,10 @@ pub fn fill_joint(
             return add_rest(form, emitter, lefts);
         };
         if x.0 < y.0 {
-            let place = Place {
-                row: line.row,
-                column: x.0,
-                left: Some(x.1),
-                right: None,
-            };
-            emit(form, operator, calls, emitter, place)?;
+            emit(form, operator, calls, emitter, left_alone(line.row, x))?;
             lefts = xs;
         } else if y.0 < x.0 {
-            let place = Place {
-                row: line.row,
-                column: y.0,
-                left: None,
-                right: Some(y.1),
-            };
-            emit(form, operator, calls, emitter, place)?;
+            emit(form, operator, calls, emitter, right_alone(line.row, y))?;
             rights = ys;
         } else {
             let most = lefts.len().min(rights.len());

@@ -2,7 +2,7 @@
 ghost use Rattle.std.specs.Prelude.{◌≡◌, ◌≤◌, ◌<◌, ◌+◌, ◌-◌, ◌^◌, None, IfOk, OnOk, OnErr};
 ghost use Rattle.bpf_insn.specs.declared.operands.Kind.TheVariants as kinds;
 ghost use Rattle.bpf_run.specs.Calls.{calls_on, values_on, steps_of, Charges};
-ghost use Rattle.entry_ops.specs.declared.form.Form.TheVariants as forms;
+ghost use Rattle.entry_ops.specs.inner.Forms as forms;
 ghost use Rattle.entry_ops.specs.inner.Coming.{NoneWaits};
 ghost use Rattle.entry_ops.specs.inner.Walking.{IsFormMade};
 
@@ -24,11 +24,10 @@ fn answers_of(
     room: usize,
     steps: &mut u64,
 ) -> Result<Vec<u64>, AllocError>
-    requires kind { operator.now.kind ≡ kinds.Index }
-    requires waits { NoneWaits kinds.Index calls.old }
+    requires kind { (operator.now.kind ≡ kinds.Index) × NoneWaits kinds.Index calls.old }
     requires few { steps.old + steps_of (calls_on operator.now coming) < 2 ^ 64 }
-    ensures answers { IfOk result (λ answers. answers.items ≡ values_on operator.now coming.entry) }
-    ensures steps { OnOk result (steps.new ≡ steps.old + steps_of (calls_on operator.now coming.entry)) }
+    ensures made { IfOk result (λ answers. (answers.items ≡ values_on operator.now coming.entry)
+        × (steps.new ≡ steps.old + steps_of (calls_on operator.now coming.entry))) }
     ensures spent { OnErr result (Charges (calls_on operator.now coming.entry) steps.old steps.new) }
 {
     let mut answers = Vec::with_capacity(alloc, room)?;
@@ -53,8 +52,8 @@ pub fn keep_region(
     requires within { range.end ≤ a.now.rows }
     ensures { IsFormMade (forms.Select thunk) operator.now a.now None None range.start (range.end - range.start) result }
 {
-    let _ = operator.operator().program();
-    let _ = a.columns();
+    operator.recall();
+    a.recall();
     let room = entries_between(a, range.start, range.end);
     let coming = Coming::of_rows(a, thunk, range.start..range.end);
     let mut steps = 0;

@@ -3,10 +3,10 @@
 //!
 //! Calls are gathered across rows and made many together, so a cell stands before its value is known. Without a mask apply copies
 //! rows and gives their entries the values of calls (`mapping`); so do union and both where their operands have the same positions
-//! (`pairs`). Select without a mask makes all calls first (`keeping`). Otherwise rows are filled cell by cell (`rows`): by two rows read
-//! side by side (`joint`), or along the row of a mask (`masked`); `form` says what a form makes of a position, and `emitter` puts values
-//! in their places. Under a mask select's last cells wait for their answers (`select`, over `sieve`). Rows are reduced one after the
-//! other by a short operator (`in_order`), many at once by a longer one (`folds`).
+//! (`pairs`). Select without a mask makes all calls first (`keeping`). Otherwise rows are filled cell by cell (`rows`): by two rows
+//! read side by side (`joint`), or along the row of a mask (`masked`); `form` says what a form makes of a position, and `emitter`
+//! puts values in their places. Under a mask select's last cells wait for their answers (`select`, over `sieve`). Rows are reduced
+//! one after the other by a short operator (`in_order`), many at once by a longer one (`folds`, over `open_rows`).
 //!
 //! Read `apply`, `union` and `reduce` first, then `rows` with `specs/inner/Walking.antt` and `specs/inner/Placing.antt`.
 #![tactic(auto)]
@@ -21,10 +21,10 @@ mod form;
 mod in_order;
 mod joint;
 mod keeping;
-mod lanes;
 mod line;
 mod mapping;
 mod masked;
+mod open_rows;
 mod pairs;
 mod reduce;
 mod rows;

@@ -46,7 +46,7 @@ fn reader_of<'a>(matrix: Option<&'a Matrix>, row: u64) -> Option<RowReader<'a>>
     match matrix {
         None => None,
         Some(matrix) => {
-            let _ = matrix.columns();
+            matrix.recall();
             Some(matrix.rows_from(row))
         }
     }
@@ -83,7 +83,7 @@ impl<'a> Lines<'a> {
         requires within { row ≤ sources.left.now.rows }
         ensures { AreRead sources.entry row result }
     {
-        let _ = sources.left.columns();
+        sources.left.recall();
         Lines {
             left: sources.left.rows_from(row),
             right: reader_of(sources.right, row),

@@ -1,18 +1,20 @@
-//! Apply, and union and both of rows that are alike, without a mask: rows are copied with the values of calls, 64 at a time, whichever
-//! row their entries stand in.
-ghost use Rattle.std.specs.Prelude.{◌≡◌, ◌<◌, ◌≤◌, ◌+◌, ◌-◌, ◌^◌, None};
+//! Apply, and union and both of rows that are alike, without a mask: rows are copied with the values of calls, 64 at a time,
+//! whichever row their entries stand in.
+ghost use Rattle.std.specs.Prelude.{◌≡◌, ◌<◌, ◌≤◌, ◌+◌, ◌-◌, ◌^◌, None, Ok};
 ghost use Rattle.bpf_insn.specs.declared.operands.Kind.TheVariants as kinds;
 ghost use Rattle.bpf_run.specs.Calls.{calls_on, steps_of, words_of};
 ghost use Rattle.csr_store.specs.Mask.{mask_of};
-ghost use Rattle.csr_store.specs.Valued.{all_cells};
-ghost use Rattle.entry_ops.specs.declared.form.Form.TheVariants as forms;
+ghost use Rattle.csr_store.specs.Run.{IsInRun};
+ghost use Rattle.csr_store.specs.Valued.{all_cells, entries_of};
+ghost use Rattle.entry_ops.specs.inner.Forms.{form_of};
+ghost use Rattle.entry_ops.specs.inner.Forms as forms;
 ghost use Rattle.job_forms.specs.Forms.{apply_kind};
 ghost use Rattle.entry_ops.specs.inner.Coming.{NoneWaits};
 ghost use Rattle.entry_ops.specs.inner.Mapped.{range_operands, HasRoom, IsCopied, IsFurther};
 ghost use Rattle.entry_ops.specs.inner.Walking.{Joins, HaveRows, IsFormMade};
 
 use crate::coming::Coming;
-use crate::form::Form;
+use crate::form::EntryForm;
 use crate::line::Sources;
 use crate::pairs::Pairs;
 use crate::rows::fill_region;
@@ -82,6 +84,17 @@ impl Mapping<'_> {
         }
     }
 
+    /// The rows, when all calls were made.
+    fn finish(self) -> Made
+        requires { self.rows.written ≡ entries_of self.rows.run }
+        ensures { result ≡ record { result = Ok self.entry.rows.run; steps = self.entry.steps } }
+    {
+        Made {
+            result: Ok(self.rows.finish()),
+            steps: self.steps,
+        }
+    }
+
     /// Makes the calls of a range of rows, which are being copied.
     fn add_all(
         &mut self,
@@ -91,8 +104,7 @@ impl Mapping<'_> {
         thunk: Option<u64>,
         range: Range<u64>,
     )
-        requires kind { operator.now.kind ≡ apply_kind thunk }
-        requires waits { NoneWaits operator.now.kind calls.old }
+        requires kind { (operator.now.kind ≡ apply_kind thunk) × NoneWaits operator.now.kind calls.old }
         requires rows { (range.start ≤ range.end) × (range.end ≤ a.now.rows) }
         requires copied { IsCopied operator.now thunk a.now range.start (range.end - range.start) self.old }
         ensures { IsFurther operator.now (range_operands thunk a.now range.start (range.end - range.start)) self.old self.new }
@@ -106,8 +118,8 @@ impl Mapping<'_> {
     }
 }
 
-/// The rows of a range of what an operator makes of each word, without a mask. Where they stand in one list their memory is
-/// taken first, so that on want of it no call was made.
+/// The rows of a range of what an operator makes of each word, without a mask. Their memory is taken first, so that on want of it
+/// no call was made.
 pub fn map_region(
     alloc: Global,
     calls: &mut Calls,
@@ -117,73 +129,47 @@ pub fn map_region(
     range: Range<u64>,
 ) -> Made
     requires kind { operator.now.kind ≡ apply_kind thunk }
-    requires range { range.start ≤ range.end }
+    requires range { (range.start ≤ range.end) × IsInRun range.start range.end }
     requires within { range.end ≤ a.now.rows }
     ensures { IsFormMade (forms.Apply thunk) operator.now a.now None None range.start (range.end - range.start) result }
 {
-    let _ = operator.operator().program();
-    let _ = a.columns();
+    operator.recall();
+    a.recall();
     let rows = match a.copying(alloc, range.start..range.end) {
-        Ok(Some(rows)) => rows,
-        Ok(None) => {
-            let sources = Sources {
-                left: a,
-                right: None,
-                mask: None,
-            };
-            return fill_region(alloc, calls, Form::Apply(thunk), operator, sources, range);
-        }
-        Err(error) => {
-            return Made {
-                result: Err(error),
-                steps: 0,
-            };
-        }
+        Ok(rows) => rows,
+        Err(error) => return Made::refused(error),
     };
     let mut mapping = Mapping { rows, steps: 0 };
     calls.begin(operator.kind());
     mapping.add_all(operator, calls, a, thunk, range);
-    Made {
-        result: Ok(mapping.rows.finish()),
-        steps: mapping.steps,
-    }
+    mapping.finish()
 }
 
-/// The rows of a range of a union, or of where both have a word. Where these rows are alike in both operands and there is no mask, they
-/// are copied with the values of calls, and their memory is taken first, so that on want of it no call was made.
+/// The rows of a range of a union, or of where both have a word. Where these rows are alike in both operands and there is no mask,
+/// they are copied with the values of calls, and their memory is taken first, so that on want of it no call was made.
 pub fn joint_region(
     alloc: Global,
     calls: &mut Calls,
-    form: Form,
+    form: EntryForm,
     operator: &Prepared,
     sources: Sources,
     range: Range<u64>,
 ) -> Made
-    requires form { Joins form operator.now }
+    requires form { Joins (form_of form) operator.now }
     requires rows { HaveRows sources range.start range.end }
-    ensures { IsFormMade form operator.now sources.entry.left.now (mask_of sources.entry.right) (mask_of sources.entry.mask)
-        range.start (range.end - range.start) result }
+    ensures { IsFormMade (form_of form) operator.now sources.entry.left.now (mask_of sources.entry.right)
+        (mask_of sources.entry.mask) range.start (range.end - range.start) result }
 {
     let Some(pairs) = Pairs::of_rows(sources, range.start..range.end) else {
         return fill_region(alloc, calls, form, operator, sources, range);
     };
-    let _ = operator.operator().program();
-    let _ = sources.left.columns();
+    operator.recall();
     let rows = match sources.left.copying(alloc, range.start..range.end) {
-        Ok(Some(rows)) => rows,
-        Ok(None) => return fill_region(alloc, calls, form, operator, sources, range),
-        Err(error) => {
-            return Made {
-                result: Err(error),
-                steps: 0,
-            };
-        }
+        Ok(rows) => rows,
+        Err(error) => return Made::refused(error),
     };
     let mut mapping = Mapping { rows, steps: 0 };
     calls.begin(operator.kind());
     mapping.add_pairs(operator, calls, pairs);
-    Made {
-        result: Ok(mapping.rows.finish()),
-        steps: mapping.steps,
-    }
+    mapping.finish()
 }

@@ -1,12 +1,13 @@
 //! The row of a mask walked along, and rows read beside it.
 ghost use Rattle.std.specs.Prelude.{Some};
+ghost use Rattle.entry_ops.specs.inner.Forms.{form_of};
 ghost use Rattle.entry_ops.specs.inner.Standing.{with_cells};
 ghost use Rattle.entry_ops.specs.inner.Placing.{IsReady, Fills};
 ghost use Rattle.entry_ops.specs.inner.Walking.{Suits, IsLine, cells_along, calls_along};
 
 use crate::ahead::{begin_walk, second_for, value_here, walk_to};
 use crate::emitter::Emitter;
-use crate::form::{Form, Place, emit};
+use crate::form::{EntryForm, Place, emit};
 use crate::line::{Cell, Line};
 use bpf_run::{Calls, Prepared};
 use std::alloc::AllocError;
@@ -14,19 +15,19 @@ use std::alloc::AllocError;
 /// Adds the cells of a row, of those positions that a mask's row stores.
 #[inline(always)]
 pub fn fill_masked(
-    form: Form,
+    form: EntryForm,
     operator: &Prepared,
     calls: &mut Calls,
     emitter: &mut Emitter,
     line: Line,
     mask: &[Cell],
 ) -> Result<(), AllocError>
-    requires form { Suits form operator.now }
+    requires form { Suits (form_of form) operator.now }
     requires line { IsLine (record line { mask = Some mask }) }
-    requires ready { IsReady operator.now line.columns (calls_along form operator.now (record line { mask = Some mask }))
+    requires ready { IsReady operator.now line.columns (calls_along (form_of form) operator.now (record line { mask = Some mask }))
         emitter.old calls.old }
-    ensures { Fills operator.now (calls_along form operator.now (record line.entry { mask = Some mask.entry }))
-        (with_cells (cells_along form operator.now (record line.entry { mask = Some mask.entry })))
+    ensures { Fills operator.now (calls_along (form_of form) operator.now (record line.entry { mask = Some mask.entry }))
+        (with_cells (cells_along (form_of form) operator.now (record line.entry { mask = Some mask.entry })))
         emitter.old calls.old emitter.new calls.new result }
 {
     let mut lefts = begin_walk(line.left);

@@ -33,8 +33,8 @@ impl<'m> Model for Pairs<'m> {
 }
 
 impl<'m> Pairs<'m> {
-    /// The entries of a range of rows, where there is no mask, and these rows are alike in both operands: each has entries at the same
-    /// columns. They are compared as two lists, and no row is looked up.
+    /// The entries of a range of rows, where there is no mask, and these rows are alike in both operands: each has entries at the
+    /// same columns. They are compared as two lists, and no row is looked up.
     pub fn of_rows(sources: Sources<'m>, range: Range<u64>) -> Option<Self>
         requires { HaveRows sources range.start range.end }
         ensures { IfSome result (λ p. ArePaired sources.entry range.start (range.end - range.start) p) }
@@ -43,13 +43,13 @@ impl<'m> Pairs<'m> {
             return None;
         };
         let a = sources.left;
-        let _ = a.columns();
-        let _ = b.columns();
+        a.recall();
+        b.recall();
         if !are_as_long(a, b, range.start..range.end) {
             return None;
         }
-        let left = a.cells_of(range.start..range.end)?;
-        let right = b.cells_of(range.start..range.end)?;
+        let left = a.cells_of(range.start..range.end);
+        let right = b.cells_of(range.start..range.end);
         if !have_same_columns(left, right) {
             return None;
         }
@@ -93,7 +93,7 @@ fn are_as_long(a: &Matrix, b: &Matrix, range: Range<u64>) -> bool
     requires { (range.end ≤ a.now.rows) × (range.end ≤ b.now.rows) }
     ensures { IsTrue result → (i : ℕ) → range.start ≤ i → i < range.end → length (row_of a.now i) ≡ length (row_of b.now i) }
 {
-    let _ = a.rows();
+    a.recall();
     let first = a.starts();
     let second = b.starts();
     let mut same = true;

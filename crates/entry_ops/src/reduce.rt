@@ -63,8 +63,8 @@ pub fn reduce_rows<'m>(
     requires region { IsRegion a.now.rows 1 region }
     ensures { IsPartOf 1 (reduce_at operator.now a.now) (reduce_calls_at operator.now a.now) region.entry result }
 {
-    let _ = operator.operator().program();
-    let _ = a.columns();
+    operator.recall();
+    a.recall();
     if is_blank(a, &region) || is_shut(&region) {
         return blank_region(alloc, 1, region.range);
     }

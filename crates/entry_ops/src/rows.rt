@@ -1,6 +1,7 @@
 //! The rows of a range, of forms whose cells are copies and values of calls.
 ghost use Rattle.std.specs.Prelude.{◌-◌};
 ghost use Rattle.csr_store.specs.Mask.{mask_of};
+ghost use Rattle.entry_ops.specs.inner.Forms.{form_of};
 ghost use Rattle.entry_ops.specs.inner.Standing.{with_cells};
 ghost use Rattle.entry_ops.specs.inner.Placing.{IsReady, Fills};
 ghost use Rattle.entry_ops.specs.inner.Walking.{
@@ -16,7 +17,7 @@ ghost use Rattle.entry_ops.specs.inner.Walking.{
 };
 
 use crate::emitter::Emitter;
-use crate::form::Form;
+use crate::form::EntryForm::{self, Apply, Both, Union};
 use crate::joint::fill_joint;
 use crate::line::{Line, Lines, MOST_ROOM, Sources, entries_between};
 use crate::masked::fill_masked;
@@ -27,58 +28,47 @@ use std::ops::Range;
 
 /// Adds the cells of a row, each form by a loop of its own.
 fn fill_line(
-    form: Form,
+    form: EntryForm,
     operator: &Prepared,
     calls: &mut Calls,
     emitter: &mut Emitter,
     line: Line,
 ) -> Result<(), AllocError>
-    requires form { Suits form operator.now }
+    requires form { Suits (form_of form) operator.now }
     requires line { IsLine line }
-    requires ready { IsReady operator.now line.columns (calls_along form operator.now line) emitter.old calls.old }
-    ensures { Fills operator.now (calls_along form operator.now line.entry) (with_cells (cells_along form operator.now line.entry))
-        emitter.old calls.old emitter.new calls.new result }
+    requires ready { IsReady operator.now line.columns (calls_along (form_of form) operator.now line) emitter.old calls.old }
+    ensures { Fills operator.now (calls_along (form_of form) operator.now line.entry)
+        (with_cells (cells_along (form_of form) operator.now line.entry)) emitter.old calls.old emitter.new calls.new result }
 {
     match (form, line.mask) {
-        (Form::Apply(thunk), Some(mask)) => fill_masked(
-            Form::Apply(thunk),
-            operator,
-            calls,
-            emitter,
-            line,
-            mask,
-        ),
-        (Form::Apply(thunk), None) => fill_masked(
-            Form::Apply(thunk),
-            operator,
-            calls,
-            emitter,
-            line,
-            line.left,
-        ),
-        (Form::Select(_), _) => Ok(()),
-        (Form::Union, Some(mask)) => fill_masked(Form::Union, operator, calls, emitter, line, mask),
-        (Form::Union, None) => fill_joint(Form::Union, operator, calls, emitter, line),
-        (Form::Both, Some(mask)) => fill_masked(Form::Both, operator, calls, emitter, line, mask),
-        (Form::Both, None) => fill_joint(Form::Both, operator, calls, emitter, line),
+        (Apply(thunk), Some(mask)) => {
+            fill_masked(Apply(thunk), operator, calls, emitter, line, mask)
+        }
+        (Apply(thunk), None) => {
+            fill_masked(Apply(thunk), operator, calls, emitter, line, line.left)
+        }
+        (Union, Some(mask)) => fill_masked(Union, operator, calls, emitter, line, mask),
+        (Union, None) => fill_joint(Union, operator, calls, emitter, line),
+        (Both, Some(mask)) => fill_masked(Both, operator, calls, emitter, line, mask),
+        (Both, None) => fill_joint(Both, operator, calls, emitter, line),
     }
 }
 
 /// Adds the rows of a range.
 fn fill(
-    form: Form,
+    form: EntryForm,
     operator: &Prepared,
     calls: &mut Calls,
     emitter: &mut Emitter,
     sources: Sources,
     range: Range<u64>,
 ) -> Result<(), AllocError>
-    requires form { Suits form operator.now }
+    requires form { Suits (form_of form) operator.now }
     requires rows { HaveRows sources range.start range.end }
-    requires ready { IsReady operator.now sources.left.now.columns (calls_from form operator.now sources range.start range.end)
-        emitter.old calls.old }
-    ensures { Fills operator.now (calls_from form operator.now sources.entry range.start range.end)
-        (with_rows (rows_from form operator.now sources.entry range.start range.end))
+    requires ready { IsReady operator.now sources.left.now.columns
+        (calls_from (form_of form) operator.now sources range.start range.end) emitter.old calls.old }
+    ensures { Fills operator.now (calls_from (form_of form) operator.now sources.entry range.start range.end)
+        (with_rows (rows_from (form_of form) operator.now sources.entry range.start range.end))
         emitter.old calls.old emitter.new calls.new result }
 {
     let mut lines = Lines::begin(sources, range.start);
@@ -92,19 +82,19 @@ fn fill(
 
 /// For how many cells room is made at once: for all that there may be, where these are not very many. A union without a mask has at
 /// least half of them.
-fn room_for(form: Form, sources: Sources, first: u64, end: u64) -> usize {
+fn room_for(form: EntryForm, sources: Sources, first: u64, end: u64) -> usize {
     let left = entries_between(sources.left, first, end);
     let right = match sources.right {
         None => 0,
         Some(right) => entries_between(right, first, end),
     };
     let most = match form {
-        Form::Apply(_) | Form::Select(_) => left,
-        Form::Union => left.saturating_add(right),
-        Form::Both => left.min(right),
+        EntryForm::Apply(_) => left,
+        EntryForm::Union => left.saturating_add(right),
+        EntryForm::Both => left.min(right),
     };
     match (form, sources.mask) {
-        (Form::Union, None) => most,
+        (EntryForm::Union, None) => most,
         (_, None) => most.min(MOST_ROOM),
         (_, Some(mask)) => most.min(MOST_ROOM).min(entries_between(mask, first, end)),
     }
@@ -114,42 +104,28 @@ fn room_for(form: Form, sources: Sources, first: u64, end: u64) -> usize {
 pub fn fill_region(
     alloc: Global,
     calls: &mut Calls,
-    form: Form,
+    form: EntryForm,
     operator: &Prepared,
     sources: Sources,
     range: Range<u64>,
 ) -> Made
-    requires form { Suits form operator.now }
+    requires form { Suits (form_of form) operator.now }
     requires rows { HaveRows sources range.start range.end }
-    ensures { IsFormMade form operator.now sources.entry.left.now (mask_of sources.entry.right) (mask_of sources.entry.mask)
-        range.start (range.end - range.start) result }
+    ensures { IsFormMade (form_of form) operator.now sources.entry.left.now (mask_of sources.entry.right)
+        (mask_of sources.entry.mask) range.start (range.end - range.start) result }
 {
-    let _ = operator.operator().program();
+    operator.recall();
     let mut emitter = Emitter::begin(alloc, range.start, sources.left.columns());
     let rows = (range.end - range.start) as usize;
     match emitter.reserve(rows, room_for(form, sources, range.start, range.end)) {
         Ok(()) => {}
-        Err(error) => {
-            return Made {
-                result: Err(error),
-                steps: 0,
-            };
-        }
+        Err(error) => return emitter.finish(Err(error)),
     }
     calls.begin(operator.kind());
     match fill(form, operator, calls, &mut emitter, sources, range) {
         Ok(()) => {}
-        Err(error) => {
-            return Made {
-                result: Err(error),
-                steps: emitter.steps(),
-            };
-        }
+        Err(error) => return emitter.finish(Err(error)),
     }
     emitter.flush(operator, calls);
-    let steps = emitter.steps();
-    Made {
-        result: Ok(emitter.into_rows()),
-        steps,
-    }
+    emitter.finish(Ok(()))
 }

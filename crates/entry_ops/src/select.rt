@@ -2,7 +2,7 @@
 ghost use Rattle.std.specs.Prelude.{◌≡◌, ◌<◌, ◌-◌, None, Some};
 ghost use Rattle.bpf_insn.specs.declared.operands.Kind.TheVariants as kinds;
 ghost use Rattle.csr_store.specs.Mask.{HasShape};
-ghost use Rattle.entry_ops.specs.declared.form.Form.TheVariants as forms;
+ghost use Rattle.entry_ops.specs.inner.Forms as forms;
 ghost use Rattle.entry_ops.specs.inner.Standing.{with_cells};
 ghost use Rattle.entry_ops.specs.inner.Sifting.{IsReady, Fills};
 ghost use Rattle.entry_ops.specs.inner.Masked.{HasMaskedRows, rows_kept, calls_kept};
@@ -42,8 +42,8 @@ fn keep_row(
         (with_cells (form_row (forms.Select thunk) operator.now masked.entry.a.now None (Some masked.entry.mask.now) row))
         sieve.old calls.old sieve.new calls.new result }
 {
-    let _ = masked.a.columns();
-    let _ = masked.mask.columns();
+    masked.a.recall();
+    masked.mask.recall();
     let mut cells = begin_walk(masked.a.row(row));
     let mut masks = masked.mask.row(row);
     while let Some((shown, rest)) = masks.split_first() {
@@ -96,38 +96,16 @@ pub fn select_region(
     ensures { IsFormMade (forms.Select thunk) operator.now masked.entry.a.now None (Some masked.entry.mask.now) range.start
         (range.end - range.start) result }
 {
-    let _ = operator.operator().program();
+    operator.recall();
     let mut sieve = match Sieve::begin(alloc, range.start, masked.a.columns()) {
         Ok(sieve) => sieve,
-        Err(error) => {
-            return Made {
-                result: Err(error),
-                steps: 0,
-            };
-        }
+        Err(error) => return Made::refused(error),
     };
     calls.begin(operator.kind());
     match keep_rows(thunk, operator, calls, &mut sieve, masked, range) {
         Ok(()) => {}
-        Err(error) => {
-            return Made {
-                result: Err(error),
-                steps: sieve.steps(),
-            };
-        }
+        Err(error) => return sieve.finish(Err(error)),
     }
-    match sieve.flush(operator, calls) {
-        Ok(()) => {}
-        Err(error) => {
-            return Made {
-                result: Err(error),
-                steps: sieve.steps(),
-            };
-        }
-    }
-    let steps = sieve.steps();
-    Made {
-        result: Ok(sieve.into_rows()),
-        steps,
-    }
+    let flushed = sieve.flush(operator, calls);
+    sieve.finish(flushed)
 }

@@ -3,12 +3,14 @@ ghost use Rattle.std.specs.Prelude.{◌≡◌, ◌<◌, ◌≤◌, ◌+◌, ◌^
 ghost use Rattle.bpf_insn.specs.Machine.{kind_of};
 ghost use Rattle.bpf_run.specs.Meaning.{value_of};
 ghost use Rattle.bpf_run.specs.Calls.{call_of, calls_on, steps_of};
+ghost use Rattle.job_forms.specs.Region.{told};
 ghost use Rattle.entry_ops.specs.inner.Standing.{CanPush, with_end};
 ghost use Rattle.entry_ops.specs.inner.Sifting.{placed, Fits, Holds, with_kept, CanAdd, Puts, IsFlushed};
 
 use bpf_insn::Operands;
 use bpf_run::{Calls, MOST_CALLS, Prepared};
 use csr_store::Rows;
+use job_forms::{Made, Making};
 use std::alloc::{AllocError, Global};
 use std::marker::Model;
 
@@ -59,18 +61,12 @@ impl Sieve {
         })
     }
 
-    /// The steps of the calls that were made.
-    pub fn steps(&self) -> u64
-        ensures { result ≡ self.now.steps }
+    /// What was made: the rows, unless memory was refused, and the steps.
+    pub fn finish(self, filled: Result<(), AllocError>) -> Made
+        ensures { result ≡ told (record { rows = self.rows; steps = self.steps }) filled }
     {
-        self.steps
-    }
-
-    /// The rows.
-    pub fn into_rows(self) -> Rows
-        ensures { result ≡ self.rows }
-    {
-        self.rows
+        let Sieve { rows, steps, .. } = self;
+        Making { rows, steps }.finish(filled)
     }
 
     /// Makes the calls that were gathered, and adds what is marked.

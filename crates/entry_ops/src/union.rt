@@ -5,7 +5,7 @@ ghost use Rattle.job_forms.specs.Forms.{union_at, both_at, joint_calls_at};
 ghost use Rattle.job_forms.specs.Region.{IsRegion, IsPartOf};
 
 use crate::blank::{blank_region, is_blank, is_shut};
-use crate::form::Form;
+use crate::form::EntryForm;
 use crate::line::Sources;
 use crate::mapping::joint_region;
 use bpf_run::{Calls, Prepared};
@@ -38,7 +38,14 @@ pub fn union_rows<'m>(
         right: Some(b),
         mask: region.mask,
     };
-    joint_region(alloc, calls, Form::Union, operator, sources, region.range)
+    joint_region(
+        alloc,
+        calls,
+        EntryForm::Union,
+        operator,
+        sources,
+        region.range,
+    )
 }
 
 /// The operator where two matrices both have a word, in a region.
@@ -66,5 +73,12 @@ pub fn both_rows<'m>(
         right: Some(b),
         mask: region.mask,
     };
-    joint_region(alloc, calls, Form::Both, operator, sources, region.range)
+    joint_region(
+        alloc,
+        calls,
+        EntryForm::Both,
+        operator,
+        sources,
+        region.range,
+    )
 }

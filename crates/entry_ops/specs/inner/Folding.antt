@@ -14,8 +14,8 @@ use Rattle.job_forms.specs.Region.{IsRegion, Adds, nothing_made}
 use Rattle.job_forms.specs.declared.region.Region.{Region}
 use Rattle.job_forms.specs.declared.region.Making.{Making}
 use Rattle.entry_ops.specs.declared.folds.Block.{Block}
-use Rattle.entry_ops.specs.declared.lanes.Lane.{Lane}
-use Rattle.entry_ops.specs.declared.lanes.OpenRow.{OpenRow}
+use Rattle.entry_ops.specs.declared.open_rows.Lane.{Lane}
+use Rattle.entry_ops.specs.declared.open_rows.OpenRow.{OpenRow}
 
 -- the words of cells
 abbrev pub words : List Cell → List ℕ

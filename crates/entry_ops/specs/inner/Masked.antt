@@ -4,7 +4,7 @@ use Rattle.bpf_verify.specs.Accepted.{Accepted}
 use Rattle.csr_store.specs.Mask.{HasShape}
 use Rattle.csr_store.specs.Run.{Row}
 use Rattle.bpf_run.specs.Calls.{Call}
-use Rattle.entry_ops.specs.declared.form.Form.TheVariants.{Select}
+use Rattle.entry_ops.specs.inner.Forms.{Select}
 use Rattle.entry_ops.specs.declared.select.Masked.{Masked}
 use Rattle.entry_ops.specs.inner.Walking.{form_rows, form_all_calls}
 

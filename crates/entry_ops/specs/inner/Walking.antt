@@ -8,7 +8,7 @@ use denote.Ref.{Bor}
 use Rattle.std.specs.Option.{option_map}
 use Rattle.csr_store.specs.Grid.{Grid, IsGrid, Cell, Position, row_of}
 use Rattle.csr_store.specs.Reading.{Reading}
-use Rattle.csr_store.specs.Run.{Row, Run}
+use Rattle.csr_store.specs.Run.{Row, Run, IsInRun}
 use Rattle.csr_store.specs.Along.{along, cell_at}
 use Rattle.csr_store.specs.Mask.{HasShape, mask_of}
 use Rattle.csr_store.specs.Ascending.{Ascends, AscendsIn, at, shows}
@@ -16,11 +16,10 @@ use Rattle.bpf_run.specs.Calls.{Call}
 use Rattle.job_forms.specs.Forms.{applied, apply_calls, selected, united, joint, joint_calls}
 use Rattle.job_forms.specs.Region.{IsMade}
 use Rattle.job_forms.specs.declared.region.Made.{Made}
-use Rattle.entry_ops.specs.declared.form.Form.{Form}
 use Rattle.entry_ops.specs.declared.line.Line.{Line}
 use Rattle.entry_ops.specs.declared.line.Lines.{Lines}
 use Rattle.entry_ops.specs.declared.line.Sources.{Sources}
-use Rattle.entry_ops.specs.declared.form.Form.TheVariants.{Apply, Select, Union, Both}
+use Rattle.entry_ops.specs.inner.Forms.{Form, Apply, Select, Union, Both}
 
 -- how the operator of a form is called
 abbrev pub kind_for : Form → Kind
@@ -141,11 +140,12 @@ pub record AreAlike (sources : Sources) : Type 0 where
   pub right : HasShape sources.left.now.rows sources.left.now.columns (mask_of sources.right)
   pub mask : HasShape sources.left.now.rows sources.left.now.columns (mask_of sources.mask)
 
--- so they have, and the rows from one up to another are there
+-- so they have, and the rows from one up to another are there, all of one run
 pub record HaveRows (sources : Sources) (start to : ℕ) : Type 0 where
   pub alike : AreAlike sources
   pub range : start ≤ to
   pub within : to ≤ sources.left.now.rows
+  pub one_run : IsInRun start to
 
 -- a matrix is read from row i on, if there is one
 abbrev pub reading_at : Option Grid → ℕ → Option Reading

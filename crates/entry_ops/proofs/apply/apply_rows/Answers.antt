@@ -1,7 +1,7 @@
 use Rattle.std.proofs.Common.{◌-◌, None, Option, ap, sym, subst}
 use Rattle.csr_store.specs.Grid.{Grid}
 use Rattle.csr_store.specs.Mask.{mask_of}
-use Rattle.entry_ops.specs.declared.form.Form.TheVariants.{Apply}
+use Rattle.entry_ops.specs.inner.Forms.{Apply}
 use Rattle.entry_ops.specs.inner.Walking.{IsFormMade}
 use Rattle.entry_ops.proofs.Positions.{apply_is}
 use Rattle.job_forms.specs.Forms.{apply_at, apply_calls_at}

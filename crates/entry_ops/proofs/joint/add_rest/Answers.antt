@@ -11,6 +11,3 @@ returns-in-Both-clause-copied c = rw c.in-Both.is (nothing c.args.emitter.now)
 
 pub returns-in-Apply-clause-copied : goal.returns-in-Apply-clause-copied
 returns-in-Apply-clause-copied c = rw c.in-Apply.is (nothing c.args.emitter.now)
-
-pub returns-in-Select-clause-copied : goal.returns-in-Select-clause-copied
-returns-in-Select-clause-copied c = rw c.in-Select.is (nothing c.args.emitter.now)

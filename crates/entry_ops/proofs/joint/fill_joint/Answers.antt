@@ -1,5 +1,6 @@
 use Rattle.std.proofs.Common.{arith, refl, rules}
 use Rattle.std.proofs.lemmas.List.{drop_more}
+use Rattle.entry_ops.specs.inner.Forms.{form_of}
 use Rattle.entry_ops.specs.inner.Walking.{left_over}
 use Rattle.entry_ops.proofs.Nexts.{none_left, first_left, first_right, together}
 use Rattle.entry_ops.proofs.Merging.{
@@ -32,7 +33,7 @@ pub returns-in_default-split_first : goal.returns-in_default-split_first
 returns-in_default-split_first c = record {
   does = on_ok_then c.add_rest.result (λ is.
       let d = does-copies c.args.operator.now c.loop-x.emitter c.loop-x.calls c.loop-x.invariant.0
-      (left_over c.args.form c.loop-x.lefts.now)
+      (left_over (form_of c.args.form) c.loop-x.lefts.now)
       c.add_rest.new.emitter is in
       record {
         holds = d.holds;
@@ -52,7 +53,7 @@ pub returns : goal.returns
 returns c = record {
   does = on_ok_then c.add_rest-2.result (λ is.
       let d = does-copies c.args.operator.now c.loop-x.emitter c.loop-x.calls c.loop-x.invariant.0
-      (left_over c.args.form c.loop-x.rights.now)
+      (left_over (form_of c.args.form) c.loop-x.rights.now)
       c.add_rest-2.new.emitter is in
       record {
         holds = d.holds;
@@ -69,12 +70,12 @@ returns c = record {
 pub emit-requires-clause-can : goal.emit-requires-clause-can
 emit-requires-clause-can c =
     let i = c.loop-x.invariant.1 in
-    record {
+    rw c.left_alone.ensures (record {
       holds = c.loop-x.invariant.0;
       fits = merging-fits _ _ _ _ _ _ _ _ _ _ i _ _ _ _ _ (first_left c.args.line.columns i.low _ _ i.left_row i.right_row _ _ _ _
           c.in-Some.ensures.cases.0 c.in-Some-split_first.ensures.cases.0 c.if-x-y.true);
       room = completes-room _ _ _ _ _ _ i.completes c.requires.ready.room;
-    }
+    })
 
 pub returns-in_err-emit : goal.returns-in_err-emit
 returns-in_err-emit c = record {
@@ -88,7 +89,7 @@ loop-x-preserved-then-x-y c =
     let i = c.loop-x.invariant.1 in (
       d.holds,
       merging-step _ _ _ _ _ _ _ _ _ _ i _ _ _ _ _ (first_left c.args.line.columns i.low _ _ i.left_row i.right_row _ _ _ _
-          c.in-Some.ensures.cases.0 c.in-Some-split_first.ensures.cases.0 c.if-x-y.true) _ d.adds,
+          c.in-Some.ensures.cases.0 c.in-Some-split_first.ensures.cases.0 c.if-x-y.true) _ (rw c.left_alone.ensures at d.adds),
     )
 
 -- ---- one that the right row alone has
@@ -96,12 +97,12 @@ loop-x-preserved-then-x-y c =
 pub emit-requires-then-y-x-clause-can : goal.emit-requires-then-y-x-clause-can
 emit-requires-then-y-x-clause-can c =
     let i = c.loop-x.invariant.1 in
-    record {
+    rw c.right_alone.ensures (record {
       holds = c.loop-x.invariant.0;
       fits = merging-fits _ _ _ _ _ _ _ _ _ _ i _ _ _ _ _ (first_right c.args.line.columns i.low _ _ i.left_row i.right_row _ _ _ _
           c.in-Some.ensures.cases.0 c.in-Some-split_first.ensures.cases.0 c.if-y-x.true);
       room = completes-room _ _ _ _ _ _ i.completes c.requires.ready.room;
-    }
+    })
 
 pub returns-in_err-emit-2 : goal.returns-in_err-emit-2
 returns-in_err-emit-2 c = record {
@@ -116,7 +117,7 @@ loop-x-preserved-then-y-x c =
     let i = c.loop-x.invariant.1 in (
       d.holds,
       merging-step _ _ _ _ _ _ _ _ _ _ i _ _ _ _ _ (first_right c.args.line.columns i.low _ _ i.left_row i.right_row _ _ _ _
-          c.in-Some.ensures.cases.0 c.in-Some-split_first.ensures.cases.0 c.if-y-x.true) _ d.adds,
+          c.in-Some.ensures.cases.0 c.in-Some-split_first.ensures.cases.0 c.if-y-x.true) _ (rw c.right_alone.ensures at d.adds),
     )
 
 -- ---- one of both

@@ -22,14 +22,14 @@ pub offset_bounds-first-next : goal.offset_bounds-first-next
 offset_bounds-first-next c =
     let w = c.requires.0 in
     let l = c.loop-i-test.true in
-    let few = c.rows.ensures.is_grid.rows_small in
+    let few = c.recall.ensures.rows_small in
     omega (arith, l, w, few)
 
 pub offset_bounds-first-next-in-loop-i : goal.offset_bounds-first-next-in-loop-i
 offset_bounds-first-next-in-loop-i c =
     let w = c.requires.0 in
     let l = c.loop-i-test.true in
-    let few = c.rows.ensures.is_grid.rows_small in
+    let few = c.recall.ensures.rows_small in
     omega (arith, l, w, few)
 
 pub overflow_sub-same : goal.overflow_sub-same
@@ -57,14 +57,14 @@ pub offset_bounds-second-next : goal.offset_bounds-second-next
 offset_bounds-second-next c =
     let w = c.requires.0 in
     let l = c.loop-i-test.true in
-    let few = c.rows.ensures.is_grid.rows_small in
+    let few = c.recall.ensures.rows_small in
     omega (arith, l, w, few)
 
 pub offset_bounds-second-next-in-loop-i : goal.offset_bounds-second-next-in-loop-i
 offset_bounds-second-next-in-loop-i c =
     let w = c.requires.0 in
     let l = c.loop-i-test.true in
-    let few = c.rows.ensures.is_grid.rows_small in
+    let few = c.recall.ensures.rows_small in
     omega (arith, l, w, few)
 
 pub overflow_sub-same-in-loop-i : goal.overflow_sub-same-in-loop-i

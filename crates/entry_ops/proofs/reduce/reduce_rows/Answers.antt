@@ -1,5 +1,4 @@
-use Rattle.std.proofs.Common.{◌-◌, arith, refl, subst}
-use Rattle.bpf_verify.specs.Accepted.{IsAccepted}
+use Rattle.std.proofs.Common.{◌-◌, arith, refl}
 use Rattle.csr_store.specs.Mask.{mask_of}
 use Rattle.entry_ops.proofs.Reducing.{few_reduced, reduced}
 use Rattle.job_forms.specs.Forms.{reduce_at, reduce_calls_at}
@@ -16,7 +15,7 @@ fill_in_order-filled-requires c =
       begun = c.begin-making.ensures;
       room = few_reduced c.args.operator.now c.args.a.now (mask_of c.args.region.mask) c.args.region.range.start
           (c.args.region.range.end - c.args.region.range.start)
-          (subst IsAccepted c.operator.ensures c.program.ensures.accepted) c.requires.kind c.columns.ensures.is_grid
+          c.recall.ensures c.requires.kind c.recall-2.ensures
           (omega (arith, w));
     }
 
@@ -29,7 +28,7 @@ fill_in_blocks-filled-requires-clause-can c =
       begun = c.begin-making.ensures;
       room = few_reduced c.args.operator.now c.args.a.now (mask_of c.args.region.mask) c.args.region.range.start
           (c.args.region.range.end - c.args.region.range.start)
-          (subst IsAccepted c.operator.ensures c.program.ensures.accepted) c.requires.kind c.columns.ensures.is_grid
+          c.recall.ensures c.requires.kind c.recall-2.ensures
           (omega (arith, w));
     }
 

@@ -1,5 +1,6 @@
 use Rattle.std.proofs.Common.{arith, ap, sym, ◌∙◌, rules}
 use Rattle.bpf_run.specs.Calls.{steps_of}
+use Rattle.entry_ops.specs.inner.Forms.{form_of}
 use Rattle.entry_ops.proofs.Filling.{
   filling-start,
   filling-open,
@@ -20,7 +21,7 @@ pub fill_line-requires-clause-ready : goal.fill_line-requires-clause-ready
 fill_line-requires-clause-ready c =
     let room = filling-room _ _ _ _ _ _ _ _ _ _ c.loop-row.invariant.1
     c.loop-row-test.true c.requires.ready.room in
-    let same = ap steps_of (c.next_line-line.ensures.line.calls c.args.form c.args.operator.now) in
+    let same = ap steps_of (c.next_line-line.ensures.line.calls (form_of c.args.form) c.args.operator.now) in
     let begun = filling-open _ _ _ _ _ _ _ _ _ _ c.loop-row.invariant.1
     c.requires.ready.open_row in
     record {
@@ -34,7 +35,7 @@ returns-in_err-fill_line c = record {
   does = search rules;
   spent = on_err c.from_residual.result (filling-stop _ _ _ _ _ _ _ _ _ _
       c.loop-row.invariant.1 c.loop-row-test.true _ _
-      (c.next_line-line.ensures.line.calls c.args.form c.args.operator.now) c.in_err-fill_line.ensures.spent);
+      (c.next_line-line.ensures.line.calls (form_of c.args.form) c.args.operator.now) c.in_err-fill_line.ensures.spent);
 }
 
 pub returns-in_err-end_row : goal.returns-in_err-end_row
@@ -43,7 +44,7 @@ returns-in_err-end_row c = record {
   spent = on_err c.from_residual-in_err-end_row.result
       (filling-stop_end _ _ _ _ _ _ _ _ _ _ c.loop-row.invariant.1
       c.loop-row-test.true
-      _ _ _ _ (c.next_line-line.ensures.line.calls c.args.form c.args.operator.now) c.in_ok-fill_line.ensures.does.adds
+      _ _ _ _ (c.next_line-line.ensures.line.calls (form_of c.args.form) c.args.operator.now) c.in_ok-fill_line.ensures.does.adds
       (charges-kept _ _ _ c.in_err-end_row.ensures.kept));
 }
 
@@ -54,7 +55,7 @@ loop-row-preserved c =
       ended.holds,
       filling-step _ _ _ _ _ _ _ _ _ _ c.loop-row.invariant.1
           c.loop-row-test.true _ _ _ _
-          (c.next_line-line.ensures.line.calls c.args.form c.args.operator.now) (c.next_line-line.ensures.line.cells c.args.form c.args.operator.now)
+          (c.next_line-line.ensures.line.calls (form_of c.args.form) c.args.operator.now) (c.next_line-line.ensures.line.cells (form_of c.args.form) c.args.operator.now)
           c.in_ok-fill_line.ensures.does.adds ended.adds,
       c.next_line-line.ensures.read,
     )

@@ -2,7 +2,7 @@ use Rattle.std.proofs.Common.{◌∷◌, [], None, Some, refl, sym, ap, subst, r
 use Rattle.bpf_insn.specs.declared.operands.Operands.{Operands}
 use Rattle.bpf_run.specs.Meaning.{value_of}
 use Rattle.bpf_run.specs.Calls.{call_of}
-use Rattle.entry_ops.specs.declared.form.Form.TheVariants.{Select}
+use Rattle.entry_ops.specs.inner.Forms.{Select}
 use Rattle.entry_ops.specs.inner.Sifting.{standing, with_kept}
 use Rattle.entry_ops.specs.inner.Standing.{Adds}
 use Rattle.entry_ops.proofs.Filling.{row_ascends, same_cells, same_calls}
@@ -21,8 +21,8 @@ loop-shown-init c =
     let masks = c.row-masks.result.now in rw c.begin_walk-cells.ensures.cells (
       c.requires.ready.holds,
       masking-start _ _ _ _ _ _ _ left [] masks
-          (row_ascends a c.args.row a.columns left c.columns.ensures.is_grid refl c.row.ensures) tt
-          (row_ascends mask c.args.row a.columns masks c.columns-2.ensures.is_grid c.requires.row.0.1 c.row-masks.ensures)
+          (row_ascends a c.args.row a.columns left c.recall.ensures refl c.row.ensures) tt
+          (row_ascends mask c.args.row a.columns masks c.recall-2.ensures c.requires.row.0.1 c.row-masks.ensures)
           (sym (same_cells (Select c.args.thunk) c.args.operator.now a None (Some mask) c.args.row _ _ left [] (Some masks) refl
           refl c.row.ensures refl (ap Some c.row-masks.ensures)))
           (sym (same_calls (Select c.args.thunk) c.args.operator.now a None (Some mask) c.args.row _ _ left [] (Some masks) refl

@@ -1,5 +1,5 @@
 use Rattle.std.proofs.Common.{◌≡◌, length, [], None, Some}
-use Rattle.entry_ops.specs.declared.form.Form.TheVariants.{Select}
+use Rattle.entry_ops.specs.inner.Forms.{Select}
 use Rattle.entry_ops.specs.inner.Heads.{head_column}
 use Rattle.entry_ops.specs.inner.Sifting.{Holds, standing}
 use Rattle.entry_ops.specs.inner.Walking.{form_row, form_row_calls}

@@ -2,7 +2,7 @@ use Rattle.std.proofs.Common.{None, Some}
 use Rattle.entry_ops.specs.inner.Sifting.{Holds, standing}
 use Rattle.entry_ops.proofs.Filling.{IsFilling}
 use Rattle.entry_ops.proofs.select.keep_rows.Given as goal
-use Rattle.entry_ops.specs.declared.form.Form.TheVariants.{Select}
+use Rattle.entry_ops.specs.inner.Forms.{Select}
 
 abbrev pub invariant-loop-row : goal.invariant-loop-row
 invariant-loop-row l = Holds l.operator l.sieve l.calls

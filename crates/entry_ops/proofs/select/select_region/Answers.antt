@@ -1,16 +1,16 @@
-use Rattle.std.proofs.Common.{◌≡◌, ◌-◌, ◌∙◌, None, Some, ap, subst, arith, rules}
+use Rattle.std.proofs.Common.{◌-◌, ◌∙◌, None, Some, ap, arith, rules}
+use Rattle.std.proofs.lemmas.Result.{on_ok_weaker, on_err_weaker}
 use Rattle.csr_store.specs.Run.{Run}
-use Rattle.bpf_run.specs.Calls.{calls_on, Charges}
-use Rattle.bpf_run.proofs.Charging.{charges-none}
-use Rattle.entry_ops.specs.declared.form.Form.TheVariants.{Select}
+use Rattle.bpf_run.specs.Calls.{calls_on}
+use Rattle.entry_ops.specs.inner.Forms.{Select}
 use Rattle.entry_ops.specs.inner.Walking.{form_all_calls}
 use Rattle.entry_ops.specs.inner.Sifting.{Sifting, final, standing}
 use Rattle.entry_ops.proofs.Standing.{empty_run}
-use Rattle.entry_ops.proofs.Regions.{begin-room, begin-stop, whole-rows, whole-costs, whole-spent}
+use Rattle.entry_ops.proofs.Regions.{begin-room, begin-stop, whole-rows, whole-costs, whole-spent, told_is}
 use Rattle.entry_ops.proofs.select.select_region.Goals as goal
 
 pub returns-in-Err : goal.returns-in-Err
-returns-in-Err c = record { rows = tt; steps = tt; spent = charges-none _ 0 }
+returns-in-Err c = c.refused.ensures _ _
 
 pub keep_rows-requires-clause-ready : goal.keep_rows-requires-clause-ready
 keep_rows-requires-clause-ready c =
@@ -22,52 +22,38 @@ keep_rows-requires-clause-ready c =
         none = ap
             (λ (r : Run). r.opened) begun;
       };
-      room = begin-room c.args.operator.now c.operator.result.now (Select c.args.thunk) c.args.masked.a.now None
+      room = begin-room c.args.operator.now (Select c.args.thunk) c.args.masked.a.now None
           (Some c.args.masked.mask.now) c.args.range.start c.args.range.end
           (standing c.args.operator.now c.in-Ok.sieve c.begin-2.new.self) (ap (λ (e : Sifting). e.steps) c.in-Ok.ensures)
-          (ap (calls_on c.args.operator.now) c.begin-2.ensures.none) c.program.ensures.accepted c.operator.ensures c.requires.kind
+          (ap (calls_on c.args.operator.now) c.begin-2.ensures.none) c.recall.ensures c.requires.kind
           c.columns.ensures.is_grid c.requires.rows.within;
     }
 
 pub returns-in-Err-keep_rows : goal.returns-in-Err-keep_rows
 returns-in-Err-keep_rows c =
-    let same : c.keep_rows.new.sieve.steps ≡ c.steps.result = cc in
     let all = form_all_calls (Select c.args.thunk) c.args.operator.now c.args.masked.a.now None (Some c.args.masked.mask.now)
     c.args.range.start (c.args.range.end - c.args.range.start) in
-    record {
+    rw c.finish.ensures (record {
       rows = tt;
       steps = tt;
-      spent = subst (λ n. Charges all 0 n) same
-          (begin-stop _ _ (standing c.args.operator.now c.in-Ok.sieve c.begin-2.new.self)
+      spent = begin-stop _ _ (standing c.args.operator.now c.in-Ok.sieve c.begin-2.new.self)
           (ap (λ (e : Sifting). final c.args.operator.now e c.begin-2.new.self) c.in-Ok.ensures)
           (ap (calls_on c.args.operator.now) c.begin-2.ensures.none) (ap (λ (e : Sifting). e.steps) c.in-Ok.ensures) all _
-          c.in-Err-keep_rows.ensures.spent);
-    }
+          c.in-Err-keep_rows.ensures.spent;
+    })
 
-pub flush-requires-clause-room : goal.flush-requires-clause-room
-flush-requires-clause-room c =
-    let room = begin-room c.args.operator.now c.operator.result.now (Select c.args.thunk) c.args.masked.a.now None
+pub flush-flushed-requires-clause-room : goal.flush-flushed-requires-clause-room
+flush-flushed-requires-clause-room c =
+    let room = begin-room c.args.operator.now (Select c.args.thunk) c.args.masked.a.now None
     (Some c.args.masked.mask.now) c.args.range.start c.args.range.end
     (standing c.args.operator.now c.in-Ok.sieve c.begin-2.new.self) (ap (λ (e : Sifting). e.steps) c.in-Ok.ensures)
-    (ap (calls_on c.args.operator.now) c.begin-2.ensures.none) c.program.ensures.accepted c.operator.ensures c.requires.kind
+    (ap (calls_on c.args.operator.now) c.begin-2.ensures.none) c.recall.ensures c.requires.kind
     c.columns.ensures.is_grid c.requires.rows.within in
     let costs = whole-costs _ _ (standing c.args.operator.now c.in-Ok.sieve c.begin-2.new.self)
     (ap (λ (e : Sifting). final c.args.operator.now e c.begin-2.new.self) c.in-Ok.ensures)
     (ap (calls_on c.args.operator.now) c.begin-2.ensures.none) (ap (λ (e : Sifting). e.steps) c.in-Ok.ensures) _ _ _
     c.in-Ok-keep_rows.ensures.does.adds in
     omega (arith, room, costs)
-
-pub returns-in-Err-flush : goal.returns-in-Err-flush
-returns-in-Err-flush c =
-    record {
-      rows = tt;
-      steps = tt;
-      spent = whole-spent _ _ (standing c.args.operator.now c.in-Ok.sieve c.begin-2.new.self)
-          (ap (λ (e : Sifting). final c.args.operator.now e c.begin-2.new.self) c.in-Ok.ensures)
-          (ap (calls_on c.args.operator.now) c.begin-2.ensures.none) (ap (λ (e : Sifting). e.steps) c.in-Ok.ensures) _ _ _
-          c.in-Ok-keep_rows.ensures.does.adds
-          _ (let s = c.in-Err-flush.ensures.spent in cc);
-    }
 
 pub returns : goal.returns
 returns c =
@@ -78,6 +64,8 @@ returns c =
     let start = standing c.args.operator.now c.in-Ok.sieve c.begin-2.new.self in
     let costs = whole-costs _ _ start begun none zero _ _ _ c.in-Ok-keep_rows.ensures.does.adds in
     let rows = whole-rows _ _ start begun none zero _ _ _ c.in-Ok-keep_rows.ensures.does.adds in
-    let made = ap (λ (e : Sifting). e.steps) c.in-Ok-flush.ensures.made.made in
-    let kept = ap (λ (e : Sifting). e.rows) c.in-Ok-flush.ensures.made.made in
-    record { rows = c.into_rows.ensures ∙ (kept ∙ rows); steps = cc; spent = tt }
+    told_is c.flush-flushed.result _ _ _ _ c.finish-2.ensures
+    (on_ok_weaker c.flush-flushed.result (λ m. ap (λ (e : Sifting). e.rows) m.made ∙ rows) c.flush-flushed.ensures.made)
+    (on_ok_weaker c.flush-flushed.result (λ m. ap (λ (e : Sifting). e.steps) m.made ∙ costs) c.flush-flushed.ensures.made)
+    (on_err_weaker c.flush-flushed.result
+    (λ e. whole-spent _ _ start begun none zero _ _ _ c.in-Ok-keep_rows.ensures.does.adds _ e) c.flush-flushed.ensures.spent)

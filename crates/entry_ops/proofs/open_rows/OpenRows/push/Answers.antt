@@ -2,9 +2,9 @@ use Rattle.std.proofs.Common.{◌++◌, ◌∷◌, [], ℕ, List, if◌then◌el
 use Rattle.std.specs.Result.{is_ok}
 use Rattle.std.proofs.lemmas.List.{length_push}
 use Rattle.entry_ops.specs.inner.Folding.{Open, open_of}
-use Rattle.entry_ops.specs.declared.lanes.Lane.{Lane}
+use Rattle.entry_ops.specs.declared.open_rows.Lane.{Lane}
 use Rattle.entry_ops.proofs.OpenRows.{length_columns, columns_pushed}
-use Rattle.entry_ops.proofs.lanes.Lanes.push.Goals as goal
+use Rattle.entry_ops.proofs.open_rows.OpenRows.push.Goals as goal
 
 pub unwrap-requires : goal.unwrap-requires
 unwrap-requires c =

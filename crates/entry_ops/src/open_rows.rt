@@ -29,13 +29,13 @@ pub struct Lane<'m> {
 
 /// Open rows, each with a lane. A contract sees their list.
 #[derive(Drop)]
-pub struct Lanes<'m> {
+pub struct OpenRows<'m> {
     lanes: Vec<Lane<'m>>,
     so_far: Vec<u64>,
     next: Vec<u64>,
 }
 
-impl<'m> Model for Lanes<'m> {
+impl<'m> Model for OpenRows<'m> {
     ghost use Rattle.std.specs.Prelude.{◌≡◌, ◌≤◌, List, length, vec_capacity};
     ghost use Rattle.entry_ops.specs.inner.Folding.{Open, in_columns};
 
@@ -48,12 +48,12 @@ impl<'m> Model for Lanes<'m> {
         × (length e.next.items ≡ length e.lanes.items) };
 }
 
-impl<'m> Lanes<'m> {
+impl<'m> OpenRows<'m> {
     /// None yet, with the memory for all.
     pub fn new(alloc: Global) -> Result<Self, AllocError>
         ensures { IfOk result (λ e. e ≡ []) }
     {
-        Ok(Lanes {
+        Ok(OpenRows {
             lanes: Vec::with_capacity(alloc, MOST_CALLS)?,
             so_far: Vec::with_capacity(alloc, MOST_CALLS)?,
             next: Vec::with_capacity(alloc, MOST_CALLS)?,

@@ -1,7 +1,7 @@
 use Rattle.std.proofs.Common.{List, take, ap, ◌∙◌}
 use Rattle.entry_ops.specs.inner.Folding.{Open}
 use Rattle.entry_ops.proofs.OpenRows.{columns_taken}
-use Rattle.entry_ops.proofs.lanes.Lanes.truncate.Goals as goal
+use Rattle.entry_ops.proofs.open_rows.OpenRows.truncate.Goals as goal
 
 pub returns : goal.returns
 returns c =

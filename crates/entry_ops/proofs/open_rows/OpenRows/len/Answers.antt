@@ -1,7 +1,7 @@
 use Rattle.std.proofs.Common.{List, length, sym, ap, ◌∙◌}
 use Rattle.entry_ops.specs.inner.Folding.{Open}
 use Rattle.entry_ops.proofs.OpenRows.{length_columns}
-use Rattle.entry_ops.proofs.lanes.Lanes.len.Goals as goal
+use Rattle.entry_ops.proofs.open_rows.OpenRows.len.Goals as goal
 
 pub returns-clause-len : goal.returns-clause-len
 returns-clause-len c =

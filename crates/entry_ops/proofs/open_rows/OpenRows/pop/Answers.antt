@@ -1,7 +1,7 @@
 use Rattle.std.proofs.Common.{◌≡◌, ◌+◌, ◌-◌, ◌++◌, ◌∷◌, [], List, length, take, ap, sym, ◌∙◌, arith}
 use Rattle.entry_ops.specs.inner.Folding.{Open, words}
 use Rattle.entry_ops.proofs.OpenRows.{length_columns, columns_last}
-use Rattle.entry_ops.proofs.lanes.Lanes.pop.Goals as goal
+use Rattle.entry_ops.proofs.open_rows.OpenRows.pop.Goals as goal
 
 pub truncate-requires : goal.truncate-requires
 truncate-requires c =

@@ -2,9 +2,9 @@ use Rattle.std.proofs.Common.{◌≡◌, ◌++◌, ℕ, List, length, take, ap, 
 use Rattle.std.proofs.lemmas.List.{with_items_is}
 use Rattle.bpf_run.specs.Calls.{Gathered, steps_of, calls_on, values_on, pairs_of}
 use Rattle.entry_ops.specs.inner.Folding.{Open}
-use Rattle.entry_ops.specs.declared.lanes.Lane.{Lane}
+use Rattle.entry_ops.specs.declared.open_rows.Lane.{Lane}
 use Rattle.entry_ops.proofs.OpenRows.{length_columns, length_called, columns_same_three, placed_for, gives_called, next_more}
-use Rattle.entry_ops.proofs.lanes.Lanes.call.Goals as goal
+use Rattle.entry_ops.proofs.open_rows.OpenRows.call.Goals as goal
 
 pub copy_from_slice-requires : goal.copy_from_slice-requires
 copy_from_slice-requires c =

@@ -1,9 +1,9 @@
 use Rattle.std.proofs.Common.{◌≡◌, ◌+◌, ◌-◌, [], refl, subst, arith}
 use Rattle.entry_ops.specs.inner.Folding.{in_two_columns}
-use Rattle.entry_ops.specs.declared.lanes.Lane.{Lane}
+use Rattle.entry_ops.specs.declared.open_rows.Lane.{Lane}
 use Rattle.entry_ops.proofs.OpenRows.{none_left}
 use Rattle.entry_ops.proofs.Giving.{IsGiving, giving-start, giving-place, giving-word, giving-result, giving-placed, giving-end}
-use Rattle.entry_ops.proofs.lanes.take_next.Goals as goal
+use Rattle.entry_ops.proofs.open_rows.take_next.Goals as goal
 
 -- what stands for a lane that isn't there
 abbrev no_lane : Lane
