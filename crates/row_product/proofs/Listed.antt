@@ -1,5 +1,5 @@
 -- Columns of a row's terms, each once and in order: every column that is met is listed.
-use Rattle.std.proofs.Common.{◌≡◌, ℕ, zero, suc, ◌+◌, ◌<◌, ◌≤◌, true, false, ltb, eqb, List, [], ◌∷◌, ◌++◌, map, length, get_or, refl, sym, ap, ◌∙◌, subst, arith}
+use Rattle.std.proofs.Common.{◌≡◌, ℕ, zero, suc, ◌+◌, ◌<◌, ◌≤◌, true, false, ltb, eqb, List, [], ◌∷◌, ◌++◌, map, length, get_or, refl, sym, ap, subst, arith}
 use Rattle.std.proofs.lemmas.Bool.{cases_lt}
 use Rattle.std.proofs.Math.Logic.{⊎_elim}
 use borrow.Author.Tests.{ltb-true, ltb-false}
@@ -124,7 +124,7 @@ place_is ks column place r m p =
     default_other (x ∷ xs) zero l = refl
     default_other (x ∷ xs) (suc i) l = default_other xs i (omega (arith, l))
 
--- what holds whatever a call came to
-pub on_ok : {T E P : Type 0} (r : Result T E) → P → OnOk r P
-on_ok (Ok x) p = p
-on_ok (Err e) p = tt
+-- what two facts of an `Ok` come to
+pub on_both : {T E P Q R : Type 0} (r : Result T E) → (P → Q → R) → OnOk r P → OnOk r Q → OnOk r R
+on_both (Ok x) f p q = f p q
+on_both (Err e) f p q = tt

@@ -1,12 +1,11 @@
 //! A row of sums, to which the cells of rows of B are added, each times a word.
-ghost use Rattle.std.specs.Prelude.{◌≡◌, ◌≤◌, ◌<◌, ◌+◌, ◌*◌, ◌^◌, ◌++◌, ℕ, None, [], length, IfOk, OnOk};
+ghost use Rattle.std.specs.Prelude.{◌≡◌, ◌≤◌, ◌++◌, ℕ, None, [], length, IfOk, OnOk};
 ghost use Rattle.bpf_verify.specs.Accepted.{Accepted};
 ghost use Rattle.csr_store.specs.Along.{row_by};
 ghost use Rattle.row_product.specs.inner.Adding.{none_gathered, AreBelow, AreTerms, ArePut, MayPut, IsMet};
 ghost use Rattle.row_product.specs.inner.Emitting.{MayEmit};
-ghost use Rattle.row_product.specs.inner.Masked.{AreMasked};
 ghost use Rattle.row_product.specs.inner.Rows.{IsPart, AddsCells};
-ghost use Rattle.row_product.specs.inner.Single.{multiplied, IsBehind, AreCharged};
+ghost use Rattle.row_product.specs.inner.Single.{multiplied, MayPutProducts, AreCharged};
 ghost use Rattle.row_product.specs.inner.Sums.{slot};
 
 use crate::additions::Additions;
@@ -78,8 +77,6 @@ impl Accumulator {
         requires { IsPart factors.now (length self.old) cells.now }
         ensures { AddsCells factors.now x cells.now self.old self.new result }
     {
-        let _add = factors.add.operator().program();
-        let _mul = factors.mul.operator().program();
         let multiplied = self.products.make_with(factors.mul, x, cells);
         let terms = self.products.values();
         multiplied
@@ -92,8 +89,8 @@ impl Accumulator {
             )
     }
 
-    /// Puts a word times each of up to 64 cells into the open row, without a sum. The calls are made, and charged, before memory may
-    /// be wanting.
+    /// Puts a word times each of up to 64 cells into the open row, without a sum. The calls are made, and charged, before memory
+    /// may be wanting.
     pub(crate) fn push_products(
         &mut self,
         factors: &MaskedFactors,
@@ -101,16 +98,12 @@ impl Accumulator {
         cells: &[(u64, u64)],
         making: &mut Making,
     ) -> Result<(), AllocError>
-        requires factors { AreMasked factors.now }
-        requires few { length cells.now ≤ 64 }
-        requires room { making.old.steps + 8192 * length cells.now < 2 ^ 64 }
-        requires behind { IsBehind making.old.rows.columns making.old.rows.opened cells.now }
+        requires { MayPutProducts factors.now cells.now making.old }
         ensures pushed { OnOk result (making.new.rows
             ≡ record making.old.rows { opened = making.old.rows.opened ++ multiplied factors.now.mul.now x cells.now }) }
         ensures charged { AreCharged factors.now x cells.now making.old making.new }
         ensures sums { self.new ≡ self.old }
     {
-        let _mul = factors.mul.operator().program();
         making.steps += self.products.make_with(factors.mul, x, cells);
         push_words(cells, self.products.values(), &mut making.rows)
     }
@@ -134,7 +127,6 @@ fn add_terms(
     sums: &mut Sums,
 ) -> u64
     requires add { MayPut add.now sums.old cells.now terms.now }
-    requires terms { AreTerms (length sums.old) cells.now terms.now }
     requires none { additions.old ≡ none_gathered }
     ensures put { ArePut add.now cells.now terms.now sums.old sums.new result }
     ensures none { additions.new ≡ none_gathered }

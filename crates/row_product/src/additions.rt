@@ -1,8 +1,7 @@
 //! Additions to the sums of different columns, which are made together.
-ghost use Rattle.std.specs.Prelude.{◌≡◌, ◌<◌, [], length, IfOk};
+ghost use Rattle.std.specs.Prelude.{◌≡◌, ◌<◌, length, IfOk};
 ghost use Rattle.bpf_insn.specs.declared.operands.Kind.TheVariants as kinds;
-ghost use Rattle.bpf_run.specs.Calls.{steps_of, calls_on, values_on};
-ghost use Rattle.row_product.specs.inner.Adding.{written, gathered_one, none_gathered, AreBelow};
+ghost use Rattle.row_product.specs.inner.Adding.{written, gathered_one, none_gathered, AreAdded, AreBelow};
 
 use crate::sums::Sums;
 use bpf_insn::Kind;
@@ -57,8 +56,7 @@ impl Additions {
     pub(crate) fn make(&mut self, add: &Prepared, sums: &mut Sums) -> u64
         requires add { add.now.kind ≡ kinds.Binary }
         requires within { AreBelow (length sums.old) self.old.columns }
-        ensures sums { sums.new ≡ written sums.old self.old.columns (values_on add.now self.old.operands) }
-        ensures steps { result ≡ steps_of (calls_on add.now self.old.operands) }
+        ensures added { AreAdded add.now self.old sums.old sums.new result }
         ensures none { self.new ≡ none_gathered }
     {
         let steps = self.calls.make(add);

@@ -1,9 +1,8 @@
 //! The columns of a row's terms, listed, where these are few beside all columns.
-ghost use Rattle.std.specs.Prelude.{◌≡◌, ◌<◌, ◌++◌, ℕ, None, length, map, OnOk};
+ghost use Rattle.std.specs.Prelude.{◌≡◌, ◌<◌, ◌++◌, map, OnOk};
 ghost use Rattle.std.specs.List.{AllByRecursion};
 ghost use Rattle.csr_store.specs.Grid.{Cell};
-ghost use Rattle.row_product.specs.inner.Few.{met, AreListed, IsApart};
-ghost use Rattle.row_product.specs.inner.Sums.{slot};
+ghost use Rattle.row_product.specs.inner.Few.{met, AreBegun};
 
 use csr_store::Matrix;
 use std::alloc::{AllocError, Global};
@@ -29,12 +28,9 @@ impl Columns {
     /// Lists the columns of the rows of B that the cells of a row of A name. None of them has a sum yet.
     pub(crate) fn begin(&mut self, row: &[(u64, u64)], b: &Matrix) -> Result<(), AllocError>
         requires within { AllByRecursion (λ (c : Cell). c.0 < b.now.rows) row.now }
-        ensures apart { OnOk result (IsApart 0 b.now.columns self.new.listed.items) }
-        ensures listed { OnOk result (AreListed self.new.listed.items (met b.now row.now)) }
-        ensures paired { OnOk result (length self.new.sums.items ≡ length self.new.listed.items) }
-        ensures none { OnOk result ((p : ℕ) → slot self.new.sums.items p ≡ None) }
+        ensures { OnOk result (AreBegun b.now row.now self.new) }
     {
-        let _columns = b.columns();
+        b.recall();
         gather(row, b, &mut self.listed)?;
         self.listed.sort_unstable();
         self.listed.dedup();
@@ -48,7 +44,7 @@ fn gather(row: &[(u64, u64)], b: &Matrix, gathered: &mut Vec<u64>) -> Result<(),
     requires within { AllByRecursion (λ (c : Cell). c.0 < b.now.rows) row.now }
     ensures { OnOk result (gathered.new.items ≡ met b.now row.now) }
 {
-    let _rows = b.rows();
+    b.recall();
     gathered.clear();
     for cell in row {
         add_columns(b.row(cell.0), gathered)?;

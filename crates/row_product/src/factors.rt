@@ -1,4 +1,7 @@
 //! The factors of a product.
+ghost use Rattle.bpf_verify.specs.Accepted.{IsAccepted};
+ghost use Rattle.csr_store.specs.Grid.{IsGrid};
+
 use bpf_run::Prepared;
 use csr_store::{Column, Matrix};
 
@@ -11,6 +14,21 @@ pub struct Factors<'m> {
     pub b: &'m Matrix,
     /// A copy of B, if there is one. It is made only of a B of one column.
     pub column: Option<&'m Column>,
+}
+
+impl<'m> Factors<'m> {
+    /// What holds of any operators and matrices. Only the prover looks at it.
+    pub(crate) fn recall(&self)
+        ensures add { IsAccepted self.now.add.now }
+        ensures mul { IsAccepted self.now.mul.now }
+        ensures a { IsGrid self.now.a.now }
+        ensures b { IsGrid self.now.b.now }
+    {
+        self.add.recall();
+        self.mul.recall();
+        self.a.recall();
+        self.b.recall();
+    }
 }
 
 /// The factors of a product, with its mask if there is one.

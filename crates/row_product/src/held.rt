@@ -1,5 +1,6 @@
 //! A word for each column, which counts where the column's bit is set.
-ghost use Rattle.std.specs.Prelude.{◌≡◌, ◌≤◌, ◌<◌, ◌*◌, ℕ, None, Some, [], length, set, slice_index_or, is_some, true, OnOk};
+ghost use Rattle.std.specs.Prelude.{◌≡◌, ◌≤◌, ◌<◌, ◌*◌, []};
+ghost use Rattle.std.specs.Prelude.{ℕ, None, Some, length, set, slice_index_or, is_some, true, OnOk};
 ghost use Rattle.row_product.specs.inner.Held.{AreMarked, AreAllListed};
 ghost use Rattle.row_product.specs.inner.Sums.{slot};
 

@@ -5,13 +5,13 @@
 //! [`Factors`], with the exact steps of its calls, and on want of memory the steps of calls that were made.
 //!
 //! A row of the result is summed in a [`Scratch`], which a caller keeps from call to call: a word for each column, and a bit that
-//! is set where the word is a sum of this row (`held`). The rows of B that A's row names are added one after another, up to 64 cells
-//! at a time: their products are made together, and then the terms are added. An operator that is known by its program adds each
-//! term to its sum, or begins it, in a loop that was compiled for it (`terms`). By any other the terms whose column has a sum
+//! is set where the word is a sum of this row (`held`). The rows of B that A's row names are added one after another, up to 64
+//! cells at a time: their products are made together, and then the terms are added. An operator that is known by its program adds
+//! each term to its sum, or begins it, in a loop that was compiled for it (`terms`). By any other the terms whose column has a sum
 //! already are added together, since no two cells of one row of B have one column, and the others begin a sum (`accumulator`).
 //! Nothing waits from row to row of B. The columns that have a sum are listed as long as they are fewer than one in 16: the list is
-//! put in order, and the next row clears their bits alone. Else a bit a column is read off, and all are cleared. A row of A with one
-//! entry is not summed at all: it makes the row of B that it names, each word multiplied, and where there is a mask it is read
+//! put in order, and the next row clears their bits alone. Else a bit a column is read off, and all are cleared. A row of A with
+//! one entry is not summed at all: it makes the row of B that it names, each word multiplied, and where there is a mask it is read
 //! beside the mask's row, for the cells that pass.
 //!
 //! A product of one column is summed without any of this: the terms of a row are one list, which is folded (`one_column`, over

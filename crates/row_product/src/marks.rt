@@ -12,7 +12,7 @@ pub(crate) fn allow(mask: &Matrix, i: u64, allowed: &mut [bool])
     requires none { (j : ℕ) → flag allowed.old j ≡ false }
     ensures { (j : ℕ) → flag allowed.new j ≡ fin.contains_key mask.now.cells (i, j) }
 {
-    let _columns = mask.columns();
+    mask.recall();
     let row = mask.row(i);
     for cell in row {
         allowed[cell.0 as usize] = true;
@@ -26,7 +26,7 @@ pub(crate) fn forbid(mask: &Matrix, i: u64, allowed: &mut [bool])
     requires those { (j : ℕ) → flag allowed.old j ≡ fin.contains_key mask.now.cells (i, j) }
     ensures { (j : ℕ) → flag allowed.new j ≡ false }
 {
-    let _columns = mask.columns();
+    mask.recall();
     let row = mask.row(i);
     for cell in row {
         allowed[cell.0 as usize] = false;

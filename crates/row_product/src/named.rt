@@ -1,5 +1,6 @@
 //! Words of a column that the cells of a row of A name, each multiplied: the terms of a row of a product of one column.
-ghost use Rattle.std.specs.Prelude.{◌≡◌, ◌≤◌, ◌<◌, ◌++◌, ◌∷◌, [], None, Some, length, vec_capacity, if◌then◌else◌};
+ghost use Rattle.std.specs.Prelude.{◌≡◌, ◌≤◌, ◌<◌, ◌++◌, ◌∷◌, [], if◌then◌else◌};
+ghost use Rattle.std.specs.Prelude.{None, Some, length, vec_capacity};
 ghost use Rattle.std.specs.FinMap as fin;
 ghost use Rattle.bpf_insn.specs.declared.operands.Kind.TheVariants as kinds;
 ghost use Rattle.bpf_insn.specs.declared.operands.Operands.TheVariants.{Binary};
@@ -7,7 +8,7 @@ ghost use Rattle.bpf_verify.specs.Accepted.{Accepted};
 ghost use Rattle.bpf_run.specs.Fold.{terms_of};
 ghost use Rattle.bpf_run.specs.Known.{Computes};
 ghost use Rattle.csr_store.specs.Column.{IsCopyOf};
-ghost use Rattle.row_product.specs.inner.Column.{AreNamed, AreGathered, MayMultiply, AreMultiplied, HasRoom};
+ghost use Rattle.row_product.specs.inner.Column.{AreLent, AreGathered, MayMultiply, AreMultiplied, HasRoom};
 
 use bpf_insn::Kind;
 use bpf_run::{Calls, Function, Loop, Outcome, Prepared, call_by};
@@ -35,8 +36,8 @@ fn word_at(b: &Matrix, column: Option<&Column>, k: u64) -> (u64, bool)
     }
 }
 
-/// Lists the terms of cells, each at column 0, by an operator that computes a function. Answers the steps. A term is listed before it
-/// is known whether there is a word for it, and taken back where there is none: which cells name a word can't be foretold.
+/// Lists the terms of cells, each at column 0, by an operator that computes a function. Answers the steps. A term is listed before
+/// it is known whether there is a word for it, and taken back where there is none: which cells name a word can't be foretold.
 #[inline(always)]
 fn multiply<F: Function>(
     mul: &Prepared,
@@ -46,11 +47,9 @@ fn multiply<F: Function>(
     terms: &mut Vec<(u64, u64)>,
 ) -> u64
     requires computes { Computes mul.now F.meaning F.price }
-    requires may { MayMultiply mul.now b.now cells.now }
-    requires copy { IsCopyOf b.now column }
+    requires may { MayMultiply mul.now b.now column cells.now }
     requires room { HasRoom terms.old }
-    ensures multiplied { AreMultiplied mul.now b.now cells.now terms.new.items result }
-    ensures room { HasRoom terms.new }
+    ensures { AreMultiplied mul.now b.now cells.now terms.new result }
 {
     terms.clear();
     let mut steps = 0;
@@ -81,21 +80,23 @@ fn list_if(terms: &mut Vec<(u64, u64)>, called: Outcome, stands: bool) -> u64
 impl<'c> Loop for Named<'c> {
     type State = Vec<(u64, u64)>;
 
-    ghost may_run = { λ n mul terms. MayMultiply mul n.b.now n.cells.now × IsCopyOf n.b.now n.column × HasRoom terms };
+    ghost may_run = { λ n mul terms. MayMultiply mul n.b.now n.column n.cells.now × HasRoom terms };
 
-    ghost gives = { λ n mul old terms steps. AreMultiplied mul n.b.now n.cells.now terms.items steps × HasRoom terms };
+    ghost gives = { λ n mul old terms steps. AreMultiplied mul n.b.now n.cells.now terms steps };
 
     #[inline(never)]
     fn run<F: Function>(&self, mul: &Prepared, terms: &mut Vec<(u64, u64)>) -> u64 {
-        multiply::<F>(mul, self.cells, self.b, self.column, terms)
+        // a loop for each: none asks at every cell whether there is a copy
+        match self.column {
+            Some(column) => multiply::<F>(mul, self.cells, self.b, Some(column), terms),
+            None => multiply::<F>(mul, self.cells, self.b, None, terms),
+        }
     }
 }
 
 /// Gathers the words of cells with those of B that they meet, in place of what was gathered.
 pub(crate) fn gather(cells: &[(u64, u64)], b: &Matrix, column: Option<&Column>, calls: &mut Calls)
-    requires named { AreNamed b.now cells.now }
-    requires copy { IsCopyOf b.now column }
-    requires few { length cells.now ≤ 64 }
+    requires { AreLent b.now column cells.now }
     ensures kind { calls.new.kind ≡ kinds.Binary }
     ensures gathered { (mul : Accepted) → AreGathered mul b.now cells.now calls.new.operands }
 {

@@ -1,14 +1,12 @@
 //! Rows of a product of one column: the terms of a row are one list, which is folded. There is nothing to put in order.
-ghost use Rattle.std.specs.Prelude.{◌≡◌, ◌<◌, ◌≤◌, ◌^◌, true, [], length, IfOk, IfSome, OnOk};
+ghost use Rattle.std.specs.Prelude.{◌≡◌, ◌<◌, ◌^◌, [], IfOk, IfSome, OnOk};
 ghost use Rattle.bpf_insn.specs.declared.operands.Kind.TheVariants as kinds;
 ghost use Rattle.bpf_run.specs.Calls.{steps_of};
 ghost use Rattle.bpf_run.specs.Fold.{terms_of, fold_from, fold_calls_from};
 ghost use Rattle.csr_store.specs.Along.{cell_at};
-ghost use Rattle.csr_store.specs.Column.{IsCopyOf};
-ghost use Rattle.csr_store.specs.Grid.{limit};
 ghost use Rattle.csr_store.specs.Mask.{mask_of, passes};
-ghost use Rattle.row_product.specs.inner.Column.{AreNamed, MayMultiply, AreMultiplied, AddsListed, IsSummed, HasRoom};
-ghost use Rattle.row_product.specs.inner.Masked.{AreMasked, IsNext, AddsRow, IsCharged};
+ghost use Rattle.row_product.specs.inner.Column.{MayMultiply, AreMultiplied, AddsListed, MaySum, IsSummed, IsNextOpen, HasRoom};
+ghost use Rattle.row_product.specs.inner.Masked.{AddsCharged};
 ghost use Rattle.row_product.specs.inner.Sums.{fold_on_calls};
 
 use crate::factors::MaskedFactors;
@@ -101,11 +99,9 @@ impl Summing {
         column: Option<&Column>,
     ) -> u64
         requires mul { mul.now.kind ≡ kinds.Binary }
-        requires may { MayMultiply mul.now b.now cells.now }
-        requires copy { IsCopyOf b.now column }
+        requires may { MayMultiply mul.now b.now column cells.now }
         requires room { HasRoom self.old.terms }
-        ensures multiplied { AreMultiplied mul.now b.now cells.now self.new.terms.items result }
-        ensures room { HasRoom self.new.terms }
+        ensures { AreMultiplied mul.now b.now cells.now self.new.terms result }
     {
         if let Some(steps) = run_known(&Named { cells, b, column }, mul, &mut self.terms) {
             return steps;
@@ -118,15 +114,11 @@ impl Summing {
 
     /// Sums the terms of cells of a row of A.
     fn sum_cells(&mut self, factors: &MaskedFactors, row: &[(u64, u64)]) -> Summed
-        requires factors { AreMasked factors.now }
-        requires named { AreNamed factors.now.b.now row.now }
-        requires few { length row.now ≤ limit }
+        requires row { MaySum factors.now row.now }
         requires room { HasRoom self.old.terms }
         ensures summed { IsSummed factors.now row.now result.sum result.steps }
         ensures room { HasRoom self.new.terms }
     {
-        let _add = factors.add.operator().program();
-        let _mul = factors.mul.operator().program();
         let mut sum = None;
         let mut steps = 0;
         let mut cells = row;
@@ -139,22 +131,19 @@ impl Summing {
         Summed { sum, steps }
     }
 
-    /// Adds row `i` of the product, where its one position passes. All its calls are made, and charged, before memory may be wanting.
+    /// Adds row `i` of the product, where its one position passes. All its calls are made, and charged, before memory may be
+    /// wanting.
     fn fill_open(
         &mut self,
         factors: &MaskedFactors,
         i: u64,
         making: &mut Making,
     ) -> Result<(), AllocError>
-        requires next { IsNext factors.now i making.old }
-        requires column { factors.now.b.now.columns ≡ 1 }
-        requires open { passes (mask_of factors.now.mask) (i, 0) ≡ true }
+        requires next { IsNextOpen factors.now i making.old }
         requires room { HasRoom self.old.terms }
-        ensures row { AddsRow factors.now i making.old making.new result }
-        ensures charged { IsCharged factors.now i making.old making.new }
+        ensures added { AddsCharged factors.now i making.old making.new result }
         ensures room { HasRoom self.new.terms }
     {
-        let _columns = factors.a.columns();
         let summed = self.sum_cells(factors, factors.a.row(i));
         making.steps += summed.steps;
         put_sum(summed.sum, &mut making.rows)?;

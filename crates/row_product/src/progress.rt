@@ -74,7 +74,6 @@ impl Progress {
         ensures ready { IsReady factors.now.b.now.columns self.new × (self.new.allowed ≡ self.old.allowed)
             × (length (stands self.new) ≡ length (stands self.old)) }
     {
-        let _columns = factors.b.columns();
         let mut cells = factors.b.row(k);
         let mut steps = 0;
         while !cells.is_empty() {
@@ -92,7 +91,6 @@ impl Progress {
         ensures added { AddsTerms factors.now i (takes masked self.old.allowed.items) (stands self.old) (stands self.new) result }
         ensures ready { IsReady factors.now.b.now.columns self.new × (self.new.allowed ≡ self.old.allowed) }
     {
-        let _columns = factors.a.columns();
         let row = factors.a.row(i);
         let mut steps = 0;
         for k in 0..row.len() {

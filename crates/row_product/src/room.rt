@@ -37,7 +37,6 @@ pub(crate) fn fill_rows<R: Room>(
     ensures rows { AddsRows factors.now range.start range.end making.old making.new result }
     ensures ready { R.is_ready factors.now.b.now.columns room.new }
 {
-    let _columns = factors.a.columns();
     for i in range.start..range.end {
         room.fill_row(factors, i, making)?;
     }

@@ -1,5 +1,5 @@
 //! One row of a product.
-ghost use Rattle.row_product.specs.inner.Masked.{IsNext, AddsRow, IsCharged};
+ghost use Rattle.row_product.specs.inner.Masked.{IsNext, AddsCharged};
 ghost use Rattle.row_product.specs.inner.Progress.{IsReady, AllForbidden, stands};
 ghost use Rattle.row_product.specs.inner.Rows.{IsRowOfA, AreSummed};
 
@@ -39,8 +39,7 @@ fn fill_summed(
 ) -> Result<(), AllocError>
     requires next { IsNext factors.now i making.old }
     requires ready { IsReady factors.now.b.now.columns progress.old × AllForbidden progress.old }
-    ensures row { AddsRow factors.now i making.old making.new result }
-    ensures charged { IsCharged factors.now i making.old making.new }
+    ensures added { AddsCharged factors.now i making.old making.new result }
     ensures ready { IsReady factors.now.b.now.columns progress.new × AllForbidden progress.new }
 {
     let columns = factors.b.columns();

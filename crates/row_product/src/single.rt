@@ -1,15 +1,15 @@
 //! Rows of A with one entry: a row of B, as far as it passes, each word multiplied. There is nothing to sum, nor to put in order.
-ghost use Rattle.std.specs.Prelude.{◌≡◌, ◌≤◌, ◌<◌, ◌+◌, ◌*◌, ◌++◌, ◌∷◌, [], length, vec_capacity, IfSome, OnOk};
+ghost use Rattle.std.specs.Prelude.{◌≡◌, ◌≤◌, ◌+◌, ◌*◌, ◌++◌, ◌∷◌, []};
+ghost use Rattle.std.specs.Prelude.{length, vec_capacity, IfSome, OnOk};
 ghost use Rattle.bpf_run.specs.Calls.{calls_on, pairs_with};
-ghost use Rattle.csr_store.specs.Ascending.{Ascends};
 ghost use Rattle.csr_store.specs.Grid.{limit, row_of};
 ghost use Rattle.job_forms.specs.Region.{Adds};
 ghost use Rattle.row_product.specs.inner.Adding.{taking};
 ghost use Rattle.row_product.specs.inner.Beside.{stores};
-ghost use Rattle.row_product.specs.inner.Masked.{IsNext, AddsRow};
+ghost use Rattle.row_product.specs.inner.Masked.{AddsRow};
 ghost use Rattle.row_product.specs.inner.Progress.{IsReady, AllForbidden};
 ghost use Rattle.row_product.specs.inner.Rows.{IsRowOfA};
-ghost use Rattle.row_product.specs.inner.Single.{multiplied, with_words, IsBehind, IsSole, MayPush};
+ghost use Rattle.row_product.specs.inner.Single.{multiplied, with_words, IsBehind, IsSole, IsNextSole, MayPush, MayPushUnder};
 
 use crate::accumulator::Accumulator;
 use crate::beside::{Beside, list_passing};
@@ -25,7 +25,6 @@ pub(crate) fn sole_entry(factors: &MaskedFactors, i: u64) -> Option<(u64, u64)>
     requires { IsRowOfA factors.now i }
     ensures { IfSome result (IsSole factors.now i) }
 {
-    let _columns = factors.a.columns();
     let row = factors.a.row(i);
     if row.len() == 1 { Some(row[0]) } else { None }
 }
@@ -60,7 +59,6 @@ fn push_row(
     ensures little { making.new.steps ≤ making.old.steps + 8192 * limit }
     ensures sums { sums.new ≡ sums.old }
 {
-    let _columns = factors.b.columns();
     let mut cells = factors.b.row(k);
     // no want of memory once calls are made
     making.rows.reserve(cells.len())?;
@@ -80,9 +78,7 @@ fn push_row_under(
     progress: &mut Progress,
     making: &mut Making,
 ) -> Result<(), AllocError>
-    requires push { MayPush factors.now cell.0 making.old }
-    requires order { Ascends 0 factors.now.b.now.columns stored.now }
-    requires room { 64 ≤ vec_capacity progress.old.passing }
+    requires { MayPushUnder factors.now cell.0 stored.now progress.old making.old }
     ensures row { Adds (multiplied factors.now.mul.now cell.1 (taking (stores stored.now) (row_of factors.now.b.now cell.0)) ∷ [])
         (calls_on factors.now.mul.now (pairs_with cell.1 (taking (stores stored.now) (row_of factors.now.b.now cell.0))))
         making.old making.new result }
@@ -91,7 +87,6 @@ fn push_row_under(
         × (64 ≤ vec_capacity progress.new.passing) }
 {
     let (k, x) = cell;
-    let _columns = factors.b.columns();
     let cells = factors.b.row(k);
     // no want of memory once calls are made
     making.rows.reserve(cells.len().min(stored.len()))?;
@@ -116,17 +111,15 @@ pub(crate) fn fill_sole(
     progress: &mut Progress,
     making: &mut Making,
 ) -> Result<(), AllocError>
-    requires next { IsNext factors.now i making.old }
-    requires sole { IsSole factors.now i cell }
+    requires next { IsNextSole factors.now i cell making.old }
     requires ready { IsReady factors.now.b.now.columns progress.old × AllForbidden progress.old }
     ensures row { AddsRow factors.now i making.old making.new result }
     ensures ready { IsReady factors.now.b.now.columns progress.new × AllForbidden progress.new }
 {
-    let _columns = factors.b.columns();
     match factors.mask {
         None => push_row(factors, cell.1, cell.0, &mut progress.sums, making),
         Some(mask) => {
-            let _width = mask.columns();
+            mask.recall();
             push_row_under(factors, cell, mask.row(i), progress, making)
         }
     }

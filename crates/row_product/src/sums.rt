@@ -1,5 +1,6 @@
 //! The sums of a row, with a list of the columns that have one as long as they are few.
-ghost use Rattle.std.specs.Prelude.{◌≡◌, ◌≤◌, ◌<◌, ℕ, List, Option, None, Some, [], length, set, is_some, true, OnOk};
+ghost use Rattle.std.specs.Prelude.{◌≡◌, ◌≤◌, ◌<◌, []};
+ghost use Rattle.std.specs.Prelude.{ℕ, List, Option, None, Some, length, set, OnOk};
 ghost use Rattle.csr_store.specs.Along.{row_by};
 ghost use Rattle.bpf_run.specs.Calls.{steps_of};
 ghost use Rattle.bpf_run.specs.Known.{Computes};

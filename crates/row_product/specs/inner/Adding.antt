@@ -1,6 +1,7 @@
 -- Terms of one row of B added to the sums of a row: the cells that take part, what they make of the sums, and additions that are
 -- made together. This project's own.
-use Rattle.std.specs.Prelude.{◌≡◌, ◌≤◌, ◌<◌, ◌^◌, ℕ, Bool, if◌then◌else◌, List, [], ◌∷◌, ◌++◌, Option, Some, length, set}
+use Rattle.std.specs.Prelude.{◌≡◌, ◌≤◌, ◌<◌, ◌^◌, ℕ, Bool, if◌then◌else◌, List, [], ◌∷◌, ◌++◌}
+use Rattle.std.specs.Prelude.{Option, Some, length, set}
 use Rattle.std.specs.List.{AllByRecursion}
 use Rattle.bpf_insn.specs.declared.operands.Operands.{Operands}
 use Rattle.bpf_insn.specs.declared.operands.Operands.TheVariants.{Binary}
@@ -52,6 +53,7 @@ pub record ArePut (add : Accepted) (cs : List Cell) (ts : List ℕ) (old new : L
 
 -- add takes two words, and the steps of putting the terms can be counted
 pub record MayPut (add : Accepted) (sums : List (Option ℕ)) (cs : List Cell) (ts : List ℕ) : Type 0 where
+  pub terms : AreTerms (length sums) cs ts
   pub kind : add.kind ≡ kinds.Binary
   pub room : steps_of (put_calls add sums cs ts) < 2 ^ 64
 
@@ -76,8 +78,13 @@ written sums [] vs = sums
 abbrev pub AreBelow : ℕ → List ℕ → Type 0
 AreBelow n ks = AllByRecursion (λ k. k < n) ks
 
+-- gathered additions are made: what they come to is written at their columns, and the steps are those of the calls
+pub record AreAdded (add : Accepted) (g : Gathered) (old new : List (Option ℕ)) (s : ℕ) : Type 0 where
+  pub sums : new ≡ written old g.columns (values_on add g.operands)
+  pub steps : s ≡ steps_of (calls_on add g.operands)
+
 -- terms that are put at the columns of cells, where the additions that are gathered are still to be made
-pub record IsMet (add : Accepted) (first : List (Option ℕ)) (cs : List Cell) (ts : List ℕ) (sums : List (Option ℕ)) (g : Gathered)
-    : Type 0 where
+pub record IsMet (add : Accepted) (first : List (Option ℕ)) (cs : List Cell) (ts : List ℕ) (sums : List (Option ℕ))
+    (g : Gathered) : Type 0 where
   pub sums_are : written sums g.columns (values_on add g.operands) ≡ put_terms add first cs ts
   pub steps_are : steps_of (calls_on add g.operands) ≡ steps_of (put_calls add first cs ts)

@@ -1,5 +1,6 @@
 -- A row of A with one entry: the row of B that it names, as far as it passes, each word multiplied. This project's own.
-use Rattle.std.specs.Prelude.{◌≡◌, ◌≤◌, ◌<◌, ◌+◌, ◌*◌, ◌^◌, ℕ, List, [], ◌∷◌, ◌++◌, length}
+use Rattle.std.specs.Prelude.{◌≡◌, ◌≤◌, ◌<◌, ◌+◌, ◌*◌, ◌^◌, [], ◌∷◌}
+use Rattle.std.specs.Prelude.{ℕ, List, length, vec_capacity}
 use Rattle.std.specs.List.{AllByRecursion}
 use Rattle.bpf_insn.specs.declared.operands.Operands.TheVariants.{Binary}
 use Rattle.bpf_verify.specs.Accepted.{Accepted}
@@ -9,7 +10,8 @@ use Rattle.csr_store.specs.Ascending.{Ascends}
 use Rattle.csr_store.specs.Grid.{Cell, limit, row_of}
 use Rattle.job_forms.specs.declared.region.Making.{Making}
 use Rattle.row_product.specs.declared.factors.MaskedFactors.{MaskedFactors}
-use Rattle.row_product.specs.inner.Masked.{AreMasked}
+use Rattle.row_product.specs.declared.progress.Progress.{Progress}
+use Rattle.row_product.specs.inner.Masked.{AreMasked, IsNext}
 
 -- x times the word of each cell
 abbrev pub multiplied : Accepted → ℕ → List Cell → List Cell
@@ -28,6 +30,13 @@ pub record IsBehind (n : ℕ) (row cells : List Cell) : Type 0 where
   pub below : AllByRecursion (λ (c : Cell). c.0 < low) row
   pub ascends : Ascends low n cells
 
+-- up to 64 such cells may be put, each word multiplied, and the steps can be counted
+pub record MayPutProducts (f : MaskedFactors) (cells : List Cell) (making : Making) : Type 0 where
+  pub factors : AreMasked f
+  pub few : length cells ≤ 64
+  pub room : making.steps + 8192 * length cells < 2 ^ 64
+  pub behind : IsBehind making.rows.columns making.rows.opened cells
+
 -- x was multiplied by each of these cells, and the steps of all these calls are charged
 pub record AreCharged (f : MaskedFactors) (x : ℕ) (cells : List Cell) (old new : Making) : Type 0 where
   pub steps : new.steps ≡ old.steps + steps_of (calls_on f.mul.now (pairs_with x cells))
@@ -38,6 +47,11 @@ pub record IsSole (f : MaskedFactors) (i : ℕ) (c : Cell) : Type 0 where
   pub row : row_of f.a.now i ≡ c ∷ []
   pub named : c.0 < f.b.now.rows
 
+-- and row i of the product is to be added
+pub record IsNextSole (f : MaskedFactors) (i : ℕ) (c : Cell) (making : Making) : Type 0 where
+  pub next : IsNext f i making
+  pub sole : IsSole f i c
+
 -- row k of B may be put, each word multiplied, and the steps can be counted
 pub record MayPush (f : MaskedFactors) (k : ℕ) (making : Making) : Type 0 where
   pub factors : AreMasked f
@@ -45,3 +59,10 @@ pub record MayPush (f : MaskedFactors) (k : ℕ) (making : Making) : Type 0 wher
   pub columns : making.rows.columns ≡ f.b.now.columns
   pub none_open : making.rows.opened ≡ []
   pub room : making.steps + 8192 * limit < 2 ^ 64
+
+-- so it may as far as a mask's row stores its columns, and there is room for a part of it
+pub record MayPushUnder (f : MaskedFactors) (k : ℕ) (stored : List Cell) (progress : Progress) (making : Making)
+    : Type 0 where
+  pub push : MayPush f k making
+  pub order : Ascends 0 f.b.now.columns stored
+  pub room : 64 ≤ vec_capacity progress.passing

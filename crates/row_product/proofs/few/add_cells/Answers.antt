@@ -20,7 +20,7 @@ loop-cell-init c =
           (mask_of c.args.factors.now.mask) (c.args.i, j))
           (spread n c.args.listed.now c.args.sums.now) c.row-row.result.now
           (subst (Ascends 0 n) (sym c.row-row.ensures) (row_of-ascends c.args.factors.now.b.now c.args.k
-          c.columns-columns.ensures.is_grid));
+          c.requires.row.factors.b_grid));
       few = omega arith;
     }
 
@@ -49,8 +49,8 @@ loop-cell-preserved c =
     let wide : n ≤ length was = let l = length_spread n listed c.loop-cell.sums in omega (arith, l) in
     elim c.if-lets_pass.branch [
       | then-lets_pass v ↦
-          let added = v.add_at-steps.ensures.added in
-          let g = v.add_at-steps.ensures.few in
+          let added = v.add_at-steps.ensures in
+          let g = added.little in
           let s = v.steps-is in
           record {
             adding = subst (Adding add mul c.args.x n t first row (spread n listed c.if-lets_pass.sums) more) (sym v.steps-is)
@@ -79,7 +79,7 @@ returns c =
     let few = c.loop-cell.invariant.few in
     let m = c.loop-cell.auto.cell-index-end in
     let e = ap length c.row-row.ensures in
-    let r = row_few f.b.now c.args.k c.columns-columns.ensures.is_grid in
+    let r = row_few f.b.now c.args.k c.requires.row.factors.b_grid in
     let all = adding_end f.add.now f.mul.now c.args.x n (λ j. passes (mask_of f.mask) (c.args.i, j))
     (spread n c.args.listed.now c.args.sums.now) f.b.now c.args.k row (spread n c.args.listed.now c.loop-cell.sums)
     (drop c.loop-cell.cell-index row) c.loop-cell.steps c.loop-cell.invariant.adding
@@ -89,8 +89,8 @@ returns c =
 pub overflow_add-steps : goal.overflow_add-steps
 overflow_add-steps c =
     let f = c.loop-cell.invariant.few in
-    let g = c.add_at-steps.ensures.few in
+    let g = c.add_at-steps.ensures.little in
     let e = ap length c.row-row.ensures in
-    let r = row_few c.args.factors.now.b.now c.args.k c.columns-columns.ensures.is_grid in
+    let r = row_few c.args.factors.now.b.now c.args.k c.requires.row.factors.b_grid in
     let t = c.loop-cell-test.true in
     omega (arith, f, g, e, r, t)

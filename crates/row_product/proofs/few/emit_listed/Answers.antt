@@ -9,7 +9,8 @@ use Rattle.row_product.proofs.few.emit_listed.Goals.{in-Some+in_ok-push-in-Some,
 
 pub loop-place-init : goal.loop-place-init
 loop-place-init c =
-    listing_start c.args.rows.now.columns c.args.rows.now c.args.listed.now c.args.sums.now c.requires.none_open c.requires.apart
+    listing_start c.args.rows.now.columns c.args.rows.now c.args.listed.now c.args.sums.now c.requires.none_open
+    c.requires.places.apart
 
 pub push-requires-clause-above : goal.push-requires-clause-above
 push-requires-clause-above c =
@@ -28,7 +29,7 @@ loop-place-preserved c =
     let p = c.loop-place.place in
     let now = c.loop-place.rows in
     let rest = drop_more listed p 0 c.loop-place-test.true in
-    let left = drop_more sums p None (let t = c.loop-place-test.true in let l = c.requires.paired in omega (arith, t, l)) in
+    let left = drop_more sums p None (let t = c.loop-place-test.true in let l = c.requires.places.paired in omega (arith, t, l)) in
     let whole = row_by n (slot (spread n listed sums)) in
     elim c.match-sums-place.branch [
       | in-Some+in_ok-push-in-Some w ↦

@@ -18,7 +18,7 @@ bounds-allowed-cell c =
       t,
       n,
     ) in
-    let h = (cell_inside c.args.mask.now c.args.i k (0, 0) c.columns-columns.ensures.is_grid l).1 in
+    let h = (cell_inside c.args.mask.now c.args.i k (0, 0) c.recall.ensures l).1 in
     let s = ap (λ (r : List Cell). (get_or r k (0, 0)).0) e in
     let w = c.requires.width in
     let same = c.loop-cell.auto.allowed in
@@ -34,7 +34,7 @@ loop-cell-preserved c =
       t,
       n,
     ) in
-    let h = (cell_inside c.args.mask.now c.args.i k (0, 0) c.columns-columns.ensures.is_grid l).1 in
+    let h = (cell_inside c.args.mask.now c.args.i k (0, 0) c.recall.ensures l).1 in
     let s = ap (λ (r : List Cell). (get_or r k (0, 0)).0) e in
     let w = c.requires.width in
     let same = c.loop-cell.auto.allowed in

@@ -27,7 +27,7 @@ fill_row-requires-clause-next g c =
     let i = c.loop-i.invariant in
     let f = i.few in
     let n = row_start-next a c.loop-i.i in
-    let w = start_few a (c.loop-i.i + 1) c.columns-columns.ensures.is_grid in
+    let w = start_few a (c.loop-i.i + 1) c.requires.begun.factors.a_grid in
     let b = c.requires.begun.within in
     record {
       factors = c.requires.begun.factors;

@@ -1,4 +1,4 @@
-use Rattle.std.proofs.Common.{◌≡◌, Option, length, is_some, sym, ap, ◌∙◌, subst, arith}
+use Rattle.std.proofs.Common.{◌≡◌, Option, length, is_some, sym, ap, ◌∙◌, subst, arith, rules}
 use denote.Ref.{Bor}
 use Rattle.csr_store.specs.Grid.{Grid, row_of}
 use Rattle.csr_store.specs.Mask.{HasShape, mask_of, passes}
@@ -15,22 +15,26 @@ use Rattle.row_product.proofs.Parts.{taking_all}
 use Rattle.row_product.proofs.Passing.{taking_same}
 use Rattle.row_product.proofs.single.fill_sole.Goals as goal
 
-pub push_row_under-requires-clause-order : goal.push_row_under-requires-clause-order
-push_row_under-requires-clause-order c =
+pub push_row_under-requires : goal.push_row_under-requires
+push_row_under-requires c =
     let f = c.args.factors.now in
     let mask = c.in-Some.mask.now in
     let shape = subst (λ (o : Option (Bor Grid)). HasShape f.a.now.rows f.b.now.columns (mask_of o)) c.in-Some.is
-    c.requires.next.factors.mask in
-    subst (Ascends 0 f.b.now.columns) (sym c.row.ensures)
-    (subst (λ n. Ascends 0 n (row_of mask c.args.i)) shape.1 (row_of-ascends mask c.args.i c.columns-width.ensures.is_grid))
+    c.requires.next.next.factors.mask in
+    record {
+      push = search rules;
+      order = subst (Ascends 0 f.b.now.columns) (sym c.row.ensures)
+          (subst (λ n. Ascends 0 n (row_of mask c.args.i)) shape.1 (row_of-ascends mask c.args.i c.recall.ensures));
+      room = search rules;
+    }
 
 pub returns-in-None-clause-row : goal.returns-in-None-clause-row
 returns-in-None-clause-row c =
     let f = c.args.factors.now in
     let cell = c.args.cell in
     let row = row_of f.b.now cell.0 in
-    let g = c.columns-columns.ensures.is_grid in
-    let s = c.requires.sole in
+    let g = c.requires.next.next.factors.b_grid in
+    let s = c.requires.next.sole in
     let one = ap length s.row in
     let l = c.push_row.ensures.little in
     let all : taking (λ j. passes (mask_of f.mask) (c.args.i, j)) row ≡ row = taking_all _ row
@@ -49,8 +53,8 @@ returns-in-Some-clause-row c =
     let f = c.args.factors.now in
     let cell = c.args.cell in
     let row = row_of f.b.now cell.0 in
-    let g = c.columns-columns.ensures.is_grid in
-    let s = c.requires.sole in
+    let g = c.requires.next.next.factors.b_grid in
+    let s = c.requires.next.sole in
     let one = ap length s.row in
     let l = c.push_row_under.ensures.little in
     let same : taking (stores c.row.result.now) row ≡ taking (λ j. passes (mask_of f.mask) (c.args.i, j)) row = taking_same _ _ row

@@ -1,4 +1,4 @@
-use Rattle.std.proofs.Common.{◌≡◌, ◌<◌, ◌+◌, ◌++◌, List, length, not, take, subst, sym, ap, ◌∙◌, refl, arith, rules}
+use Rattle.std.proofs.Common.{◌≡◌, ◌<◌, ◌++◌, List, length, not, take, subst, sym, ap, ◌∙◌, refl, arith, rules}
 use Rattle.std.proofs.lemmas.List.{take-append-drop, length-append}
 use Rattle.std.specs.List.{AllByRecursion}
 use Rattle.bpf_run.specs.Calls.{calls_on, pairs_with}
@@ -34,7 +34,7 @@ loop-cells-init c =
     let behind : IsBehind from.columns from.opened row = record {
       low = 0;
       below = subst (AllByRecursion (λ (d : Cell). d.0 < 0)) (sym c.requires.none_open) tt;
-      ascends = subst (λ w. Ascends 0 w row) n (row_of-ascends b c.args.k c.columns-columns.ensures.is_grid);
+      ascends = subst (λ w. Ascends 0 w row) n (row_of-ascends b c.args.k c.requires.factors.b_grid);
     } in
     record {
       pushing = subst (λ us. Pushing from (multiplied mul x row) c.reserve.new.self us (multiplied mul x us)) (sym e)
@@ -45,20 +45,6 @@ loop-cells-init c =
       few = omega (arith, l);
       sums = refl;
     }
-
-pub push_products-requires-clause-behind : goal.push_products-requires-clause-behind
-push_products-requires-clause-behind c =
-    let cs = c.split_at.result.0.now in
-    let ds = c.split_at.result.1.now in
-    let parts : c.loop-cells.cells.now ≡ cs ++ ds =
-    sym (ap (λ us. us ++ ds) c.split_at.ensures.front
-    ∙ (ap (λ us. take c.min.result c.loop-cells.cells.now ++ us) c.split_at.ensures.back
-    ∙ take-append-drop c.min.result c.loop-cells.cells.now)) in
-    let now = c.loop-cells.making.rows in
-    let m = c.loop-cells.invariant.pushing in
-    let n = c.args.making.now.rows.columns in
-    subst (λ w. IsBehind w now.opened cs) (sym (ap (λ (u : Run). u.columns) m.run))
-    (behind_first n now.opened cs ds (subst (IsBehind n now.opened) parts m.behind))
 
 pub returns-in_err-push_products-clause-row : goal.returns-in_err-push_products-clause-row
 returns-in_err-push_products-clause-row c =
@@ -91,11 +77,11 @@ returns-in_err-push_products-clause-little c =
     let a = length-append cs ds in
     let n = c.push_products.ensures.charged.little in
     let f = c.loop-cells.invariant.few in
-    let r = row_few c.args.factors.now.b.now c.args.k c.columns-columns.ensures.is_grid in
+    let r = row_few c.args.factors.now.b.now c.args.k c.requires.factors.b_grid in
     omega (arith, p, a, n, f, r)
 
-pub push_products-requires-clause-room : goal.push_products-requires-clause-room
-push_products-requires-clause-room c =
+pub push_products-requires : goal.push_products-requires
+push_products-requires c =
     let cs = c.split_at.result.0.now in
     let ds = c.split_at.result.1.now in
     let parts : c.loop-cells.cells.now ≡ cs ++ ds =
@@ -105,9 +91,18 @@ push_products-requires-clause-room c =
     let p = ap length parts in
     let a = length-append cs ds in
     let f = c.loop-cells.invariant.few in
-    let r = row_few c.args.factors.now.b.now c.args.k c.columns-columns.ensures.is_grid in
-    let m = c.requires.room in
-    omega (arith, p, a, f, r, m)
+    let r = row_few c.args.factors.now.b.now c.args.k c.requires.factors.b_grid in
+    let left = c.requires.room in
+    let now = c.loop-cells.making.rows in
+    let m = c.loop-cells.invariant.pushing in
+    let n = c.args.making.now.rows.columns in
+    record {
+      factors = c.requires.factors;
+      few = search rules;
+      room = omega (arith, p, a, f, r, left);
+      behind = subst (λ w. IsBehind w now.opened cs) (sym (ap (λ (u : Run). u.columns) m.run))
+          (behind_first n now.opened cs ds (subst (IsBehind n now.opened) parts m.behind));
+    }
 
 pub loop-cells-preserved : goal.loop-cells-preserved
 loop-cells-preserved c =
@@ -152,5 +147,5 @@ returns-clause-row c =
 pub returns-clause-little : goal.returns-clause-little
 returns-clause-little c =
     let f = c.loop-cells.invariant.few in
-    let r = row_few c.args.factors.now.b.now c.args.k c.columns-columns.ensures.is_grid in
+    let r = row_few c.args.factors.now.b.now c.args.k c.requires.factors.b_grid in
     omega (arith, f, r)

@@ -1,4 +1,4 @@
-use Rattle.std.proofs.Common.{◌≡◌, ◌<◌, ◌+◌, ◌++◌, length, subst, sym, ap, ◌∙◌, refl, arith, rules}
+use Rattle.std.proofs.Common.{◌≡◌, ◌<◌, ◌++◌, length, subst, sym, ap, ◌∙◌, refl, arith, rules}
 use Rattle.std.proofs.lemmas.List.{length-append}
 use Rattle.std.specs.List.{AllByRecursion}
 use Rattle.bpf_run.specs.Calls.{calls_on, pairs_with}
@@ -34,7 +34,7 @@ loop-row-init c =
     let e = c.row-cells.ensures in
     let l = ap (λ us. length (taking t us)) e in
     let n : b.columns ≡ from.columns = sym c.requires.push.columns in
-    let rises = row_of-ascends b c.args.cell.0 c.columns-columns.ensures.is_grid in
+    let rises = row_of-ascends b c.args.cell.0 c.requires.push.factors.b_grid in
     let behind : IsBehind from.columns from.opened passing = record {
       low = 0;
       below = subst (AllByRecursion (λ (d : Cell). d.0 < 0)) (sym c.requires.push.none_open) tt;
@@ -59,19 +59,6 @@ loop-row-init c =
       allowed = refl;
       room = c.requires.room;
     }
-
-pub push_products-requires-clause-behind : goal.push_products-requires-clause-behind
-push_products-requires-clause-behind c =
-    let t = stores c.args.stored.now in
-    let cs = c.deref.result.now in
-    let ds = taking t c.list_passing-row.result.cells.now in
-    let next = c.list_passing-row.ensures.listed c.args.stored.now c.args.factors.now.b.now.columns c.loop-row.invariant.beside in
-    let parts : taking t c.loop-row.row.cells.now ≡ cs ++ ds = sym (ap (λ us. us ++ ds) c.deref.ensures.value ∙ next.1) in
-    let now = c.loop-row.making.rows in
-    let m = c.loop-row.invariant.pushing in
-    let n = c.args.making.now.rows.columns in
-    subst (λ w. IsBehind w now.opened cs) (sym (ap (λ (u : Run). u.columns) m.run))
-    (behind_first n now.opened cs ds (subst (IsBehind n now.opened) parts m.behind))
 
 pub returns-in_err-push_products-clause-row : goal.returns-in_err-push_products-clause-row
 returns-in_err-push_products-clause-row c =
@@ -103,11 +90,11 @@ returns-in_err-push_products-clause-little c =
     let n = c.push_products.ensures.charged.little in
     let f = c.loop-row.invariant.few in
     let w = taking_few (stores c.args.stored.now) (row_of c.args.factors.now.b.now c.args.cell.0) in
-    let r = row_few c.args.factors.now.b.now c.args.cell.0 c.columns-columns.ensures.is_grid in
+    let r = row_few c.args.factors.now.b.now c.args.cell.0 c.requires.push.factors.b_grid in
     omega (arith, p, a, n, f, w, r)
 
-pub push_products-requires-clause-room : goal.push_products-requires-clause-room
-push_products-requires-clause-room c =
+pub push_products-requires : goal.push_products-requires
+push_products-requires c =
     let t = stores c.args.stored.now in
     let cs = c.deref.result.now in
     let ds = taking t c.list_passing-row.result.cells.now in
@@ -117,9 +104,18 @@ push_products-requires-clause-room c =
     let a = length-append cs ds in
     let f = c.loop-row.invariant.few in
     let w = taking_few t (row_of c.args.factors.now.b.now c.args.cell.0) in
-    let r = row_few c.args.factors.now.b.now c.args.cell.0 c.columns-columns.ensures.is_grid in
-    let m = c.requires.push.room in
-    omega (arith, p, a, f, w, r, m)
+    let r = row_few c.args.factors.now.b.now c.args.cell.0 c.requires.push.factors.b_grid in
+    let left = c.requires.push.room in
+    let now = c.loop-row.making.rows in
+    let m = c.loop-row.invariant.pushing in
+    let n = c.args.making.now.rows.columns in
+    record {
+      factors = c.requires.push.factors;
+      few = search rules;
+      room = omega (arith, p, a, f, w, r, left);
+      behind = subst (λ w. IsBehind w now.opened cs) (sym (ap (λ (u : Run). u.columns) m.run))
+          (behind_first n now.opened cs ds (subst (IsBehind n now.opened) parts m.behind));
+    }
 
 pub loop-row-preserved : goal.loop-row-preserved
 loop-row-preserved c =
@@ -153,5 +149,5 @@ pub returns-clause-little : goal.returns-clause-little
 returns-clause-little c =
     let f = c.loop-row.invariant.few in
     let w = taking_few (stores c.args.stored.now) (row_of c.args.factors.now.b.now c.args.cell.0) in
-    let r = row_few c.args.factors.now.b.now c.args.cell.0 c.columns-columns.ensures.is_grid in
+    let r = row_few c.args.factors.now.b.now c.args.cell.0 c.requires.push.factors.b_grid in
     omega (arith, f, w, r)

@@ -17,7 +17,7 @@ returns-then-row-eq1 c =
     let one = one_cell c.row-row.result.now (omega (arith, t)) in
     let row : row_of a c.args.i ≡ get_or c.row-row.result.now 0 (0, 0) ∷ [] = sym e ∙ one in
     let w = c.requires.factors.shapes in
-    let u = (subst (Ascends 0 a.columns) row (row_of-ascends a c.args.i c.columns-columns.ensures.is_grid)).1 in
+    let u = (subst (Ascends 0 a.columns) row (row_of-ascends a c.args.i c.requires.factors.a_grid)).1 in
     record {
       row = row;
       named = omega (arith, u, w);

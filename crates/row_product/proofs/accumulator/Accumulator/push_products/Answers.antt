@@ -1,6 +1,5 @@
-use Rattle.std.proofs.Common.{◌+◌, ◌++◌, length, subst, ap, ◌∙◌, arith}
+use Rattle.std.proofs.Common.{◌+◌, ◌++◌, length, ap, ◌∙◌, arith}
 use Rattle.std.proofs.lemmas.Result.{on_ok_weaker}
-use Rattle.bpf_verify.specs.Accepted.{IsAccepted}
 use Rattle.bpf_run.specs.Calls.{Gathered, pairs_with}
 use Rattle.bpf_run.proofs.Charging.{with_few}
 use Rattle.row_product.specs.inner.Single.{with_words}
@@ -24,7 +23,7 @@ overflow_add-making c =
     let mul = c.args.factors.now.mul.now in
     let s = c.make_with.ensures.steps in
     let r = c.requires.room in
-    let f = with_few mul c.args.x cells (subst IsAccepted c.operator.ensures c.program-mul.ensures.accepted) c.requires.factors.mul
+    let f = with_few mul c.args.x cells c.requires.factors.mul_accepted c.requires.factors.mul
     in
     omega (arith, s, f, r)
 
@@ -42,7 +41,7 @@ returns-clause-charged c =
     let cells = c.args.cells.now in
     let mul = c.args.factors.now.mul.now in
     let s = c.make_with.ensures.steps in
-    let f = with_few mul c.args.x cells (subst IsAccepted c.operator.ensures c.program-mul.ensures.accepted) c.requires.factors.mul
+    let f = with_few mul c.args.x cells c.requires.factors.mul_accepted c.requires.factors.mul
     in
     record {
       steps = ap (λ n. c.args.making.now.steps + n) s;

@@ -1,30 +1,19 @@
-use Rattle.std.proofs.Common.{◌≡◌, ◌<◌, ◌+◌, ◌++◌, ℕ, List, Option, None, length, take, drop, subst, refl, sym, ap, ◌∙◌, arith, rules}
+use Rattle.std.proofs.Common.{◌≡◌, ◌+◌, ◌++◌, ℕ, List, length, take, drop, subst, refl, sym, ap, ◌∙◌, arith, rules}
 use Rattle.std.proofs.Math.Seq.{take-append_seam}
-use Rattle.std.specs.List.{AllByRecursion}
 use Rattle.bpf_run.specs.Calls.{steps_of}
 use Rattle.bpf_run.proofs.Charging.{charges-all}
 use Rattle.csr_store.specs.Grid.{Cell, row_of}
-use Rattle.csr_store.specs.Along.{along, row_by}
+use Rattle.csr_store.specs.Along.{row_by}
 use Rattle.csr_store.specs.Mask.{mask_of, passes}
 use Rattle.csr_store.proofs.Filling.{on_err}
 use Rattle.job_forms.specs.Product.{product_at}
 use Rattle.row_product.specs.inner.Masked.{row_of_product, calls_of_row}
-use Rattle.row_product.specs.declared.factors.MaskedFactors.{MaskedFactors}
-use Rattle.row_product.specs.inner.Sums.{slot, calls_of_rest}
+use Rattle.row_product.specs.inner.Sums.{slot}
 use Rattle.row_product.specs.inner.Few.{spread, met, AreListed}
 use Rattle.row_product.proofs.Ending.{adds_ended}
 use Rattle.row_product.proofs.Filling.{value_cut, calls_cut, row_of_sums}
 use Rattle.row_product.proofs.Spreading.{spread_empty}
 use Rattle.row_product.proofs.columns.Columns.fill_listed.Goals as goal
-
-charged_all : (f : MaskedFactors) (i : ℕ) (listed : List ℕ) (sums : List (Option ℕ)) (old steps : ℕ) → ((p : ℕ) → slot sums p ≡ None)
-    → steps ≡ steps_of (along (λ j. calls_of_rest f.add.now f.mul.now f.b.now (passes (mask_of f.mask) (i, j))
-    (slot (spread f.b.now.columns listed sums) j) (row_of f.a.now i) j) 0 f.b.now.columns)
-    → old + steps ≡ old + steps_of (calls_of_row f i)
-charged_all f i listed sums old steps none e =
-    ap (λ k. old + k) (e ∙ ap steps_of (calls_cut f.add.now f.mul.now f.a.now f.b.now (mask_of f.mask) i
-    (λ j. passes (mask_of f.mask) (i, j)) (spread f.b.now.columns listed sums) (λ j. refl)
-    (spread_empty f.b.now.columns listed sums none)))
 
 pub sum_listed-requires-clause-listed : goal.sum_listed-requires-clause-listed
 sum_listed-requires-clause-listed c =
@@ -32,8 +21,8 @@ sum_listed-requires-clause-listed c =
     subst (λ (ks : List ℕ). AreListed ks (met b (row_of c.args.factors.now.a.now c.args.i))) (sym c.deref.ensures.value)
     c.requires.begun.listed
 
-pub returns-in_err-emit_listed-clause-row : goal.returns-in_err-emit_listed-clause-row
-returns-in_err-emit_listed-clause-row c =
+pub returns-in_err-emit_listed : goal.returns-in_err-emit_listed
+returns-in_err-emit_listed c =
     let f = c.args.factors.now in
     let n = f.b.now.columns in
     let mask = mask_of f.mask in
@@ -41,20 +30,23 @@ returns-in_err-emit_listed-clause-row c =
     let sums = c.deref_mut.result.now in
     let steps = c.args.making.now.steps in
     let none = spread_empty n listed sums (λ p. ap (λ us. slot us p) c.deref_mut.ensures.value ∙ c.requires.begun.none p) in
+    let charged = ap (λ k. steps + k) (c.sum_listed.ensures.steps
+    ∙ ap steps_of (calls_cut f.add.now f.mul.now f.a.now f.b.now mask c.args.i
+    (λ j. passes mask (c.args.i, j)) (spread n listed sums) (λ j. refl) none)) in
     record {
-      adds = record {
-        rows = search rules;
-        steps = search rules;
-        spent = on_err c.from_residual.result (charges-all _ steps (steps + c.sum_listed.result)
-            (ap (λ k. steps + k) (c.sum_listed.ensures.steps
-            ∙ ap steps_of (calls_cut f.add.now f.mul.now f.a.now f.b.now mask c.args.i
-            (λ j. passes mask (c.args.i, j)) (spread n listed sums) (λ j. refl) none))));
+      row = record {
+        adds = record {
+          rows = search rules;
+          steps = search rules;
+          spent = on_err c.from_residual.result (charges-all _ steps (steps + c.sum_listed.result) charged);
+        };
+        little = let few = c.sum_listed.ensures.little in omega (arith, few);
       };
-      little = let few = c.sum_listed.ensures.little in omega (arith, few);
+      charged = charged;
     }
 
-pub returns-clause-row : goal.returns-clause-row
-returns-clause-row c =
+pub returns : goal.returns
+returns c =
     let f = c.args.factors.now in
     let old = c.args.making.now in
     let n = f.b.now.columns in
@@ -85,17 +77,12 @@ returns-clause-row c =
     (calls_cut f.add.now f.mul.now f.a.now f.b.now mask
     c.args.i (λ j. passes mask (c.args.i, j)) (spread n listed sums) (λ j. refl) none)) in
     record {
-      adds = adds_ended (row_of_product f c.args.i) (calls_of_row f c.args.i) old c.emit_listed.new.rows _ c.end_row.result
-          c.requires.next.none_open (c.in_ok-emit_listed.ensures.rows ∙ ap (λ
-          (os : List Cell). record old.rows { opened = os }) all) steps
-          c.end_row.ensures.ended;
-      little = let few = c.sum_listed.ensures.little in omega (arith, few);
+      row = record {
+        adds = adds_ended (row_of_product f c.args.i) (calls_of_row f c.args.i) old c.emit_listed.new.rows _ c.end_row.result
+            c.requires.next.none_open (c.in_ok-emit_listed.ensures.rows ∙ ap (λ
+            (os : List Cell). record old.rows { opened = os }) all) steps
+            c.end_row.ensures.ended;
+        little = let few = c.sum_listed.ensures.little in omega (arith, few);
+      };
+      charged = steps;
     }
-
-pub returns-in_err-emit_listed-clause-charged : goal.returns-in_err-emit_listed-clause-charged
-returns-in_err-emit_listed-clause-charged c = charged_all c.args.factors.now c.args.i _ _ c.args.making.now.steps c.sum_listed.result
-    (λ p. ap (λ us. slot us p) c.deref_mut.ensures.value ∙ c.requires.begun.none p) c.sum_listed.ensures.steps
-
-pub returns-clause-charged : goal.returns-clause-charged
-returns-clause-charged c = charged_all c.args.factors.now c.args.i _ _ c.args.making.now.steps c.sum_listed.result
-    (λ p. ap (λ us. slot us p) c.deref_mut.ensures.value ∙ c.requires.begun.none p) c.sum_listed.ensures.steps

@@ -1,10 +1,10 @@
-use Rattle.std.proofs.Common.{◌<◌, ℕ, List, subst, refl, sym, ◌∙◌, arith, rules}
+use Rattle.std.proofs.Common.{◌<◌, List, subst, refl, sym, ◌∙◌, arith, rules}
 use Rattle.std.specs.List.{AllByRecursion}
 use Rattle.bpf_run.proofs.Charging.{charges-none}
-use Rattle.csr_store.specs.Grid.{Cell, row_of}
+use Rattle.csr_store.specs.Grid.{Cell}
 use Rattle.csr_store.proofs.Filling.{on_err}
 use Rattle.job_forms.proofs.Counting.{row_within}
-use Rattle.row_product.specs.inner.Few.{met, AreListed}
+use Rattle.row_product.specs.inner.Few.{AreBegun}
 use Rattle.row_product.proofs.Ending.{adds_closed}
 use Rattle.row_product.proofs.few.ColumnsRoom.fill_row.Goals as goal
 
@@ -16,7 +16,7 @@ returns-then-not-is_open-clause-row c =
 pub begin-requires : goal.begin-requires
 begin-requires c = record {
   within = subst (λ (row : List Cell). AllByRecursion (λ (d : Cell). d.0 < c.args.factors.now.b.now.rows) row) (sym c.row.ensures)
-      (row_within c.args.factors.now.a.now c.args.i c.args.factors.now.b.now.rows c.columns-columns.ensures.is_grid
+      (row_within c.args.factors.now.a.now c.args.i c.args.factors.now.b.now.rows c.requires.next.factors.a_grid
       c.requires.next.factors.shapes);
 }
 
@@ -31,10 +31,5 @@ returns-in_err-begin-clause-row c = record {
 }
 
 pub fill_listed-requires-clause-begun : goal.fill_listed-requires-clause-begun
-fill_listed-requires-clause-begun c = record {
-  apart = c.in_ok-begin.ensures.apart;
-  listed = subst (λ (us : List Cell). AreListed c.begin.new.self.listed.items (met c.args.factors.now.b.now us)) c.row.ensures
-      c.in_ok-begin.ensures.listed;
-  paired = c.in_ok-begin.ensures.paired;
-  none = c.in_ok-begin.ensures.none;
-}
+fill_listed-requires-clause-begun c =
+    subst (λ (us : List Cell). AreBegun c.args.factors.now.b.now us c.begin.new.self) c.row.ensures c.in_ok-begin.ensures

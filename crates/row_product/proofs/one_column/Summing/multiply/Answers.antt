@@ -9,5 +9,5 @@ list_terms-requires-clause-few c =
     let vs = c.values.ensures ∙ ap (λ (g : Gathered). g.values) c.make-steps.ensures.values in
     let l = ap length (vs ∙ (c.gather.ensures.gathered mul).values) in
     let n = length_terms mul c.args.b.now c.args.cells.now 0 in
-    let few = c.requires.may.few in
+    let few = c.requires.may.lent.few in
     omega (arith, l, n, few)

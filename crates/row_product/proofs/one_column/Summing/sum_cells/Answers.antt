@@ -1,7 +1,6 @@
 use Rattle.std.proofs.Common.{◌≡◌, ◌<◌, ◌≤◌, ◌++◌, length, not, take, ap, sym, subst, ◌∙◌, arith, rules}
 use Rattle.std.specs.List.{AllByRecursion}
 use Rattle.std.proofs.lemmas.List.{take-append-drop}
-use Rattle.bpf_verify.specs.Accepted.{IsAccepted}
 use Rattle.bpf_run.specs.Calls.{steps_of}
 use Rattle.bpf_run.specs.Fold.{terms_of}
 use Rattle.csr_store.specs.Grid.{Cell}
@@ -14,7 +13,7 @@ use Rattle.row_product.proofs.one_column.Summing.sum_cells.Goals as goal
 pub loop-cells-init : goal.loop-cells-init
 loop-cells-init c = record {
   sums = sums_up_starts c.args.factors.now.add.now c.args.factors.now.mul.now c.args.factors.now.b.now c.args.row.now;
-  named = c.requires.named.rows;
+  named = c.requires.row.named.rows;
   room = c.requires.room;
 }
 
@@ -28,14 +27,17 @@ multiply-multiplied-requires-clause-may c =
     ∙ (ap (λ us. take c.min.result c.loop-cells.cells.now ++ us) c.split_at.ensures.back
     ∙ take-append-drop c.min.result c.loop-cells.cells.now)) in
     let few : length cs ≤ 64 = search rules in
-    let m = mul_few f.mul.now f.b.now cs 0 (subst IsAccepted c.operator-2.ensures c.program-mul.ensures.accepted) c.requires.factors.mul in
+    let m = mul_few f.mul.now f.b.now cs 0 c.requires.row.factors.mul_accepted c.requires.row.factors.mul in
     record {
-      named = record {
-        column = c.requires.named.column;
-        rows = (all_parts f.b.now.rows cs ds (subst (λ us. AllByRecursion (λ (d : Cell). d.0 < f.b.now.rows) us) parts
-            c.loop-cells.invariant.named)).0;
+      lent = record {
+        named = record {
+          column = c.requires.row.named.column;
+          rows = (all_parts f.b.now.rows cs ds (subst (λ us. AllByRecursion (λ (d : Cell). d.0 < f.b.now.rows) us) parts
+              c.loop-cells.invariant.named)).0;
+        };
+        few = few;
+        copy = c.requires.row.factors.column;
       };
-      few = few;
       room = omega (arith, m, few);
     }
 
@@ -44,11 +46,11 @@ add_terms-requires-clause-room c =
     let f = c.args.factors.now in
     let cs = c.split_at.result.0.now in
     let few : length cs ≤ 64 = search rules in
-    let made = c.multiply-multiplied.ensures.multiplied.values in
+    let made = c.multiply-multiplied.ensures.values in
     let ts = ap terms_of c.deref.ensures.value ∙ made in
     let e = ap (λ us. steps_of (fold_on_calls f.add.now c.loop-cells.sum us)) ts in
     let g = fold_few f.add.now c.loop-cells.sum (terms f.mul.now f.b.now cs 0)
-    (subst IsAccepted c.operator.ensures c.program-add.ensures.accepted) c.requires.factors.add in
+    c.requires.row.factors.add_accepted c.requires.row.factors.add in
     let n = length_terms f.mul.now f.b.now cs 0 in
     omega (arith, e, g, n, few)
 
@@ -62,14 +64,14 @@ overflow_add-steps c =
     ∙ (ap (λ us. take c.min.result c.loop-cells.cells.now ++ us) c.split_at.ensures.back
     ∙ take-append-drop c.min.result c.loop-cells.cells.now)) in
     let i = c.loop-cells.invariant in
-    let m = c.multiply-multiplied.ensures.multiplied in
+    let m = c.multiply-multiplied.ensures in
     let ts = ap terms_of c.deref.ensures.value ∙ m.values in
     let next = (sums_up_part f.add.now f.mul.now f.b.now c.args.row.now c.loop-cells.cells.now cs ds c.loop-cells.sum c.add_terms.new.sum
     c.loop-cells.steps c.multiply-multiplied.result c.add_terms.result (terms_of c.deref.result.now) i.sums parts
-    (subst IsAccepted c.operator.ensures c.program-add.ensures.accepted)
-    (subst IsAccepted c.operator-2.ensures c.program-mul.ensures.accepted) c.requires.factors.add c.requires.factors.mul
+    c.requires.row.factors.add_accepted
+    c.requires.row.factors.mul_accepted c.requires.row.factors.add c.requires.row.factors.mul
     ts m.steps_are c.add_terms.ensures.sum c.add_terms.ensures.steps_are).few in
-    let l = c.requires.few in
+    let l = c.requires.row.few in
     omega (arith, next, l)
 
 pub overflow_add-steps-in-loop-cells : goal.overflow_add-steps-in-loop-cells
@@ -82,14 +84,14 @@ overflow_add-steps-in-loop-cells c =
     ∙ (ap (λ us. take c.min.result c.loop-cells.cells.now ++ us) c.split_at.ensures.back
     ∙ take-append-drop c.min.result c.loop-cells.cells.now)) in
     let i = c.loop-cells.invariant in
-    let m = c.multiply-multiplied.ensures.multiplied in
+    let m = c.multiply-multiplied.ensures in
     let ts = ap terms_of c.deref.ensures.value ∙ m.values in
     let next = (sums_up_part f.add.now f.mul.now f.b.now c.args.row.now c.loop-cells.cells.now cs ds c.loop-cells.sum c.add_terms.new.sum
     c.loop-cells.steps c.multiply-multiplied.result c.add_terms.result (terms_of c.deref.result.now) i.sums parts
-    (subst IsAccepted c.operator.ensures c.program-add.ensures.accepted)
-    (subst IsAccepted c.operator-2.ensures c.program-mul.ensures.accepted) c.requires.factors.add c.requires.factors.mul
+    c.requires.row.factors.add_accepted
+    c.requires.row.factors.mul_accepted c.requires.row.factors.add c.requires.row.factors.mul
     ts m.steps_are c.add_terms.ensures.sum c.add_terms.ensures.steps_are).few in
-    let l = c.requires.few in
+    let l = c.requires.row.few in
     omega (arith, next, l)
 
 pub loop-cells-preserved : goal.loop-cells-preserved
@@ -102,13 +104,13 @@ loop-cells-preserved c =
     ∙ (ap (λ us. take c.min.result c.loop-cells.cells.now ++ us) c.split_at.ensures.back
     ∙ take-append-drop c.min.result c.loop-cells.cells.now)) in
     let i = c.loop-cells.invariant in
-    let m = c.multiply-multiplied.ensures.multiplied in
+    let m = c.multiply-multiplied.ensures in
     let ts = ap terms_of c.deref.ensures.value ∙ m.values in
     record {
       sums = sums_up_part f.add.now f.mul.now f.b.now c.args.row.now c.loop-cells.cells.now cs ds c.loop-cells.sum c.add_terms.new.sum
           c.loop-cells.steps c.multiply-multiplied.result c.add_terms.result (terms_of c.deref.result.now) i.sums parts
-          (subst IsAccepted c.operator.ensures c.program-add.ensures.accepted)
-          (subst IsAccepted c.operator-2.ensures c.program-mul.ensures.accepted) c.requires.factors.add c.requires.factors.mul
+          c.requires.row.factors.add_accepted
+          c.requires.row.factors.mul_accepted c.requires.row.factors.add c.requires.row.factors.mul
           ts m.steps_are c.add_terms.ensures.sum c.add_terms.ensures.steps_are;
       named = (all_parts f.b.now.rows cs ds (subst (λ us. AllByRecursion (λ (d : Cell). d.0 < f.b.now.rows) us) parts i.named)).1;
       room = c.multiply-multiplied.ensures.room;

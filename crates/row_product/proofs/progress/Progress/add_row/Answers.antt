@@ -23,7 +23,7 @@ loop-cells-init c =
     record {
       adding = subst (λ us. Adding add mul c.args.x b.columns t first (row_of b c.args.k) first us 0) (sym c.row-cells.ensures)
           (adding_start add mul c.args.x b.columns t first (row_of b c.args.k)
-          (row_of-ascends b c.args.k c.columns-columns.ensures.is_grid));
+          (row_of-ascends b c.args.k c.requires.row.factors.b_grid));
       few = omega (arith, l);
       ready = c.requires.ready;
       allowed = refl;
@@ -57,7 +57,7 @@ overflow_add-steps c =
     let f = c.loop-cells.invariant.few in
     let l = c.add_part-steps.ensures.added.little in
     let t = taking_few (takes c.args.masked c.loop-cells.self.allowed.items) cs in
-    let r = row_few c.args.factors.now.b.now c.args.k c.columns-columns.ensures.is_grid in
+    let r = row_few c.args.factors.now.b.now c.args.k c.requires.row.factors.b_grid in
     omega (arith, p, a, f, l, t, r)
 
 pub loop-cells-preserved : goal.loop-cells-preserved
@@ -103,7 +103,7 @@ returns-clause-added c =
     let f = c.args.factors.now in
     let row = row_of f.b.now c.args.k in
     let few = c.loop-cells.invariant.few in
-    let r = row_few f.b.now c.args.k c.columns-columns.ensures.is_grid in
+    let r = row_few f.b.now c.args.k c.requires.row.factors.b_grid in
     let all = adding_end f.add.now f.mul.now c.args.x f.b.now.columns (takes c.args.masked c.args.self.now.allowed.items)
     (stands c.args.self.now) f.b.now c.args.k row (stands c.loop-cells.self) c.loop-cells.cells.now c.loop-cells.steps
     c.loop-cells.invariant.adding

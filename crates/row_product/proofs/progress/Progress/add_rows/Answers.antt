@@ -31,7 +31,7 @@ add_row-steps-requires-clause-row c =
       t,
       n,
     ) in
-    let h = (cell_inside c.args.factors.now.a.now c.args.i k (0, 0) c.columns-columns.ensures.is_grid l).1 in
+    let h = (cell_inside c.args.factors.now.a.now c.args.i k (0, 0) c.requires.row.factors.a_grid l).1 in
     let s = ap (λ (r : List Cell). (get_or r k (0, 0)).0) e in
     let w = c.requires.row.factors.shapes in
     record { factors = c.requires.row.factors; row = omega (arith, h, s, w) }
@@ -41,7 +41,7 @@ overflow_add-steps c =
     let i = c.loop-k.invariant.few in
     let f = c.add_row-steps.ensures.added.little in
     let e = ap length c.row-row.ensures in
-    let r = row_few c.args.factors.now.a.now c.args.i c.columns-columns.ensures.is_grid in
+    let r = row_few c.args.factors.now.a.now c.args.i c.requires.row.factors.a_grid in
     let t = c.loop-k-test.true in
     omega (arith, i, f, e, r, t)
 
