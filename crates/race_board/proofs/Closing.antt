@@ -19,11 +19,11 @@ use Rattle.race_board.proofs.Balances.{balanced_same}
 use Rattle.race_board.proofs.Lawful.{past_end, any_ended, drawn_is_completed, lawful_of}
 
 -- no chunk was drawn by two of these workers
-pub closed_once : (t : Terms) (ws : List Worker) (count recorded : ℕ) → IsClosedWith t ws count recorded → (c : ℕ) → total_of (times_drawn c) ws ≤ one_if_below c (length t.prices.items)
+pub closed_once : (t : Terms) (ws : List Worker) (count recorded : ℕ) → IsClosedWith t ws count recorded → (c : ℕ) → total_of (times_drawn c) ws ≤ one_if_below c (length t.prices.each)
 closed_once t ws count recorded h c =
     let a = sum_has_view (total_of (times_drawn c)) h.0.views h.1 ws h.3 in
     let b = h.2.balanced.drawn c in
-    let e = below_least c h.2.count (length t.prices.items) in
+    let e = below_least c h.2.count (length t.prices.each) in
     omega arith
   where
     below_least : (k m n : ℕ) → one_if_below k (min m n) ≤ one_if_below k n
@@ -49,19 +49,19 @@ whole_sum t ws count recorded h all f =
     omega arith
 
 -- with all workers, of whom one was told the end, the draws are the chunks, each once
-pub closed_each : (t : Terms) (ws : List Worker) (count recorded : ℕ) → IsClosedWith t ws count recorded → total_of (λ (w : Worker). 1) ws ≡ t.workers → 0 < total_of ends_of ws → (c : ℕ) → total_of (times_drawn c) ws ≡ one_if_below c (length t.prices.items)
+pub closed_each : (t : Terms) (ws : List Worker) (count recorded : ℕ) → IsClosedWith t ws count recorded → total_of (λ (w : Worker). 1) ws ≡ t.workers → 0 < total_of ends_of ws → (c : ℕ) → total_of (times_drawn c) ws ≡ one_if_below c (length t.prices.each)
 closed_each t ws count recorded h all told c =
     let a = whole_sum t ws count recorded h all (times_drawn c) in
     let e = whole_sum t ws count recorded h all ends_of in
-    let past = past_end t.prices.items h.2.count h.2.spent (weigh h.0.views) h.2.balanced (omega arith) in
-    let least : min h.2.count (length t.prices.items) ≡ length t.prices.items = omega arith in
+    let past = past_end t.prices.each h.2.count h.2.spent (weigh h.0.views) h.2.balanced (omega arith) in
+    let least : min h.2.count (length t.prices.each) ≡ length t.prices.each = omega arith in
     sym a ∙ (h.2.balanced.drawn c ∙ ap (one_if_below c) least)
 
-pub closed_all : (t : Terms) (ws : List Worker) (count recorded : ℕ) → IsClosedWith t ws count recorded → total_of (λ (w : Worker). 1) ws ≡ t.workers → 0 < total_of ends_of ws → total_of draws_of ws ≡ length t.prices.items
+pub closed_all : (t : Terms) (ws : List Worker) (count recorded : ℕ) → IsClosedWith t ws count recorded → total_of (λ (w : Worker). 1) ws ≡ t.workers → 0 < total_of ends_of ws → total_of draws_of ws ≡ length t.prices.each
 closed_all t ws count recorded h all told =
     let a = whole_sum t ws count recorded h all draws_of in
     let e = whole_sum t ws count recorded h all ends_of in
-    let past = past_end t.prices.items h.2.count h.2.spent (weigh h.0.views) h.2.balanced (omega arith) in
+    let past = past_end t.prices.each h.2.count h.2.spent (weigh h.0.views) h.2.balanced (omega arith) in
     let d = h.2.balanced.draws in
     omega arith
 
@@ -118,7 +118,7 @@ pub record AreHanded (b : BoardState) (ws : List Worker) (count recorded : ℕ) 
   pub crew : List Worker
   pub closed : IsClosedWith terms crew count recorded
   pub same : (f : Worker → ℕ) → total_of f crew ≡ total_of f ws
-  pub prices : terms.prices.items ≡ b.prices
+  pub prices : terms.prices.each ≡ b.prices
   pub workers : terms.workers ≡ b.workers
 
 handed_all : (b : BoardState) (ws : List Worker) (count recorded : ℕ) → (h : AreHanded b ws count recorded) → length ws ≡ b.workers → total_of (λ (w : Worker). 1) h.crew ≡ h.terms.workers
@@ -136,8 +136,8 @@ handed_once b ws count recorded h c =
 
 pub handed_within : (b : BoardState) (ws : List Worker) (count recorded : ℕ) → AreHanded b ws count recorded → All (IsWithinPrices b.prices) ws
 handed_within b ws count recorded h =
-    let a = sound_no_excess h.terms.prices.items h.closed.2.count h.crew (h.closed.2.sound h.closed.1 h.crew h.closed.3) in
-    subst (λ (l : List ℕ). All (IsWithinPrices l) ws) h.prices (all_without_excess h.terms.prices.items ws (sym (h.same (excess h.terms.prices.items)) ∙ a))
+    let a = sound_no_excess h.terms.prices.each h.closed.2.count h.crew (h.closed.2.sound h.closed.1 h.crew h.closed.3) in
+    subst (λ (l : List ℕ). All (IsWithinPrices l) ws) h.prices (all_without_excess h.terms.prices.each ws (sym (h.same (excess h.terms.prices.each)) ∙ a))
 
 pub handed_each : (b : BoardState) (ws : List Worker) (count recorded : ℕ) → AreHanded b ws count recorded → IsFinished b ws → (c : ℕ) → total_of (times_drawn c) ws ≡ one_if_below c (length b.prices)
 handed_each b ws count recorded h f c =
@@ -167,9 +167,9 @@ views_no_excess prices count (v ∷ vs) h =
     omega arith
 
 -- workers who share their sums with the views of a state that meets the rule ran one race, those of them who are lost included
-ran : (b : BoardState) (t : Terms) (s : State ℕ (List Worker)) (h : IsHeld t s) (ws lost : List Worker) → t.prices.items ≡ b.prices → t.workers ≡ b.workers → ((f : Worker → ℕ) → total_of f (ws ++ lost) ≡ weigh s.views f) → RanOneRace b ws h.count h.spent
+ran : (b : BoardState) (t : Terms) (s : State ℕ (List Worker)) (h : IsHeld t s) (ws lost : List Worker) → t.prices.each ≡ b.prices → t.workers ≡ b.workers → ((f : Worker → ℕ) → total_of f (ws ++ lost) ≡ weigh s.views f) → RanOneRace b ws h.count h.spent
 ran b t s h ws lost prices workers sums =
-    let ps : List ℕ = t.prices.items in
+    let ps : List ℕ = t.prices.each in
     let balanced = balanced_same ps h.count h.spent (weigh s.views) (λ f. total_of f (ws ++ lost)) sums h.balanced in
     let within = all_without_excess ps (ws ++ lost) (sums (excess ps) ∙ views_no_excess ps h.count s.views h.sound) in
     record {
@@ -228,7 +228,7 @@ closing_with b ws t h draws spent = record {
 }
 
 -- where no seat is handed in
-pub none_closing : (b : BoardState) (seats : List SeatState) (terms : Terms) (t : Totals) → length seats ≡ 0 → IsClosed terms t.count t.recorded → terms.prices.items ≡ b.prices → terms.workers ≡ b.workers → t.draws ≡ 0 → t.spent ≡ 0 → IsClosing b (workers_of seats) t
+pub none_closing : (b : BoardState) (seats : List SeatState) (terms : Terms) (t : Totals) → length seats ≡ 0 → IsClosed terms t.count t.recorded → terms.prices.each ≡ b.prices → terms.workers ≡ b.workers → t.draws ≡ 0 → t.spent ≡ 0 → IsClosing b (workers_of seats) t
 none_closing b (s ∷ ss) terms t none h prices workers draws spent = absurd (omega arith)
 none_closing b [] terms t none h prices workers draws spent =
     let views : List (List Worker) = h.0.views in

@@ -52,14 +52,14 @@ mod_small : (x : ℕ) → x < 2 ^ 64 → x % 2 ^ 64 ≡ x
 mod_small x l = omega arith
 
 -- the count is at most the chunks and the workers, and what was spent at most the prices
-in_words_of : (t : Terms) (views : List (List Worker)) (count spent : ℕ) → IsBalanced t.prices.items count spent (weigh views) → weigh views (λ (w : Worker). 1) ≡ t.workers
-    → (count ≤ length t.prices.items + t.workers) × (spent ≤ first_prices t.prices.items (length t.prices.items))
+in_words_of : (t : Terms) (views : List (List Worker)) (count spent : ℕ) → IsBalanced t.prices.each count spent (weigh views) → weigh views (λ (w : Worker). 1) ≡ t.workers
+    → (count ≤ length t.prices.each + t.workers) × (spent ≤ first_prices t.prices.each (length t.prices.each))
 in_words_of t views count spent h many =
     let a = h.draws in
     let b = h.counted in
     let c = sum_le (total_of ends_of) (total_of (λ (w : Worker). 1)) (λ v. sum_le ends_of (λ (w : Worker). 1) ends_one v) views in
     let r = h.room in
-    let q = prices_below t.prices.items count in
+    let q = prices_below t.prices.each count in
     (omega arith, omega arith)
 
 -- the count is far from the end of its word
@@ -68,8 +68,8 @@ count_small t s h = let a = h.in_words.0 in let e = h.small in omega (arith, e.0
 
 -- a step that replaces the first worker of a seat by one of its number
 replaced : (t : Terms) (s : State ℕ (List Worker)) (h : IsHeld t s) (id i n : ℕ) (cs : List (ℕ × ℕ)) (old new : Worker) (ws : List Worker) (count spent : ℕ) → get_elem? s.views id ≡ some (old ∷ ws) → old.number ≡ new.number
-    → set (h.count ∷ h.spent ∷ []) i n ≡ count ∷ spent ∷ [] → (Moves (weigh s.views) (weigh (set s.views id (new ∷ ws))) old new → IsBalanced t.prices.items count spent (weigh (set s.views id (new ∷ ws))))
-    → ViewsSound t.prices.items count (set s.views id (new ∷ ws)) → IsHeld t (stepped s i n id cs (new ∷ ws) keeps)
+    → set (h.count ∷ h.spent ∷ []) i n ≡ count ∷ spent ∷ [] → (Moves (weigh s.views) (weigh (set s.views id (new ∷ ws))) old new → IsBalanced t.prices.each count spent (weigh (set s.views id (new ∷ ws))))
+    → ViewsSound t.prices.each count (set s.views id (new ∷ ws)) → IsHeld t (stepped s i n id cs (new ∷ ws) keeps)
 replaced t s h id i n cs old new ws count spent at same words balanced sound =
     let mv = weigh_acted s.views id old new ws at in
     let all : weigh (set s.views id (new ∷ ws)) (λ (w : Worker). 1) ≡ t.workers = let m = mv (λ (w : Worker). 1) in let z = h.many in omega arith in
@@ -85,12 +85,12 @@ replaced t s h id i n cs old new ws count spent at same words balanced sound =
       in_words = in_words_of t (set s.views id (new ∷ ws)) count spent (balanced mv) all;
     }
 
-pub draws : (t : Terms) (slots id : ℕ) (me : Me ℕ (List Worker)) (prices : List ℕ) → prices ≡ t.prices.items → MayDraw me.0 → Allows (IsHeld t) slots id me 0 (λ n. (n + 1) % 2 ^ 64) (Draws prices (step slots 0 1 0 none) me)
+pub draws : (t : Terms) (slots id : ℕ) (me : Me ℕ (List Worker)) (prices : List ℕ) → prices ≡ t.prices.each → MayDraw me.0 → Allows (IsHeld t) slots id me 0 (λ n. (n + 1) % 2 ^ 64) (Draws prices (step slots 0 1 0 none) me)
 draws t slots id me prices same free s h _ at small =
     let n = free.0 in
     let d = free.1 in
     let ws = free.2 in
-    let ps : List ℕ = t.prices.items in
+    let ps : List ℕ = t.prices.each in
     let old : Worker = worker n d Free in
     let new : Worker = drawn ps h.count old in
     let here : get_elem? s.views id ≡ some (old ∷ ws) = at ∙ ap some free.3 in
@@ -110,9 +110,9 @@ draws t slots id me prices same free s h _ at small =
     is_below c m l x e p = grind (arith, nat_tests)
 
 -- what a seat spent, and spends now, is within the prices
-steps_fit : (t : Terms) (s : State ℕ (List Worker)) (h : IsHeld t s) (id : ℕ) (v : List Worker) (c steps : ℕ) → get_elem? s.views id ≡ some v → HoldsChunk c v → steps ≤ slice_index t.prices.items c → total_of steps_of v + steps ≤ 2 ^ 62
+steps_fit : (t : Terms) (s : State ℕ (List Worker)) (h : IsHeld t s) (id : ℕ) (v : List Worker) (c steps : ℕ) → get_elem? s.views id ≡ some v → HoldsChunk c v → steps ≤ slice_index t.prices.each c → total_of steps_of v + steps ≤ 2 ^ 62
 steps_fit t s h id v c steps at holds le =
-    let ps : List ℕ = t.prices.items in
+    let ps : List ℕ = t.prices.each in
     let here : get_elem? s.views id ≡ some (worker holds.0 holds.1 (Holds c) ∷ holds.2) = at ∙ ap some holds.3 in
     let one = sum_has_view (total_of (held_price ps)) s.views id (worker holds.0 holds.1 (Holds c) ∷ holds.2) here in
     let two = sum_has_view (total_of steps_of) s.views id v at in
@@ -122,12 +122,12 @@ steps_fit t s h id v c steps at holds le =
     let y = h.balanced.steps in
     omega arith
 
-pub completes_step : (t : Terms) (slots id : ℕ) (me : Me ℕ (List Worker)) (c steps : ℕ) → HoldsChunk c me.0 → steps ≤ slice_index t.prices.items c → Allows (IsHeld t) slots id me 1 (λ n. (n + steps) % 2 ^ 64) (Completes (step slots 1 steps 0 none) me)
+pub completes_step : (t : Terms) (slots id : ℕ) (me : Me ℕ (List Worker)) (c steps : ℕ) → HoldsChunk c me.0 → steps ≤ slice_index t.prices.each c → Allows (IsHeld t) slots id me 1 (λ n. (n + steps) % 2 ^ 64) (Completes (step slots 1 steps 0 none) me)
 completes_step t slots id me c steps holds le s h _ at small =
     let n = holds.0 in
     let d = holds.1 in
     let ws = holds.2 in
-    let ps : List ℕ = t.prices.items in
+    let ps : List ℕ = t.prices.each in
     let old : Worker = worker n d (Holds c) in
     let new : Worker = worker n (d ++ (c, steps) ∷ []) Free in
     let here : get_elem? s.views id ≡ some (old ∷ ws) = at ∙ ap some holds.3 in
@@ -144,12 +144,12 @@ completes_step t slots id me c steps holds le s h _ at small =
     (views_sound_set ps h.count s.views id (new ∷ ws) h.sound (completed_sound ps h.count n c steps d mine.0 le, mine.1)) in
     (new ∷ ws, keeps, tt, kept, (ap (acted (completes steps)) (sym holds.3), refl, steps_fit t s h id me.0 c steps at holds le))
 
-pub fails_step : (t : Terms) (slots id : ℕ) (me : Me ℕ (List Worker)) (c steps : ℕ) → HoldsChunk c me.0 → steps ≤ slice_index t.prices.items c → Allows (IsHeld t) slots id me 1 (λ n. (n + steps) % 2 ^ 64) (Fails (step slots 1 steps 0 none) me)
+pub fails_step : (t : Terms) (slots id : ℕ) (me : Me ℕ (List Worker)) (c steps : ℕ) → HoldsChunk c me.0 → steps ≤ slice_index t.prices.each c → Allows (IsHeld t) slots id me 1 (λ n. (n + steps) % 2 ^ 64) (Fails (step slots 1 steps 0 none) me)
 fails_step t slots id me c steps holds le s h _ at small =
     let n = holds.0 in
     let d = holds.1 in
     let ws = holds.2 in
-    let ps : List ℕ = t.prices.items in
+    let ps : List ℕ = t.prices.each in
     let old : Worker = worker n d (Holds c) in
     let new : Worker = worker n d (Failed c steps) in
     let here : get_elem? s.views id ≡ some (old ∷ ws) = at ∙ ap some holds.3 in
@@ -167,12 +167,12 @@ fails_step t slots id me c steps holds le s h _ at small =
     (new ∷ ws, keeps, tt, kept, (ap (acted (fails steps)) (sym holds.3), refl, steps_fit t s h id me.0 c steps at holds le))
 
 -- the views change, and what they hold in all does not
-rearranged : (t : Terms) (s : State ℕ (List Worker)) (new : List (List Worker)) → (h : IsHeld t s) → ((f : Worker → ℕ) → weigh new f ≡ weigh s.views f) → ViewsSound t.prices.items h.count new → IsHeld t record { words = s.words; homes = s.homes; views = new }
+rearranged : (t : Terms) (s : State ℕ (List Worker)) (new : List (List Worker)) → (h : IsHeld t s) → ((f : Worker → ℕ) → weigh new f ≡ weigh s.views f) → ViewsSound t.prices.each h.count new → IsHeld t record { words = s.words; homes = s.homes; views = new }
 rearranged t s new h same sound = record {
   count = h.count;
   spent = h.spent;
   words = h.words;
-  balanced = balanced_same t.prices.items h.count h.spent (weigh s.views) (weigh new) same h.balanced;
+  balanced = balanced_same t.prices.each h.count h.spent (weigh s.views) (weigh new) same h.balanced;
   sound = sound;
   numbers = λ k. same (λ (w : Worker). one_if_same k w.number) ∙ h.numbers k;
   many = same (λ (w : Worker). 1) ∙ h.many;
@@ -194,7 +194,7 @@ first_sound prices count (x ∷ xs) h = (h.0, tt)
 
 pub splits : (t : Terms) (id : ℕ) (v : List Worker) → Splits (IsHeld t) id v (rest_of v) (first_of v)
 splits t id v s h at =
-    let ps : List ℕ = t.prices.items in
+    let ps : List ℕ = t.prices.each in
     let mine : AllSound ps h.count v = h.sound id v at in
     rearranged t s (set s.views id (rest_of v) ++ first_of v ∷ []) h
     (λ f. let a = sum_set_view (total_of f) s.views id v (rest_of v) at in let b = sum_append (total_of f) (set s.views id (rest_of v)) (first_of v ∷ []) in let c = parted f v in omega arith)
@@ -202,7 +202,7 @@ splits t id v s h at =
 
 pub joins : (t : Terms) (id : ℕ) (v : List Worker) (other : ℕ) (u : List Worker) → Joins (IsHeld t) id v other u (v ++ u) []
 joins t id v other u s h at apart there =
-    let ps : List ℕ = t.prices.items in
+    let ps : List ℕ = t.prices.each in
     let both : List Worker = v ++ u in
     let none_left : List Worker = [] in
     let their : get_elem? s.views other ≡ some u = ⊎_elim (λ (x : (other ≡ id) × (both ≡ u)). absurd (apart x.0)) (λ (x : (other ≢ id) × (get_elem? s.views other ≡ some u)). x.1) (at_set s.views id other both u there) in
@@ -218,7 +218,7 @@ learns t slots id me s h _ at small =
     let a = h.balanced.draws in
     let b = h.small in
     let r = h.balanced.room in
-    let q = prices_below t.prices.items h.count in
+    let q = prices_below t.prices.each h.count in
     let y = h.balanced.steps in
     (me.0, keeps, tt, subst (λ l. IsHeld t record { words = l; homes = s.homes; views = set s.views id me.0 }) (sym again) (subst (λ l. IsHeld t record { words = s.words; homes = s.homes; views = l }) (sym (set_again s.views id me.0 at)) h), (refl, refl, omega (arith, b.0), omega (arith, b.1)))
 
@@ -235,7 +235,7 @@ fresh_numbers k a (suc n) = let y = fresh_numbers k (a + 1) n in let z = below_m
 
 pub opens : (t : Terms) → IsSmall t → IsHeld t (opening (0 ∷ 0 ∷ []) [] (everyone t))
 opens t small =
-    let ps : List ℕ = t.prices.items in
+    let ps : List ℕ = t.prices.each in
     let n : ℕ = t.workers in
     let zeros : (f : Worker → ℕ) → ((k : ℕ) → f (fresh_worker k) ≡ 0) → weigh (everyone t ∷ []) f ≡ 0 = (λ f z. let e = fresh_sum f z 0 n in omega arith) in
     record {
@@ -253,6 +253,6 @@ opens t small =
     none_at : (k : ℕ) → one_if_below k 0 ≡ 0
     none_at k = grind (arith, nat_tests)
 
-    first_view : (j : ℕ) (v : List Worker) → get_elem? (everyone t ∷ []) j ≡ some v → AllSound t.prices.items 0 v
-    first_view zero v a = subst (AllSound t.prices.items 0) (some-injective _ v a) (fresh_sound t.prices.items 0 0 t.workers)
+    first_view : (j : ℕ) (v : List Worker) → get_elem? (everyone t ∷ []) j ≡ some v → AllSound t.prices.each 0 v
+    first_view zero v a = subst (AllSound t.prices.each 0) (some-injective _ v a) (fresh_sound t.prices.each 0 0 t.workers)
     first_view (suc j) v a = absurd (some-ne-none v (sym a))

@@ -1,5 +1,5 @@
 //! A board on which workers in threads draw chunks, over two atomic words.
-ghost use Rattle.std.specs.Prelude.{◌≡◌, ℕ, ◌+◌, ◌^◌, ◌<◌, ◌≤◌, [], length, sum, slice_get, slice_index, All, Some, IfOk, IfSome, IfNone, vec_len};
+ghost use Rattle.std.specs.Prelude.{◌≡◌, List, ℕ, ◌+◌, ◌^◌, ◌<◌, ◌≤◌, [], length, sum, slice_get, slice_index, All, Some, IfOk, IfSome, IfNone, vec_len};
 ghost use Rattle.race_board.specs.declared.stand.Stand.TheVariants.{Free, Holds};
 ghost use Rattle.race_board.specs.Race.{Worker, SeatState, IsSeatOf, MayDrawAt, IsClosing, IsAboveDraws, fresh_worker, fresh_workers, holding, told_end, completed, failed, total_of, draws_of, steps_of, workers_of};
 ghost use Rattle.race_board.specs.Naming.{name_of};
@@ -8,7 +8,7 @@ ghost use Rattle.race_board.specs.inner.Crews.{IsClosedWith, IsClosed};
 use crate::crew::Crew;
 use crate::rule::{COUNT, Place, SPENT, SplitStep, Words};
 use crate::seat::BoardSeat;
-use crate::terms::Terms;
+use crate::terms::{Prices, Terms};
 use crate::totals::Totals;
 use std::alloc::{AllocError, Global};
 use std::marker::Model;
@@ -30,34 +30,37 @@ impl Model for Board {
 
     ghost view = { λ b. record {
       name = name_of b.table.shared.table_id;
-      prices = b.table.shared.key.prices.items;
+      prices = b.table.shared.key.prices.each;
       workers = b.table.shared.key.workers;
     } };
 
     ghost invariant = { λ b. (b.table.shared.table_id.words ≡ 2) × (b.table.shared.table_id.slots ≡ 0) ×
-        (b.chunks ≡ length b.table.shared.key.prices.items) × (length b.table.shared.key.prices.items < 2 ^ 63) };
+        (b.chunks ≡ length b.table.shared.key.prices.each) × (length b.table.shared.key.prices.each < 2 ^ 63) };
 }
 
 impl Board {
-    /// A board for chunks of these prices, and a seat for each of so many workers, in the order of
-    /// their numbers.
+    /// A board for so many chunks, and a seat for each of so many workers, in the order of their
+    /// numbers. The caller's proof names the prices of the chunks.
     pub fn open(
         alloc: Global,
-        prices: Vec<u64>,
+        chunks: u64,
         workers: u64,
     ) -> Result<(Board, Vec<BoardSeat>), AllocError>
+        ghost prices: { List ℕ }
         requires workers { (0 < workers) × (workers ≤ 64) }
-        requires prices { sum prices.items ≤ 2 ^ 62 }
-        ensures board { IfOk result (λ r. (r.0.prices ≡ prices.items) × (r.0.workers ≡ workers)) }
+        requires chunks { (chunks ≡ length prices) × (chunks < 2 ^ 63) }
+        requires prices { sum prices ≤ 2 ^ 62 }
+        ensures board { IfOk result (λ r. (r.0.prices ≡ prices) × (r.0.workers ≡ workers)) }
         ensures seats { IfOk result (λ r. vec_len r.1 ≡ workers) }
-        ensures few { length prices.items < 2 ^ 63 }
         ensures ready { IfOk result (λ r. All (MayDrawAt r.0) r.1.items) }
         ensures fresh { IfOk result (λ r. (k : ℕ) (s : SeatState) → slice_get r.1.items k ≡ Some s →
             s.worker ≡ fresh_worker k) }
     {
-        let terms = Terms { prices, workers };
+        let terms = Terms {
+            prices: Prices::for_proof(),
+            workers,
+        };
         let (table, place) = Words::of_words(alloc, &[0, 0], &terms)?;
-        let chunks = terms.prices.len() as u64;
         let seats = deal(&table, alloc, place, workers)?;
         Ok((Board { table, chunks }, seats))
     }

@@ -43,10 +43,10 @@ impl Crew {
     pub fn draw(&mut self, table: &Words, chunks: u64) -> Option<u64>
         requires own { self.old.place.table_id ≡ table.now.shared.table_id }
         requires words { table.now.shared.table_id.words ≡ 2 }
-        requires chunks { chunks ≡ length table.now.shared.key.prices.items }
+        requires chunks { chunks ≡ length table.now.shared.key.prices.each }
         requires free { MayDraw self.old.place.me.0 }
         ensures own { self.new.place.table_id ≡ self.old.place.table_id }
-        ensures drew { IsAnswer table.now.shared.key.prices.items self.old.place.me.0 result
+        ensures drew { IsAnswer table.now.shared.key.prices.each self.old.place.me.0 result
             self.new.place.me.0 }
     {
         let found = draw_at::<Brand>(table, &mut self.place);
@@ -63,7 +63,7 @@ impl Crew {
         requires own { self.old.place.table_id ≡ table.now.shared.table_id }
         requires words { table.now.shared.table_id.words ≡ 2 }
         requires holds { HoldsChunk chunk self.old.place.me.0 }
-        requires price { steps ≤ slice_index table.now.shared.key.prices.items chunk }
+        requires price { steps ≤ slice_index table.now.shared.key.prices.each chunk }
         ensures own { self.new.place.table_id ≡ self.old.place.table_id }
         ensures completed { self.new.place.me.0 ≡ acted (completed chunk steps) self.old.place.me.0 }
     {
@@ -78,7 +78,7 @@ impl Crew {
         requires own { self.old.place.table_id ≡ table.now.shared.table_id }
         requires words { table.now.shared.table_id.words ≡ 2 }
         requires holds { HoldsChunk chunk self.old.place.me.0 }
-        requires price { steps ≤ slice_index table.now.shared.key.prices.items chunk }
+        requires price { steps ≤ slice_index table.now.shared.key.prices.each chunk }
         ensures own { self.new.place.table_id ≡ self.old.place.table_id }
         ensures failed { self.new.place.me.0 ≡ acted (failed chunk steps) self.old.place.me.0 }
     {
@@ -119,10 +119,10 @@ impl Crew {
 fn draw_at<T: Priced>(table: &Words, place: &mut Place) -> u64
     requires own { place.old.table_id ≡ table.now.shared.table_id }
     requires words { table.now.shared.table_id.words ≡ 2 }
-    requires prices { T.prices ≡ table.now.shared.key.prices.items }
+    requires prices { T.prices ≡ table.now.shared.key.prices.each }
     requires free { MayDraw place.old.me.0 }
     ensures own { place.new.table_id ≡ place.old.table_id }
-    ensures drew { Draws table.now.shared.key.prices.items
+    ensures drew { Draws table.now.shared.key.prices.each
         (step table.now.shared.table_id.slots 0 1 0 none) place.old.me result place.new.me }
 {
     table.shared.fetch_add::<DrawStep<T>>(place, COUNT, 1)

@@ -1,6 +1,6 @@
 //! Races replayed, and boards run by real threads.
-ghost use Rattle.std.specs.Prelude.{◌≡◌, ◌≤◌, ◌<◌, IfOk, All};
-ghost use Rattle.race_board.specs.Race.{IsSeatOf, IsToldEnd, MayDrawAt};
+ghost use Rattle.std.specs.Prelude.{◌≡◌, ◌≤◌, ◌<◌, ◌^◌, ℕ, List, IfOk, All, Some, slice_get, sum, vec_len};
+ghost use Rattle.race_board.specs.Race.{IsSeatOf, IsToldEnd, MayDrawAt, SeatState, fresh_worker};
 
 use race_board::{Board, BoardSeat, Race, RaceEvent, Totals, replay};
 use std::alloc::{AllocError, Global};
@@ -16,6 +16,40 @@ const NOTHING: Totals = Totals {
     count: 0,
     recorded: 0,
 };
+
+/// A board for chunks of these prices, and a seat for each worker.
+fn open(
+    alloc: Global,
+    prices: &Vec<u64>,
+    workers: u64,
+) -> Result<(Board, Vec<BoardSeat>), AllocError>
+    requires workers { (0 < workers) × (workers ≤ 64) }
+    requires prices { sum prices.now.items ≤ 2 ^ 62 }
+    ensures board { IfOk result (λ r. (r.0.prices ≡ prices.now.items) × (r.0.workers ≡ workers)) }
+    ensures seats { IfOk result (λ r. vec_len r.1 ≡ workers) }
+    ensures ready { IfOk result (λ r. All (MayDrawAt r.0) r.1.items) }
+    ensures fresh { IfOk result (λ r. (k : ℕ) (s : SeatState) → slice_get r.1.items k ≡ Some s → s.worker ≡ fresh_worker k) }
+{
+    open_with(alloc, prices, workers)
+}
+
+/// The same, where the caller's proof names the prices.
+fn open_with(
+    alloc: Global,
+    prices: &Vec<u64>,
+    workers: u64,
+) -> Result<(Board, Vec<BoardSeat>), AllocError>
+    ghost named: { List ℕ }
+    requires named { named ≡ prices.now.items }
+    requires workers { (0 < workers) × (workers ≤ 64) }
+    requires prices { sum prices.now.items ≤ 2 ^ 62 }
+    ensures board { IfOk result (λ r. (r.0.prices ≡ named) × (r.0.workers ≡ workers)) }
+    ensures seats { IfOk result (λ r. vec_len r.1 ≡ workers) }
+    ensures ready { IfOk result (λ r. All (MayDrawAt r.0) r.1.items) }
+    ensures fresh { IfOk result (λ r. (k : ℕ) (s : SeatState) → slice_get r.1.items k ≡ Some s → s.worker ≡ fresh_worker k) }
+{
+    Board::open(alloc, prices.len() as u64, workers)
+}
 
 #[test]
 fn two_workers_over_two_chunks(rt: HostRuntime) -> Result<(), Fail> {
@@ -123,7 +157,7 @@ fn raced<R: Threads + Sync>(
     requires { (0 < workers) × (workers ≤ 64) }
 {
     let prices = vec![in alloc; 1u64; chunks as usize]?;
-    let (board, seats) = Board::open(alloc, prices.as_slice().to_vec(alloc)?, workers)?;
+    let (board, seats) = open(alloc, &prices, workers)?;
     let seats = thread::map_vec(
         rt,
         seats,
@@ -172,7 +206,7 @@ fn sixty_four_threads_over_few_and_many_chunks(rt: HostRuntime) -> Result<(), Fa
 #[test]
 fn a_board_closed_with_a_seat_lost(rt: HostRuntime) -> Result<(), Fail> {
     let prices = vec![in rt.alloc(); 1u64; 10]?;
-    let (board, mut seats) = Board::open(rt.alloc(), prices.as_slice().to_vec(rt.alloc())?, 3)?;
+    let (board, mut seats) = open(rt.alloc(), &prices, 3)?;
     let Some(mut lost) = seats.pop() else {
         unreachable!()
     };
@@ -197,7 +231,7 @@ fn a_board_closed_with_a_seat_lost(rt: HostRuntime) -> Result<(), Fail> {
 #[test]
 fn a_seat_lost_with_a_refused_thread(rt: HostRuntime) -> Result<(), Fail> {
     let prices = vec![in rt.alloc(); 1u64; 10]?;
-    let (board, mut seats) = Board::open(rt.alloc(), prices.as_slice().to_vec(rt.alloc())?, 2)?;
+    let (board, mut seats) = open(rt.alloc(), &prices, 2)?;
     let Some(lost) = seats.pop() else {
         unreachable!()
     };
@@ -221,7 +255,7 @@ fn a_seat_lost_with_a_refused_thread(rt: HostRuntime) -> Result<(), Fail> {
 #[test]
 fn what_a_lost_seat_recorded(rt: HostRuntime) -> Result<(), Fail> {
     let prices = vec![in rt.alloc(); 3u64, 5]?;
-    let (board, mut seats) = Board::open(rt.alloc(), prices, 2)?;
+    let (board, mut seats) = open(rt.alloc(), &prices, 2)?;
     let Some(mut lost) = seats.pop() else {
         unreachable!()
     };
@@ -241,7 +275,7 @@ fn what_a_lost_seat_recorded(rt: HostRuntime) -> Result<(), Fail> {
 #[test]
 fn a_board_closed_with_no_seats(rt: HostRuntime) -> Result<(), Fail> {
     let prices = vec![in rt.alloc(); 1u64; 10]?;
-    let (board, seats) = Board::open(rt.alloc(), prices, 2)?;
+    let (board, seats) = open(rt.alloc(), &prices, 2)?;
     assert_eq!(rt; seats.len(), 2);
     assert_eq!(rt; board.close(Vec::new(rt.alloc())), NOTHING);
     Ok(())
@@ -249,7 +283,7 @@ fn a_board_closed_with_no_seats(rt: HostRuntime) -> Result<(), Fail> {
 
 #[test]
 fn a_board_with_no_prices(rt: HostRuntime) -> Result<(), Fail> {
-    let (board, mut seats) = Board::open(rt.alloc(), Vec::new(rt.alloc()), 2)?;
+    let (board, mut seats) = open(rt.alloc(), &Vec::new(rt.alloc()), 2)?;
     let Some(mut seat) = seats.pop() else {
         unreachable!()
     };
@@ -271,7 +305,7 @@ fn a_board_with_no_prices(rt: HostRuntime) -> Result<(), Fail> {
 #[test]
 fn a_chunk_that_fails_charges_its_steps(rt: HostRuntime) -> Result<(), Fail> {
     let prices = vec![in rt.alloc(); 3u64, 5]?;
-    let (board, mut seats) = Board::open(rt.alloc(), prices, 1)?;
+    let (board, mut seats) = open(rt.alloc(), &prices, 1)?;
     let Some(mut seat) = seats.pop() else {
         unreachable!()
     };
@@ -320,7 +354,7 @@ fn replay_with_each_allocation_refused(rt: HostRuntime) -> Result<(), Fail> {
 fn open_with_two_prices(alloc: Global) -> Result<(Board, Vec<BoardSeat>), AllocError>
     ensures { IfOk result (λ r. All (IsSeatOf r.0) r.1.items) }
 {
-    Board::open(alloc, vec![in alloc; 3u64, 5]?, 64)
+    open(alloc, &vec![in alloc; 3u64, 5]?, 64)
 }
 
 fn replay_one_completion(alloc: Global) -> Result<Race, AllocError> {

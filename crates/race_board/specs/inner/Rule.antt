@@ -29,7 +29,7 @@ weigh views f = total_of (total_of f) views
 
 abbrev pub IsSmall : Terms → Type 0
 IsSmall t =
-    (length t.prices.items < 2 ^ 63) × (first_prices t.prices.items (length t.prices.items) ≤ 2 ^ 62) × (t.workers ≤ 64)
+    (length t.prices.each < 2 ^ 63) × (first_prices t.prices.each (length t.prices.each) ≤ 2 ^ 62) × (t.workers ≤ 64)
 
 -- At each moment the views together are a race, of which word 0 is the count and word 1 the steps spent: it has the balance of a
 -- run, its records are sound, and each worker is in one view, once. A seat that was joined to another leaves a view with no
@@ -38,13 +38,13 @@ pub record IsHeld (t : Terms) (s : State ℕ (List Worker)) : Type 0 where
   pub count : ℕ
   pub spent : ℕ
   pub words : s.words ≡ count ∷ spent ∷ []
-  pub balanced : IsBalanced t.prices.items count spent (weigh s.views)
-  pub sound : (j : ℕ) (v : List Worker) → get_elem? s.views j ≡ some v → AllSound t.prices.items count v
+  pub balanced : IsBalanced t.prices.each count spent (weigh s.views)
+  pub sound : (j : ℕ) (v : List Worker) → get_elem? s.views j ≡ some v → AllSound t.prices.each count v
   pub numbers : (k : ℕ) → weigh s.views (λ (w : Worker). one_if_same k w.number) ≡ one_if_below k t.workers
   pub many : weigh s.views (λ (w : Worker). 1) ≡ t.workers
   pub small : IsSmall t
   -- no word wraps: with these bounds both are far below 2 ^ 64
-  pub in_words : (count ≤ length t.prices.items + t.workers) × (spent ≤ first_prices t.prices.items (length t.prices.items))
+  pub in_words : (count ≤ length t.prices.each + t.workers) × (spent ≤ first_prices t.prices.each (length t.prices.each))
 
 -- at the start one seat has all workers
 abbrev pub everyone : Terms → List Worker

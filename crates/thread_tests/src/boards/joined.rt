@@ -4,6 +4,7 @@ ghost use Rattle.std.specs.Prelude.{◌≡◌, ◌<◌, ◌≤◌, ◌%◌, [], 
 ghost use Rattle.race_board.specs.Race.{BoardState, SeatState, IsSeatOf, IsToldEnd, MayDrawAt, workers_of};
 ghost use Rattle.race_board.specs.Chunks.{AreEachOnce, CostJust, completed_by, steps_in, sum_below};
 
+use super::open;
 use race_board::{Board, BoardSeat, Totals};
 use std::alloc::{AllocError, Global};
 use std::test::Fail;
@@ -83,7 +84,7 @@ fn race<R: Threads + Sync>(
     ensures cost { IfOk result (λ r. r.0.spent ≡ sum_below (λ c. c % 7) chunks) }
 {
     let prices = vec![in alloc; 7u64; chunks as usize]?;
-    let (board, seats) = Board::open(alloc, prices, workers)?;
+    let (board, seats) = open(alloc, &prices, workers)?;
     let results = thread::map_vec(
         rt,
         seats,
@@ -113,7 +114,7 @@ fn close_early(board: Board, seats: Vec<BoardSeat>) -> Totals
 #[test]
 fn a_worker_that_failed_spent_within_the_prices(rt: HostRuntime) -> Result<(), Fail> {
     let prices = vec![in rt.alloc(); 3u64, 5]?;
-    let (board, mut seats) = Board::open(rt.alloc(), prices, 2)?;
+    let (board, mut seats) = open(rt.alloc(), &prices, 2)?;
     let Some(mut seat) = seats.pop() else {
         unreachable!()
     };

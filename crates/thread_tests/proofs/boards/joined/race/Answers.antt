@@ -21,7 +21,7 @@ map_vec-requires-after_bounds g c κs within = λ i x l e.
       subst (All (λ (p : ℕ). p ≡ 7)) (sym prices) (All-replicate (λ (p : ℕ). p ≡ 7) _ 7 refl),
     )
 
-finished : (g : given.Over) (c : goal.After-close g) → IsFinished c.in_ok-board.board (workers_of c.in_ok-seats.seats.items)
+finished : (g : given.Over) (c : goal.After-drop-prices-2 g) → IsFinished c.in_ok-board.board (workers_of c.in_ok-seats.seats.items)
 finished g c =
     let many = c.in_ok-seats.ensures.many in
     let jobs = c.in_ok-results.ensures.len in
@@ -30,17 +30,17 @@ finished g c =
     let some_worker = c.requires.0 in
     told_finished c.in_ok-board.board c.in_ok-seats.seats.items (omega arith) (omega arith) c.in_ok-seats.ensures.told
 
-chunks : (g : given.Over) (c : goal.After-close g) → length c.in_ok-board.board.prices ≡ c.args.chunks
+chunks : (g : given.Over) (c : goal.After-drop-prices-2 g) → length c.in_ok-board.board.prices ≡ c.args.chunks
 chunks g c = let e = ap (λ (l : List ℕ). length l) c.in_ok-board.ensures.board.0 in let n = c.in_ok-prices.ensures.len in omega arith
 
-once : (g : given.Over) (c : goal.After-close g) → AreEachOnce c.args.chunks c.in_ok-seats.joined.items
+once : (g : given.Over) (c : goal.After-drop-prices-2 g) → AreEachOnce c.args.chunks c.in_ok-seats.joined.items
 once g c =
     let board = c.in_ok-board.board in
     let seats = c.in_ok-seats.seats.items in
     let each = closed_completed (length board.prices) (workers_of seats) (c.close.ensures.completed (finished g c) (all_told seats c.in_ok-seats.ensures.told)) in
     subst (λ (n : ℕ). AreEachOnce n c.in_ok-seats.joined.items) (chunks g c) (subst (AreEachOnce (length board.prices)) c.in_ok-seats.ensures.joined each)
 
-spent : (g : given.Over) (c : goal.After-close g) → steps_in c.in_ok-seats.joined.items ≡ c.close.result.spent
+spent : (g : given.Over) (c : goal.After-drop-prices-2 g) → steps_in c.in_ok-seats.joined.items ≡ c.close.result.spent
 spent g c =
     let seats = c.in_ok-seats.seats.items in
     let told = all_told seats c.in_ok-seats.ensures.told in
