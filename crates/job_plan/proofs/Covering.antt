@@ -1,19 +1,23 @@
 -- Chunks cover the rows of a job, each once and in order, and their prices add up.
-use Rattle.std.proofs.Common.{◌≡◌, ◌≤◌, ◌<◌, ◌+◌, ◌-◌, ◌*◌, ℕ, zero, suc, min, List, [], ◌∷◌, ◌++◌, length, get_or, Some, refl}
-use Rattle.std.proofs.Common.{sym, ap, ◌∙◌, append_assoc, append-nil, arith}
+use Rattle.std.proofs.Common.{◌≡◌, ◌≤◌, ◌<◌, ◌+◌, ◌-◌, ◌*◌, ℕ, zero, suc, min, List, [], ◌∷◌, ◌++◌, length}
+use Rattle.std.proofs.Common.{get_or, Some, refl, sym, ap, ◌∙◌, append_assoc, append-nil, subst, map, arith}
 use Rattle.std.specs.Prelude.{slice_get, sum_by}
+use Rattle.std.specs.Option.{option_map}
+use Rattle.std.proofs.lemmas.List.{length-map, map-append}
 use Rattle.std.proofs.lemmas.List.Sums.{sum_by-cons}
+use Rattle.std.proofs.lemmas.Option.{slice_get-get_or, slice_get-map, get_or_from_slice_get}
 use Rattle.std.specs.List.{range_with_len, AllByRecursion}
 use Rattle.csr_store.specs.Along.{along, summed}
 use Rattle.csr_store.specs.Mask.{row_under, listed_under}
 use Rattle.csr_store.proofs.Along.{along-split, along-snoc, along-same}
-use Rattle.job_plan.specs.declared.plan.Chunk.{Chunk}
+use Rattle.job_plan.specs.declared.plan.ChunkRows.{ChunkRows}
 use Rattle.job_plan.specs.Job.{Job}
 use Rattle.job_plan.specs.Forms.{operation}
 use Rattle.job_plan.specs.Meaning.{row_count, column_count}
-use Rattle.job_plan.specs.Price.{row_price, price_in}
-use Rattle.job_plan.specs.Chunks.{chunk_count, chunk_first, chunk_last, chunk_of, chunks_of, chunks_from, over_chunks, Cover}
-use Rattle.job_plan.specs.Chunks.{IsChunkOf}
+use Rattle.job_plan.specs.Price.{row_price}
+use Rattle.job_plan.specs.Chunks.{Chunk, chunk_count, chunk_first, chunk_last, chunk_of, chunks_of, chunks_from, over_chunks}
+use Rattle.job_plan.specs.Chunks.{Cover, IsChunkOf, IsChunkAt}
+use Rattle.job_plan.specs.inner.Chunks.{rows_of_chunk, rows_of_job, rows_from}
 use Rattle.job_plan.proofs.Sums.{summed-split}
 
 module _ {T : Type 0} (g : ℕ → List T) (rows : ℕ) where
@@ -99,7 +103,8 @@ job_covered g k job =
 numbers : (k : ℕ) (job : Job) → over_chunks range_with_len (chunks_of k job) ≡ range_with_len 0 (row_count job)
 numbers k job =
     over_along range_with_len (chunk_of k job) 0 (chunk_count (row_count job))
-    ∙ along-same _ (part (λ i. i ∷ []) (row_count job)) 0 (chunk_count (row_count job)) (λ c l u. numbers_along (chunk_first c) _)
+    ∙ along-same _ (part (λ i. i ∷ []) (row_count job)) 0 (chunk_count (row_count job))
+    (λ c l u. numbers_along (chunk_first c) _)
     ∙ chunks_cover (λ i. i ∷ []) (row_count job) ∙ sym (numbers_along 0 (row_count job))
 
 pub covers : (k : ℕ) (job : Job) → Cover k job
@@ -138,7 +143,8 @@ chunk_is all k job c e l = record {
   priced = refl;
 }
 
-all_chunks : (all jobs : List Job) (k : ℕ) → ((i : ℕ) (job : Job) → slice_get jobs i ≡ Some job → slice_get all (k + i) ≡ Some job)
+all_chunks : (all jobs : List Job) (k : ℕ)
+    → ((i : ℕ) (job : Job) → slice_get jobs i ≡ Some job → slice_get all (k + i) ≡ Some job)
     → AllByRecursion (IsChunkOf all) (chunks_from k jobs)
 all_chunks all [] k h = _
 all_chunks all (job ∷ jobs) k h =
@@ -158,30 +164,67 @@ plan_chunk all i c l =
 -- ---- cutting chunk by chunk, and job by job
 
 -- the chunks of a job before number n were added to some others
-pub record IsCutting (k : ℕ) (job : Job) (others : List Chunk) (n : ℕ) (chunks : List Chunk) : Type 0 where
-  pub cut : chunks ≡ others ++ along (λ c. chunk_of k job c ∷ []) 0 n
+pub record IsCutting (k : ℕ) (job : Job) (others : List ChunkRows) (n : ℕ) (chunks : List ChunkRows) : Type 0 where
+  pub cut : chunks ≡ others ++ along (λ c. rows_of_chunk k job c ∷ []) 0 n
 
-pub cutting_begins : (k : ℕ) (job : Job) (others : List Chunk) → IsCutting k job others 0 others
+pub cutting_begins : (k : ℕ) (job : Job) (others : List ChunkRows) → IsCutting k job others 0 others
 cutting_begins k job others = record { cut = sym (append-nil others) }
 
-pub cutting_more : (k : ℕ) (job : Job) (others chunks now : List Chunk) (n : ℕ) (c : Chunk) → IsCutting k job others n chunks
-    → c ≡ chunk_of k job n → now ≡ chunks ++ c ∷ [] → IsCutting k job others (n + 1) now
+pub cutting_more : (k : ℕ) (job : Job) (others chunks now : List ChunkRows) (n : ℕ) (c : ChunkRows)
+    → IsCutting k job others n chunks → c ≡ rows_of_chunk k job n → now ≡ chunks ++ c ∷ []
+    → IsCutting k job others (n + 1) now
 cutting_more k job others chunks now n c h e is = record {
-  cut = is ∙ ap (λ d. chunks ++ d ∷ []) e ∙ ap (λ cs. cs ++ chunk_of k job n ∷ []) h.cut
-      ∙ append_assoc others (along (λ c. chunk_of k job c ∷ []) 0 n) (chunk_of k job n ∷ [])
-      ∙ ap (λ cs. others ++ cs) (ap (λ m. along (λ c. chunk_of k job c ∷ []) 0 n ++ chunk_of k job m ∷ [])
+  cut = is ∙ ap (λ d. chunks ++ d ∷ []) e ∙ ap (λ cs. cs ++ rows_of_chunk k job n ∷ []) h.cut
+      ∙ append_assoc others (along (λ c. rows_of_chunk k job c ∷ []) 0 n) (rows_of_chunk k job n ∷ [])
+      ∙ ap (λ cs. others ++ cs) (ap (λ m. along (λ c. rows_of_chunk k job c ∷ []) 0 n ++ rows_of_chunk k job m ∷ [])
       (let z : n ≡ 0 + n = omega arith in z)
-      ∙ sym (along-snoc (λ c. chunk_of k job c ∷ []) 0 n));
+      ∙ sym (along-snoc (λ c. rows_of_chunk k job c ∷ []) 0 n));
 }
 
-pub the_chunk : (k : ℕ) (job : Job) (n rows price : ℕ) → rows ≡ row_count job
-    → price ≡ price_in job (256 * n) (min (256 * n + 256) rows - 256 * n)
-    → record { job = k; first = 256 * n; last = min (256 * n + 256) rows; price = price } ≡ chunk_of k job n
-the_chunk k job n rows price r p =
+pub the_rows : (k : ℕ) (job : Job) (n rows : ℕ) → rows ≡ row_count job
+    → record { job = k; first = 256 * n; last = min (256 * n + 256) rows } ≡ rows_of_chunk k job n
+the_rows k job n rows r =
     let e : min (256 * n + 256) rows ≡ chunk_last (row_count job) n = omega arith in
-    ap (λ q. record { job = k; first = 256 * n; last = min (256 * n + 256) rows; price = q }) p
-    ∙ ap (λ m. record { job = k; first = 256 * n; last = m; price = price_in job (256 * n) (m - 256 * n) }) e
+    ap (λ m. record { job = k; first = 256 * n; last = m }) e
 
 -- the chunks of the jobs before place k are there: those of the others complete the whole
-pub record AreCut (jobs left : List Job) (k : ℕ) (chunks : List Chunk) : Type 0 where
-  pub cut : chunks ++ chunks_from k left ≡ chunks_from 0 jobs
+pub record AreCut (jobs left : List Job) (k : ℕ) (chunks : List ChunkRows) : Type 0 where
+  pub cut : chunks ++ rows_from k left ≡ rows_from 0 jobs
+
+-- ---- the chunks that are kept are the rows of those that are meant
+
+abbrev rows_only : Chunk → ChunkRows
+rows_only c = record { job = c.job; first = c.first; last = c.last }
+
+rows_along : (k : ℕ) (job : Job) (from n : ℕ)
+    → along (λ c. rows_of_chunk k job c ∷ []) from n ≡ map rows_only (along (λ c. chunk_of k job c ∷ []) from n)
+rows_along k job from zero = refl
+rows_along k job from (suc n) = ap (λ cs. rows_of_chunk k job from ∷ cs) (rows_along k job (suc from) n)
+
+rows_are : (k : ℕ) (jobs : List Job) → rows_from k jobs ≡ map rows_only (chunks_from k jobs)
+rows_are k [] = refl
+rows_are k (job ∷ jobs) =
+    ap (λ cs. cs ++ rows_from (k + 1) jobs) (rows_along k job 0 (chunk_count (row_count job)))
+    ∙ ap (λ cs. map rows_only (chunks_of k job) ++ cs) (rows_are (k + 1) jobs)
+    ∙ sym (map-append rows_only (chunks_of k job) (chunks_from (k + 1) jobs))
+
+pub rows_count : (jobs : List Job) → length (rows_from 0 jobs) ≡ length (chunks_from 0 jobs)
+rows_count jobs = ap length (rows_are 0 jobs) ∙ length-map (chunks_from 0 jobs) rows_only
+
+at_rows : (all : List Job) (c : ℕ) (chunk : Chunk) (x : ChunkRows) → x ≡ rows_only chunk
+    → slice_get (chunks_from 0 all) c ≡ Some chunk → IsChunkOf all chunk → IsChunkAt all c x.job x.first x.last
+at_rows all c chunk x same is right =
+    subst (λ (y : ChunkRows). IsChunkAt all c y.job y.first y.last) (sym same)
+    (record { price = chunk.price; is = is; right = right })
+
+-- chunk c has the rows that are kept of it
+pub kept_at : (all : List Job) (c : ℕ) (x : ChunkRows) → c < length (chunks_from 0 all) → x ≡ get_or (rows_from 0 all) c x
+    → IsChunkAt all c x.job x.first x.last
+kept_at all c x l e =
+    let d : Chunk = record { job = x.job; first = x.first; last = x.last; price = 0 } in
+    let chunk = get_or (chunks_from 0 all) c d in
+    let is = slice_get-get_or (chunks_from 0 all) c d l in
+    let m = slice_get-map rows_only (chunks_from 0 all) c ∙ ap (λ o. option_map rows_only o) is in
+    let g = get_or_from_slice_get (map rows_only (chunks_from 0 all)) c (rows_only chunk) x m in
+    let same : x ≡ rows_only chunk = e ∙ ap (λ cs. get_or cs c x) (rows_are 0 all) ∙ g in
+    at_rows all c chunk x same is (plan_chunk all c d l)

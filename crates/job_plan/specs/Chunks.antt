@@ -1,11 +1,20 @@
 -- How jobs are cut into chunks, of 256 rows of the result each, the last one shorter. This project's own.
-use Rattle.std.specs.Prelude.{◌≡◌, ◌≤◌, ℕ, ◌+◌, ◌-◌, ◌*◌, ◌/◌, min, sum_by, List, [], ◌∷◌, ◌++◌, Some, slice_get}
-use Rattle.std.specs.List.{flat_map, range_with_len}
+use Rattle.std.specs.Prelude.{◌≡◌, ◌≤◌, ◌<◌, ◌^◌, ℕ, ◌+◌, ◌-◌, ◌*◌, ◌/◌, min, sum_by}
+use Rattle.std.specs.Prelude.{List, [], ◌∷◌, ◌++◌, map, length, Some, slice_get}
+use Rattle.std.specs.List.{AllByRecursion, flat_map, range_with_len}
 use Rattle.csr_store.specs.Along.{along}
-use Rattle.job_plan.specs.declared.plan.Chunk.{Chunk}
 use Rattle.job_plan.specs.Job.{Job}
 use Rattle.job_plan.specs.Meaning.{row_count, rows_in, calls_in}
-use Rattle.job_plan.specs.Price.{price_in, price_of}
+use Rattle.job_plan.specs.Price.{price_in, price_of, IsWithinPrice}
+use Rattle.job_plan.specs.Refusal.{IsPriced}
+
+-- some rows of a job, which is told by its place among the jobs, and their price, which contracts alone know
+pub record Chunk : Type 0 where
+  pub job : ℕ
+  pub first : ℕ
+  -- the row behind the last
+  pub last : ℕ
+  pub price : ℕ
 
 -- so many rows have so many chunks
 abbrev pub chunk_count : ℕ → ℕ
@@ -39,6 +48,10 @@ chunks_from k (job ∷ jobs) = chunks_of k job ++ chunks_from (k + 1) jobs
 abbrev pub plan_chunks : List Job → List Chunk
 plan_chunks jobs = chunks_from 0 jobs
 
+-- their prices
+abbrev pub prices_of : List Job → List ℕ
+prices_of jobs = map (λ (c : Chunk). c.price) (plan_chunks jobs)
+
 -- what is listed for the rows of chunks, chunk by chunk
 abbrev pub over_chunks : {T : Type 0} → (ℕ → ℕ → List T) → List Chunk → List T
 over_chunks listed chunks = flat_map (λ (c : Chunk). listed c.first (c.last - c.first)) chunks
@@ -57,3 +70,17 @@ pub record IsChunkOf (jobs : List Job) (c : Chunk) : Type 0 where
   pub ordered : c.first ≤ c.last
   pub within : c.last ≤ row_count job
   pub priced : c.price ≡ price_in job c.first (c.last - c.first)
+
+-- chunk c of the jobs has these rows of the job at this place
+pub record IsChunkAt (jobs : List Job) (c job first last : ℕ) : Type 0 where
+  pub price : ℕ
+  pub is : slice_get (plan_chunks jobs) c ≡ Some (record { job = job; first = first; last = last; price = price })
+  pub right : IsChunkOf jobs (record { job = job; first = first; last = last; price = price })
+
+-- what holds of the jobs of any plan
+pub record IsPlan (jobs : List Job) : Type 0 where
+  pub few : length jobs ≤ 64
+  pub short : length (plan_chunks jobs) < 2 ^ 63
+  pub priced : AllByRecursion IsPriced jobs
+  pub within : AllByRecursion IsWithinPrice jobs
+  pub cover : (k : ℕ) (job : Job) → Cover k job

@@ -34,7 +34,8 @@ mapped op m (Product add mul a b) = Product (op add) (op mul) (m a) (m b)
 mapped op m (Reduce f a) = Reduce (op f) (m a)
 
 -- two are of one form, each operator of the first has this relation to that of the second, and each matrix that one
-pub record IsMapped {O P M N : Type 0} (op : O → P → Type 0) (m : M → N → Type 0) (before : Form O M) (after : Form P N) : Type 0 where
+pub record IsMapped {O P M N : Type 0} (op : O → P → Type 0) (m : M → N → Type 0) (before : Form O M) (after : Form P N)
+    : Type 0 where
   pub pairs : Form (O × P) (M × N)
   pub before_is : before ≡ mapped (λ p. p.0) (λ p. p.0) pairs
   pub after_is : after ≡ mapped (λ p. p.1) (λ p. p.1) pairs

@@ -1,7 +1,7 @@
 -- Why a job is refused, in the order in which the reasons are looked at. That operators and shapes have to fit is as in the
 -- GraphBLAS C API Specification 2.0 ("Operations": domain and dimension mismatch); the limits are this project's own.
-use Rattle.std.specs.Prelude.{◌≡◌, ℕ, Bool, true, ◌&&◌, not, nat_eq, nat_lt, if◌then◌else◌, List, codes, Option, None}
-use Rattle.std.specs.Prelude.{Some, Result, Ok, Err}
+use Rattle.std.specs.Prelude.{◌≡◌, ℕ, Bool, true, ◌&&◌, not, nat_eq, nat_lt, if◌then◌else◌, List, codes}
+use Rattle.std.specs.Prelude.{Option, None, Some, Result, Ok, Err}
 use Rattle.csr_store.specs.Grid.{Grid, limit}
 use Rattle.job_plan.specs.declared.error.JobError.{JobError}
 use Rattle.job_plan.specs.declared.error.JobError.TheVariants.{WrongKind, WrongShapes, WrongMask, ResultTooLarge, PriceTooHigh}

@@ -1,3 +1,4 @@
 -- What serves this crate's own modules: contracts between them, invariants and proofs. No public contract reaches it.
 pub mod Refusal
 pub mod Copies
+pub mod Chunks

@@ -6,8 +6,8 @@ use bpf_run::Prepared;
 use csr_store::Version;
 use std::sync::Arc;
 
-/// The six forms of jobs, each with just the operators, the thunk and the matrices that it takes. In a line these are names; in a job
-/// they are operators and matrices of which it is an owner, perhaps of the wrong kind and of shapes that don't fit:
+/// The six forms of jobs, each with just the operators, the thunk and the matrices that it takes. In a line these are names; in a
+/// job they are operators and matrices of which it is an owner, perhaps of the wrong kind and of shapes that don't fit:
 /// [`Priced::of`](crate::Priced::of) looks at that.
 #[derive(Clone, Copy, Drop)]
 pub enum Form<O = Arc<Prepared>, M = Version> {

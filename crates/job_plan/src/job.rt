@@ -1,25 +1,20 @@
 //! What a job is.
-ghost use Rattle.std.specs.Prelude.{◌≡◌, ◌≤◌, ◌-◌, IfOk, IfErr, Some};
+ghost use Rattle.std.specs.Prelude.{◌≡◌, IfOk, IfErr, Some};
 ghost use Rattle.std.specs.Option.{option_map};
 ghost use Rattle.std.specs.Arc.{arc_value};
 ghost use Rattle.std.specs.String.{string_bytes};
 ghost use Rattle.csr_store.specs.Mask.{mask_of};
 ghost use Rattle.job_plan.specs.Costing.{costing};
 ghost use Rattle.job_plan.specs.Kept.{form_of};
-ghost use Rattle.job_plan.specs.Meaning.{row_count};
-ghost use Rattle.job_plan.specs.Price.{price_of, price_in};
+ghost use Rattle.job_plan.specs.Price.{price_of};
 ghost use Rattle.job_plan.specs.Refusal.{job_fault, IsPriced};
 ghost use Rattle.job_plan.specs.inner.Refusal.{Passes};
 
 use crate::error::JobError;
 use crate::form::Form;
 use crate::table::has_shape;
-use csr_store::{Matrix, Version};
+use csr_store::{MOST_ENTRIES, Matrix, Version};
 use std::marker::Model;
-use std::ops::Range;
-
-/// The most entries that a result may have.
-const MOST_ENTRIES: u64 = 16_777_216;
 
 /// The most steps that a job may cost.
 const MOST_STEPS: u64 = 4_294_967_296;
@@ -116,14 +111,13 @@ impl Job {
         let form = &self.form;
         let mask = self.mask();
         form.recall();
-        let operation = form.operation();
-        if !operation.kinds {
+        if !form.has_its_kinds() {
             return Err(JobError::WrongKind);
         }
-        if !operation.shapes {
+        if !form.has_fitting_shapes() {
             return Err(JobError::WrongShapes);
         }
-        if !has_shape(operation.rows, operation.columns, mask) {
+        if !has_shape(form.rows(), form.columns(), mask) {
             return Err(JobError::WrongMask);
         }
         let entries = form.entries(mask);
@@ -133,25 +127,17 @@ impl Job {
         Ok(entries)
     }
 
-    /// The price of all rows, where it is known how many entries the result can have: of a product these are its multiplications,
-    /// which are counted once.
+    /// The price, where it is known how many entries the result can have: of a product these are its multiplications, which are
+    /// counted once.
     fn price_of_all(&self, entries: u64) -> u64
         requires passes { Passes self.now }
         requires entries { entries ≡ (costing self.now.form).entries self.now.mask }
         ensures { result ≡ price_of self.now }
     {
-        if let Form::Product { .. } = &self.form {
-            return entries * self.form.round();
+        let form = &self.form;
+        if let Form::Product { .. } = form {
+            return entries * form.round();
         }
-        self.price_of_rows(0..self.form.rows())
-    }
-
-    /// The price of some rows.
-    pub(crate) fn price_of_rows(&self, range: Range<u64>) -> u64
-        requires passes { Passes self.now }
-        requires within { range.end ≤ row_count self.now }
-        ensures { result ≡ price_in self.now range.start (range.end - range.start) }
-    {
-        self.form.rounds(self.mask(), range) * self.form.round()
+        form.rounds(self.mask(), 0..form.rows()) * form.round()
     }
 }

@@ -6,8 +6,8 @@
 //!
 //! The one contract: the chunks cover each job's rows once and in order, their prices add up to the job's, and a job's calls cost
 //! no more than its price. `specs/Forms.antt` is the table of the six forms, `specs/Meaning.antt` says what a job computes,
-//! `specs/Costing.antt` and `specs/Price.antt` what it may cost, `specs/Refusal.antt` when it is refused, and `specs/Chunks.antt` how
-//! jobs are cut.
+//! `specs/Costing.antt` and `specs/Price.antt` what it may cost, `specs/Refusal.antt` when it is refused, and `specs/Chunks.antt`
+//! how jobs are cut.
 //!
 //! Read `form` and `job` first, then `table` (that of the forms, in code) with `rows` (what rows count for), `priced`, `queue` and
 //! `plan`.

@@ -61,6 +61,13 @@ impl Priced {
         }
     }
 
+    /// What holds of any priced job. Only the prover looks at it.
+    pub(crate) fn recall(&self)
+        ensures { IsPriced self.now }
+    {
+        let _ = self.job();
+    }
+
     /// The job.
     pub fn job(&self) -> &Job
         ensures job { result.now ≡ self.now }

@@ -1,5 +1,6 @@
 //! Jobs that wait.
-ghost use Rattle.std.specs.Prelude.{◌≡◌, ◌≤◌, ◌<◌, ◌+◌, ◌++◌, ◌∷◌, [], ◌↔◌, IsTrue, length, IfOk, OnOk, OnErr};
+ghost use Rattle.std.specs.Prelude.{◌≡◌, ◌≤◌, ◌<◌, ◌+◌, ◌++◌, ◌∷◌, [], ◌↔◌, IsTrue, length};
+ghost use Rattle.std.specs.Prelude.{IfOk, OnOk, OnErr};
 
 use crate::plan::{Plan, cut};
 use crate::priced::Priced;
@@ -33,7 +34,8 @@ impl Model for Queue {
 
     ghost view = { λ q. q.jobs.items };
 
-    ghost invariant = { λ q. AllByRecursion IsPriced q.jobs.items × (length q.jobs.items ≤ 64) × (64 ≤ vec_capacity q.jobs) };
+    ghost invariant = { λ q. AllByRecursion IsPriced q.jobs.items × (length q.jobs.items ≤ 64)
+        × (64 ≤ vec_capacity q.jobs) };
 }
 
 impl Queue {
@@ -75,7 +77,7 @@ impl Queue {
         ensures jobs { self.new ≡ self.old ++ job ∷ [] }
         ensures number { result ≡ length self.old + 1 }
     {
-        let _ = job.job();
+        job.recall();
         self.jobs.push(job).unwrap();
         self.len()
     }

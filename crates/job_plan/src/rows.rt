@@ -13,7 +13,7 @@ fn count(a: &Matrix, i: u64) -> u64
     requires { i < a.now.rows }
     ensures { result ≡ count a.now i }
 {
-    let _ = a.rows();
+    a.recall();
     let starts = a.starts();
     starts[i as usize + 1] - starts[i as usize]
 }
@@ -26,7 +26,7 @@ pub(crate) fn count_in(a: &Matrix, range: Range<u64>) -> u64
     if range.end <= range.start {
         return 0;
     }
-    let _ = a.rows();
+    a.recall();
     let starts = a.starts();
     starts[range.end as usize] - starts[range.start as usize]
 }
@@ -37,7 +37,7 @@ pub(crate) fn lesser_in(a: &Matrix, b: &Matrix, range: Range<u64>) -> u64
     requires right { range.end ≤ b.now.rows }
     ensures { result ≡ summed (λ i. min (count a.now i) (count b.now i)) range.start (range.end - range.start) }
 {
-    let _rows = a.rows();
+    a.recall();
     if a.is_blank(range.start..range.end) || b.is_blank(range.start..range.end) {
         return 0;
     }
@@ -56,7 +56,7 @@ pub(crate) fn least_in(a: &Matrix, b: &Matrix, mask: &Matrix, range: Range<u64>)
     ensures { result ≡ summed (λ i. min (min (count a.now i) (count b.now i)) (count mask.now i)) range.start
         (range.end - range.start) }
 {
-    let _rows = a.rows();
+    a.recall();
     if mask.is_blank(range.start..range.end) {
         return 0;
     }
@@ -85,7 +85,7 @@ pub(crate) fn folds_in(a: &Matrix, range: Range<u64>) -> u64
     requires { range.end ≤ a.now.rows }
     ensures { result ≡ summed (λ i. count a.now i - 1) range.start (range.end - range.start) }
 {
-    let _ = a.rows();
+    a.recall();
     let entries = count_in(a, range.start..range.end);
     if entries == 0 {
         return 0;
@@ -99,7 +99,7 @@ pub(crate) fn folds_under(a: &Matrix, mask: &Matrix, range: Range<u64>) -> u64
     requires mask { range.end ≤ mask.now.rows }
     ensures { result ≡ summed (λ i. if_passing (Some mask.now) i (count a.now i - 1)) range.start (range.end - range.start) }
 {
-    let _rows = a.rows();
+    a.recall();
     if a.is_blank(range.start..range.end) || mask.is_blank(range.start..range.end) {
         return 0;
     }

@@ -18,18 +18,6 @@ use csr_store::Matrix;
 use job_forms::{mult_count, mult_count_in};
 use std::ops::Range;
 
-/// What a form computes, but for the values.
-#[derive(Clone, Copy)]
-pub(crate) struct Operation {
-    /// Whether the operators are of the kinds that the form takes.
-    pub kinds: bool,
-    /// Whether the matrices' shapes fit one another.
-    pub shapes: bool,
-    /// The sizes of the result.
-    pub rows: u64,
-    pub columns: u64,
-}
-
 impl Form {
     /// What holds of operators and matrices, whatever they are. Only the prover looks at it.
     pub(crate) fn recall(&self)
@@ -72,66 +60,34 @@ impl Form {
         }
     }
 
-    /// The line of the form.
-    pub(crate) fn operation(&self) -> Operation
-        ensures kinds { result.kinds ≡ (operation (form_of self.now)).kinds }
-        ensures shapes { result.shapes ≡ (operation (form_of self.now)).shapes }
-        ensures rows { result.rows ≡ (operation (form_of self.now)).rows }
-        ensures columns { result.columns ≡ (operation (form_of self.now)).columns }
+    /// Whether the operators are of the kinds that the form takes.
+    pub(crate) fn has_its_kinds(&self) -> bool
+        ensures { result ≡ (operation (form_of self.now)).kinds }
     {
         match self {
             Form::Apply {
                 operator,
                 thunk,
-                operand,
-            } => Operation {
-                kinds: is_of(kind_with(*thunk), operator),
-                shapes: true,
-                rows: operand.rows(),
-                columns: operand.columns(),
-            },
-            Form::Select {
-                operator,
-                operand,
                 ..
-            } => Operation {
-                kinds: is_of(Kind::Index, operator),
-                shapes: true,
-                rows: operand.rows(),
-                columns: operand.columns(),
-            },
-            Form::Union {
-                operator,
-                left,
-                right,
+            } => is_of(kind_with(*thunk), operator),
+            Form::Select { operator, .. } => is_of(Kind::Index, operator),
+            Form::Union { operator, .. }
+            | Form::Both { operator, .. }
+            | Form::Reduce { operator, .. } => is_of(Kind::Binary, operator),
+            Form::Product { add, mul, .. } => is_of(Kind::Binary, add) && is_of(Kind::Binary, mul),
+        }
+    }
+
+    /// Whether the matrices' shapes fit one another.
+    pub(crate) fn has_fitting_shapes(&self) -> bool
+        ensures { result ≡ (operation (form_of self.now)).shapes }
+    {
+        match self {
+            Form::Union { left, right, .. } | Form::Both { left, right, .. } => {
+                same_shape(left, right)
             }
-            | Form::Both {
-                operator,
-                left,
-                right,
-            } => Operation {
-                kinds: is_of(Kind::Binary, operator),
-                shapes: same_shape(left, right),
-                rows: left.rows(),
-                columns: left.columns(),
-            },
-            Form::Product {
-                add,
-                mul,
-                left,
-                right,
-            } => Operation {
-                kinds: is_of(Kind::Binary, add) && is_of(Kind::Binary, mul),
-                shapes: left.columns() == right.rows(),
-                rows: left.rows(),
-                columns: right.columns(),
-            },
-            Form::Reduce { operator, operand } => Operation {
-                kinds: is_of(Kind::Binary, operator),
-                shapes: true,
-                rows: operand.rows(),
-                columns: 1,
-            },
+            Form::Product { left, right, .. } => left.columns() == right.rows(),
+            Form::Apply { .. } | Form::Select { .. } | Form::Reduce { .. } => true,
         }
     }
 
@@ -140,21 +96,33 @@ impl Form {
         ensures rows { result ≡ (operation (form_of self.now)).rows }
         ensures few { result ≤ limit }
     {
-        self.recall();
-        self.operation().rows
+        match self {
+            Form::Apply { operand, .. }
+            | Form::Select { operand, .. }
+            | Form::Reduce { operand, .. } => operand.rows(),
+            Form::Union { left, .. } | Form::Both { left, .. } | Form::Product { left, .. } => {
+                left.rows()
+            }
+        }
     }
 
     /// The number of columns of the result.
     pub fn columns(&self) -> u64
         ensures { result ≡ (operation (form_of self.now)).columns }
     {
-        self.operation().columns
+        match self {
+            Form::Apply { operand, .. } | Form::Select { operand, .. } => operand.columns(),
+            Form::Union { left, .. } | Form::Both { left, .. } => left.columns(),
+            Form::Product { right, .. } => right.columns(),
+            Form::Reduce { .. } => 1,
+        }
     }
 
     /// How many entries the result can have, of a form in which that may be more than a matrix holds; else 0.
     pub(crate) fn entries(&self, mask: Option<&Matrix>) -> u64
         requires shapes { (operation (form_of self.now)).shapes ≡ true }
-        requires mask { has_shape (operation (form_of self.now)).rows (operation (form_of self.now)).columns (mask_of mask) ≡ true }
+        requires mask { has_shape (operation (form_of self.now)).rows (operation (form_of self.now)).columns (mask_of mask)
+            ≡ true }
         ensures { result ≡ (costing (form_of self.now)).entries (mask_of mask.entry) }
     {
         match self {
@@ -179,7 +147,8 @@ impl Form {
     /// How many rounds of calls some rows take at most.
     pub(crate) fn rounds(&self, mask: Option<&Matrix>, range: Range<u64>) -> u64
         requires shapes { (operation (form_of self.now)).shapes ≡ true }
-        requires mask { has_shape (operation (form_of self.now)).rows (operation (form_of self.now)).columns (mask_of mask) ≡ true }
+        requires mask { has_shape (operation (form_of self.now)).rows (operation (form_of self.now)).columns (mask_of mask)
+            ≡ true }
         requires within { range.end ≤ (operation (form_of self.now)).rows }
         ensures { result ≡ summed ((costing (form_of self.now)).rounds (mask_of mask.entry)) range.start
             (range.end - range.start) }
@@ -215,8 +184,8 @@ fn recall(operator: &Prepared, operand: &Matrix)
     ensures operator { IsAccepted operator.now }
     ensures operand { IsGrid operand.now }
 {
-    let _ = operator.operator().program();
-    let _ = operand.rows();
+    operator.recall();
+    operand.recall();
 }
 
 /// Whether an operator is of a kind.
@@ -231,7 +200,7 @@ fn length(operator: &Prepared) -> u64
     ensures length { result ≡ length operator.now.insns }
     ensures few { result ≤ 4096 }
 {
-    let _ = operator.operator().program();
+    operator.recall();
     operator.len()
 }
 

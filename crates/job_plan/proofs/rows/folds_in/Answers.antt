@@ -4,7 +4,7 @@ use Rattle.job_plan.proofs.rows.folds_in.Goals as goal
 
 pub filled_in-requires-clause-few : goal.filled_in-requires-clause-few
 filled_in-requires-clause-few c =
-    let few = some_entries c.args.a.now c.args.range.start (c.args.range.end - c.args.range.start) c.rows.ensures.is_grid in
+    let few = some_entries c.args.a.now c.args.range.start (c.args.range.end - c.args.range.start) c.recall.ensures in
     let both = folds_and_firsts c.args.a.now c.args.range.start (c.args.range.end - c.args.range.start) in
     omega (arith, few, both)
 

@@ -26,7 +26,7 @@ pub overflow_add-folds : goal.overflow_add-folds
 overflow_add-folds c =
     let p = λ (i : ℕ). if_passing (Some c.args.mask.now) i (count c.args.a.now i - 1) in
     let room = room_of p c.args.a.now c.args.range.start c.args.range.end c.loop-i.i c.loop-i.folds c.folds_of-folds.result
-    c.rows-rows.ensures.is_grid
+    c.recall.ensures
     (λ i. let l = passing_if (Some c.args.mask.now) i (count c.args.a.now i - 1) in omega (arith, l)) c.loop-i.invariant
     c.loop-i-test.true c.folds_of-folds.ensures in
     omega (arith, room)

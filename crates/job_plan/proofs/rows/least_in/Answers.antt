@@ -22,7 +22,7 @@ overflow_add-entries c =
     let more : c.min-entries.result ≡ min (min (count c.args.a.now c.loop-i.i) (count c.args.b.now c.loop-i.i))
     (count c.args.mask.now c.loop-i.i) = cc in
     let room = room_of p c.args.a.now c.args.range.start c.args.range.end c.loop-i.i c.loop-i.entries c.min-entries.result
-    c.rows-rows.ensures.is_grid (λ i. omega arith) c.loop-i.invariant c.loop-i-test.true more in
+    c.recall.ensures (λ i. omega arith) c.loop-i.invariant c.loop-i-test.true more in
     omega (arith, room)
 
 pub loop-i-preserved : goal.loop-i-preserved

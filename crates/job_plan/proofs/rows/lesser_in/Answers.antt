@@ -25,7 +25,7 @@ overflow_add-entries c =
     let more = c.min-entries.ensures ∙ ap (λ n. min n c.count-in-loop-i.result) c.count.ensures
     ∙ ap (λ n. min (count c.args.a.now c.loop-i.i) n) c.count-in-loop-i.ensures in
     let room = room_of p c.args.a.now c.args.range.start c.args.range.end c.loop-i.i c.loop-i.entries c.min-entries.result
-    c.rows-rows.ensures.is_grid (λ i. omega arith) c.loop-i.invariant c.loop-i-test.true more in
+    c.recall.ensures (λ i. omega arith) c.loop-i.invariant c.loop-i-test.true more in
     omega (arith, room)
 
 pub loop-i-preserved : goal.loop-i-preserved

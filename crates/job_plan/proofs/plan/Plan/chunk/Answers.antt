@@ -1,12 +1,19 @@
-use Rattle.std.proofs.Common.{ap, sym, ◌∙◌, subst, get_or, List}
-use Rattle.job_plan.specs.declared.plan.Chunk.{Chunk}
-use Rattle.job_plan.specs.Chunks.{plan_chunks, IsChunkOf}
-use Rattle.job_plan.proofs.Covering.{plan_chunk}
+use Rattle.std.proofs.Common.{length, ap, ◌∙◌, get_or, List, arith}
+use Rattle.job_plan.specs.declared.plan.ChunkRows.{ChunkRows}
+use Rattle.job_plan.specs.inner.Chunks.{rows_from}
+use Rattle.job_plan.proofs.Covering.{kept_at, rows_count}
 use Rattle.job_plan.proofs.plan.Plan.chunk.Goals as goal
 
-pub returns-clause-rows : goal.returns-clause-rows
-returns-clause-rows c =
+pub index-chunk-requires : goal.index-chunk-requires
+index-chunk-requires c =
+    let same = ap length (c.self.invariant.2 ∙ ap (rows_from 0) c.self.view_is) in
+    let all = rows_count c.args.self.now in
+    let inside = c.requires in
+    omega (arith, same, all, inside)
+
+pub returns : goal.returns
+returns c =
     let found = c.index-chunk.result.now in
-    let same = c.self.invariant.2 ∙ ap plan_chunks c.self.view_is in
-    let is = c.index-chunk.ensures ∙ ap (λ (cs : List Chunk). get_or cs c.args.c found) same in
-    subst (IsChunkOf c.args.self.now) (sym is) (plan_chunk c.args.self.now c.args.c found c.requires)
+    let same = c.self.invariant.2 ∙ ap (rows_from 0) c.self.view_is in
+    let is = c.index-chunk.ensures ∙ ap (λ (cs : List ChunkRows). get_or cs c.args.c found) same in
+    kept_at c.args.self.now c.args.c found c.requires is
