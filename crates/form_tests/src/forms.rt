@@ -9,7 +9,7 @@ mod small;
 use crate::masks::{has_shape, passes};
 use bpf_insn::{Kind, Operands, Ran, run_tagged};
 use bpf_run::{Calls, Prepared};
-use csr_store::{Builder, Matrix, Rows, join_rows};
+use csr_store::{Builder, Matrix, RUN_ROWS, Rows, join_rows};
 use entry_ops::{apply_rows, both_rows, reduce_rows, select_rows, union_rows};
 use job_forms::{Made, Region};
 use std::alloc::{AllocError, Global};
@@ -119,6 +119,9 @@ fn rows_of<'m>(
     ensures { IfSome result (λ c. IfOk c.result (λ r. IsPiece range.start columns (range.end - range.start) r)) }
 {
     if range.start > range.end || range.end > a.rows() || !has_shape(mask, a.rows(), columns) {
+        return None;
+    }
+    if range.end > range.start / RUN_ROWS * RUN_ROWS + RUN_ROWS {
         return None;
     }
     let region = Region { range, mask };

@@ -1,22 +1,20 @@
 -- The prices of a plan's chunks, and what chunks cost.
-use Rattle.std.proofs.Common.{◌≡◌, ◌<◌, ◌≤◌, ℕ, zero, suc, ◌+◌, ◌^◌, ◌*◌, List, [], ◌∷◌, ◌++◌, length, map, take, get_or, Some}
+use Rattle.std.proofs.Common.{◌≡◌, ◌<◌, ◌≤◌, ℕ, zero, suc, ◌+◌, ◌^◌, ◌*◌, List, [], ◌∷◌, ◌++◌, length, map, get_or, Some}
 use Rattle.std.proofs.Common.{refl, sym, ap, ◌∙◌, subst, arith}
 use Rattle.std.specs.Prelude.{sum, sum_by}
 use Rattle.std.specs.Prelude.{slice_index}
 use Rattle.std.specs.Option.{option_map}
 use Rattle.std.specs.List.{slice_get, AllByRecursion}
-use Rattle.std.proofs.lemmas.Option.{slice_get-get_or, slice_get-map, slice_get_within, get_or_from_slice_get}
-use Rattle.std.proofs.lemmas.List.{length-map, take_more}
+use Rattle.std.proofs.lemmas.Option.{slice_get-get_or, slice_get-map, get_or_from_slice_get}
+use Rattle.std.proofs.lemmas.List.{length-map}
 use Rattle.std.proofs.lemmas.List.Sums.{sum_by-cons, sum_by-append}
 use Rattle.csr_store.specs.Along.{summed}
-use Rattle.job_plan.specs.declared.plan.Chunk.{Chunk}
 use Rattle.job_plan.specs.Job.{Job}
 use Rattle.job_plan.specs.Price.{IsWithinPrice}
 use Rattle.job_plan.specs.Refusal.{IsPriced}
-use Rattle.job_plan.specs.Chunks.{Cover, plan_chunks, chunks_from, chunks_of, chunk_first}
+use Rattle.job_plan.specs.Chunks.{Chunk, Cover, prices_of, plan_chunks, chunks_from, chunks_of, chunk_first}
 use Rattle.job_runner.specs.Batch.{total_steps}
 use Rattle.job_runner.specs.Chunk.{chunk_total, chunk_rows, steps_in_job, chunk_steps}
-use Rattle.job_runner.specs.Worked.{prices_of}
 use Rattle.job_runner.proofs.Faultless.{faultless}
 use Rattle.job_runner.proofs.Located.{located, said-at, place_within}
 use Rattle.job_runner.proofs.Working.{spent_room}
@@ -110,13 +108,3 @@ prices_small jobs cover p few =
     let e = sum_of_prices (plan_chunks jobs) in
     let low = prices_from 0 jobs cover p in
     omega (arith, e, low, few)
-
--- the prices of the first chunks, and one more
-pub prices_more : (jobs : List Job) (i : ℕ) (x : Chunk) (old new : List ℕ) → slice_get (plan_chunks jobs) i ≡ Some x
-    → old ≡ take i (prices_of jobs) → new ≡ old ++ x.price ∷ [] → new ≡ take (i + 1) (prices_of jobs)
-prices_more jobs i x old new there h e =
-    let m = slice_get-map (λ (y : Chunk). y.price) (plan_chunks jobs) i ∙ ap (λ o. option_map (λ (y : Chunk). y.price) o) there in
-    let g = get_or_from_slice_get (prices_of jobs) i x.price 0 m in
-    let l = slice_get_within (prices_of jobs) i x.price m in
-    e ∙ ap (λ ps. ps ++ x.price ∷ []) h ∙ ap (λ p. take i (prices_of jobs) ++ p ∷ []) (sym g)
-    ∙ sym (take_more (prices_of jobs) i 0 l)

@@ -15,15 +15,15 @@ use Rattle.race_board.proofs.Seats.{workers_snoc}
 use Rattle.race_board.proofs.Chunks.{cost_append as just_append, completed_snoc, recorded_steps, recorded_at_most, closed_recorded, closed_completed, below_one}
 use Rattle.job_plan.specs.Job.{Job}
 use Rattle.job_runner.specs.declared.piece.Piece.{Piece}
-use Rattle.job_runner.specs.declared.crew.Ended.{Ended}
+use Rattle.job_runner.specs.declared.gathered.Ended.{Ended}
 use Rattle.job_runner.specs.declared.gathered.Gathered.{Gathered}
-use Rattle.job_plan.specs.Chunks.{Cover}
+use Rattle.job_plan.specs.Chunks.{Cover, prices_of}
 use Rattle.job_runner.specs.Batch.{total_steps}
 use Rattle.race_board.proofs.Finishing.{all_told, told_finished}
 use Rattle.job_runner.specs.Chunk.{chunk_total, chunk_steps}
 use Rattle.job_runner.specs.inner.Places.{IsFull}
-use Rattle.job_runner.specs.Worked.{prices_of, recorded, IsPieceOf, StandsAfter}
-use Rattle.job_runner.specs.inner.Crew.{IsEnded, IsGathered}
+use Rattle.job_runner.specs.Worked.{recorded, IsEnded, IsPieceOf, StandsAfter}
+use Rattle.job_runner.specs.inner.Crew.{IsGathered}
 use Rattle.job_runner.proofs.Listed.{summed-split}
 use Rattle.job_runner.proofs.Joined.{total_of_jobs}
 use Rattle.job_runner.proofs.Costs.{all_listed}

@@ -11,12 +11,11 @@ use Rattle.csr_store.specs.Run.{AreEven, Run, Follow, all_ended, numbered}
 use Rattle.csr_store.proofs.Along.{along-split, along-same}
 use Rattle.bpf_run.specs.Calls.{Call, steps_of, Charges}
 use Rattle.bpf_run.proofs.Charging.{steps-append, charges-le}
-use Rattle.job_plan.specs.declared.plan.Chunk.{Chunk}
 use Rattle.job_plan.specs.Job.{Job}
 use Rattle.job_plan.specs.Meaning.{IsMatrixOf, row_count, column_count, rows_in, calls_in, steps_of_job}
 use Rattle.job_plan.specs.Price.{IsWithinPrice}
 use Rattle.job_plan.specs.Refusal.{IsPriced}
-use Rattle.job_plan.specs.Chunks.{Cover, chunk_count, chunk_first, chunk_of, chunks_of, chunks_from}
+use Rattle.job_plan.specs.Chunks.{Chunk, Cover, chunk_count, chunk_first, chunk_of, chunks_of, chunks_from}
 use Rattle.job_runner.specs.declared.answer.JobResult.{JobResult}
 use Rattle.job_runner.specs.Batch.{Result, IsResultOf, AreResultsOf, total_steps, result_of}
 use Rattle.job_runner.specs.Chunk.{chunks_in, chunk_total, chunk_rows, run_in_job, calls_in_job, steps_in_job, at_chunk, calls_of, chunk_steps}

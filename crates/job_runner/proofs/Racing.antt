@@ -10,14 +10,13 @@ use Rattle.race_board.specs.Race.{Worker, BoardState, IsToldEnd, IsFinished, tot
 use Rattle.race_board.specs.Chunks.{AreEachOnce, completed_by, recorded_by, steps_in}
 use Rattle.race_board.proofs.Chunks.{closed_completed, completed_steps, recorded_completed, recorded_steps}
 use Rattle.race_board.proofs.Finishing.{all_told, told_finished}
-use Rattle.job_plan.specs.Chunks.{Cover}
+use Rattle.job_plan.specs.Chunks.{Cover, prices_of}
 use Rattle.job_plan.specs.Job.{Job}
 use Rattle.job_plan.specs.Meaning.{IsMatrixOf, row_count, column_count, rows_in, value_at}
 use Rattle.job_runner.specs.declared.gathered.Gathered.{Gathered}
 use Rattle.job_runner.specs.Batch.{Result, AreResultsOf, total_steps}
 use Rattle.job_runner.specs.Chunk.{chunk_total, chunks_in, chunk_steps, run_in_job}
 use Rattle.job_runner.specs.Whole.{IsWhole, IsRaced, all_rows, rows_of_chunks, whole}
-use Rattle.job_runner.specs.Worked.{prices_of}
 use Rattle.job_runner.specs.inner.Crew.{IsGathered}
 use Rattle.job_runner.proofs.Costs.{all_listed}
 use Rattle.job_runner.proofs.Gathering.{below_summed}

@@ -1,16 +1,14 @@
 -- What a worker did at its seat. This project's own.
-use Rattle.std.specs.Prelude.{◌≡◌, ℕ, ◌<◌, ◌≤◌, Bool, true, false, List, map}
+use Rattle.std.specs.Prelude.{◌≡◌, ℕ, ◌+◌, ◌<◌, ◌≤◌, Bool, true, false, List, ◌++◌, map}
+use Rattle.std.specs.List.{AllByRecursion}
+use Rattle.race_board.specs.Race.{BoardState, SeatState, IsSeatOf, steps_of}
 use Rattle.race_board.specs.declared.stand.Stand.{Stand}
 use Rattle.race_board.specs.declared.stand.Stand.TheVariants.{ToldEnd, Failed}
-use Rattle.job_plan.specs.declared.plan.Chunk.{Chunk}
 use Rattle.job_plan.specs.Job.{Job}
-use Rattle.job_plan.specs.Chunks.{plan_chunks}
+use Rattle.job_runner.specs.declared.gathered.Ended.{Ended}
 use Rattle.job_runner.specs.declared.piece.Piece.{Piece}
+use Rattle.job_runner.specs.declared.worker.Worked.{Worked}
 use Rattle.job_runner.specs.Chunk.{chunk_total, run_of, chunk_steps}
-
--- the prices of the chunks of jobs
-abbrev pub prices_of : List Job → List ℕ
-prices_of jobs = map (λ (c : Chunk). c.price) (plan_chunks jobs)
 
 -- the definition's rows and steps of a chunk of the jobs
 pub record IsPieceOf (jobs : List Job) (p : Piece) : Type 0 where
@@ -27,3 +25,19 @@ abbrev pub StandsAfter : List Job → Bool → Stand → Type 0
 StandsAfter jobs false stand = stand ≡ ToldEnd
 StandsAfter jobs true stand =
     (c : ℕ) × (s : ℕ) × (stand ≡ Failed c s) × (c < chunk_total jobs) × (s ≤ chunk_steps jobs c)
+
+-- what a worker did between two states of its seat: its pieces are right, and its record gained just these, with their steps
+pub record HasWorked (board : BoardState) (jobs : List Job) (before after : SeatState) (w : Worked) : Type 0 where
+  pub own : IsSeatOf board after
+  pub number : after.worker.number ≡ before.worker.number
+  pub gained : after.worker.done ≡ before.worker.done ++ recorded w.pieces.items
+  pub pieces : AllByRecursion (IsPieceOf jobs) w.pieces.items
+  pub stands : StandsAfter jobs w.failed after.worker.stand
+  pub spent : steps_of after.worker ≡ steps_of before.worker + w.spent
+
+-- a worker of this board that has ended: its pieces are right, and are what its seat tells
+pub record IsEnded (board : BoardState) (jobs : List Job) (e : Ended) : Type 0 where
+  pub own : IsSeatOf board e.seat
+  pub done : e.seat.worker.done ≡ recorded e.worked.pieces.items
+  pub pieces : AllByRecursion (IsPieceOf jobs) e.worked.pieces.items
+  pub stands : StandsAfter jobs e.worked.failed e.seat.worker.stand

@@ -1,19 +1,19 @@
 //! A batch on workers.
-ghost use Rattle.std.specs.Prelude.{◌≡◌, ◌<◌, ◌≤◌, ◌^◌, length, map, sum, IfOk, IfErr};
-ghost use Rattle.job_plan.specs.Chunks.{plan_chunks};
+ghost use Rattle.std.specs.Prelude.{◌≡◌, ◌<◌, ◌≤◌, map, IfOk, IfErr};
 ghost use Rattle.job_runner.specs.Batch.{AreResultsOf, result_of, total_steps};
 ghost use Rattle.job_runner.specs.Theorem.{BatchTheorem};
 ghost use Rattle.job_runner.specs.Whole.{IsRaced};
-ghost use Rattle.job_runner.specs.Worked.{prices_of};
 
 use crate::answer::{BatchAnswer, BatchFault, Cause, JobResult};
-use crate::crew::{Task, work_all};
+use crate::board::open_board;
+use crate::crew::work_all;
 use crate::gate::Gate;
 use crate::gathered::Gathered;
 use crate::join::join_jobs;
 use crate::places::in_order;
+use crate::task::Task;
+use csr_store::RUN_ROWS;
 use job_plan::{Plan, price};
-use race_board::Board;
 use std::alloc::{AllocError, Global};
 use std::sync::Wait;
 use std::thread::Threads;
@@ -21,17 +21,14 @@ use std::thread::Threads;
 /// How many steps or rows are worth a thread: by the clock it costs some 40 microseconds to start and to join one.
 const WORK_OF_A_WORKER: u64 = 200_000;
 
-/// How many rows a chunk has at most.
-const CHUNK_ROWS: u64 = 256;
-
-/// Runs a plan on up to so many workers: no more than the plan has chunks, and no more than its price and its rows feed. One of them
-/// is on the calling thread, each other in a thread of its own. They draw chunks from one board, and share the plan's operators and
-/// matrices.
+/// Runs a plan on up to so many workers: no more than the plan has chunks, and no more than its price and its rows feed. One of
+/// them is on the calling thread, each other in a thread of its own. They draw chunks from one board, and share the plan's
+/// operators and matrices.
 ///
 /// # Errors
 ///
-/// There is no memory; or, of more than one worker, a thread could not be started, which is told where a worker wants memory too. The
-/// workers that had started go on to their ends; the steps are those of all their calls.
+/// There is no memory; or, of more than one worker, a thread could not be started, which is told where a worker wants memory too.
+/// The workers that had started go on to their ends; the steps are those of all their calls.
 pub fn run_batch<H: Threads + Wait, G: Gate + Sync>(
     rt: &H,
     alloc: Global,
@@ -48,8 +45,7 @@ pub fn run_batch<H: Threads + Wait, G: Gate + Sync>(
     ensures spent { IfErr result (λ f. f.spent ≤ total_steps plan.now) }
     ensures thread { IfErr result (λ f. f.cause ≡ Cause.Thread → 1 < workers) }
 {
-    let _jobs = plan.jobs();
-    let _chunks = plan.chunks();
+    plan.recall();
     let mut spent = 0;
     match results(rt, alloc, plan, workers, gate, &mut spent) {
         Ok(results) => Ok(BatchAnswer { results, spent }),
@@ -76,18 +72,17 @@ fn results<H: Threads + Wait, G: Gate + Sync>(
     gate: &G,
     spent: &mut u64,
 ) -> Result<Vec<JobResult>, Cause>
-    requires some { 1 ≤ workers }
-    requires few { workers ≤ 64 }
-    requires spent { spent.old ≡ 0 }
-    ensures results { IfOk result (λ rs. AreResultsOf plan.now (map result_of rs.items)) }
-    ensures raced { IfOk result (λ rs. IsRaced plan.now (map result_of rs.items) spent.new) }
+    requires { (1 ≤ workers) × (workers ≤ 64) }
+    ensures results { IfOk result (λ rs. AreResultsOf plan.now (map result_of rs.items)
+        × IsRaced plan.now (map result_of rs.items) spent.new) }
     ensures spent { spent.new ≤ total_steps plan.now }
     ensures thread { IfErr result (λ why. why ≡ Cause.Thread → 1 < workers) }
 {
-    let _ = plan.chunks();
+    plan.recall();
+    *spent = 0;
     let count = worker_count(plan, workers);
     let gathered = Gathered::new(alloc, plan, count)?;
-    let (board, seats) = Board::open(alloc, prices(alloc, plan)?, count)?;
+    let (board, seats) = open_board(alloc, plan, count)?;
     let task = Task {
         plan,
         board: &board,
@@ -121,24 +116,9 @@ fn worker_count(plan: &Plan, workers: u64) -> u64
 
 /// What a plan's jobs may cost, with a step for each row of their chunks.
 fn work(plan: &Plan) -> u64 {
-    let mut work = plan.chunks().saturating_mul(CHUNK_ROWS);
+    let mut work = plan.chunks().saturating_mul(RUN_ROWS);
     for job in plan.jobs() {
         work = work.saturating_add(price(job));
     }
     work
-}
-
-/// The prices of a plan's chunks, in order of their numbers.
-pub fn prices(alloc: Global, plan: &Plan) -> Result<Vec<u64>, AllocError>
-    ensures prices { IfOk result (λ v. v.items ≡ prices_of plan.now) }
-    ensures small { sum (prices_of plan.now) ≤ 2 ^ 62 }
-{
-    let _jobs = plan.jobs();
-    let count = plan.chunks();
-    let mut prices = Vec::with_capacity(alloc, count as usize)?;
-    for chunk in 0..count {
-        let (_job, _rows, price) = plan.chunk(chunk);
-        prices.push(price)?;
-    }
-    Ok(prices)
 }

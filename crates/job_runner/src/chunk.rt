@@ -1,5 +1,6 @@
 //! One chunk of a batch.
 ghost use Rattle.std.specs.Prelude.{◌<◌, ◌≤◌, ◌-◌, [], length};
+ghost use Rattle.csr_store.specs.Run.{IsInRun};
 ghost use Rattle.job_forms.specs.Region.{IsMade};
 ghost use Rattle.job_plan.specs.Chunks.{plan_chunks};
 ghost use Rattle.job_plan.specs.Copies.{IsCopyFor};
@@ -28,7 +29,7 @@ impl Scratch {
     pub fn new(alloc: Global) -> Result<Scratch, AllocError> {
         Ok(Scratch {
             calls: Calls::new(alloc)?,
-            row: row_product::Scratch::new(alloc),
+            row: row_product::Scratch::new(),
         })
     }
 }
@@ -39,7 +40,7 @@ pub fn compute(alloc: Global, scratch: &mut Scratch, plan: &Plan, chunk: u64) ->
     requires { chunk < length (plan_chunks plan.now) }
     ensures { IsMade (run_of plan.now chunk) (calls_of plan.now chunk) result }
 {
-    let (job, range, _price) = plan.chunk(chunk);
+    let (job, range) = plan.chunk(chunk);
     let jobs = plan.jobs();
     let priced = &jobs[job as usize];
     compute_rows(alloc, scratch, priced.job(), priced.column(), range)
@@ -55,7 +56,7 @@ fn compute_rows(
 ) -> Made
     requires priced { IsPriced job.now }
     requires column { IsCopyFor job.now.form column }
-    requires range { range.start ≤ range.end }
+    requires range { (range.start ≤ range.end) × IsInRun range.start range.end }
     requires within { range.end ≤ row_count job.now }
     ensures { IsMade (record {
       first = range.start;

@@ -1,37 +1,25 @@
 //! Workers in threads.
-ghost use Rattle.std.specs.Prelude.{◌≡◌, ◌<◌, ◌≤◌, ◌+◌, true, false, None, Some, All, vec_len, vec_capacity, []};
+ghost use Rattle.std.specs.Prelude.{◌≡◌, ◌<◌, ◌≤◌, ◌+◌, [], true, false, None, Some, All};
+ghost use Rattle.std.specs.Prelude.{vec_len, vec_capacity};
 ghost use Rattle.std.specs.List.{AllByRecursion};
 ghost use Rattle.race_board.specs.Race.{MayDrawAt, SeatState};
-ghost use Rattle.job_runner.specs.Worked.{prices_of};
-ghost use Rattle.job_runner.specs.inner.Crew.{IsEnded, IsGathered};
+ghost use Rattle.job_plan.specs.Chunks.{prices_of};
+ghost use Rattle.job_runner.specs.Worked.{IsEnded};
+ghost use Rattle.job_runner.specs.inner.Crew.{IsGathered};
 
 use crate::answer::Cause;
 use crate::gate::Gate;
-use crate::gathered::Gathered;
-use crate::worker::{Worked, work};
-use job_plan::Plan;
-use race_board::{Board, BoardSeat};
+use crate::gathered::{Ended, Gathered};
+use crate::task::Task;
+use crate::worker::work;
+use race_board::BoardSeat;
 use std::alloc::Global;
 use std::sync::Wait;
 use std::thread;
 use std::thread::{Promise, PromisedHandle, Scope, Threads};
 
-/// What the workers of a batch share.
-#[derive(Clone, Copy)]
-pub struct Task<'a> {
-    pub plan: &'a Plan,
-    pub board: &'a Board,
-}
-
-/// A worker that has ended: its seat, and what it did.
-#[derive(Drop)]
-pub struct Ended {
-    pub seat: BoardSeat,
-    pub worked: Worked,
-}
-
 impl<'a> Promise<Ended> for Task<'a> {
-    ghost use Rattle.job_runner.specs.inner.Crew.{IsEnded};
+    ghost use Rattle.job_runner.specs.Worked.{IsEnded};
 
     ghost kept_by = { λ t e. IsEnded t.board.now t.plan.now e };
 }
@@ -47,7 +35,7 @@ fn work_at<G: Gate>(alloc: Global, task: Task<'_>, seat: BoardSeat, gate: &G) ->
     ensures { IsEnded task.entry.board.now task.entry.plan.now result }
 {
     let mut seat = seat;
-    let worked = work(alloc, task.plan, task.board, &mut seat, gate);
+    let worked = work(alloc, task, &mut seat, gate);
     Ended { seat, worked }
 }
 
@@ -102,9 +90,9 @@ fn join_all<H: Threads>(rt: &H, task: Task<'_>, handles: Vec<Handle<'_>>, gather
     }
 }
 
-/// A worker at each of these seats in a thread of its own, and one at the calling thread's own seat. Answers what they did, and what
-/// was refused: the start of a thread, or memory for the threads' handles. Then the workers that had started went on to their ends,
-/// and the calling thread's did nothing.
+/// A worker at each of these seats in a thread of its own, and one at the calling thread's own seat. Answers what they did, and
+/// what was refused: the start of a thread, or memory for the threads' handles. Then the workers that had started went on to their
+/// ends, and the calling thread's did nothing.
 fn work_beside<'s, 'a, H: Threads, G: Gate + Sync>(
     rt: &H,
     scope: &Scope<'s, &'a ()>,

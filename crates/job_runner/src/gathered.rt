@@ -1,15 +1,23 @@
 //! What came back of the workers that have ended.
 ghost use Rattle.std.specs.Prelude.{◌≡◌, ◌<◌, ◌≤◌, ◌+◌, [], IfOk, vec_len, vec_capacity};
 ghost use Rattle.race_board.specs.Race.{BoardState};
-ghost use Rattle.job_runner.specs.inner.Crew.{IsEnded, IsGathered};
+ghost use Rattle.job_runner.specs.Worked.{IsEnded};
+ghost use Rattle.job_runner.specs.inner.Crew.{IsGathered};
 
-use crate::crew::{Ended, Task};
 use crate::piece::Piece;
 use crate::places::{no_pieces, put};
+use crate::task::Task;
 use crate::worker::Worked;
 use job_plan::Plan;
 use race_board::BoardSeat;
 use std::alloc::{AllocError, Global};
+
+/// A worker that has ended: its seat, and what it did.
+#[derive(Drop)]
+pub struct Ended {
+    pub seat: BoardSeat,
+    pub worked: Worked,
+}
 
 /// The seats of workers that have ended, the pieces of all chunks that they completed, each at the place of its number, and whether
 /// one of them failed.
@@ -24,8 +32,7 @@ impl Gathered {
     /// Room for so many workers, of whom none has ended.
     pub fn new(alloc: Global, plan: &Plan, workers: u64) -> Result<Gathered, AllocError>
         ensures gathered { IfOk result (λ g. (board : BoardState) → IsGathered board plan.now g) }
-        ensures none { IfOk result (λ g. vec_len g.seats ≡ 0) }
-        ensures room { IfOk result (λ g. vec_capacity g.seats ≡ workers) }
+        ensures room { IfOk result (λ g. (vec_len g.seats ≡ 0) × (vec_capacity g.seats ≡ workers)) }
     {
         Ok(Gathered {
             seats: Vec::with_capacity(alloc, workers as usize)?,
@@ -37,11 +44,11 @@ impl Gathered {
     /// Takes in a worker that has ended.
     pub fn add(&mut self, task: Task<'_>, ended: Ended)
         requires ended { IsEnded task.board.now task.plan.now ended }
-        requires room { vec_len self.old.seats < vec_capacity self.old.seats }
-        requires gathered { IsGathered task.board.now task.plan.now self.old }
+        requires gathered { IsGathered task.board.now task.plan.now self.old
+            × (vec_len self.old.seats < vec_capacity self.old.seats) }
         ensures gathered { IsGathered task.entry.board.now task.entry.plan.now self.new }
-        ensures len { vec_len self.new.seats ≡ vec_len self.old.seats + 1 }
-        ensures room { vec_capacity self.old.seats ≤ vec_capacity self.new.seats }
+        ensures room { (vec_len self.new.seats ≡ vec_len self.old.seats + 1)
+            × (vec_capacity self.old.seats ≤ vec_capacity self.new.seats) }
     {
         let Ended { seat, worked } = ended;
         let Worked {

@@ -1,5 +1,5 @@
 //! The pieces of a batch as the matrices of its jobs.
-ghost use Rattle.std.specs.Prelude.{◌≡◌, ◌<◌, ◌^◌, drop, map, IfOk, OnOk};
+ghost use Rattle.std.specs.Prelude.{◌≡◌, ◌<◌, ◌^◌, map, IfOk, OnOk};
 ghost use Rattle.std.specs.Vec.Iter.{into_iter_items};
 ghost use Rattle.csr_store.specs.Along.{summed};
 ghost use Rattle.job_plan.specs.Meaning.{row_count, column_count};
@@ -7,11 +7,11 @@ ghost use Rattle.job_plan.specs.Price.{IsWithinPrice};
 ghost use Rattle.job_plan.specs.Refusal.{IsPriced};
 ghost use Rattle.job_runner.specs.Batch.{AreResultsOf, IsResultOf, result_of};
 ghost use Rattle.job_runner.specs.Chunk.{chunks_in, run_in_job, steps_in_job};
-ghost use Rattle.job_runner.specs.inner.Pieces.{AreAll, BeginsWith, listed, runs_of, steps_of_each};
+ghost use Rattle.job_runner.specs.inner.Pieces.{AreAll, AreBehind, BeginWith, listed};
 
 use crate::answer::JobResult;
 use crate::piece::Piece;
-use csr_store::{Matrix, Rows, stack_runs};
+use csr_store::{Matrix, RUN_ROWS, Rows, stack_runs};
 use job_plan::{Job, Plan, Priced, price};
 use std::alloc::{AllocError, Global};
 use std::sync::Arc;
@@ -27,7 +27,7 @@ pub(crate) fn join_jobs(
     requires all { AreAll plan.now pieces.items }
     ensures { IfOk result (λ rs. AreResultsOf plan.now (map result_of rs.items)) }
 {
-    let _chunks = plan.chunks();
+    plan.recall();
     let jobs = plan.jobs();
     let mut results = Vec::with_capacity(alloc, jobs.len())?;
     let mut pieces = pieces.into_iter();
@@ -44,21 +44,17 @@ fn join_job(
     job: &Priced,
     pieces: &mut IntoIter<Piece>,
 ) -> Result<JobResult, AllocError>
-    requires runs { BeginsWith (run_in_job job.now) (chunks_in job.now) (runs_of (into_iter_items pieces.old)) }
-    requires steps { BeginsWith (steps_in_job job.now) (chunks_in job.now) (steps_of_each (into_iter_items pieces.old)) }
+    requires { BeginWith job.now (chunks_in job.now) (into_iter_items pieces.old) }
     ensures result { IfOk result (λ r. IsResultOf job.now (result_of r)) }
-    ensures runs { OnOk result
-        (runs_of (into_iter_items pieces.new) ≡ drop (chunks_in job.now) (runs_of (into_iter_items pieces.old))) }
-    ensures steps { OnOk result
-        (steps_of_each (into_iter_items pieces.new) ≡ drop (chunks_in job.now) (steps_of_each (into_iter_items pieces.old))) }
+    ensures left { OnOk result (AreBehind (chunks_in job.now) (into_iter_items pieces.old) (into_iter_items pieces.new)) }
 {
-    let _chunks = plan.chunks();
-    let _price = price(job);
+    plan.recall();
+    let for_proof_price = price(job);
     let job = job.job();
     let (rows, columns) = sizes(job);
-    let (runs, steps) = gather(alloc, job, (rows + 255) / 256, pieces)?;
+    let (runs, steps) = gather(alloc, job, rows.div_ceil(RUN_ROWS), pieces)?;
     let matrix = stack_runs(alloc, rows, columns, runs, first_operand(job))?;
-    let _rows = matrix.rows();
+    matrix.recall();
     let version = Arc::new(alloc, matrix)?;
     Ok(JobResult { version, steps })
 }
@@ -71,14 +67,10 @@ fn gather(
     pieces: &mut IntoIter<Piece>,
 ) -> Result<(Vec<Rows>, u64), AllocError>
     requires few { summed (steps_in_job job.now) 0 count < 2 ^ 64 }
-    requires runs { BeginsWith (run_in_job job.now) count (runs_of (into_iter_items pieces.old)) }
-    requires steps { BeginsWith (steps_in_job job.now) count (steps_of_each (into_iter_items pieces.old)) }
-    ensures gathered { IfOk result (λ r. r.0.items ≡ listed (run_in_job job.now) count) }
-    ensures sum { IfOk result (λ r. r.1 ≡ summed (steps_in_job job.now) 0 count) }
-    ensures runs { OnOk result
-        (runs_of (into_iter_items pieces.new) ≡ drop count (runs_of (into_iter_items pieces.old))) }
-    ensures steps { OnOk result
-        (steps_of_each (into_iter_items pieces.new) ≡ drop count (steps_of_each (into_iter_items pieces.old))) }
+    requires begin { BeginWith job.now count (into_iter_items pieces.old) }
+    ensures gathered { IfOk result (λ r. (r.0.items ≡ listed (run_in_job job.now) count)
+        × (r.1 ≡ summed (steps_in_job job.now) 0 count)) }
+    ensures left { OnOk result (AreBehind count (into_iter_items pieces.old) (into_iter_items pieces.new)) }
 {
     let _ = job;
     let mut runs = Vec::with_capacity(alloc, count as usize)?;

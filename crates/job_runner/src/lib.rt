@@ -8,12 +8,13 @@
 //! `specs/Batch.antt` says what a batch gives, `specs/Chunk.antt` what each chunk gives, by its number, and `specs/Worked.antt`
 //! what a worker did at its seat.
 //!
-//! Read `answer` first, then `chunk` (the work on one chunk), `worker` (one worker's chunks), `crew` (workers in threads),
-//! `gathered` and `places` (what came back of them), `join` (pieces of chunks as matrices of jobs) and `batch`.
+//! Read `answer` first, then `chunk` (the work on one chunk), `board`, `task` and `worker` (one worker's chunks), `crew` (workers
+//! in threads), `gathered` and `places` (what came back of them), `join` (pieces of chunks as matrices of jobs) and `batch`.
 #![tactic(auto)]
 
 mod answer;
 mod batch;
+mod board;
 mod chunk;
 mod crew;
 mod gate;
@@ -21,11 +22,14 @@ mod gathered;
 mod join;
 mod piece;
 mod places;
+mod task;
 mod worker;
 
 pub use answer::{BatchAnswer, BatchFault, Cause, JobResult};
-pub use batch::{prices, run_batch};
+pub use batch::run_batch;
+pub use board::open_board;
 pub use chunk::{Scratch, compute};
 pub use gate::{Gate, Open};
 pub use piece::Piece;
+pub use task::Task;
 pub use worker::{Worked, work};

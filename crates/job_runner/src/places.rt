@@ -1,11 +1,11 @@
 //! Pieces of a batch, each at the place of its chunk's number.
-ghost use Rattle.std.specs.Prelude.{◌≡◌, ◌<◌, ℕ, IfOk, vec_len};
+ghost use Rattle.std.specs.Prelude.{◌<◌, ◌⊎◌, ℕ, IfOk};
 ghost use Rattle.std.specs.List.{AllByRecursion};
 ghost use Rattle.race_board.specs.Chunks.{times_in};
 ghost use Rattle.job_runner.specs.Chunk.{chunk_total};
 ghost use Rattle.job_runner.specs.inner.Pieces.{AreAll};
 ghost use Rattle.job_runner.specs.Worked.{recorded, IsPieceOf};
-ghost use Rattle.job_runner.specs.inner.Places.{ArePlaced, IsFull};
+ghost use Rattle.job_runner.specs.inner.Places.{ArePlaces, IsFull};
 
 use crate::piece::Piece;
 use job_plan::Plan;
@@ -13,8 +13,7 @@ use std::alloc::{AllocError, Global};
 
 /// A place for each chunk, and no piece at any.
 pub(crate) fn no_pieces(alloc: Global, plan: &Plan) -> Result<Vec<Option<Piece>>, AllocError>
-    ensures long { IfOk result (λ v. vec_len v ≡ chunk_total plan.now) }
-    ensures placed { IfOk result (λ v. ArePlaced plan.now v.items) }
+    ensures { IfOk result (λ v. ArePlaces plan.now v.items) }
 {
     let count = plan.chunks();
     let mut places = Vec::with_capacity(alloc, count as usize)?;
@@ -26,13 +25,11 @@ pub(crate) fn no_pieces(alloc: Global, plan: &Plan) -> Result<Vec<Option<Piece>>
 
 /// Puts pieces at the places of their chunks.
 pub(crate) fn put(plan: &Plan, places: &mut Vec<Option<Piece>>, pieces: Vec<Piece>)
-    requires long { vec_len places.old ≡ chunk_total plan.now }
-    requires placed { ArePlaced plan.now places.old.items }
+    requires places { ArePlaces plan.now places.old.items }
     requires right { AllByRecursion (IsPieceOf plan.now) pieces.items }
-    ensures long { vec_len places.new ≡ chunk_total plan.now }
-    ensures placed { ArePlaced plan.now places.new.items }
-    ensures kept { (c : ℕ) → IsFull places.old.items c → IsFull places.new.items c }
-    ensures there { (c : ℕ) → 0 < times_in c (recorded pieces.items) → IsFull places.new.items c }
+    ensures places { ArePlaces plan.now places.new.items }
+    ensures full { (c : ℕ) → IsFull places.old.items c ⊎ (0 < times_in c (recorded pieces.items))
+        → IsFull places.new.items c }
 {
     let _ = plan;
     let mut pieces = pieces;
@@ -48,8 +45,7 @@ pub(crate) fn in_order(
     plan: &Plan,
     places: Vec<Option<Piece>>,
 ) -> Result<Vec<Piece>, AllocError>
-    requires long { vec_len places ≡ chunk_total plan.now }
-    requires placed { ArePlaced plan.now places.items }
+    requires places { ArePlaces plan.now places.items }
     requires full { (c : ℕ) → c < chunk_total plan.now → IsFull places.items c }
     ensures { IfOk result (λ ps. AreAll plan.now ps.items) }
 {

@@ -70,9 +70,9 @@ fn assert_last_rows<'m>(
 #[test]
 fn most_rows_with_nothing(rt: HostRuntime) -> Result<(), Fail> {
     let a = matrix(rt.alloc(), (LIMIT, 1), &[(LIMIT - 1, 0, 3)])?;
-    assert_last_rows(&rt, rt.alloc(), &a, Job::Union, 0, 6)?;
-    assert_last_rows(&rt, rt.alloc(), &a, Job::Both, LIMIT - 300, 6)?;
-    assert_last_rows(&rt, rt.alloc(), &a, Job::Reduce, LIMIT - 300, 0)
+    assert_last_rows(&rt, rt.alloc(), &a, Job::Union, LIMIT - 256, 6)?;
+    assert_last_rows(&rt, rt.alloc(), &a, Job::Both, LIMIT - 256, 6)?;
+    assert_last_rows(&rt, rt.alloc(), &a, Job::Reduce, LIMIT - 256, 0)
 }
 
 /// A range of rows of the result, which has one column.

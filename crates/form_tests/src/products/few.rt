@@ -80,7 +80,7 @@ fn assert_cells(
 fn wide_scratch(rt: &impl Abort, alloc: Global, operators: &Operators) -> Result<Scratch, Fail> {
     let a = scattered(rt, 1, 1, 3, 1, alloc)?;
     let b = scattered(rt, 1, WIDTH, 4, 4, alloc)?;
-    let mut scratch = Scratch::new(alloc);
+    let mut scratch = Scratch::new();
     let (sub, mul) = (&operators.sub, &operators.mul);
     let _rows = chunk_of(rt, alloc, &mut scratch, &a, &b, sub, mul, None, 0..1).result?;
     Ok(scratch)
@@ -98,7 +98,7 @@ fn assert_density(
     let b = sparse(rt, 6, one_of.wrapping_add(71), one_of, alloc)?;
     let mask = sparse(rt, 4, one_of.wrapping_add(9), 2, alloc)?;
     let (sub, mul, uneven) = (&operators.sub, &operators.mul, &operators.uneven);
-    let mut narrow = Scratch::new(alloc);
+    let mut narrow = Scratch::new();
     assert_cells(rt, alloc, &mut narrow, (&a, &b), (sub, mul), None)?;
     assert_cells(rt, alloc, &mut narrow, (&a, &b), (uneven, sub), Some(&mask))?;
     assert_cells(rt, alloc, wide, (&a, &b), (sub, mul), None)?;

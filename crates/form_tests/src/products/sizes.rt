@@ -27,7 +27,7 @@ fn product_by(
 ) -> Result<Made, Fail> {
     let add = operator(alloc, ADD)?;
     let mul = operator(alloc, text)?;
-    let mut scratch = Scratch::new(alloc);
+    let mut scratch = Scratch::new();
     Ok(chunk_of(rt, alloc, &mut scratch, a, b, &add, &mul, None, range))
 }
 
@@ -55,8 +55,8 @@ fn mults_of_last_rows(rt: &impl Abort, a: &Matrix, b: &Matrix) -> u64 {
 fn most_rows_with_nothing_in_them(rt: HostRuntime) -> Result<(), Fail> {
     let a = finished(Builder::new(rt.alloc(), 16_777_216, 3))?;
     let b = scattered(&rt, 3, 1, 1, 1, rt.alloc())?;
-    let chunk = product_by(&rt, rt.alloc(), ADD, &a, &b, 16_700_000..16_777_216)?;
-    assert_chunk(&rt, chunk, 16_700_000, 77_216, 0)?;
+    let chunk = product_by(&rt, rt.alloc(), ADD, &a, &b, 16_776_960..16_777_216)?;
+    assert_chunk(&rt, chunk, 16_776_960, 256, 0)?;
     assert_count(&rt, mults_of_last_rows(&rt, &a, &b), 0);
     Ok(())
 }

@@ -1,12 +1,12 @@
 //! Workers in threads that share a board, of which one is refused memory, or leaves before the others begin.
-ghost use Rattle.std.specs.Prelude.{◌≡◌, ◌≤◌, ◌<◌, length, vec_len, IfOk, All};
+ghost use Rattle.std.specs.Prelude.{◌≡◌, ◌≤◌, ◌<◌, vec_len, IfOk, All};
 ghost use Rattle.race_board.specs.Race.{IsSeatOf, MayDrawAt};
 ghost use Rattle.race_board.specs.declared.stand.Stand.TheVariants.{Holds};
-ghost use Rattle.job_runner.specs.Worked.{prices_of};
+ghost use Rattle.job_plan.specs.Chunks.{prices_of};
 
 use super::increments;
 use job_plan::Plan;
-use job_runner::{Open, Piece, Worked, prices, work};
+use job_runner::{Open, Piece, Task, Worked, open_board, work};
 use race_board::{Board, BoardSeat, Totals};
 use std::alloc::{AllocError, Global};
 use std::process::Abort;
@@ -35,7 +35,7 @@ fn open(
     ensures seats { IfOk result (λ r. vec_len r.2 ≡ workers) }
 {
     let plan = increments(rt, alloc, 600)?;
-    let (board, seats) = Board::open(alloc, prices(alloc, &plan)?, workers)?;
+    let (board, seats) = open_board(alloc, &plan, workers)?;
     Ok((plan, board, seats))
 }
 
@@ -57,13 +57,13 @@ fn open_again(
 }
 
 /// A worker from its seat to its end.
-fn work_at(alloc: Global, plan: &Plan, board: &Board, seat: BoardSeat) -> Ended
-    requires ready { MayDrawAt board.now seat }
-    requires prices { board.now.prices ≡ prices_of plan.now }
-    ensures { IsSeatOf board.now result.seat }
+fn work_at(alloc: Global, task: Task<'_>, seat: BoardSeat) -> Ended
+    requires ready { MayDrawAt task.board.now seat }
+    requires prices { task.board.now.prices ≡ prices_of task.plan.now }
+    ensures { IsSeatOf task.entry.board.now result.seat }
 {
     let mut seat = seat;
-    let worked = work(alloc, plan, board, &mut seat, &Open);
+    let worked = work(alloc, task, &mut seat, &Open);
     Ended { seat, worked }
 }
 
@@ -71,26 +71,25 @@ fn work_at(alloc: Global, plan: &Plan, board: &Board, seat: BoardSeat) -> Ended
 fn work_both<H: Threads>(
     rt: &H,
     alloc: Global,
-    plan: &Plan,
-    board: &Board,
+    task: Task<'_>,
     first: BoardSeat,
     second: BoardSeat,
 ) -> (Ended, Ended)
-    requires first { MayDrawAt board.now first }
-    requires second { MayDrawAt board.now second }
-    requires prices { board.now.prices ≡ prices_of plan.now }
-    ensures { IsSeatOf board.now result.0.seat × IsSeatOf board.now result.1.seat }
+    requires first { MayDrawAt task.board.now first }
+    requires second { MayDrawAt task.board.now second }
+    requires prices { task.board.now.prices ≡ prices_of task.plan.now }
+    ensures { IsSeatOf task.entry.board.now result.0.seat × IsSeatOf task.entry.board.now result.1.seat }
 {
     join(
         rt,
         move || -> Ended
-            requires { MayDrawAt board.now first × (board.now.prices ≡ prices_of plan.now) }
-            ensures { IsSeatOf board.entry.now result.seat }
-        { work_at(alloc, plan, board, first) },
+            requires { MayDrawAt task.board.now first × (task.board.now.prices ≡ prices_of task.plan.now) }
+            ensures { IsSeatOf task.entry.board.now result.seat }
+        { work_at(alloc, task, first) },
         move || -> Ended
-            requires { MayDrawAt board.now second × (board.now.prices ≡ prices_of plan.now) }
-            ensures { IsSeatOf board.entry.now result.seat }
-        { work_at(alloc, plan, board, second) },
+            requires { MayDrawAt task.board.now second × (task.board.now.prices ≡ prices_of task.plan.now) }
+            ensures { IsSeatOf task.entry.board.now result.seat }
+        { work_at(alloc, task, second) },
     )
 }
 
@@ -152,7 +151,11 @@ fn two_threads_with_a_seat_each(rt: HostRuntime) -> Result<(), Fail> {
     let Some(second) = seats.pop() else {
         unreachable!()
     };
-    let (first, second) = work_both(&rt, rt.alloc(), &plan, &board, first, second);
+    let task = Task {
+        plan: &plan,
+        board: &board,
+    };
+    let (first, second) = work_both(&rt, rt.alloc(), task, first, second);
     assert!(rt; is_ended_well(&first.worked));
     assert!(rt; is_ended_well(&second.worked));
     // There is room for both seats, so that these take no memory.
@@ -162,16 +165,14 @@ fn two_threads_with_a_seat_each(rt: HostRuntime) -> Result<(), Fail> {
     Ok(())
 }
 
-/// A worker that was refused memory amid its chunk, when half of its steps were spent.
-fn fail_halfway(board: &Board, costs: &[u64], seat: BoardSeat, chunk: u64) -> BoardSeat
+/// A worker that was refused memory before any call on its chunk.
+fn fail(board: &Board, seat: BoardSeat, chunk: u64) -> BoardSeat
     requires own { IsSeatOf board.now seat }
     requires holds { seat.worker.stand ≡ Holds chunk }
-    requires there { chunk < length costs.now }
-    requires prices { costs.now ≡ board.now.prices }
     ensures { IsSeatOf board.now result }
 {
     let mut seat = seat;
-    board.fail(&mut seat, chunk, costs[chunk as usize] / 2);
+    board.fail(&mut seat, chunk, 0);
     seat
 }
 
@@ -179,41 +180,34 @@ fn fail_halfway(board: &Board, costs: &[u64], seat: BoardSeat, chunk: u64) -> Bo
 fn fail_and_work<H: Threads>(
     rt: &H,
     alloc: Global,
-    plan: &Plan,
-    board: &Board,
-    costs: &[u64],
+    task: Task<'_>,
     failing: (BoardSeat, u64),
     working: BoardSeat,
 ) -> (BoardSeat, Ended)
-    requires own { IsSeatOf board.now failing.0 }
+    requires own { IsSeatOf task.board.now failing.0 }
     requires holds { failing.0.worker.stand ≡ Holds failing.1 }
-    requires there { failing.1 < length costs.now }
-    requires costs { costs.now ≡ board.now.prices }
-    requires ready { MayDrawAt board.now working }
-    requires prices { board.now.prices ≡ prices_of plan.now }
-    ensures { IsSeatOf board.now result.0 × IsSeatOf board.now result.1.seat }
+    requires ready { MayDrawAt task.board.now working }
+    requires prices { task.board.now.prices ≡ prices_of task.plan.now }
+    ensures { IsSeatOf task.entry.board.now result.0 × IsSeatOf task.entry.board.now result.1.seat }
 {
     let (seat, chunk) = failing;
     join(
         rt,
         move || -> BoardSeat
-            requires own { IsSeatOf board.now seat × (seat.worker.stand ≡ Holds chunk) }
-            requires there { (chunk < length costs.now) × (costs.now ≡ board.now.prices) }
-            ensures { IsSeatOf board.entry.now result }
-        { fail_halfway(board, costs, seat, chunk) },
+            requires { IsSeatOf task.board.now seat × (seat.worker.stand ≡ Holds chunk) }
+            ensures { IsSeatOf task.entry.board.now result }
+        { fail(task.board, seat, chunk) },
         move || -> Ended
-            requires { MayDrawAt board.now working × (board.now.prices ≡ prices_of plan.now) }
-            ensures { IsSeatOf board.entry.now result.seat }
-        { work_at(alloc, plan, board, working) },
+            requires { MayDrawAt task.board.now working × (task.board.now.prices ≡ prices_of task.plan.now) }
+            ensures { IsSeatOf task.entry.board.now result.seat }
+        { work_at(alloc, task, working) },
     )
 }
 
 #[test]
 fn one_fails_and_the_other_does_the_rest(rt: HostRuntime) -> Result<(), Fail> {
     let alloc = rt.alloc();
-    let plan = increments(&rt, alloc, 600)?;
-    let costs = prices(alloc, &plan)?;
-    let (board, mut seats) = Board::open(alloc, costs.as_slice().to_vec(alloc)?, 2)?;
+    let (plan, board, mut seats) = open(&rt, alloc, 2)?;
     let Some(mut failing) = seats.pop() else {
         unreachable!()
     };
@@ -224,24 +218,20 @@ fn one_fails_and_the_other_does_the_rest(rt: HostRuntime) -> Result<(), Fail> {
         panic!(&rt; "no chunk")
     };
     assert_eq!(rt; chunk, 0);
-    let (failed, ended) = fail_and_work(
-        &rt,
-        alloc,
-        &plan,
-        &board,
-        costs.as_slice(),
-        (failing, chunk),
-        working,
-    );
+    let task = Task {
+        plan: &plan,
+        board: &board,
+    };
+    let (failed, ended) = fail_and_work(&rt, alloc, task, (failing, chunk), working);
     assert!(rt; !ended.worked.failed && is_ended_well(&ended.worked));
     assert_eq!(rt; count([0; 3], &ended.worked.pieces), [0, 1, 1]);
     seats.push(failed)?;
     seats.push(ended.seat)?;
     let want = Totals {
         draws: 3,
-        spent: 384 + 768 + 264,
+        spent: 768 + 264,
         count: 4,
-        recorded: 384 + 768 + 264,
+        recorded: 768 + 264,
     };
     assert_eq!(rt; board.close(seats), want);
     Ok(())
@@ -274,36 +264,38 @@ fn seats_of(
 fn work_late<H: Threads + Sync>(
     rt: &H,
     alloc: Global,
-    plan: &Plan,
-    board: &Board,
+    task: Task<'_>,
     seats: Vec<BoardSeat>,
 ) -> Result<Vec<Ended>, AllocError>
-    requires ready { All (MayDrawAt board.now) seats.items }
-    requires prices { board.now.prices ≡ prices_of plan.now }
-    ensures { IfOk result (λ v. All (λ e. IsSeatOf board.now e.seat) v.items) }
+    requires ready { All (MayDrawAt task.board.now) seats.items }
+    requires prices { task.board.now.prices ≡ prices_of task.plan.now }
+    ensures { IfOk result (λ v. All (λ e. IsSeatOf task.entry.board.now e.seat) v.items) }
 {
     map_vec(
         rt,
         seats,
         &|seat: BoardSeat| -> Ended
-            requires { MayDrawAt board.now seat × (board.now.prices ≡ prices_of plan.now) }
-            ensures { IsSeatOf board.entry.now result.seat }
-        { work_at(alloc, plan, board, seat) },
+            requires { MayDrawAt task.board.now seat × (task.board.now.prices ≡ prices_of task.plan.now) }
+            ensures { IsSeatOf task.entry.board.now result.seat }
+        { work_at(alloc, task, seat) },
     )
 }
 
 #[test]
 fn one_leaves_before_the_other_seats_are_taken(rt: HostRuntime) -> Result<(), Fail> {
     let alloc = rt.alloc();
-    let plan = increments(&rt, alloc, 600)?;
-    let (board, mut seats) = Board::open(alloc, prices(alloc, &plan)?, 64)?;
+    let (plan, board, mut seats) = open(&rt, alloc, 64)?;
     let Some(first) = seats.pop() else {
         unreachable!()
     };
-    let first = work_at(alloc, &plan, &board, first);
+    let task = Task {
+        plan: &plan,
+        board: &board,
+    };
+    let first = work_at(alloc, task, first);
     assert!(rt; !first.worked.failed && is_ended_well(&first.worked));
     assert_eq!(rt; count([0; 3], &first.worked.pieces), [1, 1, 1]);
-    let late = work_late(&rt, alloc, &plan, &board, seats)?;
+    let late = work_late(&rt, alloc, task, seats)?;
     assert_eq!(rt; late.len(), 63);
     let seats = seats_of(&rt, alloc, &board, first.seat, late)?;
     let want = Totals {

@@ -1,15 +1,15 @@
 //! Batches on workers in threads: held and counted by gates, alike for every number of workers, and with memory refused.
 ghost use Rattle.std.specs.Prelude.{◌≡◌, ◌≤◌, [], IfOk, All};
 ghost use Rattle.race_board.specs.Race.{IsSeatOf, MayDrawAt, SeatState};
-ghost use Rattle.job_runner.specs.Worked.{prices_of};
+ghost use Rattle.job_plan.specs.Chunks.{prices_of};
 
 use super::{diagonal, increments, is_incremented, operator, plan_of, put, version};
 use bpf_insn::Kind;
 use bpf_run::Prepared;
 use csr_store::{Builder, Version};
 use job_plan::{Form, Plan};
-use job_runner::{BatchAnswer, BatchFault, Cause, Gate, Open, prices, run_batch, work};
-use race_board::{Board, BoardSeat, Totals};
+use job_runner::{BatchAnswer, BatchFault, Cause, Gate, Open, Task, open_board, run_batch, work};
+use race_board::{BoardSeat, Totals};
 use std::alloc::{AllocError, Global};
 use std::process::Abort;
 use std::sync::atomic::Ordering::SeqCst;
@@ -231,18 +231,17 @@ fn alike_for_one_three_and_sixty_four_workers(rt: HostRuntime) -> Result<(), Fai
 /// The seats after a worker at each, one after another.
 fn work_each(
     alloc: Global,
-    plan: &Plan,
-    board: &Board,
+    task: Task<'_>,
     seats: Vec<BoardSeat>,
 ) -> Result<Vec<BoardSeat>, AllocError>
-    requires ready { All (MayDrawAt board.now) seats.items }
-    requires prices { board.now.prices ≡ prices_of plan.now }
-    ensures { IfOk result (λ v. All (IsSeatOf board.now) v.items) }
+    requires ready { All (MayDrawAt task.board.now) seats.items }
+    requires prices { task.board.now.prices ≡ prices_of task.plan.now }
+    ensures { IfOk result (λ v. All (IsSeatOf task.entry.board.now) v.items) }
 {
     let mut ended = Vec::new(alloc);
     for seat in seats {
         let mut seat = seat;
-        let _worked = work(alloc, plan, board, &mut seat, &Open);
+        let _worked = work(alloc, task, &mut seat, &Open);
         ended.push(seat)?;
     }
     Ok(ended)
@@ -260,8 +259,12 @@ const WANTED: Totals = Totals {
 fn sixty_four_seats_in_turn(rt: HostRuntime) -> Result<(), Fail> {
     let alloc = rt.alloc();
     let plan = increments(&rt, alloc, 600)?;
-    let (board, seats) = Board::open(alloc, prices(alloc, &plan)?, 64)?;
-    let seats = work_each(alloc, &plan, &board, seats)?;
+    let (board, seats) = open_board(alloc, &plan, 64)?;
+    let task = Task {
+        plan: &plan,
+        board: &board,
+    };
+    let seats = work_each(alloc, task, seats)?;
     assert_eq!(rt; board.close(seats), WANTED);
     Ok(())
 }

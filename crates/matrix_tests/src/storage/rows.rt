@@ -2,7 +2,7 @@
 ghost use Rattle.std.specs.Prelude.{◌≡◌, ◌≤◌, ◌+◌, ◌∷◌, [], length, IfOk, OnOk};
 
 use super::{Triple, assert_count, assert_holds, assert_starts, finish_again, put_again};
-use csr_store::{Builder, Matrix, RowCopy, Rows, join_rows};
+use csr_store::{Builder, Matrix, RUN_ROWS, RowCopy, Rows, join_rows};
 use std::alloc::{AllocError, Global};
 use std::process::Abort;
 use std::test::Fail;
@@ -65,9 +65,8 @@ fn copy_of(
     requires range { from ≤ to }
     requires within { to ≤ matrix.now.rows }
 {
-    let Some(mut copy) = matrix.copying(alloc, from..to)? else {
-        panic!(rt; "the rows stand in one list")
-    };
+    assert!(rt; to <= from / RUN_ROWS * RUN_ROWS + RUN_ROWS);
+    let mut copy = matrix.copying(alloc, from..to)?;
     for row in from..to {
         write_again(&mut copy, matrix.row(row));
     }

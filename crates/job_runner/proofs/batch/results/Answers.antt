@@ -1,8 +1,10 @@
-use Rattle.std.proofs.Common.{◌≡◌, ◌<◌, length, map, ◌∙◌, arith}
+use Rattle.std.proofs.Common.{◌≡◌, ◌<◌, length, map, arith}
 use Rattle.race_board.specs.Race.{workers_of}
+use Rattle.job_runner.specs.Whole.{IsRaced}
 use Rattle.job_runner.specs.Batch.{result_of}
 use Rattle.job_runner.proofs.Gathering.{gathered_spent, gathered_full}
 use Rattle.job_runner.proofs.Racing.{gathered_whole, whole_rows}
+use Rattle.job_runner.proofs.batch.results.Given as given
 use Rattle.job_runner.proofs.batch.results.Goals as goal
 
 pub work_all-gathered-requires-clause-gathered : goal.work_all-gathered-requires-clause-gathered
@@ -13,52 +15,53 @@ in_order-requires-clause-full g c =
     let board = c.in_ok-board.board in
     let gathered = c.work_all-gathered.result.0 in
     let all = c.work_all-gathered.ensures.all (cc) in
-    let seats = c.in_ok-board.ensures.seats in
+    let seats = c.in_ok-board.ensures.board.2 in
     let workers = c.in_ok-board.ensures.board.1 in
     let count = c.worker_count-count.ensures.some in
     let len = gathered.seats.ok.0 in
     let some : 0 < length gathered.seats.items = omega (arith, all, seats, count, len) in
     let whole : length gathered.seats.items ≡ board.workers = omega (arith, all, seats, workers, len) in
     gathered_full board c.args.plan.now gathered c.work_all-gathered.ensures.gathered c.close.ensures.completed
-    (c.in_ok-board.ensures.board.0 ∙ c.in_ok-prices.ensures.prices) some whole c.if-failed.false
+    c.in_ok-board.ensures.board.0 some whole c.if-failed.false
 
 pub returns-in-Some-clause-spent : goal.returns-in-Some-clause-spent
 returns-in-Some-clause-spent g c =
     gathered_spent c.in_ok-board.board c.args.plan.now c.work_all-gathered.result.0 c.close.result.spent
     c.work_all-gathered.ensures.gathered c.close.ensures.once c.close.ensures.spent
-    (c.in_ok-board.ensures.board.0 ∙ c.in_ok-prices.ensures.prices) c.chunks.ensures.cover
+    c.in_ok-board.ensures.board.0 c.recall.ensures.cover
 
 pub returns-then-failed-clause-spent : goal.returns-then-failed-clause-spent
 returns-then-failed-clause-spent g c =
     gathered_spent c.in_ok-board.board c.args.plan.now c.work_all-gathered.result.0 c.close.result.spent
     c.work_all-gathered.ensures.gathered c.close.ensures.once c.close.ensures.spent
-    (c.in_ok-board.ensures.board.0 ∙ c.in_ok-prices.ensures.prices) c.chunks.ensures.cover
+    c.in_ok-board.ensures.board.0 c.recall.ensures.cover
 
 pub returns-in_err-pieces-clause-spent : goal.returns-in_err-pieces-clause-spent
 returns-in_err-pieces-clause-spent g c =
     gathered_spent c.in_ok-board.board c.args.plan.now c.work_all-gathered.result.0 c.close.result.spent
     c.work_all-gathered.ensures.gathered c.close.ensures.once c.close.ensures.spent
-    (c.in_ok-board.ensures.board.0 ∙ c.in_ok-prices.ensures.prices) c.chunks.ensures.cover
+    c.in_ok-board.ensures.board.0 c.recall.ensures.cover
 
 pub returns-in_err-join_jobs-clause-spent : goal.returns-in_err-join_jobs-clause-spent
 returns-in_err-join_jobs-clause-spent g c =
     gathered_spent c.in_ok-board.board c.args.plan.now c.work_all-gathered.result.0 c.close.result.spent
     c.work_all-gathered.ensures.gathered c.close.ensures.once c.close.ensures.spent
-    (c.in_ok-board.ensures.board.0 ∙ c.in_ok-prices.ensures.prices) c.chunks.ensures.cover
+    c.in_ok-board.ensures.board.0 c.recall.ensures.cover
 
 pub returns-clause-spent : goal.returns-clause-spent
 returns-clause-spent g c =
     gathered_spent c.in_ok-board.board c.args.plan.now c.work_all-gathered.result.0 c.close.result.spent
     c.work_all-gathered.ensures.gathered c.close.ensures.once c.close.ensures.spent
-    (c.in_ok-board.ensures.board.0 ∙ c.in_ok-prices.ensures.prices) c.chunks.ensures.cover
+    c.in_ok-board.ensures.board.0 c.recall.ensures.cover
 
-pub returns-clause-raced : goal.returns-clause-raced
-returns-clause-raced g c =
+raced : (g : given.Over) (c : goal.In_ok-join_jobs g)
+    → IsRaced c.args.plan.now (map result_of c.in_ok-join_jobs.field-0.items) c.close.result.spent
+raced g c =
     let board = c.in_ok-board.board in
     let jobs = c.args.plan.now in
     let gathered = c.work_all-gathered.result.0 in
     let all = c.work_all-gathered.ensures.all (cc) in
-    let seats = c.in_ok-board.ensures.seats in
+    let seats = c.in_ok-board.ensures.board.2 in
     let workers = c.in_ok-board.ensures.board.1 in
     let count = c.worker_count-count.ensures.some in
     let len = gathered.seats.ok.0 in
@@ -67,7 +70,10 @@ returns-clause-raced g c =
     record {
       workers = workers_of gathered.seats.items;
       is_whole = gathered_whole board jobs gathered c.work_all-gathered.ensures.gathered c.close.ensures.completed
-          (c.in_ok-board.ensures.board.0 ∙ c.in_ok-prices.ensures.prices) some here c.if-failed.false;
-      rows = whole_rows c.chunks.ensures.cover jobs (map result_of c.in_ok-join_jobs.field-0.items) c.in_ok-join_jobs.ensures;
+          c.in_ok-board.ensures.board.0 some here c.if-failed.false;
+      rows = whole_rows c.recall.ensures.cover jobs (map result_of c.in_ok-join_jobs.field-0.items) c.in_ok-join_jobs.ensures;
       recorded = c.close.ensures.spent;
     }
+
+pub returns-clause-results : goal.returns-clause-results
+returns-clause-results g c = (c.in_ok-join_jobs.ensures, raced g c)

@@ -7,22 +7,20 @@ use Rattle.job_runner.proofs.Listed.{begins-append, drop-listed}
 use Rattle.job_runner.proofs.Joined.{front-listed, done-more}
 use Rattle.job_runner.proofs.join.join_jobs.Goals as goal
 
-pub join_job-requires-clause-runs : goal.join_job-requires-clause-runs
-join_job-requires-clause-runs c =
+pub join_job-requires : goal.join_job-requires
+join_job-requires c =
     let jobs = c.jobs-jobs.result.now in
-    begins-append (run_in_job c.job-item.result) (chunks_in c.job-item.result) (runs_of (into_iter_items c.loop-job.pieces)) _
-    (front-listed run_in_job none_run jobs c.job-item.result c.loop-job.job-index (runs_of (into_iter_items c.loop-job.pieces))
-    c.loop-job-test.true
-    c.job-item.is c.loop-job.invariant.runs_left)
-
-pub join_job-requires-clause-steps : goal.join_job-requires-clause-steps
-join_job-requires-clause-steps c =
-    let jobs = c.jobs-jobs.result.now in
-    begins-append (steps_in_job c.job-item.result) (chunks_in c.job-item.result) (steps_of_each (into_iter_items c.loop-job.pieces))
-    _
-    (front-listed steps_in_job 0 jobs c.job-item.result c.loop-job.job-index (steps_of_each (into_iter_items c.loop-job.pieces))
-    c.loop-job-test.true
-    c.job-item.is c.loop-job.invariant.steps_left)
+    let job = c.job-item.result in
+    let runs = runs_of (into_iter_items c.loop-job.pieces) in
+    let steps = steps_of_each (into_iter_items c.loop-job.pieces) in
+    record {
+      runs = begins-append (run_in_job job) (chunks_in job) runs _
+          (front-listed run_in_job none_run jobs job c.loop-job.job-index runs c.loop-job-test.true c.job-item.is
+          c.loop-job.invariant.runs_left);
+      steps = begins-append (steps_in_job job) (chunks_in job) steps _
+          (front-listed steps_in_job 0 jobs job c.loop-job.job-index steps c.loop-job-test.true c.job-item.is
+          c.loop-job.invariant.steps_left);
+    }
 
 pub loop-job-preserved : goal.loop-job-preserved
 loop-job-preserved c =
@@ -31,12 +29,12 @@ loop-job-preserved c =
     let runs = runs_of (into_iter_items c.loop-job.pieces) in
     let steps = steps_of_each (into_iter_items c.loop-job.pieces) in
     record {
-      runs_left = c.in_ok-join_job.ensures.runs
+      runs_left = c.in_ok-join_job.ensures.left.runs
           ∙ drop-listed (run_in_job job) (chunks_in job) runs (listed (run_of (drop (c.loop-job.job-index + 1) jobs))
           (chunk_total (drop (c.loop-job.job-index + 1) jobs)))
           (front-listed run_in_job none_run jobs job c.loop-job.job-index runs c.loop-job-test.true c.job-item.is
           c.loop-job.invariant.runs_left);
-      steps_left = c.in_ok-join_job.ensures.steps
+      steps_left = c.in_ok-join_job.ensures.left.steps
           ∙ drop-listed (steps_in_job job) (chunks_in job) steps
           (listed (chunk_steps (drop (c.loop-job.job-index + 1) jobs)) (chunk_total (drop (c.loop-job.job-index + 1) jobs)))
           (front-listed steps_in_job 0 jobs job c.loop-job.job-index steps c.loop-job-test.true c.job-item.is

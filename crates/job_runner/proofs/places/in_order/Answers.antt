@@ -20,13 +20,14 @@ pub unreachable-requires : goal.unreachable-requires
 unreachable-requires c =
     let i = c.loop-next._next in
     let items = into_iter_items c.loop-next.places in
-    let len = c.loop-next.places.rest.ok.0 in
+    let left = c.loop-next.places.rest.ok.0 in
     let gone = c.in_default.ensures.cases.0 in
     let below = c.loop-next-test.true in
     let count = c.len-count.ensures in
-    let long = c.requires.long in
-    let inside : i < chunk_total c.args.plan.now = omega (arith, below, count, long) in
-    none_left c.args.places.items items i c.loop-next.invariant.rest (omega (arith, len, gone)) (c.requires.full i inside)
+    let long = c.requires.places.long in
+    let len = c.args.places.ok.0 in
+    let inside : i < chunk_total c.args.plan.now = omega (arith, below, count, long, len) in
+    none_left c.args.places.items items i c.loop-next.invariant.rest (omega (arith, left, gone)) (c.requires.full i inside)
 
 pub unreachable-requires-in_default-place : goal.unreachable-requires-in_default-place
 unreachable-requires-in_default-place c =
@@ -34,8 +35,9 @@ unreachable-requires-in_default-place c =
     let rest = into_iter_items c.next.new.self in
     let below = c.loop-next-test.true in
     let count = c.len-count.ensures in
-    let long = c.requires.long in
-    let inside : i < chunk_total c.args.plan.now = omega (arith, below, count, long) in
+    let long = c.requires.places.long in
+    let len = c.args.places.ok.0 in
+    let inside : i < chunk_total c.args.plan.now = omega (arith, below, count, long, len) in
     let there = first_there c.args.places.items rest i c.in-Some.place
     (λ k. ap (λ xs. slice_get xs k) (sym c.in-Some.ensures.items) ∙ c.loop-next.invariant.rest k) in
     full_some c.args.places.items i c.in-Some.place (c.requires.full i inside) there c.in_default-place.is
@@ -48,7 +50,7 @@ loop-next-preserved c =
     let piece = c.in-Some-place.piece in
     let there = first_there c.args.places.items rest i c.in-Some.place
     (λ k. ap (λ xs. slice_get xs k) (sym c.in-Some.ensures.items) ∙ c.loop-next.invariant.rest k) in
-    let right = c.requires.placed i piece (there ∙ ap (λ o. Some o) c.in-Some-place.is) in
+    let right = c.requires.places.placed i piece (there ∙ ap (λ o. Some o) c.in-Some-place.is) in
     record {
       runs = ap runs_of c.in_ok-push.ensures.items ∙ map-append _ c.loop-next.pieces.items _
           ∙ listed-more (run_of jobs) i piece.rows (runs_of c.loop-next.pieces.items) c.loop-next.invariant.runs
@@ -66,8 +68,9 @@ returns c =
     let over = c.loop-next-test.false in
     let end = c.loop-next.auto._next-end in
     let count = c.len-count.ensures in
-    let long = c.requires.long in
-    let all : c.loop-next._next ≡ chunk_total jobs = omega (arith, over, end, count, long) in
+    let long = c.requires.places.long in
+    let len = c.args.places.ok.0 in
+    let all : c.loop-next._next ≡ chunk_total jobs = omega (arith, over, end, count, long, len) in
     record {
       runs = c.loop-next.invariant.runs ∙ ap (listed (run_of jobs)) all;
       steps = c.loop-next.invariant.steps ∙ ap (listed (chunk_steps jobs)) all;

@@ -14,15 +14,16 @@ loop-place-preserved c =
       none = c.in_ok-push.ensures.items ∙ none_more c.loop-place._place c.loop-place.places.items i.none;
     }
 
-pub returns-clause-long : goal.returns-clause-long
-returns-clause-long c =
+pub returns : goal.returns
+returns c =
     let len = c.loop-place.invariant.len in
     let over = c.loop-place-test.false in
     let end = c.loop-place.auto._place-end in
     let count = c.chunks-count.ensures.count in
     let all = count_of_chunks 0 c.args.plan.now in
-    omega (arith, len, over, end, count, all)
-
-pub returns-clause-placed : goal.returns-clause-placed
-returns-clause-placed c =
-    subst (ArePlaced c.args.plan.now) (sym c.loop-place.invariant.none) (none_placed c.args.plan.now c.loop-place._place)
+    let long = c.loop-place.places.ok.0 in
+    record {
+      long = omega (arith, len, over, end, count, all, long);
+      placed = subst (ArePlaced c.args.plan.now) (sym c.loop-place.invariant.none)
+          (none_placed c.args.plan.now c.loop-place._place);
+    }

@@ -1,5 +1,7 @@
 use Rattle.std.proofs.Common.{◌<◌, length, subst, arith}
+use Rattle.std.specs.Prelude.{Some}
 use Rattle.std.specs.List.{AllByRecursion}
+use Rattle.std.proofs.lemmas.List.{length-set}
 use Rattle.job_runner.specs.Worked.{IsPieceOf}
 use Rattle.job_runner.proofs.Placing.{put_placed, put_kept, put_there, all_front, all_end}
 use Rattle.job_runner.proofs.places.put.Goals as goal
@@ -14,12 +16,11 @@ loop-piece-preserved-in-Some c =
     let right = subst (AllByRecursion (IsPieceOf jobs)) c.in-Some.ensures.items i.right in
     let is = all_end (IsPieceOf jobs) rest piece right in
     let there = is.there in
-    let long = i.long in
-    let len = c.loop-piece.places.ok.0 in
-    let inside : piece.chunk < length places = omega (arith, there, long, len) in
+    let long = i.places.long in
+    let inside : piece.chunk < length places = omega (arith, there, long) in
+    let same = length-set places piece.chunk (Some piece) in
     record {
-      long = i.long;
-      placed = put_placed jobs places piece inside is i.placed;
+      places = record { long = omega (arith, long, same); placed = put_placed jobs places piece inside is i.places.placed };
       right = all_front (IsPieceOf jobs) rest piece right;
       kept = λ k f. put_kept places piece k inside (i.kept k f);
       there = λ k l. put_there places rest c.loop-piece.pieces.items piece k inside c.in-Some.ensures.items (i.there k l);
@@ -35,12 +36,11 @@ loop-piece-preserved c =
     let right = subst (AllByRecursion (IsPieceOf jobs)) c.in-Some.ensures.items i.right in
     let is = all_end (IsPieceOf jobs) rest piece right in
     let there = is.there in
-    let long = i.long in
-    let len = c.loop-piece.places.ok.0 in
-    let inside : piece.chunk < length places = omega (arith, there, long, len) in
+    let long = i.places.long in
+    let inside : piece.chunk < length places = omega (arith, there, long) in
+    let same = length-set places piece.chunk (Some piece) in
     record {
-      long = i.long;
-      placed = put_placed jobs places piece inside is i.placed;
+      places = record { long = omega (arith, long, same); placed = put_placed jobs places piece inside is i.places.placed };
       right = all_front (IsPieceOf jobs) rest piece right;
       kept = λ k f. put_kept places piece k inside (i.kept k f);
       there = λ k l. put_there places rest c.loop-piece.pieces.items piece k inside c.in-Some.ensures.items (i.there k l);

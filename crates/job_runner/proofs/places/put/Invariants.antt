@@ -1,16 +1,14 @@
 use Rattle.std.proofs.Common.{◌≡◌, ◌<◌, ◌⊎◌, ℕ, vec_len}
 use Rattle.std.specs.List.{AllByRecursion}
 use Rattle.race_board.specs.Chunks.{times_in}
-use Rattle.job_runner.specs.Chunk.{chunk_total}
 use Rattle.job_runner.specs.Worked.{recorded, IsPieceOf}
-use Rattle.job_runner.specs.inner.Places.{ArePlaced, IsFull}
+use Rattle.job_runner.specs.inner.Places.{ArePlaces, IsFull}
 use Rattle.job_runner.proofs.places.put.Given as goal
 
 -- each piece is still in hand, or stands at its place
 abbrev pub invariant-loop-piece : goal.invariant-loop-piece
 invariant-loop-piece l = record {
-  long : vec_len l.places ≡ chunk_total l.plan;
-  placed : ArePlaced l.plan l.places.items;
+  places : ArePlaces l.plan l.places.items;
   right : AllByRecursion (IsPieceOf l.plan) l.pieces.items;
   kept : (c : ℕ) → IsFull l.fn.places.items c → IsFull l.places.items c;
   there : (c : ℕ) → 0 < times_in c (recorded l.fn.pieces.items)

@@ -14,22 +14,19 @@ returns-clause-gathered c =
     let old = c.args.self.now.seats.items in
     let ended = c.args.ended in
     let is = c.requires.ended in
-    let was = c.requires.gathered in
+    let was = c.requires.gathered.0 in
     let items = rw c.unwrap.ensures at c.push.ensures.items in
-    let long = c.put.ensures.long in
-    let len = c.put.new.places.ok.0 in
     record {
       own = subst (All (IsSeatOf board)) (sym items) (all_snoc (IsSeatOf board) old ended.seat was.own is.own);
       just = subst (λ (ss : List SeatState). CostJust (chunk_steps jobs) (completed_by (workers_of ss))) (sym items)
           (gathered_just board jobs old ended is was.just);
       cost = subst (λ (ss : List SeatState). CostAtMost (chunk_steps jobs) (recorded_by (workers_of ss))) (sym items)
           (gathered_cost board jobs old ended is was.cost);
-      long = omega (arith, long, len);
-      placed = c.put.ensures.placed;
+      places = c.put.ensures.places;
       there = λ k l. elim (completed_or board jobs old ended k is
           (subst (λ (ss : List SeatState). 0 < times_in k (completed_by (workers_of ss))) items l)) [
-            | inl a ↦ c.put.ensures.kept k (was.there k a)
-            | inr b ↦ c.put.ensures.there k b
+            | inl a ↦ c.put.ensures.full k (inl (was.there k a))
+            | inr b ↦ c.put.ensures.full k (inr b)
           ];
       told = λ f. let both = neither c.args.self.now.failed ended.worked.failed f in
           subst (All (λ (s : SeatState). IsToldEnd s.worker)) (sym items)
