@@ -1,7 +1,10 @@
 -- The canonical text of a program stands for it.
-use Rattle.std.proofs.Common.{◌≡◌, ◌≤◌, ◌<◌, ◌-◌, ◌*◌, ℕ, zero, suc, true, false, not, eqb, List, [], ◌∷◌, ◌++◌, Some, length, get_or, map, filter, refl, sym, ap, ◌∙◌, subst, arith, append_assoc, length-append}
+use Rattle.std.proofs.Common.{◌≡◌, ◌≤◌, ◌<◌, ◌-◌, ◌*◌, ℕ, zero, suc, true, false, not, eqb, List, []}
+use Rattle.std.proofs.Common.{◌∷◌, ◌++◌, Some, length, get_or, map, filter, refl, sym, ap, ◌∙◌, subst, arith}
+use Rattle.std.proofs.Common.{append_assoc, length-append}
 use Rattle.std.specs.List.{before_first, after_first, list_all, slice_split, flat_map, AllByRecursion}
-use Rattle.std.specs.Str.Lines.{lines, lines_of_parts, strip_carriage_return}
+use Rattle.std.specs.Str.Lines.{lines, strip_carriage_return}
+use Rattle.text_words.proofs.FirstLine.{is_feed, lines_of_cut}
 use Rattle.std.proofs.lemmas.Fmt.{length_signed_le}
 use Rattle.std.proofs.lemmas.List.{append-nil}
 use Rattle.bpf_insn.specs.declared.insn.Width.TheVariants as widths
@@ -23,18 +26,22 @@ use Rattle.bpf_text.specs.declared.form.Form.{Form}
 use Rattle.bpf_text.specs.declared.form.Form.TheVariants.{Alu, Neg, Movsx, End, Ja, Ja32, Jump, Exit, Ldx, Ldsx, Stx, St, Wide}
 use Rattle.bpf_text.specs.Names.{register_name}
 use Rattle.bpf_text.specs.Forms.{form_of, mnemonic, operands_of}
-use Rattle.bpf_text.specs.Lines.{is_blank, is_comment_mark, is_blank_text, code_part, first_word, behind_word, is_statement, operand_texts_of, argument_in}
+use Rattle.text_words.specs.Words.{is_blank}
+use Rattle.bpf_text.specs.Lines.{is_comment_mark, is_blank_text, code_part, first_word, behind_word, is_statement, operand_texts_of}
+use Rattle.bpf_text.specs.Lines.{argument_in}
 use Rattle.bpf_text.specs.Text.{StandsFor, StandFor, IsShort, AreFaultless, IsTextOf}
-use Rattle.bpf_text.specs.Canonical.{operand_text, further_text, operand_list, statement_text, canonical_line, canonical_text, CanonicalTextsStand}
-use Rattle.bpf_text.proofs.Operands.{first_part}
+use Rattle.bpf_text.specs.Canonical.{operand_text, further_text, operand_list, statement_text, canonical_line, canonical_text}
+use Rattle.bpf_text.specs.Canonical.{CanonicalTextsStand}
 use Rattle.bpf_text.proofs.OneReading.{one_reading}
 use Rattle.bpf_text.proofs.Statements.{few_operands}
-use Rattle.bpf_text.proofs.Words.{is_word_byte, AreWordBytes, word_bytes, unequal, before-cons, word_alone, nothing_behind, word_first, word_behind, begins_unindented, begins_no_blank}
+use Rattle.bpf_text.proofs.Words.{is_word_byte, AreWordBytes, word_bytes, unequal, before-cons, word_alone, nothing_behind}
+use Rattle.bpf_text.proofs.Words.{word_first, word_behind, begins_unindented, begins_no_blank}
 use Rattle.bpf_text.proofs.Written.{IsWritten, IsWord, word_of, operand_word, operands_said, all-written}
 
 -- Mnemonics are words of 2 to 9 bytes: the whole table is computed.
 
-mnemonic_facts : (f : Form) → (list_all is_word_byte (mnemonic f) ≡ true) × (0 < length (mnemonic f)) × (length (mnemonic f) ≤ 9)
+mnemonic_facts : (f : Form)
+    → (list_all is_word_byte (mnemonic f) ≡ true) × (0 < length (mnemonic f)) × (length (mnemonic f) ≤ 9)
 mnemonic_facts (Alu widths.W32 ops.Add) = (refl, omega arith, omega arith)
 mnemonic_facts (Alu widths.W32 _) = (refl, omega arith, omega arith)
 mnemonic_facts (Alu _ ops.Add) = (refl, omega arith, omega arith)
@@ -131,7 +138,7 @@ no_return w l h =
 
 -- Lines.
 
-line_part : (w x : List ℕ) → AreLineBytes w → slice_split (λ b. eqb b 10) (w ++ 10 ∷ x) ≡ w ∷ slice_split (λ b. eqb b 10) x
+line_part : (w x : List ℕ) → AreLineBytes w → slice_split is_feed (w ++ 10 ∷ x) ≡ w ∷ slice_split is_feed x
 line_part [] x h = refl
 line_part (b ∷ bs) x h =
     let here = h.0 in
@@ -141,9 +148,7 @@ line_part (b ∷ bs) x h =
 
 line_first : (w x : List ℕ) → 0 < length w → AreLineBytes w → lines (w ++ 10 ∷ x) ≡ w ∷ lines x
 line_first w x l h =
-    let more = first_part (λ b. eqb b 10) x in
-    ap lines_of_parts (line_part w x h ∙ ap (λ ps. w ∷ ps) more.2)
-    ∙ ((λ i. no_return w l h i ∷ lines_of_parts (more.0 ∷ more.1)) ∙ ap (λ ps. w ∷ lines_of_parts ps) (sym more.2))
+    lines_of_cut (w ++ 10 ∷ x) w x (line_part w x h) ∙ ap (λ line. line ∷ lines x) (no_return w l h)
 
 some_statement : (i : Insn) → 0 < length (statement_text i)
 some_statement i = let facts = mnemonic_facts (form_of i) in let some = facts.1 in omega (arith, length-append (mnemonic (form_of i)) (operand_list (operands_of i)))
@@ -162,7 +167,8 @@ record Said (line m : List ℕ) (all : List Argument) : Type 0 where
   pub word : first_word line ≡ m
   pub operands : map argument_in (operand_texts_of (behind_word line)) ≡ map (λ a. Some a) all
 
-said_line : (b : ℕ) (bs : List ℕ) (all : List Argument) → AreWordBytes (b ∷ bs) → AllByRecursion IsWritten all → Said ((b ∷ bs) ++ operand_list all) (b ∷ bs) all
+said_line : (b : ℕ) (bs : List ℕ) (all : List Argument) → AreWordBytes (b ∷ bs) → AllByRecursion IsWritten all
+    → Said ((b ∷ bs) ++ operand_list all) (b ∷ bs) all
 said_line b bs [] h hs =
     let line = append-nil (b ∷ bs) in
     let start = begins_unindented b bs h.0 in
@@ -212,7 +218,8 @@ operand_length (Number n) h = length_signed_le 20 n (omega arith) h
 operand_length UnknownRegister h = absurd h
 operand_length HugeNumber h = absurd h
 
-further_length : (more : List Argument) → AllByRecursion IsWritten more → length (flat_map further_text more) ≤ 23 * length more
+further_length : (more : List Argument) → AllByRecursion IsWritten more
+    → length (flat_map further_text more) ≤ 23 * length more
 further_length [] h = omega arith
 further_length (a ∷ more) h = omega (arith, length-append (further_text a) (flat_map further_text more), operand_length a h.0, further_length more h.1)
 

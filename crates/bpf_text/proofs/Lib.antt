@@ -1,8 +1,6 @@
 pub mod Tables
 pub mod Mnemonics
 pub mod Cuts
-pub mod FirstLine
-pub mod Numbers
 pub mod Operands
 pub mod Statements
 pub mod Breaking

@@ -1,9 +1,11 @@
 -- Words of bytes that are no blank, no comma, no comment mark and no line end.
-use Rattle.std.proofs.Common.{◌≡◌, ◌≤◌, ◌+◌, ℕ, suc, Bool, true, false, cond, not, ◌&&◌, eqb, leb, List, [], ◌∷◌, ◌++◌, None, take, drop, refl, ap, ◌∙◌, ⊎_elim, arith}
+use Rattle.std.proofs.Common.{◌≡◌, ◌≤◌, ◌+◌, ℕ, suc, Bool, true, false, cond, not, ◌&&◌, eqb, leb, List, []}
+use Rattle.std.proofs.Common.{◌∷◌, ◌++◌, None, take, drop, refl, ap, ◌∙◌, ⊎_elim, arith}
 use Rattle.std.specs.List.{position_or_len, before_first, after_first, list_all, slice_split, onto_first}
 use Rattle.std.proofs.lemmas.Bool.{leb-true, eqb-false}
 use Rattle.std.proofs.lemmas.Bool.Decides.{eqb_tells}
-use Rattle.bpf_text.specs.Lines.{is_blank, is_comma, is_comment_mark, is_blank_text, unindented, first_word, behind_word, argument_of, argument_in}
+use Rattle.text_words.specs.Words.{is_blank, unindented}
+use Rattle.bpf_text.specs.Lines.{is_comma, is_comment_mark, is_blank_text, first_word, behind_word, argument_of, argument_in}
 
 abbrev pub is_word_byte : ℕ → Bool
 is_word_byte b = leb 45 b && not (eqb b 59)
@@ -54,7 +56,8 @@ not_mark b h =
 
 -- A list cut at the first element that passes, element by element.
 
-pub before-cons : (p : ℕ → Bool) (c : ℕ) (cs : List ℕ) → p c ≡ false → before_first p (c ∷ cs) ≡ c ∷ before_first p cs
+pub before-cons : (p : ℕ → Bool) (c : ℕ) (cs : List ℕ) → p c ≡ false
+    → before_first p (c ∷ cs) ≡ c ∷ before_first p cs
 before-cons p c cs e = rw e (ap (λ k. take k (c ∷ cs)) (let one : 1 + position_or_len p cs ≡ suc (position_or_len p cs) = omega arith in one))
 
 pub after-cons : (p : ℕ → Bool) (c : ℕ) (cs : List ℕ) → p c ≡ false → after_first p (c ∷ cs) ≡ after_first p cs
@@ -106,7 +109,8 @@ word_operand text w e h =
 pub operand_alone : (b : ℕ) (bs : List ℕ) → AreWordBytes (b ∷ bs) → argument_in (b ∷ bs) ≡ argument_of (b ∷ bs)
 operand_alone b bs h = word_operand (b ∷ bs) (b ∷ bs) (begins_unindented b bs h.0) h
 
-pub operand_behind_space : (b : ℕ) (bs : List ℕ) → AreWordBytes (b ∷ bs) → argument_in (32 ∷ b ∷ bs) ≡ argument_of (b ∷ bs)
+pub operand_behind_space : (b : ℕ) (bs : List ℕ) → AreWordBytes (b ∷ bs)
+    → argument_in (32 ∷ b ∷ bs) ≡ argument_of (b ∷ bs)
 operand_behind_space b bs h = word_operand (32 ∷ b ∷ bs) (b ∷ bs) (space_unindented b bs h.0) h
 
 -- words cut at commas
@@ -115,7 +119,8 @@ pub last_part : (w : List ℕ) → AreWordBytes w → slice_split is_comma w ≡
 last_part [] h = refl
 last_part (b ∷ bs) h = rw (not_comma b h.0, last_part bs h.1) refl
 
-pub part_before_comma : (w x : List ℕ) → AreWordBytes w → slice_split is_comma (w ++ 44 ∷ x) ≡ w ∷ slice_split is_comma x
+pub part_before_comma : (w x : List ℕ) → AreWordBytes w
+    → slice_split is_comma (w ++ 44 ∷ x) ≡ w ∷ slice_split is_comma x
 part_before_comma [] x h = refl
 part_before_comma (b ∷ bs) x h = rw (not_comma b h.0, part_before_comma bs x h.1) refl
 
@@ -123,5 +128,6 @@ part_before_comma (b ∷ bs) x h = rw (not_comma b h.0, part_before_comma bs x h
 pub spaced_last_part : (w : List ℕ) → AreWordBytes w → slice_split is_comma (32 ∷ w) ≡ (32 ∷ w) ∷ []
 spaced_last_part w h = ap (onto_first 32) (last_part w h)
 
-pub spaced_part_before_comma : (w x : List ℕ) → AreWordBytes w → slice_split is_comma (32 ∷ (w ++ 44 ∷ x)) ≡ (32 ∷ w) ∷ slice_split is_comma x
+pub spaced_part_before_comma : (w x : List ℕ) → AreWordBytes w
+    → slice_split is_comma (32 ∷ (w ++ 44 ∷ x)) ≡ (32 ∷ w) ∷ slice_split is_comma x
 spaced_part_before_comma w x h = ap (onto_first 32) (part_before_comma w x h)

@@ -1,14 +1,14 @@
 -- What is written of an operand says that operand.
-use Rattle.std.proofs.Common.{◌≡◌, ◌≤◌, ◌<◌, ◌+◌, ◌-◌, ◌*◌, ◌^◌, ◌/◌, ◌%◌, ℕ, ℤ, pos, negsuc, suc, true, false, cond, eqb, List, [], ◌∷◌, ◌++◌, None, Some, length, map, refl, sym, ap, ◌∙◌, subst, arith}
+use Rattle.std.proofs.Common.{◌≡◌, ◌≤◌, ◌<◌, ◌+◌, ◌^◌, ◌%◌, ℕ, ℤ, pos}
+use Rattle.std.proofs.Common.{negsuc, suc, true, false, cond, eqb, List, [], ◌∷◌, ◌++◌, None, Some, length, map, refl}
+use Rattle.std.proofs.Common.{sym, ap, ◌∙◌, subst, arith}
 use lib.Signed.{mag}
-use Rattle.std.specs.Char.{is_ascii_digit}
 use Rattle.std.specs.Fmt.{decimal}
 use Rattle.std.specs.Int.{cast_signed, w16, w32, w64}
 use Rattle.std.specs.Int.RustNames.{FitsSigned}
 use Rattle.std.specs.List.{list_all, slice_split, flat_map, AllByRecursion}
 use Rattle.std.specs.Option.{option_map}
 use Rattle.std.proofs.lemmas.Bool.{lt-ltb, le-leb}
-use Rattle.std.proofs.lemmas.Bool.Decides.{nat_tests}
 use Rattle.std.proofs.lemmas.Fmt.{decimal_by_steps, decimal_nonempty}
 use Rattle.std.proofs.lemmas.List.{append-nil}
 use borrow.Author.Gap.{read_sfits}
@@ -23,11 +23,13 @@ use Rattle.bpf_text.specs.declared.argument.Argument.{Argument}
 use Rattle.bpf_text.specs.declared.argument.Argument.TheVariants.{Register, UnknownRegister, Number, HugeNumber}
 use Rattle.bpf_text.specs.Names.{register_name}
 use Rattle.bpf_text.specs.Forms.{operands_of, argument_of_operand}
-use Rattle.bpf_text.specs.Lines.{digits_after, decimal_in, positive, negative, argument_of, argument_in, known_or, is_comma, is_blank_text, operand_texts_of}
+use Rattle.text_words.specs.Numbers.{decimal_in}
+use Rattle.text_words.proofs.Written.{decimal_written}
+use Rattle.bpf_text.specs.Lines.{positive, negative, argument_of, argument_in, known_or, is_comma, is_blank_text, operand_texts_of}
 use Rattle.bpf_text.specs.Canonical.{operand_text, further_text}
 use Rattle.bpf_text.specs.Tables.{named, all_registers}
-use Rattle.bpf_text.proofs.Numbers.{digits_some}
-use Rattle.bpf_text.proofs.Words.{is_word_byte, AreWordBytes, word_bytes, unequal, begins_no_blank, operand_alone, operand_behind_space, last_part, part_before_comma, spaced_last_part, spaced_part_before_comma}
+use Rattle.bpf_text.proofs.Words.{is_word_byte, AreWordBytes, word_bytes, unequal, begins_no_blank, operand_alone}
+use Rattle.bpf_text.proofs.Words.{operand_behind_space, last_part, part_before_comma, spaced_last_part, spaced_part_before_comma}
 
 -- Decimal numbers.
 
@@ -47,26 +49,6 @@ decimal-digits n h = decimal_by_steps (λ _ ds. AreDigits ds) (λ n l. ((omega a
 digits_word : (ds : List ℕ) → AreDigits ds → AreWordBytes ds
 digits_word [] h = tt
 digits_word (d ∷ ds) h = let low = h.0 in let least = low.0 in let most = low.1 in ((omega arith, λ e. omega arith), digits_word ds h.1)
-
-is_digit : (c : ℕ) → IsDigit c → is_ascii_digit c ≡ true
-is_digit c h = let least = h.0 in let most = h.1 in grind (arith, nat_tests)
-
--- the digits of n and one more
-digits_after-push : (m : ℕ) (ds : List ℕ) (n c : ℕ) → digits_after m ds ≡ Some n → IsDigit c → digits_after m (ds ++ c ∷ []) ≡ Some (n * 10 + (c - 48))
-digits_after-push m [] n c e d = let same : m ≡ n = cc in rw (is_digit c d) (ap (λ k. Some (k * 10 + (c - 48))) same)
-digits_after-push m (x ∷ xs) n c e d =
-    elim (is_ascii_digit x) as (λ t. cond t (digits_after (m * 10 + (x - 48)) xs) None ≡ Some n → cond t (digits_after (m * 10 + (x - 48)) (xs ++ c ∷ [])) None ≡ Some (n * 10 + (c - 48))) [
-      | true ↦ λ f. digits_after-push (m * 10 + (x - 48)) xs n c f d
-      | false ↦ λ f. absurd (cc)
-    ] e
-
-decimal_read : (n : ℕ) → n < 2 ^ 64 → digits_after 0 (decimal n) ≡ Some n
-decimal_read n h = decimal_by_steps (λ n ds. digits_after 0 ds ≡ Some n)
-    (λ n l. rw (is_digit (48 + n) (omega arith, omega arith)) (ap Some (let e : 0 * 10 + (48 + n - 48) ≡ n = omega arith in e)))
-    (λ n ds l p. digits_after-push 0 ds (n / 10) (48 + n % 10) p (omega arith, omega arith) ∙ ap Some (let e : n / 10 * 10 + (48 + n % 10 - 48) ≡ n = omega arith in e)) n h
-
-pub decimal-decimal_in : (n : ℕ) → n < 2 ^ 64 → decimal_in (decimal n) ≡ Some n
-decimal-decimal_in n h = digits_some (decimal n) (decimal_nonempty n h) ∙ decimal_read n h
 
 -- Words of operands.
 
@@ -120,7 +102,8 @@ digits_said b bs d =
     let plus : eqb b 43 ≡ false = unequal b 43 (λ e. omega arith) in
     ap (λ o. known_or (b ∷ bs) (option_map Register o)) (not_register b bs (λ e. omega arith)) ∙ (rw (letter, minus, plus) refl)
 
-positive_said : (ds : List ℕ) (n : ℕ) → 0 < length ds → AreDigits ds → decimal_in ds ≡ Some n → n < 2 ^ 63 → argument_of ds ≡ Some (Number (pos n))
+positive_said : (ds : List ℕ) (n : ℕ) → 0 < length ds → AreDigits ds → decimal_in ds ≡ Some n → n < 2 ^ 63
+    → argument_of ds ≡ Some (Number (pos n))
 positive_said [] n l d e h = absurd (omega arith)
 positive_said (b ∷ bs) n l d e h = digits_said b bs d.0 ∙ (ap (option_map positive) e ∙ (rw (lt-ltb n (2 ^ 63) h) refl))
 
@@ -128,11 +111,11 @@ negative_said : (n : ℕ) → n < 2 ^ 63 → argument_of (45 ∷ decimal (suc n)
 negative_said n h =
     let small : suc n ≤ 2 ^ 63 = omega arith in
     ap (λ o. known_or (45 ∷ decimal (suc n)) (option_map Register o)) (not_register 45 (decimal (suc n)) (λ e. omega arith))
-    ∙ (ap (option_map negative) (decimal-decimal_in (suc n) (omega arith)) ∙ (rw (le-leb (suc n) (2 ^ 63) small) refl))
+    ∙ (ap (option_map negative) (decimal_written (suc n) (omega arith)) ∙ (rw (le-leb (suc n) (2 ^ 63) small) refl))
 
 pub said : (a : Argument) → IsWritten a → argument_of (operand_text a) ≡ Some a
 said (Register r) h = register_said r
-said (Number (pos n)) h = positive_said (decimal n) n (decimal_nonempty n (omega arith)) (decimal-digits n (omega arith)) (decimal-decimal_in n (omega arith)) h
+said (Number (pos n)) h = positive_said (decimal n) n (decimal_nonempty n (omega arith)) (decimal-digits n (omega arith)) (decimal_written n (omega arith)) h
 said (Number (negsuc n)) h = negative_said n h
 said UnknownRegister h = absurd h
 said HugeNumber h = absurd h

@@ -10,7 +10,8 @@ use Rattle.bpf_text.specs.declared.argument.Argument.{Argument}
 use Rattle.bpf_text.specs.declared.argument.Argument.TheVariants.{Register, Number}
 use Rattle.bpf_text.specs.declared.form.Form.{Form}
 use Rattle.bpf_text.specs.declared.form.Form.TheVariants.{Alu, Neg, Movsx, End, Ja, Ja32, Jump, Exit, Ldx, Ldsx, Stx, St, Wide}
-use Rattle.bpf_text.specs.Names.{width_name, operation_name, condition_name, extension_name, order_name, end_size_name, size_name, signed_size_name}
+use Rattle.bpf_text.specs.Names.{width_name, operation_name, condition_name, extension_name, order_name, end_size_name, size_name}
+use Rattle.bpf_text.specs.Names.{signed_size_name}
 
 -- the form of an instruction: the instruction less its operands
 abbrev pub form_of : Insn → Form

@@ -1,16 +1,14 @@
 -- The parts of a line of assembly text: its mnemonic, and the operands that stand behind it. This is this project's own grammar.
-use Rattle.std.specs.Prelude.{ℕ, ◌+◌, ◌-◌, ◌*◌, ◌^◌, ◌==◌, ◌||◌, not, nat_lt, nat_le, Bool, if◌then◌else◌, List, [], ◌∷◌, drop, map, Option, Some, None, pos, neg_ℤ}
-use Rattle.std.specs.Char.{is_ascii_digit}
-use Rattle.std.specs.List.{before_first, after_first, prefix_len, list_all, slice_split}
+use Rattle.std.specs.Prelude.{ℕ, ◌^◌, ◌==◌, ◌||◌, not, nat_lt, nat_le, Bool, if◌then◌else◌, List, [], ◌∷◌}
+use Rattle.std.specs.Prelude.{map, Option, Some, None, pos, neg_ℤ}
+use Rattle.std.specs.List.{before_first, after_first, list_all, slice_split}
 use Rattle.std.specs.Option.{option_map}
+use Rattle.text_words.specs.Words.{is_blank, unindented}
+use Rattle.text_words.specs.Numbers.{decimal_in}
 use Rattle.bpf_text.specs.declared.argument.Argument.{Argument}
 use Rattle.bpf_text.specs.declared.argument.Argument.TheVariants.{Register, UnknownRegister, Number, HugeNumber}
 use Rattle.bpf_text.specs.Names.{register_name}
 use Rattle.bpf_text.specs.Tables.{named, all_registers}
-
--- a space or a tab
-abbrev pub is_blank : ℕ → Bool
-is_blank b = (b == 32) || (b == 9)
 
 -- `;` or `#`
 abbrev pub is_comment_mark : ℕ → Bool
@@ -26,10 +24,6 @@ code_part line = before_first is_comment_mark line
 -- nothing but blanks
 abbrev pub is_blank_text : List ℕ → Bool
 is_blank_text text = list_all is_blank text
-
--- the text without the blanks at its front
-abbrev pub unindented : List ℕ → List ℕ
-unindented text = drop (prefix_len is_blank text) text
 
 -- the first word of a text, and what follows the blank behind it
 abbrev pub first_word : List ℕ → List ℕ
@@ -51,16 +45,6 @@ operand_texts_of text = if is_blank_text text then [] else slice_split is_comma 
 
 abbrev pub operand_texts : List ℕ → List (List ℕ)
 operand_texts line = operand_texts_of (behind_word (code_part line))
-
--- the number that decimal digits write behind those of n
-abbrev pub digits_after : ℕ → List ℕ → Option ℕ
-digits_after n [] = Some n
-digits_after n (b ∷ bs) = if is_ascii_digit b then digits_after (n * 10 + (b - 48)) bs else None
-
--- the number that one or more decimal digits write
-abbrev pub decimal_in : List ℕ → Option ℕ
-decimal_in [] = None
-decimal_in (b ∷ bs) = digits_after 0 (b ∷ bs)
 
 -- a number behind no sign or `+`, and one behind `-`
 abbrev pub positive : ℕ → Argument

@@ -1,7 +1,8 @@
 -- The names and the order of the rules of assembly text. They are this project's own.
 use Rattle.std.specs.Prelude.{ℕ, List, codes}
 use Rattle.bpf_text.specs.declared.rule.AsmRule.{AsmRule}
-use Rattle.bpf_text.specs.declared.rule.AsmRule.TheVariants.{LineTooLong, UnknownMnemonic, MalformedOperands, UnknownRegister, NumberOutOfRange, BadLength}
+use Rattle.bpf_text.specs.declared.rule.AsmRule.TheVariants.{LineTooLong, UnknownMnemonic, MalformedOperands, UnknownRegister}
+use Rattle.bpf_text.specs.declared.rule.AsmRule.TheVariants.{NumberOutOfRange, BadLength}
 
 -- how the product writes a rule
 abbrev pub rule_name : AsmRule → List ℕ

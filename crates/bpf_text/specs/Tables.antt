@@ -9,4 +9,6 @@ abbrev pub named : {X : Type 0} → (X → List ℕ) → List X → List ℕ →
 named name all word = find (λ x. bytes_eq (name x) word) all
 
 abbrev pub all_registers : List Reg
-all_registers = regs.R0 ∷ regs.R1 ∷ regs.R2 ∷ regs.R3 ∷ regs.R4 ∷ regs.R5 ∷ regs.R6 ∷ regs.R7 ∷ regs.R8 ∷ regs.R9 ∷ regs.R10 ∷ []
+all_registers =
+    regs.R0 ∷ regs.R1 ∷ regs.R2 ∷ regs.R3 ∷ regs.R4 ∷ regs.R5
+    ∷ regs.R6 ∷ regs.R7 ∷ regs.R8 ∷ regs.R9 ∷ regs.R10 ∷ []

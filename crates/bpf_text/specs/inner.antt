@@ -2,6 +2,5 @@
 pub mod Arguments
 pub mod Cuts
 pub mod Names
-pub mod Numbers
 pub mod Reading
 pub mod Tables

@@ -2,7 +2,6 @@
 ghost use Rattle.std.specs.Prelude.{◌≡◌, ◌≢◌, ◌≤◌, ◌∷◌, [], List, Some, None, length, map, MatchOption};
 ghost use Rattle.bpf_text.specs.declared.argument.Argument.{Argument};
 ghost use Rattle.bpf_text.specs.Lines as spec;
-ghost use Rattle.bpf_text.specs.inner.Numbers.{held_number};
 ghost use Rattle.bpf_text.specs.inner.Arguments.{list_of};
 ghost use Rattle.bpf_text.specs.Text.{is_unknown};
 ghost use Rattle.bpf_text.specs.inner.Reading.{cleared};
@@ -11,6 +10,7 @@ ghost use Rattle.std.specs.List.{list_any};
 use crate::line::{Separator, cut, first_word, is_blank_text};
 use crate::names::register_named;
 use bpf_insn::Reg;
+use text_words::held_decimal;
 
 /// The magnitude of the least number of 64 bits.
 const LEAST_MAGNITUDE: u64 = 1 << 63;
@@ -35,25 +35,6 @@ pub enum Arguments {
     One(Argument),
     Two(Argument, Argument),
     Three(Argument, Argument, Argument),
-}
-
-/// The number that a word writes in decimal digits, or 2^64 - 1 where it is larger.
-fn decimal(word: &[u8]) -> Option<u64>
-    ensures { result ≡ held_number (spec.decimal_in word.now) }
-{
-    if word.is_empty() {
-        return None;
-    }
-    let mut value: u64 = 0;
-    for byte in word {
-        if !byte.is_ascii_digit() {
-            return None;
-        }
-        value = value
-            .saturating_mul(10)
-            .saturating_add(u64::from(*byte - b'0'));
-    }
-    Some(value)
 }
 
 /// A number behind no sign or `+`.
@@ -88,12 +69,12 @@ fn parse_word(word: &[u8]) -> Option<Argument>
     }
     match word {
         [b'r', digits @ ..] => {
-            decimal(digits)?;
+            held_decimal(digits)?;
             Some(Argument::UnknownRegister)
         }
-        [b'-', digits @ ..] => Some(negative(decimal(digits)?)),
-        [b'+', digits @ ..] => Some(positive(decimal(digits)?)),
-        _ => Some(positive(decimal(word)?)),
+        [b'-', digits @ ..] => Some(negative(held_decimal(digits)?)),
+        [b'+', digits @ ..] => Some(positive(held_decimal(digits)?)),
+        _ => Some(positive(held_decimal(word)?)),
     }
 }
 

@@ -4,11 +4,11 @@ ghost use Rattle.bpf_insn.specs.declared.insn.Insn.{Insn};
 ghost use Rattle.bpf_text.specs.Text.{IsTextOf, ExplainsRefusal, HasOneReading};
 
 use crate::fault::{AsmError, AsmFault};
-use crate::line::first_line;
 use crate::listing::Listing;
 use crate::rule::AsmRule;
 use bpf_insn::Program;
 use std::alloc::Global;
+use text_words::first_line;
 
 /// The program that the text stands for, or why there is none.
 ///

@@ -1,5 +1,6 @@
 //! Instructions, from a form and the operands of a line.
-ghost use Rattle.std.specs.Prelude.{◌≡◌, ◌≢◌, ◌<◌, ◌∷◌, ◌^◌, ℕ, ℤ, [], Any, MatchOption, IsTrue, ◌↔◌, map};
+ghost use Rattle.std.specs.Prelude.{◌≡◌, ◌≢◌, ◌<◌, ◌∷◌, ◌^◌, ℕ, ℤ, [], Any, MatchOption, IsTrue};
+ghost use Rattle.std.specs.Prelude.{◌↔◌, map};
 ghost use Rattle.std.specs.Int.{cast_signed, w16, w32, w64};
 ghost use Rattle.std.specs.Int.RustNames.{FitsSigned};
 ghost use Rattle.bpf_insn.specs.declared.insn.Insn.{Insn};

@@ -3,7 +3,8 @@ ghost use Rattle.std.specs.Prelude.{◌≡◌, ◌++◌, ◌∷◌, [], IfOk, On
 ghost use Rattle.std.specs.List.{flat_map};
 ghost use Rattle.bpf_text.specs.inner.Arguments.{list_of};
 ghost use Rattle.bpf_text.specs.Forms.{mnemonic, operands_of, argument_of_operand};
-ghost use Rattle.bpf_text.specs.Canonical.{canonical_line, canonical_text, operand_list, operand_text, further_text, IsOnlyTextOf, CanonicalTextsStand};
+ghost use Rattle.bpf_text.specs.Canonical.{canonical_line, canonical_text, operand_list, operand_text, further_text, IsOnlyTextOf};
+ghost use Rattle.bpf_text.specs.Canonical.{CanonicalTextsStand};
 
 use crate::argument::{Argument, Arguments};
 use crate::form::Form;

@@ -1,9 +1,10 @@
-//! How a text is cut into lines, and a line into its parts.
-ghost use Rattle.std.specs.Prelude.{◌≡◌, ◌<◌, ◌∷◌, [], length, MatchOption, IfSome};
+//! How a line is cut into its parts.
+ghost use Rattle.std.specs.Prelude.{◌≡◌, ◌∷◌, [], MatchOption};
 ghost use Rattle.std.specs.List.{before_first, after_first, slice_split};
-ghost use Rattle.std.specs.Str.Lines.{lines, strip_carriage_return};
 ghost use Rattle.bpf_text.specs.Lines as spec;
 ghost use Rattle.bpf_text.specs.inner.Cuts.{separates};
+
+use text_words::{is_blank, unindented};
 
 /// The most bytes that a line has, its line end not counted.
 pub const MOST_BYTES: usize = 1024;
@@ -24,7 +25,7 @@ impl Separator {
     {
         match self {
             Separator::CommentMark => byte == b';' || byte == b'#',
-            Separator::Blank => byte == b' ' || byte == b'\t',
+            Separator::Blank => is_blank(byte),
             Separator::Comma => byte == b',',
         }
     }
@@ -52,19 +53,7 @@ pub fn cut(text: &[u8], at: Separator) -> (&[u8], Option<&[u8]>)
 pub fn is_blank_text(text: &[u8]) -> bool
     ensures { result ≡ spec.is_blank_text text.now }
 {
-    text.iter().all(|byte| Separator::Blank.is(*byte))
-}
-
-/// The text without the blanks at its front.
-fn unindented(text: &[u8]) -> &[u8]
-    ensures { result.now ≡ spec.unindented text.now }
-{
-    for (i, byte) in text.iter().enumerate() {
-        if !Separator::Blank.is(*byte) {
-            return &text[i..];
-        }
-    }
-    &[]
+    text.iter().all(|byte| is_blank(*byte))
 }
 
 /// The first word of a text, and what follows the blank behind it.
@@ -74,32 +63,4 @@ pub fn first_word(text: &[u8]) -> (&[u8], &[u8])
 {
     let (word, behind) = cut(unindented(text), Separator::Blank);
     (word, behind.unwrap_or(&[]))
-}
-
-/// A line without the CR at its end.
-fn strip_cr(line: &[u8]) -> &[u8]
-    ensures { result.now ≡ strip_carriage_return line.now }
-{
-    match line {
-        [front @ .., b'\r'] => front,
-        _ => line,
-    }
-}
-
-/// The first line of a text, and what follows it.
-pub fn first_line(text: &[u8]) -> Option<(&[u8], &[u8])>
-    ensures lines { MatchOption result
-        (lines text.now ≡ [])
-        (λ p. lines text.now ≡ p.0.now ∷ lines p.1.now) }
-    ensures shorter { IfSome result (λ p. length p.1.now < length text.now) }
-{
-    if text.is_empty() {
-        return None;
-    }
-    for (i, byte) in text.iter().enumerate() {
-        if *byte == b'\n' {
-            return Some((strip_cr(&text[..i]), &text[i + 1..]));
-        }
-    }
-    Some((text, &[]))
 }

@@ -1,6 +1,7 @@
 -- What the functions that cut lines find.
 use Rattle.std.specs.Prelude.{ℕ, Bool}
-use Rattle.bpf_text.specs.Lines.{is_comment_mark, is_blank, is_comma}
+use Rattle.text_words.specs.Words.{is_blank}
+use Rattle.bpf_text.specs.Lines.{is_comment_mark, is_comma}
 use Rattle.bpf_text.specs.declared.line.Separator.{Separator}
 use Rattle.bpf_text.specs.declared.line.Separator.TheVariants.{CommentMark, Blank, Comma}
 

@@ -1,5 +1,6 @@
--- Tables of names, read backwards: what the parser of mnemonics needs of them, whose contract is that it reads `mnemonic` backwards.
-use Rattle.std.specs.Prelude.{ℕ, ◌==◌, if◌then◌else◌, List, [], ◌∷◌, length, codes, Option, Some, None, option_map}
+-- Tables of names, read backwards: what the parser of mnemonics needs of them. Its contract is that it reads `mnemonic` backwards.
+use Rattle.std.specs.Prelude.{ℕ, ◌==◌, if◌then◌else◌, List, [], ◌∷◌, length, codes, Option, Some, None}
+use Rattle.std.specs.Prelude.{option_map}
 use Rattle.std.specs.Char.{is_ascii_digit}
 use Rattle.std.specs.List.{position_or_len}
 use Rattle.std.specs.Str.{bytes_eq}
@@ -51,7 +52,8 @@ all_conditions =
 
 abbrev pub all_extensions : List Extension
 all_extensions =
-    extensions.From8To32 ∷ extensions.From16To32 ∷ extensions.From8To64 ∷ extensions.From16To64 ∷ extensions.From32To64 ∷ []
+    extensions.From8To32 ∷ extensions.From16To32 ∷ extensions.From8To64 ∷ extensions.From16To64
+    ∷ extensions.From32To64 ∷ []
 
 abbrev pub all_orders : List ByteOrder
 all_orders = orders.Little ∷ orders.Big ∷ orders.Swap ∷ []
@@ -66,7 +68,9 @@ abbrev pub all_signed_sizes : List SignedSize
 all_signed_sizes = signed_sizes.B8 ∷ signed_sizes.B16 ∷ signed_sizes.B32 ∷ []
 
 abbrev pub all_stems : List Stem
-all_stems = stems.Neg ∷ stems.Movs ∷ stems.Ja ∷ stems.Exit ∷ stems.Ldx ∷ stems.Ldsx ∷ stems.Stx ∷ stems.St ∷ stems.Wide ∷ []
+all_stems =
+    stems.Neg ∷ stems.Movs ∷ stems.Ja ∷ stems.Exit ∷ stems.Ldx
+    ∷ stems.Ldsx ∷ stems.Stx ∷ stems.St ∷ stems.Wide ∷ []
 
 -- how many bytes stand before the first digit
 abbrev pub count_of_letters : List ℕ → ℕ

@@ -1,6 +1,6 @@
 use Rattle.std.proofs.Common.{◌≡◌, ◌<◌, ℕ, get_or, true}
-use Rattle.bpf_text.specs.Lines.{is_blank}
-use Rattle.bpf_text.proofs.line.unindented.Given as goal
+use Rattle.text_words.specs.Words.{is_blank}
+use Rattle.text_words.proofs.words.unindented.Given as goal
 
 abbrev pub invariant-loop-i : goal.invariant-loop-i
 invariant-loop-i l = (k : ℕ) → k < l.i → is_blank (get_or l.text k 0) ≡ true

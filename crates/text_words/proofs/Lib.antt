@@ -1,0 +1,5 @@
+pub mod Parts
+pub mod FirstLine
+pub mod FirstWord
+pub mod Digits
+pub mod Written
