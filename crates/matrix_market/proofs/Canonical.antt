@@ -1,38 +1,22 @@
 -- The canonical text of a matrix is a text of it.
-use Rattle.std.proofs.Common.{◌≡◌, ◌≤◌, ◌<◌, ◌+◌, ◌-◌, ◌*◌, ◌/◌, ◌%◌, ◌^◌, ℕ, zero, suc, List, [], ◌∷◌, ◌++◌, Bool, true, false, ◌&&◌, cond, nat_lt, nat_eq, Some, None, length, get_or, refl, sym, ap, ◌∙◌, arith, ⊎_elim, lit<}
+use Rattle.std.proofs.Common.{◌≡◌, ◌≤◌, ◌<◌, ◌+◌, ◌-◌, ◌%◌, ◌^◌, ℕ, zero, suc}
+use Rattle.std.proofs.Common.{List, [], ◌∷◌, ◌++◌, Bool, true, false, ◌&&◌, cond, nat_lt, nat_eq, Some, length}
+use Rattle.std.proofs.Common.{get_or, refl, ap, ◌∙◌, arith, ⊎_elim, lit<}
 use Rattle.std.proofs.lemmas.Bool.{lt-ltb, le-ltb, cases_lt}
 use Rattle.std.proofs.lemmas.Bool.Decides.{nat_tests}
 use Rattle.std.proofs.lemmas.Fmt.{decimal_by_steps, decimal_nonempty, length-decimal-le}
 use Rattle.std.specs.List.{AllByRecursion, slice_split}
 use Rattle.std.specs.Char.{is_ascii_digit}
 use Rattle.std.specs.Fmt.{decimal}
-use Rattle.std.specs.Str.Lines.{lines, lines_of_parts, strip_carriage_return}
+use Rattle.std.specs.Str.Lines.{lines, strip_carriage_return}
+use Rattle.text_words.proofs.FirstLine.{is_feed, lines_of_cut}
 use Rattle.matrix_market.specs.CanonicalText.{value_text}
-use Rattle.matrix_market.specs.Market.{words, is_blank, is_some_text, digits_after, digits, number, value, Value, is_word, word_of, signed}
-use Rattle.matrix_market.proofs.FirstLine.{parts, parts_head}
+use Rattle.text_words.specs.Words.{words, is_blank, is_some_text}
+use Rattle.text_words.specs.Numbers.{digits_after}
+use Rattle.matrix_market.specs.Market.{number, value, Value, is_word, word_of, signed}
+use Rattle.text_words.proofs.Written.{is_digit, decimal_read, decimal_written}
 
 -- ---- numbers
-
-digits_more : (n m b : ℕ) (ds : List ℕ) → digits_after n ds ≡ Some m → is_ascii_digit b ≡ true → digits_after n (ds ++ b ∷ []) ≡ Some (m * 10 + (b - 48))
-digits_more n m b [] e d = rw d (ap (λ k. Some (k * 10 + (b - 48))) (same_some n m e))
-  where
-    same_some : (x y : ℕ) → Some x ≡ Some y → x ≡ y
-    same_some x y q = cc
-digits_more n m b (x ∷ ds) e d =
-    elim (is_ascii_digit x) as (λ t. cond t (digits_after (n * 10 + (x - 48)) ds) None ≡ Some m → cond t (digits_after (n * 10 + (x - 48)) (ds ++ b ∷ [])) None ≡ Some (m * 10 + (b - 48))) [
-      | true ↦ λ h. digits_more (n * 10 + (x - 48)) m b ds h d
-      | false ↦ λ h. absurd (cc)
-    ] e
-
-a_digit : (d : ℕ) → d < 10 → is_ascii_digit (48 + d) ≡ true
-a_digit d h = grind (arith, nat_tests)
-
-digits_of_decimal : (n : ℕ) → n < 2 ^ 64 → digits_after 0 (decimal n) ≡ Some n
-digits_of_decimal n h =
-    decimal_by_steps (λ m ds. digits_after 0 ds ≡ Some m)
-    (λ m l. rw (a_digit m l) (ap Some (let e : 0 * 10 + (48 + m - 48) ≡ m = omega arith in e)))
-    (λ m ds l p. digits_more 0 (m / 10) (48 + m % 10) ds p (a_digit (m % 10) (omega arith)) ∙ ap Some (let e : m / 10 * 10 + (48 + m % 10 - 48) ≡ m = omega arith in e))
-    n h
 
 -- digits alone
 abbrev pub AreDigits : List ℕ → Type 0
@@ -43,7 +27,9 @@ all_append [] ys p q = q
 all_append (x ∷ xs) ys p q = (p.0, all_append xs ys p.1 q)
 
 decimal_digits : (n : ℕ) → n < 2 ^ 64 → AreDigits (decimal n)
-decimal_digits n h = decimal_by_steps (λ _ ds. AreDigits ds) (λ m l. (a_digit m l, tt)) (λ m ds l p. all_append ds _ p (a_digit (m % 10) (omega arith), tt)) n h
+decimal_digits n h =
+    decimal_by_steps (λ _ ds. AreDigits ds) (λ m l. (is_digit m l, tt))
+    (λ m ds l p. all_append ds _ p (is_digit (m % 10) (omega arith), tt)) n h
 
 -- a field without signs
 number_of : (ds : List ℕ) → AreDigits ds → 0 < length ds → number ds ≡ digits_after 0 ds
@@ -53,15 +39,11 @@ number_of (b ∷ bs) p l =
     rw plus refl
 
 pub number-decimal : (n : ℕ) → n < 2 ^ 64 → number (decimal n) ≡ Some n
-number-decimal n h = number_of (decimal n) (decimal_digits n h) (decimal_nonempty n h) ∙ digits_of_decimal n h
+number-decimal n h = number_of (decimal n) (decimal_digits n h) (decimal_nonempty n h) ∙ decimal_read n h
 
 plain_value : (ds : List ℕ) → AreDigits ds → 0 < length ds → value ds ≡ signed false (number ds)
 plain_value [] p l = absurd (omega arith)
 plain_value (b ∷ bs) p l = let minus : nat_eq b 45 ≡ false = grind (arith, nat_tests, p.0) in rw minus refl
-
-digits_whole : (ds : List ℕ) → 0 < length ds → digits ds ≡ digits_after 0 ds
-digits_whole [] l = absurd (omega arith)
-digits_whole (b ∷ bs) l = refl
 
 -- the value that stands for a word
 abbrev pub value_for : ℕ → Value
@@ -83,7 +65,7 @@ value-value_text w h =
     ∙ rw (lt-ltb w (2 ^ 63) a) refl)
     (λ (a : 2 ^ 63 ≤ w).
     let m : 2 ^ 64 - w < 2 ^ 64 = omega arith in
-    ap value (value_text_high w a h) ∙ ap (signed true) (digits_whole (decimal (2 ^ 64 - w)) (decimal_nonempty (2 ^ 64 - w) m) ∙ digits_of_decimal (2 ^ 64 - w) m)
+    ap value (value_text_high w a h) ∙ ap (signed true) (decimal_written (2 ^ 64 - w) m)
     ∙ rw (le-ltb w (2 ^ 63) a) refl)
     (cases_lt w (2 ^ 63))
 
@@ -114,7 +96,8 @@ both_true false b h = absurd (cc)
 head_above : (n b : ℕ) (bs : List ℕ) → all_above n (b ∷ bs) ≡ true → (nat_lt n b ≡ true) × (all_above n bs ≡ true)
 head_above n b bs h = both_true (nat_lt n b) (all_above n bs) h
 
-above_append : (n : ℕ) (xs ys : List ℕ) → all_above n xs ≡ true → all_above n ys ≡ true → all_above n (xs ++ ys) ≡ true
+above_append : (n : ℕ) (xs ys : List ℕ) → all_above n xs ≡ true → all_above n ys ≡ true
+    → all_above n (xs ++ ys) ≡ true
 above_append n [] ys p q = q
 above_append n (x ∷ xs) ys p q = let t = head_above n x xs p in rw (t.0, above_append n xs ys t.1 q) refl
 
@@ -138,7 +121,8 @@ value_above w h =
 no_blank : (b : ℕ) → nat_lt 32 b ≡ true → is_blank b ≡ false
 no_blank b h = grind (arith, nat_tests)
 
-split_before : (a rest : List ℕ) → all_above 32 a ≡ true → slice_split is_blank (a ++ 32 ∷ rest) ≡ a ∷ slice_split is_blank rest
+split_before : (a rest : List ℕ) → all_above 32 a ≡ true
+    → slice_split is_blank (a ++ 32 ∷ rest) ≡ a ∷ slice_split is_blank rest
 split_before [] rest h = refl
 split_before (b ∷ bs) rest h = let t = head_above 32 b bs h in rw (no_blank b t.0, split_before bs rest t.1) refl
 
@@ -180,7 +164,8 @@ three_above a b c h =
 no_feed : (b : ℕ) → nat_lt 31 b ≡ true → nat_eq b 10 ≡ false
 no_feed b h = grind (arith, nat_tests)
 
-parts_before : (a rest : List ℕ) → all_above 31 a ≡ true → parts (a ++ 10 ∷ rest) ≡ a ∷ parts rest
+parts_before : (a rest : List ℕ) → all_above 31 a ≡ true
+    → slice_split is_feed (a ++ 10 ∷ rest) ≡ a ∷ slice_split is_feed rest
 parts_before [] rest h = refl
 parts_before (b ∷ bs) rest h = let t = head_above 31 b bs h in rw (no_feed b t.0, parts_before bs rest t.1) refl
 
@@ -194,9 +179,7 @@ strip_none a h = rw (no_return a (length a - 1) h) refl
 
 pub lines_before : (a rest : List ℕ) → all_above 31 a ≡ true → lines (a ++ 10 ∷ rest) ≡ a ∷ lines rest
 lines_before a rest h =
-    let p = parts_head rest in
-    ap lines_of_parts (parts_before a rest h ∙ ap (λ ps. a ∷ ps) p.2)
-    ∙ ap (λ l. l ∷ lines_of_parts (p.0 ∷ p.1)) (strip_none a h) ∙ sym (ap (λ ps. a ∷ lines_of_parts ps) p.2)
+    lines_of_cut (a ++ 10 ∷ rest) a rest (parts_before a rest h) ∙ ap (λ l. l ∷ lines rest) (strip_none a h)
 
 pub lines_three : (a b c rest : List ℕ) → AreFields a b c → lines (three a b c ++ 10 ∷ rest) ≡ three a b c ∷ lines rest
 lines_three a b c rest h = lines_before (three a b c) rest (three_above a b c h)

@@ -1,8 +1,11 @@
 -- Fields of an entry line.
-use Rattle.std.proofs.Common.{◌≡◌, ◌≤◌, ◌<◌, ◌+◌, ◌-◌, ◌*◌, ◌^◌, ◌%◌, ℕ, zero, suc, List, [], ◌∷◌, ◌++◌, Bool, true, false, cond, None, Some, length, take, drop, get_or, refl, sym, ap, ◌∙◌, subst, arith, length-append, length-drop, length-take, filter, append_assoc, nat_eq, lit<}
+use Rattle.std.proofs.Common.{◌≡◌, ◌≤◌, ◌<◌, ◌+◌, ◌-◌, ◌*◌, ◌^◌, ◌%◌, ℕ, zero, suc, List, []}
+use Rattle.std.proofs.Common.{◌∷◌, ◌++◌, Bool, true, false, cond, None, Some, length, take, drop, get_or, refl, sym, ap}
+use Rattle.std.proofs.Common.{◌∙◌, subst, arith, length-append, length-drop, length-take, filter, append_assoc, nat_eq, lit<}
 use Rattle.std.specs.Char.{is_ascii_digit}
-use Rattle.std.specs.List.{slice_range, slice_split, onto_first}
-use Rattle.std.specs.Str.Lines.{lines, lines_of_parts, strip_carriage_return}
+use Rattle.std.specs.List.{slice_range, slice_split}
+use Rattle.std.specs.Str.Lines.{lines, strip_carriage_return}
+use Rattle.text_words.proofs.FirstLine.{is_feed, lines_of_cut}
 use Rattle.std.proofs.Math.Seq.{drop-cons, take-append_seam}
 use Rattle.std.proofs.lemmas.List.{get_or_at}
 use Rattle.std.proofs.lemmas.List.Folds.{drop_split}
@@ -10,7 +13,9 @@ use Rattle.std.proofs.Math.Nat.{pow-le-pow_right}
 use Rattle.std.proofs.lemmas.Bool.Decides.{nat_tests}
 use Rattle.std.proofs.lemmas.Bool.{lt-ltb, le-leb}
 use Rattle.matrix_market.specs.declared.usual.UsualLine.{UsualLine}
-use Rattle.matrix_market.specs.Market.{words, is_blank, is_some_text, is_comment, digits_after, number, value, signed, Value, word_of, entry_words, WrittenEntry}
+use Rattle.text_words.specs.Words.{words, is_blank, is_some_text}
+use Rattle.text_words.specs.Numbers.{digits_after}
+use Rattle.matrix_market.specs.Market.{is_comment, number, value, signed, Value, word_of, entry_words, WrittenEntry}
 use Rattle.matrix_market.specs.inner.Usual.{Scanned, IsIndex, IsNumber, IsValue, IsLineEnd, IsEntryLine}
 
 pow_mono : (a b : ℕ) → a ≤ b → 10 ^ a ≤ 10 ^ b
@@ -38,7 +43,8 @@ free_append : (p : ℕ → Bool) (xs ys : List ℕ) → Free p xs → Free p ys 
 free_append p [] ys f g = g
 free_append p (x ∷ xs) ys f g = (f.0, free_append p xs ys f.1 g)
 
-free_digits : (p : ℕ → Bool) → ((b : ℕ) → is_ascii_digit b ≡ true → p b ≡ false) → (n m : ℕ) (ds : List ℕ) → digits_after n ds ≡ Some m → Free p ds
+free_digits : (p : ℕ → Bool) → ((b : ℕ) → is_ascii_digit b ≡ true → p b ≡ false) → (n m : ℕ) (ds : List ℕ)
+    → digits_after n ds ≡ Some m → Free p ds
 free_digits p h n m [] e = tt
 free_digits p h n m (x ∷ ds) e =
     elim (is_ascii_digit x) as (λ t. is_ascii_digit x ≡ t → cond t (digits_after (n * 10 + (x - 48)) ds) None ≡ Some m → Free p (x ∷ ds)) [
@@ -46,7 +52,8 @@ free_digits p h n m (x ∷ ds) e =
       | false ↦ λ d g. absurd (cc)
     ] refl e
 
-split_at : (p : ℕ → Bool) (xs : List ℕ) (y : ℕ) (ys : List ℕ) → Free p xs → p y ≡ true → slice_split p (xs ++ y ∷ ys) ≡ xs ∷ slice_split p ys
+split_at : (p : ℕ → Bool) (xs : List ℕ) (y : ℕ) (ys : List ℕ) → Free p xs → p y ≡ true
+    → slice_split p (xs ++ y ∷ ys) ≡ xs ∷ slice_split p ys
 split_at p [] y ys f e = rw e refl
 split_at p (x ∷ xs) y ys f e = rw (f.0, split_at p xs y ys f.1 e) refl
 
@@ -54,32 +61,22 @@ split_none : (p : ℕ → Bool) (xs : List ℕ) → Free p xs → slice_split p 
 split_none p [] f = refl
 split_none p (x ∷ xs) f = rw (f.0, split_none p xs f.1) refl
 
-keep_some : (a b c : List ℕ) → 0 < length a → 0 < length b → 0 < length c → filter is_some_text (a ∷ b ∷ c ∷ []) ≡ a ∷ b ∷ c ∷ []
+keep_some : (a b c : List ℕ) → 0 < length a → 0 < length b → 0 < length c
+    → filter is_some_text (a ∷ b ∷ c ∷ []) ≡ a ∷ b ∷ c ∷ []
 keep_some [] b c h i j = absurd (omega arith)
 keep_some (x ∷ a) [] c h i j = absurd (omega arith)
 keep_some (x ∷ a) (y ∷ b) [] h i j = absurd (omega arith)
 keep_some (x ∷ a) (y ∷ b) (z ∷ c) h i j = refl
 
 -- three words with spaces between them
-pub three_words : (a b c : List ℕ) → Free is_blank a → Free is_blank b → Free is_blank c → 0 < length a → 0 < length b → 0 < length c
+pub three_words : (a b c : List ℕ) → Free is_blank a → Free is_blank b → Free is_blank c → 0 < length a → 0 < length b
+    → 0 < length c
     → words (a ++ 32 ∷ (b ++ 32 ∷ c)) ≡ a ∷ b ∷ c ∷ []
 three_words a b c f g h i j k =
     ap (filter is_some_text) (split_at is_blank a 32 (b ++ 32 ∷ c) f refl ∙ ap (λ ws. a ∷ ws) (split_at is_blank b 32 c g refl ∙ ap (λ ws. b ∷ ws) (split_none is_blank c h))) ∙ keep_some a b c i j k
 
-abbrev pub is_feed : ℕ → Bool
-is_feed b = nat_eq b 10
-
 abbrev pub is_return : ℕ → Bool
 is_return b = nat_eq b 13
-
-parts_head : (bs : List ℕ) → (x : List ℕ) × (xs : List (List ℕ)) × (slice_split is_feed bs ≡ x ∷ xs)
-parts_head [] = ([], [], refl)
-parts_head (b ∷ bs) =
-    let h = parts_head bs in
-    elim (is_feed b) as (λ t. (x : List ℕ) × (xs : List (List ℕ)) × (cond t ([] ∷ slice_split is_feed bs) (onto_first b (slice_split is_feed bs)) ≡ x ∷ xs)) [
-      | true ↦ ([], slice_split is_feed bs, refl)
-      | false ↦ (b ∷ h.0, h.1, ap (onto_first b) h.2)
-    ]
 
 free_at : (p : ℕ → Bool) (xs : List ℕ) (k : ℕ) → Free p xs → k < length xs → p (get_or xs k 0) ≡ false
 free_at p [] k f h = absurd (omega arith)
@@ -93,21 +90,22 @@ keeps_returns (x ∷ xs) f = rw (free_at is_return (x ∷ xs) (length (x ∷ xs)
 -- the line before an LF
 pub lines_at : (l rest : List ℕ) → Free is_feed l → Free is_return l → lines (l ++ 10 ∷ rest) ≡ l ∷ lines rest
 lines_at l rest f g =
-    let h = parts_head rest in
-    ap lines_of_parts (split_at is_feed l 10 rest f refl ∙ ap (λ ps. l ∷ ps) h.2) ∙ (ap (λ x. x ∷ lines_of_parts (h.0 ∷ h.1)) (keeps_returns l g) ∙ sym (ap (λ ps. l ∷ lines_of_parts ps) h.2))
+    lines_of_cut (l ++ 10 ∷ rest) l rest (split_at is_feed l 10 rest f refl) ∙ ap (λ x. x ∷ lines rest) (keeps_returns l g)
 
 -- a space is not the last LF
 pub not_last : (text : List ℕ) (to last : ℕ) → get_or text last 0 ≡ 10 → get_or text to 0 ≡ 32 → to ≡ last → ⊥
 not_last text to last a b e = let s : get_or text last 0 ≡ 32 = subst (λ (k : ℕ). get_or text k 0 ≡ 32) e b in omega arith
 
-pub range_cons : (xs : List ℕ) (i j : ℕ) → i < j → j ≤ length xs → slice_range xs i j ≡ get_or xs i 0 ∷ slice_range xs (i + 1) j
+pub range_cons : (xs : List ℕ) (i j : ℕ) → i < j → j ≤ length xs
+    → slice_range xs i j ≡ get_or xs i 0 ∷ slice_range xs (i + 1) j
 range_cons xs i j a b =
     let e : j - i ≡ suc (j - (i + 1)) = omega arith in
     let f : drop i xs ≡ get_or xs i 0 ∷ drop (i + 1) xs = drop-cons xs i 0 (omega arith) ∙ ap (λ k. get_or xs i 0 ∷ drop k xs) (let q : suc i ≡ i + 1 = omega arith in q) in
     ap (λ k. take k (drop i xs)) e ∙ ap (take (suc (j - (i + 1)))) f
 
 -- a value without a sign
-pub plain_value : (text : List ℕ) (from to m : ℕ) → from < to → to ≤ from + 19 → to ≤ length text → Scanned (slice_range text from to) m → m < 2 ^ 63 → IsValue text from to m
+pub plain_value : (text : List ℕ) (from to m : ℕ) → from < to → to ≤ from + 19 → to ≤ length text
+    → Scanned (slice_range text from to) m → m < 2 ^ 63 → IsValue text from to m
 plain_value text from to m a b l s h =
     let k = length_range text from to (omega arith) l in
     record {
@@ -128,7 +126,9 @@ negated zero n h e = let z : 0 ≡ n = omega arith in z
 negated (suc m) n h e = let z : 2 ^ 64 - suc m ≡ n = omega arith in rw (lt-ltb 0 (suc m) (omega arith)) z
 
 -- a value behind a minus
-pub minus_value : (text : List ℕ) (from to m n : ℕ) → from + 1 < to → to ≤ from + 20 → to ≤ length text → get_or text from 0 ≡ 45 → Scanned (slice_range text (from + 1) to) m → m ≤ 2 ^ 63 → n ≡ (2 ^ 64 - m) % 2 ^ 64 → IsValue text from to n
+pub minus_value : (text : List ℕ) (from to m n : ℕ) → from + 1 < to → to ≤ from + 20 → to ≤ length text
+    → get_or text from 0 ≡ 45 → Scanned (slice_range text (from + 1) to) m → m ≤ 2 ^ 63 → n ≡ (2 ^ 64 - m) % 2 ^ 64
+    → IsValue text from to n
 minus_value text from to m n a b l g s h e =
     let k = length_range text (from + 1) to (omega arith) l in
     record {
@@ -155,7 +155,8 @@ digit_feed b d = grind (arith, nat_tests)
 digit_return : (b : ℕ) → is_ascii_digit b ≡ true → is_return b ≡ false
 digit_return b d = grind (arith, nat_tests)
 
-digit_sign : (b : ℕ) → is_ascii_digit b ≡ true → (nat_eq b 43 ≡ false) × ((nat_eq b 45 ≡ false) × (nat_eq b 37 ≡ false))
+digit_sign : (b : ℕ) → is_ascii_digit b ≡ true
+    → (nat_eq b 43 ≡ false) × ((nat_eq b 45 ≡ false) × (nat_eq b 37 ≡ false))
 digit_sign b d = let x : nat_eq b 43 ≡ false = grind (arith, nat_tests) in let y : nat_eq b 45 ≡ false = grind (arith, nat_tests) in let z : nat_eq b 37 ≡ false = grind (arith, nat_tests) in (x, (y, z))
 
 first_digit : (n m b : ℕ) (ds : List ℕ) → digits_after n (b ∷ ds) ≡ Some m → is_ascii_digit b ≡ true
@@ -169,12 +170,14 @@ pub number_of : (ds : List ℕ) (n : ℕ) → 0 < length ds → digits_after 0 d
 number_of [] n l e = absurd (omega arith)
 number_of (b ∷ ds) n l e = rw ((digit_sign b (first_digit 0 n b ds e)).0) e
 
-pub value_of : (negative : Bool) (ds : List ℕ) (m : ℕ) → 0 < length ds → digits_after 0 ds ≡ Some m → value (cond negative (45 ∷ ds) ds) ≡ Some (negative, m)
+pub value_of : (negative : Bool) (ds : List ℕ) (m : ℕ) → 0 < length ds → digits_after 0 ds ≡ Some m
+    → value (cond negative (45 ∷ ds) ds) ≡ Some (negative, m)
 value_of negative [] m l e = absurd (omega arith)
 value_of true (b ∷ ds) m l e = ap (signed true) e
 value_of false (b ∷ ds) m l e = let s = digit_sign b (first_digit 0 m b ds e) in rw (s.1.0, s.0) (ap (signed false) e)
 
-free_signed : (p : ℕ → Bool) → ((b : ℕ) → is_ascii_digit b ≡ true → p b ≡ false) → p 45 ≡ false → (negative : Bool) (ds : List ℕ) (m : ℕ) → digits_after 0 ds ≡ Some m → Free p (cond negative (45 ∷ ds) ds)
+free_signed : (p : ℕ → Bool) → ((b : ℕ) → is_ascii_digit b ≡ true → p b ≡ false) → p 45 ≡ false
+    → (negative : Bool) (ds : List ℕ) (m : ℕ) → digits_after 0 ds ≡ Some m → Free p (cond negative (45 ∷ ds) ds)
 free_signed p h g true ds m e = (g, free_digits p h 0 m ds e)
 free_signed p h g false ds m e = free_digits p h 0 m ds e
 
@@ -182,7 +185,8 @@ some_signed : (negative : Bool) (ds : List ℕ) → 0 < length ds → 0 < length
 some_signed true ds h = omega arith
 some_signed false ds h = h
 
-no_comment : (a : List ℕ) (n : ℕ) (ws : List (List ℕ)) → 0 < length a → digits_after 0 a ≡ Some n → is_comment (a ∷ ws) ≡ false
+no_comment : (a : List ℕ) (n : ℕ) (ws : List (List ℕ)) → 0 < length a → digits_after 0 a ≡ Some n
+    → is_comment (a ∷ ws) ≡ false
 no_comment [] n ws l e = absurd (omega arith)
 no_comment (b ∷ a) n ws l e = (digit_sign b (first_digit 0 n b a e)).1.1
 
@@ -201,7 +205,8 @@ same_entry : (i j k n : ℕ) (v : Value) → i ≡ k → j ≡ n → Some (entry
 same_entry i j k n v e f = cc
 
 -- a part, a byte and what follows it
-cut_at : (xs : List ℕ) (i j b : ℕ) → i ≤ j → j < length xs → get_or xs j 0 ≡ b → drop i xs ≡ slice_range xs i j ++ b ∷ drop (j + 1) xs
+cut_at : (xs : List ℕ) (i j b : ℕ) → i ≤ j → j < length xs → get_or xs j 0 ≡ b
+    → drop i xs ≡ slice_range xs i j ++ b ∷ drop (j + 1) xs
 cut_at xs i j b l h e =
     drop_split xs i j l ∙ ap (λ ys. slice_range xs i j ++ ys) (drop-cons xs j 0 h ∙ (ap (λ x. x ∷ drop (suc j) xs) e ∙ ap (λ k. b ∷ drop k xs) (let q : suc j ≡ j + 1 = omega arith in q)))
 
@@ -214,12 +219,14 @@ ends_with_return l =
 -- the line before CR and LF
 lines_return : (l rest : List ℕ) → Free is_feed l → lines (l ++ 13 ∷ 10 ∷ rest) ≡ l ∷ lines rest
 lines_return l rest f =
-    let h = parts_head rest in
     let joined : l ++ 13 ∷ 10 ∷ rest ≡ (l ++ 13 ∷ []) ++ 10 ∷ rest = sym (append_assoc l (13 ∷ []) (10 ∷ rest)) in
-    ap lines joined ∙ (ap lines_of_parts (split_at is_feed (l ++ 13 ∷ []) 10 rest (free_append is_feed l (13 ∷ []) f (refl, tt)) refl ∙ ap (λ ps. (l ++ 13 ∷ []) ∷ ps) h.2)
-    ∙ (ap (λ x. x ∷ lines_of_parts (h.0 ∷ h.1)) (ends_with_return l) ∙ sym (ap (λ ps. l ∷ lines_of_parts ps) h.2)))
+    let cut = split_at is_feed (l ++ 13 ∷ []) 10 rest (free_append is_feed l (13 ∷ []) f (refl, tt)) refl in
+    ap lines joined ∙ lines_of_cut ((l ++ 13 ∷ []) ++ 10 ∷ rest) (l ++ 13 ∷ []) rest cut
+    ∙ ap (λ x. x ∷ lines rest) (ends_with_return l)
 
-lines_end : (returns : Bool) (text l : List ℕ) (end next : ℕ) → get_or text end 0 ≡ cond returns 13 10 → get_or text (next - 1) 0 ≡ 10 → next ≡ end + cond returns 2 1 → next ≤ length text → Free is_feed l → Free is_return l
+lines_end : (returns : Bool) (text l : List ℕ) (end next : ℕ) → get_or text end 0 ≡ cond returns 13 10
+    → get_or text (next - 1) 0 ≡ 10 → next ≡ end + cond returns 2 1 → next ≤ length text → Free is_feed l
+    → Free is_return l
     → lines (l ++ drop end text) ≡ l ∷ lines (drop next text)
 lines_end false text l end next h d n w f g =
     ap (λ xs. lines (l ++ xs)) (drop-cons text end 0 (omega arith) ∙ (ap (λ x. x ∷ drop (suc end) text) h ∙ ap (λ k. 10 ∷ drop k text) (let q : suc end ≡ next = omega arith in q))) ∙ lines_at l (drop next text) f g
@@ -250,7 +257,8 @@ module _ (text : List ℕ) (at p q end i j w : ℕ) (within : end < length text)
       let three = drop_split text (q + 1) end (omega arith) in
       one ∙ (ap (λ ys. slice_range text at p ++ 32 ∷ ys) (two ∙ ap (λ ys. slice_range text (p + 1) q ++ 32 ∷ ys) (three ∙ ap (λ ys. ys ++ drop end text) val.cut)) ∙ simp append_assoc)
 
-  pub line_found : (l : UsualLine) → l.row ≡ i → l.column ≡ j → l.word ≡ w → l.next ≡ next → IsEntryLine false (drop at text) l (drop l.next text)
+  pub line_found : (l : UsualLine) → l.row ≡ i → l.column ≡ j → l.word ≡ w → l.next ≡ next
+      → IsEntryLine false (drop at text) l (drop l.next text)
   unfolding whole a b c
   line_found l ri ci wi ni =
       let r = row.number.some in let s = column.number.some in let t = val.some in let few = row.number.few in let few2 = column.number.few in let few3 = val.few in
@@ -289,10 +297,12 @@ keep_both (x ∷ a) [] h i = absurd (omega arith)
 keep_both (x ∷ a) (y ∷ b) h i = refl
 
 -- two words with a space between them
-two_words : (a b : List ℕ) → Free is_blank a → Free is_blank b → 0 < length a → 0 < length b → words (a ++ 32 ∷ b) ≡ a ∷ b ∷ []
+two_words : (a b : List ℕ) → Free is_blank a → Free is_blank b → 0 < length a → 0 < length b
+    → words (a ++ 32 ∷ b) ≡ a ∷ b ∷ []
 two_words a b f g i j = ap (filter is_some_text) (split_at is_blank a 32 b f refl ∙ ap (λ ws. a ∷ ws) (split_none is_blank b g)) ∙ keep_both a b i j
 
-free_pair : (p : ℕ → Bool) → ((b : ℕ) → is_ascii_digit b ≡ true → p b ≡ false) → p 32 ≡ false → (a b : List ℕ) (i j : ℕ) → digits_after 0 a ≡ Some i → digits_after 0 b ≡ Some j → Free p (a ++ 32 ∷ b)
+free_pair : (p : ℕ → Bool) → ((b : ℕ) → is_ascii_digit b ≡ true → p b ≡ false) → p 32 ≡ false
+    → (a b : List ℕ) (i j : ℕ) → digits_after 0 a ≡ Some i → digits_after 0 b ≡ Some j → Free p (a ++ 32 ∷ b)
 free_pair p h s a b i j x y = free_append p a (32 ∷ b) (free_digits p h 0 i a x) (s, free_digits p h 0 j b y)
 
 entry_two : (a b : List ℕ) (i j : ℕ) → number a ≡ Some i → number b ≡ Some j → entry_words true (a ∷ b ∷ []) ≡ Some (record { row = i; column = j; value = (false, 1) })
@@ -316,7 +326,8 @@ module _ (text : List ℕ) (at p end i j : ℕ) (within : end < length text) (ro
       let two = drop_split text (p + 1) end (omega arith) in
       one ∙ (ap (λ ys. slice_range text at p ++ 32 ∷ ys) two ∙ simp append_assoc)
 
-  pub pattern_found : (l : UsualLine) → l.row ≡ i → l.column ≡ j → l.word ≡ 1 → l.next ≡ next → IsEntryLine true (drop at text) l (drop l.next text)
+  pub pattern_found : (l : UsualLine) → l.row ≡ i → l.column ≡ j → l.word ≡ 1 → l.next ≡ next
+      → IsEntryLine true (drop at text) l (drop l.next text)
   unfolding pair left right
   pattern_found l ri ci wi ni =
       let r = row.number.some in let s = column.some in let few = row.number.few in let few2 = column.few in

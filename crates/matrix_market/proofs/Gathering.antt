@@ -14,7 +14,8 @@ use Rattle.matrix_market.specs.declared.kinds.Header.{Header}
 use Rattle.matrix_market.specs.declared.kinds.Found.{Found}
 use Rattle.matrix_market.specs.declared.place.Place.{Place}
 use Rattle.matrix_market.specs.declared.usual.UsualLine.{UsualLine}
-use Rattle.matrix_market.specs.Market.{Value, words, is_skipped, entry_words, outside, is_word, word_of}
+use Rattle.text_words.specs.Words.{words}
+use Rattle.matrix_market.specs.Market.{Value, is_skipped, entry_words, outside, is_word, word_of}
 use Rattle.matrix_market.specs.inner.Answers.{Passes, entry_answer, entry_checked, spots, put_all, some_given}
 use Rattle.matrix_market.specs.inner.Filling.{At, Filled}
 use Rattle.matrix_market.specs.inner.Usual.{IsEntryLine}

@@ -1,5 +1,3 @@
-pub mod FirstLine
-pub mod WordCuts
 pub mod Numbers
 pub mod Passing
 pub mod Puts

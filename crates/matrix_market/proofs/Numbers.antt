@@ -1,53 +1,17 @@
 -- Numbers in decimal digits, held below 2 ^ 64.
-use Rattle.std.proofs.Common.{◌≡◌, ◌≤◌, ◌<◌, ◌+◌, ◌-◌, ◌*◌, ◌^◌, ℕ, List, [], ◌∷◌, Bool, true, false, cond, Option, None, Some, length, get_or, drop, refl, sym, ap, ◌∙◌, arith}
-use Rattle.std.proofs.lemmas.List.{at_drop_more, drop_all}
-use Rattle.std.specs.Char.{is_ascii_digit}
+use Rattle.std.proofs.Common.{◌≡◌, ◌≤◌, ◌-◌, ℕ, List, [], ◌∷◌, Bool}
+use Rattle.std.proofs.Common.{true, false, cond, Option, None, Some, refl, sym, ap, ◌∙◌, arith}
 use Rattle.std.proofs.Common.{not, ◌||◌, Ok, Err}
 use Rattle.std.proofs.lemmas.Bool.Decides.{nat_tests}
 use Rattle.matrix_market.specs.declared.rule.MarketRule.TheVariants.{IndexOutsideMatrix, ValueOutOfRange}
 use Rattle.matrix_market.specs.declared.kinds.Size.{Size}
 use Rattle.matrix_market.specs.declared.kinds.Found.{Found}
-use Rattle.matrix_market.specs.Market.{digits_after, digits, number, value, Value, outside, is_word, word_of, entry_from, entry_words}
-use Rattle.matrix_market.specs.inner.Answers.{held, held_number, held_value, entry_checked, entry_answer}
+use Rattle.matrix_market.specs.Market.{number, value, Value, outside, is_word, word_of, entry_from, entry_words}
+use Rattle.text_words.specs.Numbers.{held, held_number}
+use Rattle.matrix_market.specs.inner.Answers.{held_value, entry_checked, entry_answer}
 
 abbrev found : ℕ → ℕ → Value → Found
 found i j v = record { row = i - 1; column = j - 1; word = word_of v }
-
-held_step : (n m d : ℕ) → held n ≡ held m → held (n * 10 + d) ≡ held (m * 10 + d)
-held_step n m d e = omega arith
-
--- digits behind numbers that are held alike
-pub held_digits : (n m : ℕ) (bs : List ℕ) → held n ≡ held m → held_number (digits_after n bs) ≡ held_number (digits_after m bs)
-held_digits n m [] e = ap Some e
-held_digits n m (b ∷ bs) e =
-    elim (is_ascii_digit b) as (λ t. held_number (cond t (digits_after (n * 10 + (b - 48)) bs) None) ≡ held_number (cond t (digits_after (m * 10 + (b - 48)) bs) None)) [
-      | true ↦ held_digits (n * 10 + (b - 48)) (m * 10 + (b - 48)) bs (held_step n m (b - 48) e)
-      | false ↦ refl
-    ]
-
-pub digits_some : (word : List ℕ) → 0 < length word → digits word ≡ digits_after 0 word
-digits_some [] p = absurd (omega arith)
-digits_some (b ∷ bs) p = refl
-
-pub digits_none : (word : List ℕ) → length word ≡ 0 → digits word ≡ None
-digits_none [] p = refl
-digits_none (b ∷ bs) p = absurd (omega arith)
-
-pub digit_more : (word : List ℕ) (i value next b : ℕ) → i < length word → b ≡ get_or word i 0 → is_ascii_digit b ≡ true → held next ≡ held (value * 10 + (b - 48))
-    → held_number (digits_after value (drop i word)) ≡ held_number (digits_after next (drop (i + 1) word))
-digit_more word i value next b l r d h =
-    let cell : digits_after value (drop i word) ≡ digits_after value (get_or word i 0 ∷ drop (i + 1) word) = at_drop_more (digits_after value) word i 0 l in
-    let step : digits_after value (b ∷ drop (i + 1) word) ≡ digits_after (value * 10 + (b - 48)) (drop (i + 1) word) = rw d refl in
-    ap held_number (cell ∙ (ap (λ x. digits_after value (x ∷ drop (i + 1) word)) (sym r) ∙ step)) ∙ held_digits (value * 10 + (b - 48)) next (drop (i + 1) word) (sym h)
-
-pub digit_not : (word : List ℕ) (i value b : ℕ) → i < length word → b ≡ get_or word i 0 → is_ascii_digit b ≡ false → held_number (digits_after value (drop i word)) ≡ None
-digit_not word i value b l r d =
-    let cell : digits_after value (drop i word) ≡ digits_after value (get_or word i 0 ∷ drop (i + 1) word) = at_drop_more (digits_after value) word i 0 l in
-    let step : digits_after value (b ∷ drop (i + 1) word) ≡ None = rw d refl in
-    ap held_number (cell ∙ (ap (λ x. digits_after value (x ∷ drop (i + 1) word)) (sym r) ∙ step))
-
-pub digit_end : (word : List ℕ) (i value : ℕ) → length word ≤ i → value < 2 ^ 64 → held_number (digits_after value (drop i word)) ≡ Some value
-digit_end word i value l v = ap (λ bs. held_number (digits_after value bs)) (drop_all i word l) ∙ ap Some (let e : held value ≡ value = omega arith in e)
 
 not_some : {X : Type 0} (x : X) → Some x ≡ None → ⊥
 not_some x e = cc
@@ -73,7 +37,8 @@ either_false : (a b : Bool) → (a || b) ≡ false → (a ≡ false) × (b ≡ f
 either_false true b e = absurd (cc)
 either_false false b e = (refl, e)
 
-entry_held : (s : Size) (i j : ℕ) (v : Value) → s.rows ≤ 16777216 → s.columns ≤ 16777216 → entry_checked s (held i) (held j) (v.0, held v.1) ≡ entry_checked s i j v
+entry_held : (s : Size) (i j : ℕ) (v : Value) → s.rows ≤ 16777216 → s.columns ≤ 16777216
+    → entry_checked s (held i) (held j) (v.0, held v.1) ≡ entry_checked s i j v
 entry_held s i j v hr hc =
     rw (outside_held i s.rows hr, outside_held j s.columns hc, word_held v)
     (elim (outside i s.rows || outside j s.columns) as (λ t. (outside i s.rows || outside j s.columns) ≡ t → cond t (Err IndexOutsideMatrix) (cond (not (is_word v)) (Err ValueOutOfRange) (Ok (found (held i) (held j) (v.0, held v.1)))) ≡ cond t (Err IndexOutsideMatrix) (cond (not (is_word v)) (Err ValueOutOfRange) (Ok (found i j v)))) [
@@ -84,7 +49,8 @@ entry_held s i j v hr hc =
       ] refl
     ] refl)
 
-entry_options : (s : Size) (o p : Option ℕ) (q : Option Value) (i j : ℕ) (v : Value) → s.rows ≤ 16777216 → s.columns ≤ 16777216 → Some i ≡ held_number o → Some j ≡ held_number p → Some v ≡ held_value q
+entry_options : (s : Size) (o p : Option ℕ) (q : Option Value) (i j : ℕ) (v : Value) → s.rows ≤ 16777216
+    → s.columns ≤ 16777216 → Some i ≡ held_number o → Some j ≡ held_number p → Some v ≡ held_value q
     → entry_checked s i j v ≡ entry_answer s (entry_from o p q)
 entry_options s None p q i j v hr hc a b d = absurd (not_some i a)
 entry_options s (Some x) None q i j v hr hc a b d = absurd (not_some j b)
@@ -92,7 +58,8 @@ entry_options s (Some x) (Some y) None i j v hr hc a b d = absurd (not_some v d)
 entry_options s (Some x) (Some y) (Some z) i j v hr hc a b d =
     ap (λ k. entry_checked s k j v) (same_some i (held x) a) ∙ (ap (λ k. entry_checked s (held x) k v) (same_some j (held y) b) ∙ (ap (entry_checked s (held x) (held y)) (same_some v (z.0, held z.1) d) ∙ entry_held s x y z hr hc))
 
-pub entry_three : (s : Size) (pattern : Bool) (ws : List (List ℕ)) (a b d : List ℕ) (i j : ℕ) (v : Value) → s.rows ≤ 16777216 → s.columns ≤ 16777216 → pattern ≡ false → ws ≡ a ∷ b ∷ d ∷ []
+pub entry_three : (s : Size) (pattern : Bool) (ws : List (List ℕ)) (a b d : List ℕ) (i j : ℕ) (v : Value)
+    → s.rows ≤ 16777216 → s.columns ≤ 16777216 → pattern ≡ false → ws ≡ a ∷ b ∷ d ∷ []
     → Some i ≡ held_number (number a) → Some j ≡ held_number (number b) → Some v ≡ held_value (value d) → entry_checked s i j v ≡ entry_answer s (entry_words pattern ws)
 entry_three s pattern ws a b d i j v hr hc p w x y z =
     entry_options s (number a) (number b) (value d) i j v hr hc x y z ∙ sym (ap (λ t. entry_answer s (entry_words t ws)) p ∙ ap (λ t. entry_answer s (entry_words false t)) w)

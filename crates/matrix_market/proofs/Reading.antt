@@ -10,7 +10,8 @@ use Rattle.matrix_market.specs.declared.rule.MarketRule.TheVariants.{MalformedBa
 use Rattle.matrix_market.specs.declared.kinds.Banner.{Banner}
 use Rattle.matrix_market.specs.declared.kinds.Size.{Size}
 use Rattle.matrix_market.specs.declared.kinds.Found.{Found}
-use Rattle.matrix_market.specs.Market.{WrittenEntry, IsFault, IsTextOf, words, is_skipped, is_banner, banner_words, tail, content_rules, size_rules, size_words, entry_rules, entry_words, end_rules, entries_of, option_list, is_large, word_of, is_repeated, places, words_at, at_most, rules_at, first_rule, when}
+use Rattle.text_words.specs.Words.{words}
+use Rattle.matrix_market.specs.Market.{WrittenEntry, IsFault, IsTextOf, is_skipped, is_banner, banner_words, tail, content_rules, size_rules, size_words, entry_rules, entry_words, end_rules, entries_of, option_list, is_large, word_of, is_repeated, places, words_at, at_most, rules_at, first_rule, when}
 use Rattle.matrix_market.specs.inner.Answers.{
   Passes,
   banner_answer,

@@ -16,7 +16,8 @@ use Rattle.matrix_market.specs.declared.kinds.Header.{Header}
 use Rattle.matrix_market.specs.declared.kinds.Found.{Found}
 use Rattle.matrix_market.specs.declared.place.Place.{Place}
 use Rattle.matrix_market.specs.declared.rule.MarketRule.TheVariants.{PositionGivenTwice}
-use Rattle.matrix_market.specs.Market.{mirrored, words, is_skipped, entry_words, IsFault}
+use Rattle.text_words.specs.Words.{words}
+use Rattle.matrix_market.specs.Market.{mirrored, is_skipped, entry_words, IsFault}
 use Rattle.matrix_market.specs.inner.Answers.{Passes, IsIdle, entry_answer, spots, some_given}
 use Rattle.matrix_market.specs.inner.Filling.{Filled}
 use Rattle.matrix_market.specs.inner.Gathering.{Begun, IsRead, Run, Taken, with_word}

@@ -1,5 +1,7 @@
 -- Digits, one after another.
-use Rattle.std.proofs.Common.{◌≡◌, ◌≤◌, ◌<◌, ◌+◌, ◌-◌, ◌*◌, ◌^◌, ◌%◌, ℕ, suc, List, [], ◌∷◌, ◌++◌, true, false, cond, None, Some, length, take, drop, get_or, sym, ap, ◌∙◌, subst, arith, length-append}
+use Rattle.std.proofs.Common.{◌≡◌, ◌≤◌, ◌<◌, ◌+◌, ◌-◌, ◌*◌, ◌^◌, ◌%◌, ℕ, suc, List, []}
+use Rattle.std.proofs.Common.{◌∷◌, ◌++◌, true, length, take, drop, get_or, sym, ap, ◌∙◌}
+use Rattle.std.proofs.Common.{subst, arith, length-append}
 use Rattle.std.specs.Char.{is_ascii_digit}
 use Rattle.std.specs.List.{slice_range}
 use Rattle.std.proofs.Math.Seq.{take-suc}
@@ -7,23 +9,8 @@ use Rattle.std.proofs.Math.Nat.{pow-succ'}
 use Rattle.std.proofs.lemmas.List.{get_or-drop}
 use Rattle.std.proofs.Common.{length-drop}
 use Rattle.std.proofs.lemmas.Bool.Decides.{nat_tests}
-use Rattle.matrix_market.specs.Market.{digits_after}
 use Rattle.matrix_market.specs.inner.Usual.{Scanned}
-
-not_some : {X : Type 0} (x : X) → None ≡ Some x → ⊥
-not_some x e = cc
-
-same_some : {X : Type 0} (x y : X) → Some x ≡ Some y → x ≡ y
-same_some x y e = cc
-
--- one more digit
-digits_more : (n m b : ℕ) (ds : List ℕ) → digits_after n ds ≡ Some m → is_ascii_digit b ≡ true → digits_after n (ds ++ b ∷ []) ≡ Some (m * 10 + (b - 48))
-digits_more n m b [] e d = rw d (ap (λ k. Some (k * 10 + (b - 48))) (same_some n m e))
-digits_more n m b (x ∷ ds) e d =
-    elim (is_ascii_digit x) as (λ t. cond t (digits_after (n * 10 + (x - 48)) ds) None ≡ Some m → cond t (digits_after (n * 10 + (x - 48)) (ds ++ b ∷ [])) None ≡ Some (m * 10 + (b - 48))) [
-      | true ↦ λ h. digits_more (n * 10 + (x - 48)) m b ds h d
-      | false ↦ λ h. absurd (not_some m h)
-    ] e
+use Rattle.text_words.proofs.Written.{digits_more}
 
 pow_more : (n : ℕ) → 10 ^ (n + 1) ≡ 10 * 10 ^ n
 pow_more n = ap (λ k. 10 ^ k) (let e : n + 1 ≡ suc n = omega arith in e) ∙ pow-succ' 10 n
@@ -31,7 +18,8 @@ pow_more n = ap (λ k. 10 ^ k) (let e : n + 1 ≡ suc n = omega arith in e) ∙ 
 mod_step : (v w x d : ℕ) → v ≡ x % 2 ^ 64 → w ≡ (v * 10 % 2 ^ 64 + d) % 2 ^ 64 → w ≡ (x * 10 + d) % 2 ^ 64
 mod_step v w x d e f = omega arith
 
-pub scanned_more : (ds : List ℕ) (v w b : ℕ) → Scanned ds v → is_ascii_digit b ≡ true → w ≡ (v * 10 % 2 ^ 64 + (b - 48)) % 2 ^ 64 → Scanned (ds ++ b ∷ []) w
+pub scanned_more : (ds : List ℕ) (v w b : ℕ) → Scanned ds v → is_ascii_digit b ≡ true
+    → w ≡ (v * 10 % 2 ^ 64 + (b - 48)) % 2 ^ 64 → Scanned (ds ++ b ∷ []) w
 scanned_more ds v w b s d e =
     let nine : b - 48 ≤ 9 = grind (arith, nat_tests) in
     let l : length (ds ++ b ∷ []) ≡ length ds + 1 = length-append ds (b ∷ []) in
@@ -44,13 +32,15 @@ scanned_more ds v w b s d e =
     }
 
 -- a part that is longer by one
-pub range_more : (xs : List ℕ) (i j : ℕ) → i ≤ j → j < length xs → slice_range xs i (j + 1) ≡ slice_range xs i j ++ get_or xs j 0 ∷ []
+pub range_more : (xs : List ℕ) (i j : ℕ) → i ≤ j → j < length xs
+    → slice_range xs i (j + 1) ≡ slice_range xs i j ++ get_or xs j 0 ∷ []
 range_more xs i j a b =
     let e : (j + 1) - i ≡ suc (j - i) = omega arith in
     let l : j - i < length (drop i xs) = simp length-drop (omega arith) in
     let g : get_or (drop i xs) (j - i) 0 ≡ get_or xs j 0 = get_or-drop i xs (j - i) 0 ∙ ap (λ k. get_or xs k 0) (let q : i + (j - i) ≡ j = omega arith in q) in
     ap (λ k. take k (drop i xs)) e ∙ (take-suc (drop i xs) (j - i) 0 l ∙ ap (λ x. take (j - i) (drop i xs) ++ x ∷ []) g)
 
-pub scanned_next : (xs : List ℕ) (i j v w : ℕ) → i ≤ j → j < length xs → Scanned (slice_range xs i j) v → is_ascii_digit (get_or xs j 0) ≡ true → w ≡ (v * 10 % 2 ^ 64 + (get_or xs j 0 - 48)) % 2 ^ 64
+pub scanned_next : (xs : List ℕ) (i j v w : ℕ) → i ≤ j → j < length xs → Scanned (slice_range xs i j) v
+    → is_ascii_digit (get_or xs j 0) ≡ true → w ≡ (v * 10 % 2 ^ 64 + (get_or xs j 0 - 48)) % 2 ^ 64
     → Scanned (slice_range xs i (j + 1)) w
 scanned_next xs i j v w a b s d e = subst (λ (ds : List ℕ). Scanned ds w) (sym (range_more xs i j a b)) (scanned_more (slice_range xs i j) v w (get_or xs j 0) s d e)

@@ -14,7 +14,8 @@ use Rattle.matrix_market.specs.declared.kinds.Banner.{Banner}
 use Rattle.matrix_market.specs.declared.kinds.Size.{Size}
 use Rattle.matrix_market.specs.declared.kinds.Found.{Found}
 use Rattle.matrix_market.specs.CanonicalText.{banner, line_of, size_line, entry_lines, value_text, canonical_text}
-use Rattle.matrix_market.specs.Market.{IsTextOf, WrittenEntry, words, is_skipped, outside, size_words, entry_words}
+use Rattle.text_words.specs.Words.{words}
+use Rattle.matrix_market.specs.Market.{IsTextOf, WrittenEntry, is_skipped, outside, size_words, entry_words}
 use Rattle.matrix_market.specs.inner.Answers.{Passes, size_answer, entry_answer, entry_checked}
 use Rattle.matrix_market.specs.inner.Filling.{At, Filled}
 use Rattle.matrix_market.proofs.Canonical.{AreFields, three, words_three, lines_three, lines_before, number-decimal, value-value_text, value_for, value_for-is_word, word_of-value_for, decimal_above, value_above, starts_with_digit, decimal_starts, value_some, value_length}

@@ -2,30 +2,26 @@
 -- (https://math.nist.gov/MatrixMarket/formats.html, "Coordinate Format for Sparse Matrices"), with the qualifiers
 -- `integer`, `pattern`, `general` and `symmetric`; and which line of a text breaks which rule. The rules, the limits and
 -- the order in which a line is looked at are this project's own.
-use Rattle.std.specs.Prelude.{◌≡◌, ℕ, ◌+◌, ◌-◌, ◌*◌, ◌^◌, ◌<◌, ◌≤◌, ◌==◌, ◌||◌, ◌&&◌, not, nat_lt, nat_le, nat_eq, Bool, true, false, if◌then◌else◌, List, [], ◌∷◌, ◌++◌, length, Option, Some, None, filter, flat_map, take, slice_get, codes}
-use Rattle.std.specs.List.{slice_split, list_any}
-use Rattle.std.specs.Char.{is_ascii_digit}
+use Rattle.std.specs.Prelude.{◌≡◌, ℕ, ◌+◌, ◌-◌, ◌^◌, ◌<◌, ◌≤◌, ◌==◌, ◌||◌, ◌&&◌}
+use Rattle.std.specs.Prelude.{not, nat_lt, nat_le, nat_eq, Bool, true, false, if◌then◌else◌, List, [], ◌∷◌, ◌++◌}
+use Rattle.std.specs.Prelude.{length, Option, Some, None, filter, flat_map, take, slice_get, codes}
+use Rattle.std.specs.List.{list_any}
 use Rattle.std.specs.Str.{str_to_ascii_lowercase}
 use Rattle.std.specs.Str.Lines.{lines}
 use Rattle.std.specs.Cmp.Lexicographic.{pointwise}
 use Rattle.std.specs.FinMap as fin
 use Rattle.csr_store.specs.Grid.{Grid, Position}
+use Rattle.text_words.specs.Words.{words}
+use Rattle.text_words.specs.Numbers.{decimal_in}
 use Rattle.matrix_market.specs.declared.rule.MarketRule.{MarketRule}
-use Rattle.matrix_market.specs.declared.rule.MarketRule.TheVariants.{MalformedBanner, OutsideProfile, MalformedSize, SizeAboveLimit, MalformedEntry, IndexOutsideMatrix, ValueOutOfRange, PositionGivenTwice, TooFewEntries, LineAfterLastEntry, LineTooLong, SymmetricNotSquare}
+use Rattle.matrix_market.specs.declared.rule.MarketRule.TheVariants.{MalformedBanner, OutsideProfile, MalformedSize, SizeAboveLimit}
+use Rattle.matrix_market.specs.declared.rule.MarketRule.TheVariants.{MalformedEntry, IndexOutsideMatrix, ValueOutOfRange}
+use Rattle.matrix_market.specs.declared.rule.MarketRule.TheVariants.{PositionGivenTwice, TooFewEntries, LineAfterLastEntry}
+use Rattle.matrix_market.specs.declared.rule.MarketRule.TheVariants.{LineTooLong, SymmetricNotSquare}
 use Rattle.matrix_market.specs.declared.kinds.Banner.{Banner}
 use Rattle.matrix_market.specs.declared.kinds.Size.{Size}
 
 -- ---- words
-abbrev pub is_blank : ℕ → Bool
-is_blank b = (b == 32) || (b == 9)
-
-abbrev pub is_some_text : List ℕ → Bool
-is_some_text [] = false
-is_some_text (b ∷ bs) = true
-
-abbrev pub words : List ℕ → List (List ℕ)
-words line = filter is_some_text (slice_split is_blank line)
-
 abbrev pub same_text : List ℕ → List ℕ → Bool
 same_text = pointwise nat_eq
 
@@ -39,18 +35,10 @@ abbrev pub is_skipped : List ℕ → Bool
 is_skipped line = is_comment (words line)
 
 -- ---- numbers
-abbrev pub digits_after : ℕ → List ℕ → Option ℕ
-digits_after n [] = Some n
-digits_after n (b ∷ bs) = if is_ascii_digit b then digits_after (n * 10 + (b - 48)) bs else None
-
-abbrev pub digits : List ℕ → Option ℕ
-digits [] = None
-digits (b ∷ bs) = digits_after 0 (b ∷ bs)
-
 -- digits behind an optional +
 abbrev pub number : List ℕ → Option ℕ
 number [] = None
-number (b ∷ bs) = if b == 43 then digits bs else digits (b ∷ bs)
+number (b ∷ bs) = if b == 43 then decimal_in bs else decimal_in (b ∷ bs)
 
 -- a whole number: whether it has a -, and how large it is
 abbrev pub Value : Type 0
@@ -62,7 +50,7 @@ signed negative (Some n) = Some (negative, n)
 
 abbrev pub value : List ℕ → Option Value
 value [] = None
-value (b ∷ bs) = if b == 45 then signed true (digits bs) else signed false (number (b ∷ bs))
+value (b ∷ bs) = if b == 45 then signed true (decimal_in bs) else signed false (number (b ∷ bs))
 
 abbrev pub is_word : Value → Bool
 is_word v = if v.0 then nat_le v.1 (2 ^ 63) else nat_lt v.1 (2 ^ 63)

@@ -1,7 +1,10 @@
 -- The names of the rules of matrix text. They are this project's own.
 use Rattle.std.specs.Prelude.{ℕ, List, codes}
 use Rattle.matrix_market.specs.declared.rule.MarketRule.{MarketRule}
-use Rattle.matrix_market.specs.declared.rule.MarketRule.TheVariants.{MalformedBanner, OutsideProfile, MalformedSize, SizeAboveLimit, MalformedEntry, IndexOutsideMatrix, ValueOutOfRange, PositionGivenTwice, TooFewEntries, LineAfterLastEntry, LineTooLong, SymmetricNotSquare}
+use Rattle.matrix_market.specs.declared.rule.MarketRule.TheVariants.{MalformedBanner, OutsideProfile, MalformedSize, SizeAboveLimit}
+use Rattle.matrix_market.specs.declared.rule.MarketRule.TheVariants.{MalformedEntry, IndexOutsideMatrix, ValueOutOfRange}
+use Rattle.matrix_market.specs.declared.rule.MarketRule.TheVariants.{PositionGivenTwice, TooFewEntries, LineAfterLastEntry}
+use Rattle.matrix_market.specs.declared.rule.MarketRule.TheVariants.{LineTooLong, SymmetricNotSquare}
 
 -- how the product writes a rule
 abbrev pub rule_name : MarketRule → List ℕ

@@ -2,6 +2,5 @@
 pub mod Answers
 pub mod Filling
 pub mod Gathering
-pub mod Market
 pub mod Refusal
 pub mod Usual

@@ -1,20 +1,21 @@
 //! What a line of each kind says, or the rule that it breaks.
-ghost use Rattle.std.specs.Prelude.{◌≡◌, ◌≢◌, ◌<◌, ◌≤◌, ◌+◌, ◌∷◌, [], ℕ, ◌^◌, length, MatchOption, codes};
+ghost use Rattle.std.specs.Prelude.{◌≡◌, ◌≢◌, ◌≤◌, ◌∷◌, [], length, MatchOption, Some};
 ghost use Rattle.std.specs.Str.{str_to_ascii_lowercase};
+ghost use Rattle.text_words.specs.Words.{words};
+ghost use Rattle.text_words.specs.Numbers.{held_number};
 ghost use Rattle.matrix_market.specs.Market as market;
-ghost use Rattle.matrix_market.specs.Market.{words, is_skipped, size_words, entry_words, same_text};
-ghost use Rattle.matrix_market.specs.inner.Answers.{
-  held_number,
-  held_value,
-  banner_answer,
-  size_answer,
-  size_checked,
-  entry_checked,
-  entry_answer,
-};
+ghost use Rattle.matrix_market.specs.Market.{is_skipped, size_words, entry_words, same_text};
+ghost use Rattle.matrix_market.specs.inner.Answers.{held_value, banner_answer, size_answer, size_checked, entry_checked};
+ghost use Rattle.matrix_market.specs.inner.Answers.{entry_answer};
+ghost use Rattle.matrix_market.specs.Values.{in_range};
 
 use crate::rule::MarketRule;
-use crate::words::{Fields, fields_of, first_word};
+use crate::words::{Fields, fields_of};
+use csr_store::{MOST_ENTRIES, MOST_SIDE};
+use text_words::{first_word, held_decimal};
+
+/// The magnitude of the least number of 64 bits.
+const LEAST_MAGNITUDE: u64 = 1 << 63;
 
 /// What the first line says.
 #[derive(Clone, Copy)]
@@ -61,32 +62,13 @@ pub fn skipped(line: &[u8]) -> bool
     }
 }
 
-/// The number that a word writes in decimal digits, held below 2 ^ 64.
-fn digits(word: &[u8]) -> Option<u64>
-    ensures { result ≡ held_number (market.digits word.now) }
-{
-    if word.is_empty() {
-        return None;
-    }
-    let mut value: u64 = 0;
-    for b in word {
-        if !b.is_ascii_digit() {
-            return None;
-        }
-        value = value
-            .saturating_mul(10)
-            .saturating_add(u64::from(*b - b'0'));
-    }
-    Some(value)
-}
-
-/// The same behind an optional `+`.
+/// The number that a word writes in decimal digits behind an optional `+`, held below 2^64.
 fn number(word: &[u8]) -> Option<u64>
     ensures { result ≡ held_number (market.number word.now) }
 {
     match word {
-        [b'+', rest @ ..] => digits(rest),
-        _ => digits(word),
+        [b'+', rest @ ..] => held_decimal(rest),
+        _ => held_decimal(word),
     }
 }
 
@@ -95,7 +77,7 @@ pub fn value(word: &[u8]) -> Option<(bool, u64)>
     ensures { result ≡ held_value (market.value word.now) }
 {
     match word {
-        [b'-', rest @ ..] => match digits(rest) {
+        [b'-', rest @ ..] => match held_decimal(rest) {
             Some(n) => Some((true, n)),
             None => None,
         },
@@ -106,13 +88,29 @@ pub fn value(word: &[u8]) -> Option<(bool, u64)>
     }
 }
 
+/// The word of a value's sign and magnitude, where it is from -2^63 to 2^63 - 1.
+pub fn word_in_range(negative: bool, magnitude: u64) -> Option<u64>
+    ensures { result ≡ in_range (Some (negative, magnitude)) }
+{
+    if negative {
+        if magnitude > LEAST_MAGNITUDE {
+            return None;
+        }
+        return Some(0u64.wrapping_sub(magnitude));
+    }
+    if magnitude >= LEAST_MAGNITUDE {
+        return None;
+    }
+    Some(magnitude)
+}
+
 fn check_size(symmetric: bool, rows: u64, columns: u64, entries: u64) -> Result<Size, MarketRule>
     ensures { result ≡ size_checked symmetric rows columns entries }
 {
-    if rows > 16_777_216
-        || columns > 16_777_216
-        || entries > 16_777_216
-        || symmetric && entries > 8_388_608
+    if rows > MOST_SIDE
+        || columns > MOST_SIDE
+        || entries > MOST_ENTRIES
+        || symmetric && entries > MOST_ENTRIES / 2
     {
         return Err(MarketRule::SizeAboveLimit);
     }
@@ -138,34 +136,20 @@ fn check_entry(
     if i == 0 || i > size.rows || j == 0 || j > size.columns {
         return Err(MarketRule::IndexOutsideMatrix);
     }
-    if negative {
-        if magnitude > 9_223_372_036_854_775_808 {
-            return Err(MarketRule::ValueOutOfRange);
-        }
-        let word = if magnitude > 0 {
-            u64::MAX - magnitude + 1
-        } else {
-            0
-        };
-        return Ok(Found {
+    match word_in_range(negative, magnitude) {
+        Some(word) => Ok(Found {
             row: i - 1,
             column: j - 1,
             word,
-        });
+        }),
+        None => Err(MarketRule::ValueOutOfRange),
     }
-    if magnitude >= 9_223_372_036_854_775_808 {
-        return Err(MarketRule::ValueOutOfRange);
-    }
-    Ok(Found {
-        row: i - 1,
-        column: j - 1,
-        word: magnitude,
-    })
 }
 
 /// The words of a text, where they are four.
 fn four_words(text: &[u8]) -> Option<(&[u8], &[u8], &[u8], &[u8])>
-    ensures { MatchOption result (length (words text.now) ≢ 4) (λ p. words text.now ≡ p.0.now ∷ p.1.now ∷ p.2.now ∷ p.3.now ∷ []) }
+    ensures { MatchOption result (length (words text.now) ≢ 4)
+        (λ p. words text.now ≡ p.0.now ∷ p.1.now ∷ p.2.now ∷ p.3.now ∷ []) }
 {
     let (a, rest) = first_word(text)?;
     let (b, rest) = first_word(rest)?;

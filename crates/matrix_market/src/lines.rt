@@ -1,36 +1,12 @@
 //! The lines of a text.
-ghost use Rattle.std.specs.Prelude.{◌≡◌, ◌<◌, ◌+◌, ◌^◌, ◌∷◌, [], ℕ, length, take, drop, MatchOption, IfSome};
 ghost use Rattle.matrix_market.specs.inner.Answers.{NextOf};
-ghost use Rattle.std.specs.Str.Lines.{lines, strip_carriage_return};
 
 use crate::kinds::skipped;
 use crate::place::Place;
+use text_words::first_line;
 
-/// A line without the CR at its end.
-fn strip_cr(line: &[u8]) -> &[u8]
-    ensures { result.now ≡ strip_carriage_return line.now }
-{
-    match line {
-        [front @ .., b'\r'] => front,
-        _ => line,
-    }
-}
-
-/// The first line of a text, and what follows it.
-pub fn first_line(text: &[u8]) -> Option<(&[u8], &[u8])>
-    ensures lines { MatchOption result (lines text.now ≡ []) (λ p. lines text.now ≡ p.0.now ∷ lines p.1.now) }
-    ensures shorter { IfSome result (λ p. length p.1.now < length text.now) }
-{
-    if text.is_empty() {
-        return None;
-    }
-    for (i, b) in text.iter().enumerate() {
-        if *b == b'\n' {
-            return Some((strip_cr(&text[..i]), &text[i + 1..]));
-        }
-    }
-    Some((text, &[]))
-}
+/// The most bytes that a line has, its line end not counted.
+pub const MOST_BYTES: usize = 1024;
 
 /// What comes behind blank lines and comments.
 #[derive(Clone, Copy)]
@@ -51,7 +27,7 @@ pub fn next_content(place: Place<'_>) -> Next<'_>
     let mut at = place.at;
     while let Some((line, more)) = first_line(rest) {
         at += 1;
-        if line.len() > 1024 {
+        if line.len() > MOST_BYTES {
             return Next::TooLong(at);
         }
         if !skipped(line) {

@@ -10,12 +10,13 @@ ghost use Rattle.matrix_market.specs.declared.rule.MarketError.TheVariants.{Memo
 
 use crate::gather::{Gathering, gather};
 use crate::kinds::{Header, read_banner, read_size};
-use crate::lines::{Next, first_line, next_content};
+use crate::lines::{MOST_BYTES, Next, next_content};
 use crate::place::Place;
 use crate::repeat::line_of_repeat;
 use crate::rule::{MarketError, MarketRule};
 use csr_store::{EntryList, Matrix, StoreError};
 use std::alloc::Global;
+use text_words::first_line;
 
 /// The matrix that a text stands for.
 ///
@@ -46,14 +47,15 @@ fn read_header(text: &[u8]) -> Result<(Header, Place<'_>), MarketError>
     ensures begun { IfOk result (λ p. Begun text.now p.0 p.1) }
     ensures err { IfErr result (λ e. NamesFault text.now e) }
 {
-    let _length = text.len();
+    let for_proof_length = text.len();
+    let _ = for_proof_length;
     let Some((first, rest)) = first_line(text) else {
         return Err(MarketError::Fault {
             rule: MarketRule::MalformedBanner,
             line: 1,
         });
     };
-    if first.len() > 1024 {
+    if first.len() > MOST_BYTES {
         return Err(MarketError::Fault {
             rule: MarketRule::LineTooLong,
             line: 1,

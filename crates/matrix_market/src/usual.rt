@@ -1,5 +1,6 @@
 //! Entry lines in their usual form, read fast: what has another form is left to the reader that knows all rules.
-ghost use Rattle.std.specs.Prelude.{true, false, ◌≡◌, ◌<◌, ◌≤◌, ◌+◌, length, slice_index, slice_range, drop, IfSome};
+ghost use Rattle.std.specs.Prelude.{true, false, ◌≡◌, ◌<◌, ◌≤◌, ◌+◌, length, slice_index, slice_range, drop};
+ghost use Rattle.std.specs.Prelude.{IfSome};
 ghost use Rattle.matrix_market.specs.inner.Usual.{Scanned, IsIndex, IsNumber, IsValue, IsLineEnd, IsEntryLine};
 
 /// What an entry line says, its indices as written, and where the next line starts.

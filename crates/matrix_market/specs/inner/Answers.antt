@@ -1,7 +1,10 @@
 -- What a line of each kind gives, or which rule it breaks.
-use Rattle.std.specs.Prelude.{◌≡◌, ℕ, ◌+◌, ◌-◌, ◌^◌, ◌≤◌, ◌==◌, ◌||◌, ◌&&◌, not, nat_lt, Bool, true, false, if◌then◌else◌, List, [], ◌∷◌, length, Option, Some, None, Result, Ok, Err, min}
+use Rattle.std.specs.Prelude.{◌≡◌, ℕ, ◌+◌, ◌-◌, ◌≤◌, ◌==◌, ◌||◌, ◌&&◌, not, nat_lt, Bool}
+use Rattle.std.specs.Prelude.{true, false, if◌then◌else◌, List, [], ◌∷◌, length, Option, Some, None, Result, Ok, Err}
 use Rattle.matrix_market.specs.declared.rule.MarketRule.{MarketRule}
-use Rattle.matrix_market.specs.declared.rule.MarketRule.TheVariants.{MalformedBanner, OutsideProfile, MalformedSize, SizeAboveLimit, MalformedEntry, IndexOutsideMatrix, ValueOutOfRange, SymmetricNotSquare}
+use Rattle.matrix_market.specs.declared.rule.MarketRule.TheVariants.{MalformedBanner, OutsideProfile, MalformedSize, SizeAboveLimit}
+use Rattle.matrix_market.specs.declared.rule.MarketRule.TheVariants.{MalformedEntry, IndexOutsideMatrix, ValueOutOfRange}
+use Rattle.matrix_market.specs.declared.rule.MarketRule.TheVariants.{SymmetricNotSquare}
 use Rattle.matrix_market.specs.declared.kinds.Banner.{Banner}
 use Rattle.matrix_market.specs.declared.kinds.Size.{Size}
 use Rattle.matrix_market.specs.declared.kinds.Found.{Found}
@@ -12,19 +15,14 @@ use Rattle.std.specs.List.{AllByRecursion, list_any}
 use Rattle.std.specs.Str.Lines.{lines}
 use Rattle.std.specs.FinMap as fin
 use Rattle.csr_store.specs.Grid.{Position, pos_cmp}
+use Rattle.text_words.specs.Numbers.{held}
 use Rattle.matrix_market.specs.declared.lines.Next.{Next}
 use Rattle.matrix_market.specs.declared.place.Place.{Place}
 use Rattle.matrix_market.specs.declared.lines.Next.TheVariants.{Line, End, TooLong}
-use Rattle.matrix_market.specs.Market.{mirrored, is_skipped, Value, WrittenEntry, is_banner, banner_words, tail, is_large, outside, is_word, word_of}
+use Rattle.matrix_market.specs.Market.{mirrored, is_skipped, Value, WrittenEntry, is_banner, banner_words, tail, is_large, outside}
+use Rattle.matrix_market.specs.Market.{is_word, word_of}
 
--- a number, held below 2 ^ 64
-abbrev pub held : ℕ → ℕ
-held n = min n (2 ^ 64 - 1)
-
-abbrev pub held_number : Option ℕ → Option ℕ
-held_number None = None
-held_number (Some n) = Some (held n)
-
+-- a value whose number is held below 2 ^ 64
 abbrev pub held_value : Option Value → Option Value
 held_value None = None
 held_value (Some v) = Some (v.0, held v.1)

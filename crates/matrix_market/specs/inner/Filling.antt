@@ -5,7 +5,8 @@ use Rattle.std.specs.FinMap as fin
 use Rattle.csr_store.specs.Grid.{Grid, Position}
 use Rattle.matrix_market.specs.declared.kinds.Banner.{Banner}
 use Rattle.matrix_market.specs.declared.kinds.Size.{Size}
-use Rattle.matrix_market.specs.Market.{content, banner_of, rules_at, size_words, words, words_at, entries_of, at_most}
+use Rattle.text_words.specs.Words.{words}
+use Rattle.matrix_market.specs.Market.{content, banner_of, rules_at, size_words, words_at, entries_of, at_most}
 
 -- no line up to one breaks a rule
 abbrev pub Clean : List (List ℕ) → ℕ → Type 0

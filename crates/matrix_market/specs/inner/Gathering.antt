@@ -1,6 +1,7 @@
 -- What was gathered of a text in any order. Positions that are given twice are looked for when all entries are there, so
 -- what is said of a text's faults holds if there are none. This project's own.
-use Rattle.std.specs.Prelude.{◌≡◌, ℕ, zero, suc, ◌+◌, ◌≤◌, ◌<◌, false, nat_lt, Bool, List, [], ◌∷◌, ◌++◌, map, length, Option, Result, Ok, MatchOption, MatchResult}
+use Rattle.std.specs.Prelude.{◌≡◌, ℕ, zero, suc, ◌+◌, ◌≤◌, ◌<◌, false, nat_lt, Bool, List, [], ◌∷◌}
+use Rattle.std.specs.Prelude.{◌++◌, map, length, Option, Result, Ok, MatchOption, MatchResult}
 use Rattle.std.specs.List.{AllByRecursion}
 use Rattle.std.specs.Str.Lines.{lines}
 use Rattle.std.specs.FinMap as fin
@@ -14,7 +15,8 @@ use Rattle.matrix_market.specs.declared.kinds.Found.{Found}
 use Rattle.matrix_market.specs.declared.place.Place.{Place}
 use Rattle.matrix_market.specs.declared.rule.MarketError.{MarketError}
 use Rattle.matrix_market.specs.declared.rule.MarketRule.TheVariants.{PositionGivenTwice}
-use Rattle.matrix_market.specs.Market.{is_skipped, words, entry_words, IsTextOf, IsFault}
+use Rattle.text_words.specs.Words.{words}
+use Rattle.matrix_market.specs.Market.{is_skipped, entry_words, IsTextOf, IsFault}
 use Rattle.matrix_market.specs.inner.Answers.{spots, entry_answer, IsIdle}
 use Rattle.matrix_market.specs.inner.Filling.{Filled}
 use Rattle.matrix_market.specs.inner.Refusal.{NamesFault}
@@ -22,7 +24,8 @@ use Rattle.matrix_market.specs.inner.Refusal.{NamesFault}
 -- the entries of a text with this header begin here, and no line before breaks a rule
 abbrev pub Begun : List ℕ → Header → Place → Type 0
 Begun text h start =
-    Filled text h.banner h.size (record { rows = h.size.rows; columns = h.size.columns; cells = fin.empty }) start.rest.now start.at 0
+    Filled text h.banner h.size (record { rows = h.size.rows; columns = h.size.columns; cells = fin.empty })
+    start.rest.now start.at 0
 
 -- a word at each of some positions
 abbrev pub with_word : List Position → ℕ → List Entry
@@ -81,18 +84,21 @@ pub record IsRead (h : Header) (start : Place) (l : Listed) : Type 0 where
 -- a text that goes on like this behind lines that break no rule has this fault, if an entry is to come
 abbrev pub IsFaultAt : Header → Place → MarketError → Type 0
 IsFaultAt h place e =
-    (text : List ℕ) (g : Grid) (given : ℕ) → Filled text h.banner h.size g place.rest.now place.at given → given < h.size.entries → NamesFault text e
+    (text : List ℕ) (g : Grid) (given : ℕ) → Filled text h.banner h.size g place.rest.now place.at given
+    → given < h.size.entries → NamesFault text e
 
 -- the same, if all entries are read: it has this fault or none
 abbrev pub IsEnd : Place → Option MarketError → Type 0
 IsEnd place fault =
-    (text : List ℕ) (b : Banner) (s : Size) (g : Grid) (given : ℕ) → Filled text b s g place.rest.now place.at given → s.entries ≤ given
+    (text : List ℕ) (b : Banner) (s : Size) (g : Grid) (given : ℕ) → Filled text b s g place.rest.now place.at given
+    → s.entries ≤ given
     → MatchOption fault (IsTextOf text g) (NamesFault text)
 
 -- where no position is given twice
 abbrev pub Tells : Header → Place → Listed → Option MarketError → Type 0
 Tells h start l fault =
-    (text : List ℕ) → Begun text h start → NoneTwice l.entries → MatchOption fault (IsTextOf text (grid l.rows l.columns l.entries)) (NamesFault text)
+    (text : List ℕ) → Begun text h start → NoneTwice l.entries
+    → MatchOption fault (IsTextOf text (grid l.rows l.columns l.entries)) (NamesFault text)
 
 -- the line of this number gives a position again, and no line before it breaks a rule
 abbrev pub IsRepeatAt : Header → Place → ℕ → Type 0

@@ -1,8 +1,11 @@
 -- An entry line in its usual form: digits, a space, digits, and in a text with values a space, an optional `-` and
 -- digits; and LF or CR LF. This project's own; what it says is what `specs/Market.antt` says of the line.
-use Rattle.std.specs.Prelude.{◌≡◌, ℕ, ◌+◌, ◌-◌, ◌^◌, ◌%◌, ◌<◌, ◌≤◌, Bool, true, false, if◌then◌else◌, List, ◌∷◌, length, Some, slice_index, slice_range}
+use Rattle.std.specs.Prelude.{◌≡◌, ℕ, ◌+◌, ◌-◌, ◌^◌, ◌%◌, ◌<◌, ◌≤◌, Bool, true, false}
+use Rattle.std.specs.Prelude.{if◌then◌else◌, List, ◌∷◌, length, Some, slice_index, slice_range}
 use Rattle.std.specs.Str.Lines.{lines}
-use Rattle.matrix_market.specs.Market.{digits_after, Value, is_word, word_of, is_skipped, words, entry_words}
+use Rattle.text_words.specs.Words.{words}
+use Rattle.text_words.specs.Numbers.{digits_after}
+use Rattle.matrix_market.specs.Market.{Value, is_word, word_of, is_skipped, entry_words}
 use Rattle.matrix_market.specs.declared.usual.UsualLine.{UsualLine}
 
 -- digits, and their number in 64 bits

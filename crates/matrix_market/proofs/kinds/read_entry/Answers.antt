@@ -1,5 +1,5 @@
 use Rattle.std.proofs.Common.{◌∙◌}
-use Rattle.matrix_market.specs.Market.{words}
+use Rattle.text_words.specs.Words.{words}
 use Rattle.matrix_market.proofs.Numbers.{entry_three}
 use Rattle.matrix_market.proofs.kinds.read_entry.Goals as goal
 
