@@ -1,3 +1,1 @@
-pub mod WordCuts
-pub mod Digits
 pub mod Naming

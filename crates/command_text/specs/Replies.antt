@@ -6,7 +6,8 @@ use Rattle.bpf_text.specs.Rule as assembly
 use Rattle.matrix_market.specs.Rule as market
 use Rattle.job_plan.specs.Refusal as job
 use Rattle.command_text.specs.declared.rules.SessionRule.{SessionRule}
-use Rattle.command_text.specs.declared.rules.SessionRule.TheVariants.{UnknownCommand, MalformedWords, MalformedName, UnknownName, NotHexadecimal}
+use Rattle.command_text.specs.declared.rules.SessionRule.TheVariants.{UnknownCommand, MalformedWords, MalformedName, UnknownName}
+use Rattle.command_text.specs.declared.rules.SessionRule.TheVariants.{NotHexadecimal}
 use Rattle.command_text.specs.declared.rules.FatalRule.{FatalRule}
 use Rattle.command_text.specs.declared.rules.FatalRule.TheVariants as fatal
 use Rattle.command_text.specs.declared.refusal.Refusal.{Refusal}

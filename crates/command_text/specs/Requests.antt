@@ -1,5 +1,6 @@
 -- What a command line asks for (this project's own).
-use Rattle.std.specs.Prelude.{ℕ, nat_lt, if◌then◌else◌, List, [], ◌∷◌, Option, None, Some, Result, Ok, Err, ok_or, codes}
+use Rattle.std.specs.Prelude.{ℕ, nat_lt, if◌then◌else◌, List, [], ◌∷◌, Option, None, Some, Result, Ok, Err, ok_or}
+use Rattle.std.specs.Prelude.{codes}
 use Rattle.std.specs.Str.{bytes_eq}
 use Rattle.matrix_market.specs.Values.{value_word}
 use Rattle.job_plan.specs.Form.{found, mask_found}

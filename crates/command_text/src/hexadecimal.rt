@@ -7,6 +7,7 @@ ghost use Rattle.hex.specs.declared.FromHexError.{FromHexError};
 
 use hex::FromHexError;
 use std::alloc::Global;
+use text_words::is_blank;
 use thiserror::Error;
 
 /// Why a text gave no code.
@@ -24,7 +25,7 @@ pub enum HexFault {
 fn is_gap(byte: u8) -> bool
     ensures { result ≡ spec.is_gap byte }
 {
-    byte == b' ' || byte == b'\t' || byte == b'\r' || byte == b'\n'
+    is_blank(byte) || byte == b'\r' || byte == b'\n'
 }
 
 /// The bytes that a text of hexadecimal digits of either case writes. Spaces, tabs, CR and LF in

@@ -2,7 +2,8 @@
 ghost use Rattle.std.specs.Prelude.{◌≡◌, ◌≤◌, ◌+◌, ◌++◌, [], length, codes, decimal};
 ghost use Rattle.command_text.specs.ReplyText.{whole};
 ghost use Rattle.command_text.specs.Lines.{line_of};
-ghost use Rattle.command_text.specs.Replies.{refusal_words, refusal_text, matrix_text, operator_text, queued_text, job_text, run_line, show_text, list_text, budget_text, quit_text};
+ghost use Rattle.command_text.specs.Replies.{refusal_words, refusal_text, matrix_text, operator_text, queued_text, job_text};
+ghost use Rattle.command_text.specs.Replies.{run_line, show_text, list_text, budget_text, quit_text};
 
 use crate::refusal::Refusal;
 use crate::reply::Reply;

@@ -1,6 +1,7 @@
 //! What a command line asks for.
 ghost use Rattle.std.specs.Prelude.{◌≡◌, ℕ, List, [], ◌∷◌, Ok, Err, MatchResult};
-ghost use Rattle.command_text.specs.Words as text;
+ghost use Rattle.text_words.specs.Words as text;
+ghost use Rattle.command_text.specs.Words.{length_of};
 ghost use Rattle.command_text.specs.Requests as spec;
 ghost use Rattle.command_text.specs.Readings.{command_of, header_of, name_of, request_of};
 
@@ -10,7 +11,8 @@ use crate::submission::{
     Submission, apply_request, both_request, product_request, reduce_request, select_request,
     union_request,
 };
-use crate::words::{first_word, only_word, parse_length, three_words};
+use crate::words::{only_word, three_words};
+use text_words::{decimal, first_word};
 
 /// The first word of a command.
 #[derive(Clone, Copy, Debug, PartialEq, Eq)]
@@ -157,9 +159,9 @@ fn body_limit(header: Header<'_>) -> u64
 
 /// The command, if its body is of an allowed length.
 fn with_length<'a>(header: Header<'a>, length: &[u8]) -> Request<'a>
-    ensures { request_of result ≡ spec.with_length (header_of header.entry) (text.length_of length.now) }
+    ensures { request_of result ≡ spec.with_length (header_of header.entry) (length_of length.now) }
 {
-    match parse_length(length) {
+    match decimal(length) {
         None => Request::Fatal(FatalRule::MalformedWords),
         Some(length) => {
             if length > body_limit(header) {

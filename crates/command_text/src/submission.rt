@@ -1,7 +1,7 @@
 //! What the line of a job asks for.
 ghost use Rattle.std.specs.Prelude.{◌≡◌, ℕ, List, [], ◌∷◌, Some, MatchOption};
 ghost use Rattle.std.specs.Option.{option_map};
-ghost use Rattle.command_text.specs.Words.{words};
+ghost use Rattle.text_words.specs.Words.{words};
 ghost use Rattle.command_text.specs.inner.Words.{HasFewer, is_one, lent_word, words_of};
 ghost use Rattle.command_text.specs.Requests as spec;
 ghost use Rattle.command_text.specs.Readings.{form_of, request_of, submission_of};
@@ -10,9 +10,9 @@ ghost use Rattle.job_plan.specs.Form.{found};
 use crate::name::Name;
 use crate::request::{Command, Request, Verb, refuse};
 use crate::rules::SessionRule;
-use crate::words::first_word;
 use job_plan::Form;
 use matrix_market::parse_value;
+use text_words::first_word;
 
 /// A job that is to be queued: the name that it will bind, its form, and the name of its mask, if it has one.
 #[derive(Clone, Copy)]

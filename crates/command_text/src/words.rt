@@ -1,58 +1,14 @@
 //! The words of a command line.
-ghost use Rattle.std.specs.Prelude.{◌≡◌, ◌<◌, ◌≤◌, ◌∷◌, [], length, take, drop, MatchOption};
+ghost use Rattle.std.specs.Prelude.{◌≡◌, ◌∷◌, [], MatchOption};
+ghost use Rattle.text_words.specs.Words.{words};
 ghost use Rattle.command_text.specs.Words as spec;
-ghost use Rattle.command_text.specs.Words.{words};
-ghost use Rattle.command_text.specs.inner.Words.{IsAtWord, IsNotOne, IsNotThree};
+ghost use Rattle.command_text.specs.inner.Words.{IsNotOne, IsNotThree};
 
 use bpf_insn::Kind;
+use text_words::first_word;
 
 /// How many bytes a name has at most.
 const LONGEST_NAME: usize = 32;
-
-fn is_blank(byte: u8) -> bool
-    ensures { result ≡ spec.is_blank byte }
-{
-    byte == b' ' || byte == b'\t'
-}
-
-/// The text from its first word on.
-fn skip_blanks(text: &[u8]) -> &[u8]
-    ensures same { words result.now ≡ words text.now }
-    ensures start { IsAtWord result.now }
-{
-    for (i, b) in text.iter().enumerate() {
-        if !is_blank(*b) {
-            return &text[i..];
-        }
-    }
-    &[]
-}
-
-/// How long the word is that a text begins with.
-fn word_length(text: &[u8]) -> usize
-    requires { IsAtWord text.now }
-    ensures within { result ≤ length text.now }
-    ensures word { 0 < length text.now → words text.now ≡
-        take result text.now ∷ words (drop result text.now) }
-{
-    for (i, b) in text.iter().enumerate() {
-        if is_blank(*b) {
-            return i;
-        }
-    }
-    text.len()
-}
-
-/// The first word of a text, and what follows it.
-pub fn first_word(text: &[u8]) -> Option<(&[u8], &[u8])>
-    ensures { MatchOption result (words text.now ≡ []) (λ p. words text.now ≡ p.0.now ∷ words p.1.now) }
-{
-    let text = skip_blanks(text);
-    if text.is_empty() {
-        return None;
-    }
-    Some(text.split_at(word_length(text)))
-}
 
 /// The word of a text that has just one.
 pub fn only_word(text: &[u8]) -> Option<&[u8]>
@@ -94,23 +50,6 @@ pub fn is_name(word: &[u8]) -> bool
         return false;
     }
     word.iter().all(|byte| is_name_byte(*byte))
-}
-
-/// The number that a word of decimal digits writes, where it is below 2^64.
-pub fn parse_length(word: &[u8]) -> Option<u64>
-    ensures { result ≡ spec.length_of word.now }
-{
-    if word.is_empty() {
-        return None;
-    }
-    let mut value: u64 = 0;
-    for b in word {
-        if !b.is_ascii_digit() {
-            return None;
-        }
-        value = value.checked_mul(10)?.checked_add(u64::from(*b - b'0'))?;
-    }
-    Some(value)
 }
 
 /// The kind of operator that a word names: `unary`, `binary` or `index`.

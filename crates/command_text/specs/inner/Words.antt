@@ -1,11 +1,10 @@
 -- What stands beside specs/Words.antt for this crate's own modules and proofs.
 use denote.Ref.{Bor}
-use Rattle.std.specs.Prelude.{ℕ, ◌≡◌, Bool, true, false, List, [], ◌∷◌, Option}
+use Rattle.std.specs.Prelude.{ℕ, Bool, true, false, List, [], ◌∷◌, Option}
 use Rattle.std.specs.Option.{option_map}
 use Rattle.job_plan.specs.Form.{mapped}
 use Rattle.job_plan.specs.declared.form.Form as forms
 use Rattle.command_text.specs.Requests.{Form}
-use Rattle.command_text.specs.Words.{is_blank, words}
 
 -- words that are lent
 abbrev pub lent : Bor (List ℕ) → List ℕ
@@ -16,11 +15,6 @@ words_of = mapped lent lent
 
 abbrev pub lent_word : Option (Bor (List ℕ)) → Option (List ℕ)
 lent_word = option_map lent
-
--- a text that is empty or begins with a word
-abbrev pub IsAtWord : List ℕ → Type 0
-IsAtWord [] = Unit {0}
-IsAtWord (b ∷ bs) = is_blank b ≡ false
 
 -- no word, or more than one
 abbrev pub IsNotOne : List (List ℕ) → Type 0
