@@ -1,4 +1,4 @@
-//! A budget of one thread.
+//! A budget of one thread, for tests: `spmat run` and `spmat serve` draw on a `Wallet`.
 ghost use Rattle.std.specs.Prelude.{◌≡◌};
 ghost use Rattle.step_purse.specs.Plain.{opened};
 
@@ -7,7 +7,8 @@ use std::marker::Model;
 use std::sync::Wait;
 use step_purse::{Reply, Totals};
 
-/// A budget of one thread, which nobody else draws on. A contract sees its totals.
+/// A budget of one thread, which nobody else draws on: for tests, and for callers with a session of their own. The program draws
+/// on a `Wallet`. A contract sees its totals.
 #[derive(Debug, Drop)]
 pub struct Tally {
     totals: Totals,

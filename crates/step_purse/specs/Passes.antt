@@ -1,7 +1,9 @@
 -- What contracts see of a purse and its passes. This project's own.
 use Rattle.std.specs.Prelude.{◌≡◌, ℕ}
 use Rattle.atomic_table.specs.Seated.{TableId}
+use Rattle.step_purse.specs.declared.dealings.Dealing.{Dealing}
 use Rattle.step_purse.specs.declared.views.Known.{Known}
+use Rattle.step_purse.specs.Histories.{Makes}
 
 -- A purse: its name, which no other purse has, and what it was opened with
 pub record PurseState : Type 0 where
@@ -17,3 +19,7 @@ pub record PassState : Type 0 where
 -- the pass is one of this purse
 abbrev pub IsPassOf : PurseState → PassState → Type 0
 IsPassOf purse pass = (pass.purse ≡ purse.name) × (pass.allowance ≡ purse.allowance)
+
+-- a pass of this purse made the call, and is one of it still
+abbrev pub Calls : PurseState → PassState → Dealing → PassState → Type 0
+Calls purse old call new = IsPassOf purse new × Makes purse.allowance old.known call new.known

@@ -1,9 +1,8 @@
 -- What a pass knows before its first call, and when it may call the purse. This project's own. The rule of a purse's cell and
 -- the seven kinds of step are in inner/Rule.antt.
-use Rattle.std.specs.Prelude.{◌≡◌, ℕ, ◌-◌, List, [], true, false}
+use Rattle.std.specs.Prelude.{◌≡◌, ℕ, List, [], true, false}
 use Rattle.step_purse.specs.declared.dealings.Dealing.{Dealing}
 use Rattle.step_purse.specs.declared.views.View.{View}
-use Rattle.step_purse.specs.Plain.{opened}
 use Rattle.step_purse.specs.declared.views.Share.{Share}
 use Rattle.step_purse.specs.Shares.{no_share, has_part}
 use Rattle.step_purse.specs.Histories.{newcomer}

@@ -3,11 +3,11 @@
 //! Only `exchange` changes the words. `reserve` and `settle` try until an exchange makes the call.
 ghost use Rattle.std.specs.Prelude.{◌≡◌, ◌+◌, ◌^◌, ◌≤◌, [], nat_le, slice_index, true, MatchBool, IfOk};
 ghost use Rattle.crossbeam_utils.specs.Seq.{cell_view};
-ghost use Rattle.step_purse.specs.Plain.{total, IsReplyTo, IsAnswered, after, MayMake};
+ghost use Rattle.step_purse.specs.Plain.{total, IsReplyTo, PlainlyLeads, MayMake};
 ghost use Rattle.step_purse.specs.Shares.{whole, one_part, less_one, has_part, IsWhole};
 ghost use Rattle.step_purse.specs.Histories.{Makes};
 ghost use Rattle.step_purse.specs.Rule.{blank, idle};
-ghost use Rattle.step_purse.specs.inner.Rule.{AddsUp, SeesBoth, SameBut, giving, joined, words_of, totals_in, withheld};
+ghost use Rattle.step_purse.specs.inner.Rule.{AddsUp, SeesBoth, giving, joined, words_of, totals_in, withheld};
 ghost use Rattle.step_purse.specs.declared.dealings.Dealing.TheVariants.{Reserved, Settled, Told};
 ghost use Rattle.step_purse.specs.declared.dealings.Reply.TheVariants.{NotEnough};
 
@@ -33,16 +33,15 @@ pub struct Account {
 fn begin<S: Allowed>(cell: &Cell, first: &mut Seat, allowance: u64) -> Seat
     requires pick { S.allowance ≡ allowance }
     requires small { allowance ≤ 2 ^ 62 }
-    requires cell { first.old.table_id ≡ cell.now.table.shared.table_id }
-    requires blank { cell_view first.old ≡ blank }
-    ensures cell { result.table_id ≡ cell.now.table.shared.table_id }
-    ensures view { cell_view result ≡ idle allowance [] whole }
+    requires blank { (first.old.table_id ≡ cell.now.table.shared.table_id) × (cell_view first.old ≡ blank) }
+    ensures idle { (result.table_id ≡ cell.now.table.shared.table_id) × (cell_view result ≡ idle allowance [] whole) }
 {
     cell.split_pass::<Opens<S>>(first)
 }
 
 impl Account {
     ghost use Rattle.step_purse.specs.Seats.{IsSeatOf};
+    ghost use Rattle.step_purse.specs.inner.Seats.{CallsAt};
 
     /// A new cell of this allowance, with the whole of it for one seat.
     pub fn open(alloc: Global, allowance: u64) -> Result<(Account, Seat), AllocError>
@@ -62,10 +61,8 @@ impl Account {
     /// Moves the amount from left to reserved, or changes nothing where less is left.
     pub fn reserve<R: Wait>(&self, rt: &R, seat: &mut Seat, amount: u64) -> Reply
         requires { IsSeatOf self.now seat.old }
-        ensures own { IsSeatOf self.now seat.new }
+        ensures made { CallsAt self.now seat.old (Reserved amount result) seat.new }
         ensures amount { IsReplyTo amount result }
-        ensures made { Makes self.now.allowance (cell_view seat.old).known (Reserved amount result)
-            (cell_view seat.new).known }
     {
         for _ in rt.forever() {
             let now = self.ask::<Brand, R>(rt, seat, amount);
@@ -87,9 +84,7 @@ impl Account {
         requires own { IsSeatOf self.now seat.old }
         requires spent { spent ≤ amount }
         requires owed { amount ≤ (cell_view seat.old).known.owes }
-        ensures own { IsSeatOf self.now seat.new }
-        ensures made { Makes self.now.allowance (cell_view seat.old).known (Settled amount spent)
-            (cell_view seat.new).known }
+        ensures made { CallsAt self.now seat.old (Settled amount spent) seat.new }
     {
         for _ in rt.forever() {
             let now = self.look(rt, seat);
@@ -134,13 +129,11 @@ impl Account {
     fn ask<S: Asking, R: Wait>(&self, rt: &R, seat: &mut Seat, amount: u64) -> Totals
         requires pick { S.amount ≡ amount }
         requires seat { IsSeatOf self.now seat.old }
-        ensures seat { IsSeatOf self.now seat.new }
-        ensures same { SameBut (cell_view seat.old) (cell_view seat.new) }
         ensures adds_up { total result ≡ self.now.allowance }
-        ensures asked { let v = (cell_view seat.old).known in
+        ensures asked { IsSeatOf self.now seat.new × (let v = (cell_view seat.old).known in
             let w = (cell_view seat.new).known in
             MatchBool (nat_le amount result.left) (w ≡ v)
-            (Makes self.now.allowance v (Reserved amount (NotEnough result.left)) w) }
+            (Makes self.now.allowance v (Reserved amount (NotEnough result.left)) w)) }
     {
         let words = self.cell.load_as::<Asks<S>, R>(rt, seat);
         self.read(words)
@@ -149,8 +142,7 @@ impl Account {
     /// Looks.
     fn look<R: Wait>(&self, rt: &R, seat: &mut Seat) -> Totals
         requires { IsSeatOf self.now seat.old }
-        ensures seat { IsSeatOf self.now seat.new }
-        ensures same { cell_view seat.new ≡ cell_view seat.old }
+        ensures same { IsSeatOf self.now seat.new × (cell_view seat.new ≡ cell_view seat.old) }
         ensures adds_up { total result ≡ self.now.allowance }
         ensures reserved { (cell_view seat.old).known.owes ≤ result.reserved }
     {
@@ -161,11 +153,8 @@ impl Account {
     /// Reads the totals.
     pub fn count<R: Wait>(&self, rt: &R, seat: &mut Seat) -> Totals
         requires { IsSeatOf self.now seat.old }
-        ensures seat { IsSeatOf self.now seat.new }
-        ensures same { SameBut (cell_view seat.old) (cell_view seat.new) }
+        ensures made { CallsAt self.now seat.old (Told result) seat.new }
         ensures adds_up { total result ≡ self.now.allowance }
-        ensures made { Makes self.now.allowance (cell_view seat.old).known (Told result)
-            (cell_view seat.new).known }
         ensures owed { IsWhole (cell_view seat.old).known.share →
             result.reserved ≡ (cell_view seat.old).known.owes }
     {
@@ -184,15 +173,11 @@ impl Account {
     ) -> bool
         requires pick { (S.call ≡ call) × (S.expected ≡ words_of self.now.allowance now) }
         requires seat { IsSeatOf self.now seat.old }
-        requires adds_up { total now ≡ self.now.allowance }
-        requires answered { IsAnswered now call }
-        requires next { next ≡ after now call }
-        requires owes { MayMake (cell_view seat.old).known.owes call }
-        ensures seat { IsSeatOf self.now seat.new }
-        ensures same { SameBut (cell_view seat.old) (cell_view seat.new) }
-        ensures made { let v = (cell_view seat.old).known in
+        requires call { (total now ≡ self.now.allowance) × PlainlyLeads now call next ×
+            MayMake (cell_view seat.old).known.owes call }
+        ensures made { IsSeatOf self.now seat.new × (let v = (cell_view seat.old).known in
             let w = (cell_view seat.new).known in
-            MatchBool result (Makes self.now.allowance v call w) (w ≡ v) }
+            MatchBool result (Makes self.now.allowance v call w) (w ≡ v)) }
     {
         let expected = self.words(now);
         let written = self.words(next);
@@ -206,9 +191,8 @@ impl Account {
         requires seat { IsSeatOf self.now seat.old }
         requires part { has_part (less_one (cell_view seat.old).known.share) ≡ true }
         ensures own { IsSeatOf self.now seat.new × IsSeatOf self.now result }
-        ensures same { cell_view seat.new ≡ giving (cell_view seat.old) }
-        ensures told { cell_view result ≡
-            idle self.now.allowance (cell_view seat.old).known.seen one_part }
+        ensures views { (cell_view seat.new ≡ giving (cell_view seat.old)) ×
+            (cell_view result ≡ idle self.now.allowance (cell_view seat.old).known.seen one_part) }
     {
         self.cell.split_pass::<Tells>(seat)
     }
@@ -216,8 +200,7 @@ impl Account {
     /// One seat of two, which has looked.
     pub fn gather<S: Allowed, R: Wait>(&self, rt: &R, first: Seat, second: Seat) -> Seat
         requires pick { S.allowance ≡ self.now.allowance }
-        requires first { IsSeatOf self.now first }
-        requires second { IsSeatOf self.now second }
+        requires seats { IsSeatOf self.now first × IsSeatOf self.now second }
         ensures own { IsSeatOf self.now result }
         ensures learned { SeesBoth (joined (cell_view first) (cell_view second)) (cell_view result) }
     {

@@ -1,7 +1,8 @@
 //! What holds of every legal history, and of the calls that a pass makes in order. These functions do nothing: each states a
 //! law of the definitions.
 ghost use Rattle.std.specs.Prelude.{◌≡◌, ◌+◌, ◌<◌, ℕ, List, [], ◌∷◌, ◌++◌, true};
-ghost use Rattle.step_purse.specs.Plain.{opened, total, after_all, IsLegal, PlainlyLeads, owed_after_all, total_taken, total_settled};
+ghost use Rattle.step_purse.specs.Plain.{opened, total, after_all, IsLegal, PlainlyLeads};
+ghost use Rattle.step_purse.specs.Plain.{owed_after_all, total_taken, total_settled};
 ghost use Rattle.step_purse.specs.Shares.{IsWhole, has_part, less_one, both_shares, one_part};
 ghost use Rattle.step_purse.specs.Histories.{Begins, Makes, Leads, totals_seen, own_calls};
 ghost use Rattle.step_purse.specs.declared.dealings.Dealing.{Dealing};
@@ -40,8 +41,7 @@ pub fn calls_in_a_row()
         → Leads allowance first ds next → Makes allowance next d last → Leads allowance first (ds ++ d ∷ []) last }
 {}
 
-/// Calls in order are the pass's own, behind those that it had made. It sees a longer history, its share stays, and it owes
-/// what they took and didn't settle.
+/// Calls in order are the pass's own, behind those that it had made. It sees a longer history, and its share stays.
 pub fn calls_in_order()
     ensures own { (allowance : ℕ) (before : Known) (ds : List Dealing) (now : Known) → Leads allowance before ds now
         → own_calls now ≡ own_calls before ++ ds }
@@ -49,6 +49,10 @@ pub fn calls_in_order()
         → Begins before.seen now.seen }
     ensures share { (allowance : ℕ) (before : Known) (ds : List Dealing) (now : Known) → Leads allowance before ds now
         → now.share ≡ before.share }
+{}
+
+/// A pass owes what its calls in order took and didn't settle.
+pub fn calls_in_order_are_owed()
     ensures owes { (allowance : ℕ) (before : Known) (ds : List Dealing) (now : Known) → Leads allowance before ds now
         → now.owes ≡ owed_after_all before.owes ds }
     ensures balance { (allowance : ℕ) (before : Known) (ds : List Dealing) (now : Known) → Leads allowance before ds now

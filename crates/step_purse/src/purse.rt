@@ -1,9 +1,9 @@
 //! The purse that threads share, and its passes.
 ghost use Rattle.std.specs.Prelude.{◌≡◌, ◌≤◌, ◌^◌, [], true, IfOk};
 ghost use Rattle.step_purse.specs.Shares.{whole, one_part, less_one, has_part, IsWhole};
-ghost use Rattle.step_purse.specs.Histories.{newcomer, gives_one, Makes, Joins};
+ghost use Rattle.step_purse.specs.Histories.{newcomer, gives_one, Joins};
 ghost use Rattle.step_purse.specs.Plain.{total, IsReplyTo};
-ghost use Rattle.step_purse.specs.Passes.{IsPassOf};
+ghost use Rattle.step_purse.specs.Passes.{IsPassOf, Calls};
 ghost use Rattle.step_purse.specs.declared.dealings.Dealing.TheVariants.{Reserved, Settled, Told};
 
 use crate::account::Account;
@@ -80,8 +80,7 @@ impl Purse {
         requires own { IsPassOf self.now pass }
         requires part { has_part (less_one pass.known.share) ≡ true }
         ensures own { IsPassOf self.now result.0 × IsPassOf self.now result.1 }
-        ensures first { result.0.known ≡ gives_one pass.known }
-        ensures second { result.1.known ≡ newcomer pass.known.seen one_part }
+        ensures known { (result.0.known ≡ gives_one pass.known) × (result.1.known ≡ newcomer pass.known.seen one_part) }
     {
         let Pass { mut seat, owed } = pass;
         let given = self.account.tell(&mut seat);
@@ -118,9 +117,8 @@ impl Purse {
     /// it tries again.
     pub fn reserve<R: Wait>(&self, rt: &R, pass: &mut Pass, amount: u64) -> Reply
         requires { IsPassOf self.now pass.old }
-        ensures own { IsPassOf self.now pass.new }
+        ensures made { Calls self.now pass.old (Reserved amount result) pass.new }
         ensures amount { IsReplyTo amount result }
-        ensures made { Makes self.now.allowance pass.old.known (Reserved amount result) pass.new.known }
     {
         let reply = self.account.reserve(rt, &mut pass.seat, amount);
         if let Reply::Took(taken) = reply {
@@ -135,8 +133,7 @@ impl Purse {
         requires own { IsPassOf self.now pass.old }
         requires spent { spent ≤ amount }
         requires owed { amount ≤ pass.old.known.owes }
-        ensures own { IsPassOf self.now pass.new }
-        ensures made { Makes self.now.allowance pass.old.known (Settled amount spent) pass.new.known }
+        ensures made { Calls self.now pass.old (Settled amount spent) pass.new }
     {
         self.account.settle(rt, &mut pass.seat, amount, spent);
         pass.owed -= amount;
@@ -145,8 +142,7 @@ impl Purse {
     /// What is left, reserved and spent. Who has the whole share is told as reserved what it owes.
     pub fn totals<R: Wait>(&self, rt: &R, pass: &mut Pass) -> Totals
         requires { IsPassOf self.now pass.old }
-        ensures own { IsPassOf self.now pass.new }
-        ensures made { Makes self.now.allowance pass.old.known (Told result) pass.new.known }
+        ensures made { Calls self.now pass.old (Told result) pass.new }
         ensures adds_up { total result ≡ self.now.allowance }
         ensures owed { IsWhole pass.old.known.share → result.reserved ≡ pass.old.known.owes }
     {

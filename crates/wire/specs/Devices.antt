@@ -1,7 +1,9 @@
 -- What contracts see of the devices that bytes come from and go to (this project's own). The bytes are those that `std::io` tells
 -- of a reader or a writer; where it tells none (standard streams, sockets), they are unknown. The counts have no last value, and no
 -- code sees them.
-use Rattle.std.specs.Prelude.{ℕ, ◌==◌, ◌&&◌, not, Bool, false, if◌then◌else◌, List, Option, Result, Ok, Err}
+use Rattle.std.specs.Prelude.{ℕ, ◌≡◌, ◌<◌, ◌+◌, ◌==◌, ◌&&◌, ◌||◌, not, Bool, false, if◌then◌else◌}
+use Rattle.std.specs.Prelude.{List, Option, Result, Ok, Err}
+use Rattle.std.specs.declared.sync.ledger.Blank.{Blank}
 
 -- A source: the bytes that it has left, how many reads into some room were made, how many reads failed, and whether one has told
 -- the end.
@@ -31,7 +33,17 @@ abbrev pub is_end : {E : Type 0} → ℕ → Result ℕ E → Bool
 is_end room (Ok got) = not (room == 0) && (got == 0)
 is_end room (Err e) = false
 
+-- what a read into so much room adds to the counts, and whether it tells the end
+pub record IsRead {E : Type 0} (room : ℕ) (result : Result ℕ E) (old new : SourceState) : Type 0 where
+  pub reads : new.reads ≡ old.reads + reads_in room
+  pub failures : new.failures ≡ old.failures + failures_in result
+  pub told : new.told_end ≡ (old.told_end || is_end room result)
+
 -- 1 for a write that failed, or that took nothing of some bytes
 abbrev pub write_failures_in : {E : Type 0} → ℕ → Result ℕ E → ℕ
 write_failures_in given (Ok took) = if given == 0 then 0 else (if took == 0 then 1 else 0)
 write_failures_in given (Err e) = 1
+
+-- a ledger that nothing was counted by yet, of at least one part, and the name and the parts of a type that stands for it
+abbrev pub IsNewCount : Blank → (name parts : ℕ) → Type 0
+IsNewCount blank name parts = (blank.name ≡ name) × (blank.parts ≡ parts) × (0 < blank.parts)

@@ -1,6 +1,7 @@
 -- How a stream is read on, until what is waited for is there: a line or a body, however the stream is cut into pieces (this
 -- project's own).
-use Rattle.std.specs.Prelude.{ℕ, ◌≡◌, ◌<◌, ◌+◌, ◌*◌, ◌&&◌, ◌||◌, not, Bool, true, false, List, [], ◌++◌, length, take, drop, Result, Ok, Err}
+use Rattle.std.specs.Prelude.{ℕ, ◌≡◌, ◌<◌, ◌≤◌, ◌+◌, ◌*◌, ◌&&◌, ◌||◌, not, Bool, true, false}
+use Rattle.std.specs.Prelude.{List, [], ◌++◌, length, take, drop, Result, Ok, Err, OnOk, IfOk}
 use Rattle.std.specs.Io.KnownBytes.{Consumes, IsAtEnd}
 use Rattle.wire.specs.Held.{Held, Stream}
 use Rattle.wire.specs.Lines as lines
@@ -27,7 +28,8 @@ pub record Fetched (failed : ℕ) (old new : Stream) (P : List ℕ → Type 0) :
   pub got : List ℕ
   pub consumed : Consumes old.source.remaining new.source.remaining got
   pub follows : Follows old.held.ended got new.held.ended
-  pub at_end : (old.held.ended ≡ true → IsAtEnd old.source.remaining) → new.held.ended ≡ true → IsAtEnd new.source.remaining
+  pub at_end : (old.held.ended ≡ true → IsAtEnd old.source.remaining) → new.held.ended ≡ true
+      → IsAtEnd new.source.remaining
   pub told : new.source.told_end ≡ (old.source.told_end || (new.held.ended && not old.held.ended))
   pub reads : new.source.reads + new.held.reads_left ≡ old.source.reads + old.held.reads_left
   pub failures : new.source.failures ≡ old.source.failures + failed
@@ -39,10 +41,25 @@ IsFilled (Ok done) old new bytes = new.bytes ≡ bytes
 IsFilled (Err Failed) old new bytes = (new.bytes ≡ bytes) × ((bytes ≡ old.bytes) × (new.ended ≡ old.ended))
 IsFilled (Err OutOfReads) old new bytes = (new ≡ old) × ((bytes ≡ old.bytes) × (new.reads_left ≡ 0))
 
--- After one more read the bytes are those that it put into a room, from a place on; after a fault there are no more than before.
+-- After one more read the bytes are those that it put into a room, from a place on, and none are held; after a fault there are no
+-- more than before.
 abbrev pub IsReadBehind : Result ℕ ReadFault → (room : List ℕ) (at : ℕ) → Held → Held → List ℕ → Type 0
-IsReadBehind (Ok n) room at old new bytes = bytes ≡ take n (drop at room)
+IsReadBehind (Ok n) room at old new bytes = (bytes ≡ take n (drop at room)) × (new.bytes ≡ [])
 IsReadBehind (Err fault) room at old new bytes = IsFilled (Err fault) old new bytes
+
+-- a read into a room, from a place on, keeps its length and its front, and goes no further than its end
+pub record IsPut {E : Type 0} (at : ℕ) (result : Result ℕ E) (old new : List ℕ) : Type 0 where
+  pub len : length new ≡ length old
+  pub bound : IfOk result (λ n. at + n ≤ length old)
+  pub front : take at new ≡ take at old
+
+-- there is room for another byte, and the stream is not known to have ended
+abbrev pub MayFill : Held → Type 0
+MayFill held = (length held.bytes < 8192) × (held.ended ≡ false)
+
+-- no more reads are left than before, and fewer where one was made
+abbrev pub IsSpent : {A : Type 0} → Result A ReadFault → Held → Held → Type 0
+IsSpent result old new = (new.reads_left ≤ old.reads_left) × OnOk result (new.reads_left < old.reads_left)
 
 -- what stands first in all the bytes: the line, with the bytes that are left behind it; or, after a fault, less than a line
 abbrev pub IsLined : Result Lined ReadFault → List ℕ → Held → List ℕ → Type 0

@@ -1,6 +1,7 @@
 -- Lines of a stream of bytes, after this project's session protocol: a line ends at LF, a CR before that LF is dropped, and the
 -- last line may lack its LF. A line is too long where it has over 1,024 bytes, LF and CR not counted.
-use Rattle.std.specs.Prelude.{ℕ, ◌==◌, nat_lt, Bool, true, false, if◌then◌else◌, List, [], ◌∷◌, ◌++◌, length}
+use Rattle.std.specs.Prelude.{ℕ, ◌==◌, ◌≤◌, nat_lt, Bool, true, false, if◌then◌else◌}
+use Rattle.std.specs.Prelude.{List, [], ◌∷◌, ◌++◌, length}
 
 -- bytes cut at their first LF: there is none, or there are bytes before it and after it
 pub data Cut : Type 0 where
@@ -27,6 +28,10 @@ pub data First : Type 0 where
   Over : First  -- a line that is too long
   Line : (line rest : List ℕ) → First  -- a line, and what follows it
   Nothing : First  -- nothing, and nothing more comes
+
+-- so many bytes of a stream may be a line, which takes so many with its line end
+abbrev pub MayBeLine : (len taken : ℕ) → List ℕ → Type 0
+MayBeLine len taken bytes = (len ≤ taken) × (taken ≤ length bytes) × (len ≤ 1024)
 
 -- a line of at most 1,024 bytes
 abbrev pub measured : List ℕ → List ℕ → First

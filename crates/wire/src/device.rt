@@ -1,8 +1,8 @@
 //! What bytes come from and go to.
-ghost use Rattle.std.specs.Prelude.{◌≡◌, ◌+◌, ◌||◌, ℕ, List, Option, length, OnOk, OnErr};
+ghost use Rattle.std.specs.Prelude.{◌≡◌, ◌+◌, ℕ, List, Option, length, OnOk, OnErr};
 ghost use Rattle.std.specs.Io.{ReadsAtMost, WritesAtMost};
 ghost use Rattle.std.specs.Io.KnownBytes.{ReadConsumes, WriteAppends, Appends};
-ghost use Rattle.wire.specs.Devices.{SourceState, SinkState, reads_in, is_end, failures_in, write_failures_in};
+ghost use Rattle.wire.specs.Devices.{SourceState, SinkState, IsRead, failures_in, write_failures_in};
 ghost use Rattle.wire.specs.Prefixes.{IsPrefixOf};
 
 use std::io;
@@ -18,9 +18,7 @@ pub trait Source {
     fn read(&mut self, buf: &mut [u8]) -> io::Result<usize>
         ensures bound { ReadsAtMost result buf.new }
         ensures bytes { ReadConsumes (state self.old).remaining (state self.new).remaining result buf.new }
-        ensures reads { (state self.new).reads ≡ (state self.old).reads + reads_in (length buf.new) }
-        ensures failures { (state self.new).failures ≡ (state self.old).failures + failures_in result }
-        ensures told { (state self.new).told_end ≡ ((state self.old).told_end || is_end (length buf.new) result) };
+        ensures counted { IsRead (length buf.new) result (state self.old) (state self.new) };
 }
 
 /// What bytes go to: a writer whose writes and failed writes are counted, for contracts alone. A write that takes none of

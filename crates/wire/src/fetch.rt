@@ -92,11 +92,9 @@ fn begin(alloc: Global, part: &[u8], length: u64) -> Result<Vec<u8>, AllocError>
 /// There is no memory for more room.
 fn extend(kept: &mut Vec<u8>, came: usize, length: usize) -> Result<(), AllocError>
     requires missing { came < length }
-    requires came { came ≤ vec_len kept.old }
-    requires within { vec_len kept.old ≤ length }
-    ensures ready { OnOk result (came < vec_len kept.new) }
+    requires within { (came ≤ vec_len kept.old) × (vec_len kept.old ≤ length) }
+    ensures ready { OnOk result ((came < vec_len kept.new) × (take came kept.new.items ≡ take came kept.old.items)) }
     ensures within { vec_len kept.new ≤ length }
-    ensures same { OnOk result (take came kept.new.items ≡ take came kept.old.items) }
 {
     if came < kept.len() {
         return Ok(());

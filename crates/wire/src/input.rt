@@ -1,10 +1,11 @@
 //! The bytes that were read of a stream and not used yet, in room made at the start.
-ghost use Rattle.std.specs.Prelude.{◌≡◌, ◌<◌, ◌≤◌, ◌+◌, ◌++◌, ◌↔◌, ◌||◌, ◌==◌, ℕ, List, [], false, IsTrue, length, take, drop, vec_capacity, IfOk, IfErr, OnOk, OnErr};
-ghost use Rattle.std.specs.Prelude as prelude;
-ghost use Rattle.std.specs.Io.KnownBytes.{Consumes, Keeps, IsAtEnd};
-ghost use Rattle.wire.specs.Devices.{failures_in};
-ghost use Rattle.wire.specs.Fetching.{Fetched, IsFilled, IsReadBehind, failed_reads};
-ghost use Rattle.wire.specs.inner.Held.{ended_after};
+ghost use Rattle.std.specs.Prelude.{◌≡◌, ◌<◌, ◌≤◌, ◌+◌, ◌↔◌, [], false, IsTrue};
+ghost use Rattle.std.specs.Prelude.{length, take, drop, vec_capacity, IfOk, IfErr, OnOk};
+ghost use Rattle.std.specs.Io.KnownBytes.{ReadConsumes};
+ghost use Rattle.wire.specs.Devices.{IsRead};
+ghost use Rattle.wire.specs.Fetching.{Fetched, IsFilled, IsReadBehind, IsPut, IsSpent, MayFill, failed_reads};
+ghost use Rattle.wire.specs.Lines.{MayBeLine};
+ghost use Rattle.wire.specs.inner.Held.{IsGot, IsCounted};
 
 use crate::device::Source;
 use crate::fault::ReadFault;
@@ -31,25 +32,21 @@ impl Model for Input {
 
     ghost Value = { Held };
 
-    ghost view = { λ i. record { bytes = take (i.to - i.from) (drop i.from i.room.items); ended = i.ended; reads_left = i.reads_left } };
+    ghost view = { λ i. record {
+      bytes = take (i.to - i.from) (drop i.from i.room.items);
+      ended = i.ended;
+      reads_left = i.reads_left;
+    } };
 
     ghost invariant = { λ i. (i.from ≤ i.to) × (i.to ≤ vec_len i.room) × (vec_len i.room ≡ 8192) };
 }
 
-/// Reads into the part of the room from a place on.
+/// Reads into the part of the room from a place on. It counts as a read into any room does, be it of one byte.
 fn read_behind<S: Source>(source: &mut S, room: &mut [u8], at: usize) -> io::Result<usize>
     requires { at < length room.old }
-    ensures len { length room.new ≡ length room.old }
-    ensures bound { IfOk result (λ n. at + n ≤ length room.old) }
-    ensures front { take at room.new ≡ take at room.old }
-    ensures got { IfOk result
-        (λ n. Consumes (S.state source.old).remaining (S.state source.new).remaining (take n (drop at room.new))) }
-    ensures end { IfOk result (λ n. n ≡ 0 → IsAtEnd (S.state source.new).remaining) }
-    ensures kept { OnErr result (Keeps (S.state source.old).remaining (S.state source.new).remaining) }
-    ensures reads { (S.state source.new).reads ≡ (S.state source.old).reads + 1 }
-    ensures failures { (S.state source.new).failures ≡ (S.state source.old).failures + failures_in result }
-    ensures told { IfOk result (λ n. (S.state source.new).told_end ≡ ((S.state source.old).told_end || (n == 0))) }
-    ensures untold { OnErr result ((S.state source.new).told_end ≡ (S.state source.old).told_end) }
+    ensures put { IsPut at result room.old room.new }
+    ensures bytes { ReadConsumes (S.state source.old).remaining (S.state source.new).remaining result (drop at room.new) }
+    ensures counted { IsRead 1 result (S.state source.old) (S.state source.new) }
 {
     source.read(&mut room[at..])
 }
@@ -103,20 +100,14 @@ impl Input {
 
     /// Reads some more bytes, by one read of the source.
     fn read_some<S: Source>(&mut self, source: &mut S) -> io::Result<()>
-        requires room { length self.old.bytes < 8192 }
-        requires open { self.old.ended ≡ false }
-        ensures ok { OnOk result ((got : List ℕ) ×
-            Consumes (S.state source.old).remaining (S.state source.new).remaining got
-            × (self.new.bytes ≡ self.old.bytes ++ got) × (self.new.ended ≡ ended_after self.old.ended got)
-            × (got ≡ [] → IsAtEnd (S.state source.new).remaining)) }
-        ensures left { self.new.reads_left ≡ self.old.reads_left }
+        requires { MayFill self.old }
+        ensures got { IsGot result
+            (record { source = S.state source.old; held = self.old })
+            (record { source = S.state source.new; held = self.new }) }
+        ensures counted { IsCounted result
+            (record { source = S.state source.old; held = self.old })
+            (record { source = S.state source.new; held = self.new }) }
         ensures room { length self.new.bytes ≤ 8192 }
-        ensures told { OnOk result ((S.state source.new).told_end ≡ ((S.state source.old).told_end || self.new.ended)) }
-        ensures err { OnErr result ((self.new ≡ self.old) ×
-            (Keeps (S.state source.old).remaining (S.state source.new).remaining
-            × ((S.state source.new).told_end ≡ (S.state source.old).told_end))) }
-        ensures reads { (S.state source.new).reads ≡ (S.state source.old).reads + 1 }
-        ensures failures { (S.state source.new).failures ≡ (S.state source.old).failures + failures_in result }
     {
         self.room.rotate_left(self.from);
         self.to -= self.from;
@@ -154,19 +145,14 @@ impl Input {
     ///
     /// No more reads may be made, or the source failed. The bytes are then as before.
     pub fn fill<S: Source>(&mut self, source: &mut S) -> Result<(), ReadFault>
-        requires room { length self.old.bytes < 8192 }
-        requires open { self.old.ended ≡ false }
+        requires { MayFill self.old }
         ensures fetched { Fetched (failed_reads result)
             (record { source = S.state source.old; held = self.old })
             (record { source = S.state source.new; held = self.new }) (IsFilled result self.old self.new) }
         ensures room { length self.new.bytes ≤ 8192 }
-        ensures less { OnOk result (self.new.reads_left < self.old.reads_left) }
-        ensures bounded { self.new.reads_left ≤ self.old.reads_left }
+        ensures spent { IsSpent result self.old self.new }
     {
-        match self.count_read() {
-            Ok(()) => {}
-            Err(fault) => return Err(fault),
-        }
+        self.count_read()?;
         match self.read_some(source) {
             Ok(()) => Ok(()),
             Err(_) => Err(ReadFault::Failed),
@@ -185,23 +171,15 @@ impl Input {
         room: &mut [u8],
         at: usize,
     ) -> Result<usize, ReadFault>
-        requires none { self.old.bytes ≡ [] }
-        requires open { self.old.ended ≡ false }
+        requires open { (self.old.bytes ≡ []) × (self.old.ended ≡ false) }
         requires place { at < length room.old }
         ensures fetched { Fetched (failed_reads result)
             (record { source = S.state source.old; held = self.old })
             (record { source = S.state source.new; held = self.new }) (IsReadBehind result room.new at self.old self.new) }
-        ensures len { length room.new ≡ length room.old }
-        ensures bound { IfOk result (λ n. at + n ≤ length room.old) }
-        ensures front { take at room.new ≡ take at room.old }
-        ensures none { self.new.bytes ≡ [] }
-        ensures less { OnOk result (self.new.reads_left < self.old.reads_left) }
-        ensures bounded { self.new.reads_left ≤ self.old.reads_left }
+        ensures put { IsPut at result room.old room.new }
+        ensures spent { IsSpent result self.old self.new }
     {
-        match self.count_read() {
-            Ok(()) => {}
-            Err(fault) => return Err(fault),
-        }
+        self.count_read()?;
         let Ok(n) = read_behind(source, room, at) else {
             return Err(ReadFault::Failed);
         };
@@ -214,12 +192,9 @@ impl Input {
     /// Copies the first line of the bytes, of so many bytes, and uses up the bytes that it takes
     /// with its line end. The copy takes no memory.
     pub fn take_line(&mut self, length: usize, taken: usize, line: &mut Vec<u8>)
-        requires fits { length ≤ taken }
-        requires there { taken ≤ prelude.length self.old.bytes }
-        requires short { length ≤ 1024 }
+        requires line { MayBeLine length taken self.old.bytes }
         requires room { 1026 ≤ vec_capacity line.old }
-        ensures copied { line.new.items ≡ take length self.old.bytes }
-        ensures room { 1026 ≤ vec_capacity line.new }
+        ensures copied { (line.new.items ≡ take length self.old.bytes) × (1026 ≤ vec_capacity line.new) }
         ensures left { self.new ≡ record self.old { bytes = drop taken self.old.bytes } }
     {
         line.clear();

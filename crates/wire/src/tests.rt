@@ -1,5 +1,5 @@
 //! Devices, lines and bodies, on values from outside.
-ghost use Rattle.std.specs.Prelude.{◌≡◌, ◌≤◌, ◌<◌, vec_capacity};
+ghost use Rattle.wire.specs.Devices.{IsNewCount};
 
 use crate::device::{Sink, Source, WriteFailed, put};
 use crate::fault::ReadFault;
@@ -87,12 +87,8 @@ fn read_from<C: Ledger, F: Ledger>(
     reads: u64,
     length: u64,
 ) -> Result<Vec<u8>, Fail>
-    requires reads_name { counts.0.name ≡ C.name }
-    requires reads_parts { counts.0.parts ≡ C.parts }
-    requires reads_some { 0 < counts.0.parts }
-    requires failures_name { counts.1.name ≡ F.name }
-    requires failures_parts { counts.1.parts ≡ F.parts }
-    requires failures_some { 0 < counts.1.parts }
+    requires reads { IsNewCount counts.0 C.name C.parts }
+    requires failures { IsNewCount counts.1 F.name F.parts }
 {
     let mut source = FromRead::<Pieces, C, F>::new(pieces, counts.0, counts.1);
     line_and_body(alloc, &mut source, reads, length)
@@ -161,12 +157,8 @@ fn write_to<W: io::Write + Drop, C: Ledger, F: Ledger>(
     writes: Blank,
     failures: Blank,
 ) -> Result<(), WriteFailed>
-    requires writes_name { writes.name ≡ C.name }
-    requires writes_parts { writes.parts ≡ C.parts }
-    requires writes_some { 0 < writes.parts }
-    requires failures_name { failures.name ≡ F.name }
-    requires failures_parts { failures.parts ≡ F.parts }
-    requires failures_some { 0 < failures.parts }
+    requires writes { IsNewCount writes C.name C.parts }
+    requires failures { IsNewCount failures F.name F.parts }
 {
     let mut sink = ToWrite::<W, C, F>::new(writer, writes, failures);
     put(&mut sink, text)

@@ -1,5 +1,6 @@
 //! Devices over any reader and any writer, which count their calls.
-ghost use Rattle.std.specs.Prelude.{◌≡◌, ◌<◌, ◌+◌, false};
+ghost use Rattle.std.specs.Prelude.{◌≡◌, ◌+◌, false};
+ghost use Rattle.wire.specs.Devices.{IsNewCount};
 
 use crate::device::{Sink, Source};
 use std::io;
@@ -27,9 +28,7 @@ impl<L: Ledger> Model for Count<L> {
 impl<L: Ledger> Count<L> {
     /// A count of 0, by a ledger that nothing else is counted by.
     pub fn new(blank: Blank) -> Self
-        requires name { blank.name ≡ L.name }
-        requires parts { blank.parts ≡ L.parts }
-        requires some { 0 < blank.parts }
+        requires { IsNewCount blank L.name L.parts }
         ensures { result ≡ 0 }
     {
         let (book, share) = blank.open();
@@ -57,12 +56,8 @@ impl<R: Read + Drop, C: Ledger, F: Ledger> FromRead<R, C, F> {
     /// A source that gives what the reader has left. `reads` and `failures` are new ledgers of at
     /// least one part (`Blank::new(1)`), and the types `C` and `F` stand for them.
     pub fn new(inner: R, reads: Blank, failures: Blank) -> Self
-        requires reads_name { reads.name ≡ C.name }
-        requires reads_parts { reads.parts ≡ C.parts }
-        requires reads_some { 0 < reads.parts }
-        requires failures_name { failures.name ≡ F.name }
-        requires failures_parts { failures.parts ≡ F.parts }
-        requires failures_some { 0 < failures.parts }
+        requires reads { IsNewCount reads C.name C.parts }
+        requires failures { IsNewCount failures F.name F.parts }
         ensures { ⟦<FromRead<R, C, F> as Source>⟧.state result ≡
             record { remaining = R.remaining inner; reads = 0; failures = 0; told_end = false } }
     {
@@ -76,7 +71,12 @@ impl<R: Read + Drop, C: Ledger, F: Ledger> FromRead<R, C, F> {
 }
 
 impl<R: Read + Drop, C: Ledger, F: Ledger> Source for FromRead<R, C, F> {
-    ghost state = { λ s. record { remaining = R.remaining s.inner; reads = s.reads; failures = s.failures; told_end = s.told_end } };
+    ghost state = { λ s. record {
+      remaining = R.remaining s.inner;
+      reads = s.reads;
+      failures = s.failures;
+      told_end = s.told_end;
+    } };
 
     fn read(&mut self, buf: &mut [u8]) -> io::Result<usize> {
         if !buf.is_empty() {
@@ -105,12 +105,8 @@ impl<W: Write + Drop, C: Ledger, F: Ledger> ToWrite<W, C, F> {
     /// A sink that adds to what the writer holds. `writes` and `failures` are new ledgers of at
     /// least one part (`Blank::new(1)`), and the types `C` and `F` stand for them.
     pub fn new(inner: W, writes: Blank, failures: Blank) -> Self
-        requires writes_name { writes.name ≡ C.name }
-        requires writes_parts { writes.parts ≡ C.parts }
-        requires writes_some { 0 < writes.parts }
-        requires failures_name { failures.name ≡ F.name }
-        requires failures_parts { failures.parts ≡ F.parts }
-        requires failures_some { 0 < failures.parts }
+        requires writes { IsNewCount writes C.name C.parts }
+        requires failures { IsNewCount failures F.name F.parts }
         ensures { ⟦<ToWrite<W, C, F> as Sink>⟧.state result ≡
             record { contents = W.contents inner; writes = 0; failures = 0 } }
     {

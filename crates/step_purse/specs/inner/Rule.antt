@@ -1,7 +1,8 @@
 -- The rule that a purse's cell is kept by: what its three words say, what each pass knows, and the seven kinds of step. This
 -- project's own. The words are what is left, reserved and spent. The first counts what the purse withholds too: the greatest
 -- allowance less its own. So the three add up to 2^62 in every purse, and every cell begins with the same words.
-use Rattle.std.specs.Prelude.{◌≡◌, ◌⊎◌, ℕ, ◌+◌, ◌-◌, ◌^◌, ◌≤◌, ◌<◌, nat_le, nat_eq, List, [], ◌∷◌, ◌++◌, length, slice_index, MatchBool, true, false}
+use Rattle.std.specs.Prelude.{◌≡◌, ◌⊎◌, ℕ, ◌+◌, ◌-◌, ◌^◌, ◌≤◌, ◌<◌, nat_le, nat_eq}
+use Rattle.std.specs.Prelude.{List, [], ◌∷◌, ◌++◌, length, slice_index, MatchBool, true, false}
 use mathlib.Core.Option.{some}
 use lib.ListN.{get_elem?}
 use lib.Pointwise.{pointwise}

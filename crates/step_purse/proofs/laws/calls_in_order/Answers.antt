@@ -1,4 +1,4 @@
-use Rattle.step_purse.proofs.Chains.{own_along, seen_along, share_kept, owed_along, balance_along}
+use Rattle.step_purse.proofs.Chains.{own_along, seen_along, share_kept}
 use Rattle.step_purse.proofs.laws.calls_in_order.Goals as goal
 
 pub returns-clause-own : goal.returns-clause-own
@@ -9,9 +9,3 @@ returns-clause-seen c = seen_along
 
 pub returns-clause-share : goal.returns-clause-share
 returns-clause-share c = share_kept
-
-pub returns-clause-owes : goal.returns-clause-owes
-returns-clause-owes c = owed_along
-
-pub returns-clause-balance : goal.returns-clause-balance
-returns-clause-balance c = balance_along

@@ -1,6 +1,6 @@
 use Rattle.std.proofs.Common.{◌≡◌, ◌<◌, ◌+◌, List, ℕ, ◌++◌, take, drop, length, take_all, Ok, Err, refl, sym, ap, ◌∙◌, arith}
 use Rattle.std.proofs.lemmas.List.{take_at}
-use Rattle.wire.specs.Fetching.{IsFilled, failed_reads}
+use Rattle.wire.specs.Fetching.{IsFilled, IsReadBehind, failed_reads}
 use Rattle.wire.specs.inner.Keeping.{IsKept}
 use Rattle.wire.specs.declared.fault.ReadFault.{ReadFault}
 use Rattle.wire.specs.declared.fault.ReadFault.TheVariants.{Failed, OutOfReads}
@@ -91,19 +91,19 @@ reading-preserved g c =
     let new = c.fill_behind.new.self in
     let given = c.deref_mut.ensures in
     let filled : List ℕ = take wider.len (room ++ drop (length room) wider.items) in
-    let size : length room ≡ wider.len = c.fill_behind.ensures.len ∙ given.len in
+    let size : length room ≡ wider.len = c.fill_behind.ensures.put.len ∙ given.len in
     let whole : filled ≡ room = take_at room (drop (length room) wider.items) wider.len size in
-    let bound = c.in-Ok-fill_behind.ensures.bound in
+    let bound = c.in-Ok-fill_behind.ensures.put.bound in
     let end = given.len in
-    let front : take l.came filled ≡ take l.came l.kept.items = ap (take l.came) whole ∙ (c.fill_behind.ensures.front ∙ (ap (take l.came) given.value ∙ c.in-Ok.ensures.same)) in
+    let front : take l.came filled ≡ take l.came l.kept.items = ap (take l.came) whole ∙ (c.fill_behind.ensures.put.front ∙ (ap (take l.came) given.value ∙ c.in-Ok.ensures.ready.1)) in
     let more = c.in-Ok-fill_behind.ensures.fetched in
     let count = l.kept.ok.0 in
     let came = l.invariant.came in
     record {
-      fetched = fetched_on 0 0 _ _ _ (IsKeeping first l.came l.kept.items l.input.bytes) (λ bytes. bytes ≡ take n (drop l.came room)) (IsKeeping first (l.came + n) filled new.bytes) l.invariant.fetched more refl
-          (λ bytes k. keeping_more first bytes l.kept.items l.input.bytes l.came k (omega arith) filled more.got new.bytes n front (more.holds ∙ ap (λ xs. take n (drop l.came xs)) (sym whole)) c.fill_behind.ensures.none);
+      fetched = fetched_on 0 0 _ _ _ (IsKeeping first l.came l.kept.items l.input.bytes) (IsReadBehind (Ok n) room l.came l.input new) (IsKeeping first (l.came + n) filled new.bytes) l.invariant.fetched more refl
+          (λ bytes k. keeping_more first bytes l.kept.items l.input.bytes l.came k (omega arith) filled more.got new.bytes n front (more.holds.0 ∙ ap (λ xs. take n (drop l.came xs)) (sym whole)) more.holds.1);
       came = omega arith;
       within = c.in-Ok.ensures.within;
-      none = λ h. c.fill_behind.ensures.none;
-      bounded = let less = c.in-Ok-fill_behind.ensures.less in let before = l.invariant.bounded in let empty = ap (λ (xs : List ℕ). length xs) c.fill_behind.ensures.none in omega arith;
+      none = λ h. more.holds.1;
+      bounded = let less = c.in-Ok-fill_behind.ensures.spent.1 in let before = l.invariant.bounded in let empty = ap (λ (xs : List ℕ). length xs) more.holds.1 in omega arith;
     }

@@ -8,4 +8,4 @@ returns-else-length-gt-LINE c =
     let here = c.in-Some.ensures.0 in
     let found = line_found c.args.ended c.args.bytes.now c.strip_cr-length.result.now n c.strip_cr-length.ensures c.in-Some.ensures.1 c.if-length-gt-LINE.false in
     let short = found.0 in
-    (omega arith, omega arith, omega arith, c.if-length-gt-LINE.false, found.1)
+    ((omega arith, omega arith, c.if-length-gt-LINE.false), omega arith, found.1)

@@ -3,20 +3,20 @@ use Rattle.wire.specs.Held.{Held}
 use Rattle.wire.proofs.Known.{filled, still_open, not_end, not_empty}
 use Rattle.wire.proofs.input.Input.read_some.Goals as goal
 
-pub returns-else-n-eq0-clause-ok : goal.returns-else-n-eq0-clause-ok
-returns-else-n-eq0-clause-ok g c =
+pub returns-else-n-eq0-clause-got : goal.returns-else-n-eq0-clause-got
+returns-else-n-eq0-clause-got g c =
     let s = c.self.inside in
     let room = c.read_behind.new.room in
     let w = s.to - s.from in
     let n = c.in_ok-n.n in
     let d = c.deref_mut.ensures in
-    let len : length room ≡ c.rotate_left.new.self.len = c.read_behind.ensures.len ∙ d.len in
+    let len : length room ≡ c.rotate_left.new.self.len = c.read_behind.ensures.put.len ∙ d.len in
     let whole : vec_len s.room ≡ length s.room.items = s.room.ok.0 in
     let inv = c.self.invariant in
-    let front : take w room ≡ take w (drop s.from s.room.items ++ take s.from s.room.items) = c.read_behind.ensures.front ∙ ap (λ xs. take w xs) (d.value ∙ c.rotate_left.ensures.items) in
-    let inside : w + n ≤ length room = let m = c.in_ok-n.ensures.bound in omega arith in (
+    let front : take w room ≡ take w (drop s.from s.room.items ++ take s.from s.room.items) = c.read_behind.ensures.put.front ∙ ap (λ xs. take w xs) (d.value ∙ c.rotate_left.ensures.items) in
+    let inside : w + n ≤ length room = let m = c.in_ok-n.ensures.put.bound in omega arith in (
       take n (drop w room),
-      c.in_ok-n.ensures.got,
+      c.in_ok-n.ensures.bytes.0,
       filled s.room.items room c.rotate_left.new.self.items s.from s.to n c.rotate_left.new.self.len (omega arith) (omega arith) len (omega arith) front
           ∙ ap (λ (h : Held). h.bytes ++ take n (drop w room)) c.self.view_is,
       ap (λ (h : Held). h.ended) c.self.view_is ∙ sym (still_open c.args.self.now.ended (take n (drop w room)) (not_end room w n inside c.if-n-eq0.false)),
