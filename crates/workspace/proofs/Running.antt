@@ -202,8 +202,8 @@ cheap_results (job ∷ jobs) (r ∷ rs) h w p =
 
 -- what is declared for the jobs of a queue is declared for the plan of them
 pub declared_plan : {V : Type 0} {E : Type 0} (m : Declared V) (r : Result (List Job) E) (queue jobs : List Job) → IfOk r (λ p. p ≡ queue) → jobs ≡ queue
-    → AreDeclared m jobs → IfOk r (λ p. AreDeclared m p)
-declared_plan m (Ok p) queue jobs e h d = subst (AreDeclared m) (h ∙ sym e) d
+    → AreDeclared m jobs → IfOk r (λ p. (p ≡ queue) × AreDeclared m p)
+declared_plan m (Ok p) queue jobs e h d = (e, subst (AreDeclared m) (h ∙ sym e) d)
 declared_plan m (Err x) queue jobs e h d = tt
 
 module _ {S : Type 0} (leads : S → Dealing → S → Type 0) (s t : S) where

@@ -1,5 +1,6 @@
 -- The lines of `types`: what the verifier knows of the registers at each instruction of an operator (this project's own).
-use Rattle.std.specs.Prelude.{ℕ, ℤ, pos, negsuc, zero, suc, ◌+◌, if◌then◌else◌, List, [], ◌++◌, Option, None, Some, codes, decimal}
+use Rattle.std.specs.Prelude.{ℕ, ℤ, pos, negsuc, zero, suc, ◌+◌, if◌then◌else◌, List, [], ◌++◌}
+use Rattle.std.specs.Prelude.{Option, None, Some, codes, decimal}
 use Rattle.std.specs.List.{flat_map}
 use Rattle.bpf_insn.specs.Program.{slot_count}
 use Rattle.bpf_insn.specs.Machine.{begins}

@@ -28,9 +28,10 @@ pub fn matrix(alloc: Global, workspace: &mut Workspace, name: &[u8], body: &[u8]
     match read(alloc, body) {
         Ok(matrix) => {
             let (rows, columns, entries) = (matrix.rows(), matrix.columns(), matrix.entries());
-            accept_matrix(reply, rows, columns, entries);
             if workspace.bind_matrix(alloc, name, matrix).is_err() {
                 refuse(reply, Refusal::Memory);
+            } else {
+                accept_matrix(reply, rows, columns, entries);
             }
         }
         Err(MarketError::Fault { rule, line }) => refuse(reply, Refusal::Market { rule, line }),
@@ -53,9 +54,11 @@ fn take_program(
 {
     match verify(alloc, program, kind) {
         Ok(operator) => {
-            accept_operator(reply, operator.program().slots(), operator.len());
+            let (slots, length) = (operator.program().slots(), operator.len());
             if workspace.bind_operator(alloc, name, operator).is_err() {
                 refuse(reply, Refusal::Memory);
+            } else {
+                accept_operator(reply, slots, length);
             }
         }
         Err((_, VerifyError::Fault(fault))) => refuse(reply, Refusal::Code(fault)),

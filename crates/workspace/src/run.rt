@@ -2,7 +2,8 @@
 //!
 //! Before the first job runs, a place is made for each output. So once all jobs have results nothing can fail any more: the prices
 //! are settled, the reply is written and the outputs are bound, with no further memory. A batch that breaks off binds no name.
-ghost use Rattle.std.specs.Prelude.{◌≡◌, ◌≤◌, ◌+◌, ◌++◌, List, ℕ, map, length, vec_len, IfOk, OnOk, OnErr, []};
+ghost use Rattle.std.specs.Prelude.{◌≡◌, ◌≤◌, ◌+◌, ◌++◌, List, ℕ, map, length, vec_len, []};
+ghost use Rattle.std.specs.Prelude.{IfOk, OnOk, OnErr};
 ghost use Rattle.workspace.specs.Names.{value_at};
 ghost use Rattle.workspace.specs.inner.Outputs.{AreDeclared, grid_at};
 ghost use Rattle.job_plan.specs.Price.{total_price};
@@ -45,8 +46,7 @@ fn declare_outputs(matrices: &mut Names<Version>, jobs: &[Priced]) -> Result<(),
 
 /// Settles the price of each job with the steps that it took.
 fn settle_all<T: Steps, H: Wait>(rt: &H, steps: &mut T, jobs: &[Priced], results: &[JobResult])
-    requires same { length jobs.now ≡ length results.now }
-    requires within { AreWithin jobs.now (map result_of results.now) }
+    requires results { (length jobs.now ≡ length results.now) × AreWithin jobs.now (map result_of results.now) }
     requires owed { total_price jobs.now ≤ T.owes steps.old }
     ensures dealt { Deals T.leads steps.old
         (settled jobs.now (map result_of results.now)) steps.new }
@@ -138,16 +138,15 @@ fn finish<T: Steps, H: Wait>(
     steps: &mut T,
     reply: &mut Reply,
 )
-    requires declared { AreDeclared workspace.old.matrices.declared plan.now }
-    requires named { AreNamed plan.now }
-    requires results { AreResultsOf plan.now (map result_of answer.results.items) }
+    requires plan { AreDeclared workspace.old.matrices.declared plan.now × AreNamed plan.now ×
+        AreResultsOf plan.now (map result_of answer.results.items) }
     requires owed { total_price plan.now ≤ T.owes steps.old }
-    ensures dealt { Deals T.leads steps.old (settled plan.now (map result_of answer.results.items)) steps.new }
-    ensures owed { T.owes steps.new + total_price plan.now ≡ T.owes steps.old }
-    ensures said { whole reply.new ≡ run_text (total_steps plan.now)
-        (job_lines plan.now (map result_of answer.results.items)) }
-    ensures state { state_of workspace.new ≡ record (state_of workspace.old)
-        { matrices = all_bound (state_of workspace.old).matrices plan.now (map result_of answer.results.items) } }
+    ensures settled { Deals T.leads steps.old (settled plan.now (map result_of answer.results.items)) steps.new ×
+        (T.owes steps.new + total_price plan.now ≡ T.owes steps.old) }
+    ensures turn { (whole reply.new ≡ run_text (total_steps plan.now)
+        (job_lines plan.now (map result_of answer.results.items))) ×
+        (state_of workspace.new ≡ record (state_of workspace.old)
+        { matrices = all_bound (state_of workspace.old).matrices plan.now (map result_of answer.results.items) }) }
 {
     let jobs = plan.jobs();
     settle_all(rt, steps, jobs, &answer.results);
@@ -189,8 +188,7 @@ fn refusal_of(fault: BatchFault) -> Refusal
 ///
 /// There is no memory for it. Nothing that is bound changes, and the jobs still wait.
 fn begin(workspace: &mut Workspace) -> Result<Plan, AllocError>
-    ensures declared { IfOk result (λ p. AreDeclared workspace.new.matrices.declared p) }
-    ensures plan { IfOk result (λ p. p ≡ (state_of workspace.old).queue) }
+    ensures plan { IfOk result (λ p. (p ≡ (state_of workspace.old).queue) × AreDeclared workspace.new.matrices.declared p) }
     ensures named { AreNamed (state_of workspace.old).queue }
     ensures taken { OnOk result (state_of workspace.new ≡ record (state_of workspace.old) { queue = [] }) }
     ensures kept { OnErr result (state_of workspace.new ≡ state_of workspace.old) }
