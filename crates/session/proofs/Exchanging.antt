@@ -11,7 +11,7 @@ use Rattle.wire.specs.declared.fetch.Lined.TheVariants as lined
 use Rattle.wire.specs.declared.device.WriteFailed.{WriteFailed}
 use Rattle.wire.proofs.Known.{append_nil, appends_nothing}
 use Rattle.wire.proofs.Fetching.{fetched_map, fetched_on}
-use Rattle.command_text.specs.Words.{words}
+use Rattle.text_words.specs.Words.{words}
 use Rattle.command_text.specs.Requests.{Request, request}
 use Rattle.command_text.specs.declared.rules.FatalRule.{FatalRule}
 use Rattle.command_text.specs.declared.rules.FatalRule.TheVariants.{LineTooLong}

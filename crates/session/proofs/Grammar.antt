@@ -5,7 +5,7 @@ use Rattle.std.proofs.lemmas.Bool.{ltb-false, le-ltb}
 use Rattle.wire.specs.Lines.{first, Partial, Over, Line, Nothing}
 use Rattle.wire.specs.Fetching.{Follows}
 use Rattle.wire.proofs.Stays.{first-more, ended_same}
-use Rattle.command_text.specs.Words.{words}
+use Rattle.text_words.specs.Words.{words}
 use Rattle.command_text.specs.Requests.{Command, Blank, Matrix, Op, Asm, Dis, Submit, Run, Show, Types, Budget, Quit, Refuse, Break, Request, Plain, Body, Fatal, request, with_body}
 use Rattle.session.specs.Next.{Waits, Goes, next, next_of, next_plain, next_request}
 

@@ -7,7 +7,7 @@ use Rattle.wire.specs.Prefixes.{IsPrefixOf}
 use Rattle.wire.specs.Fetching.{Fetched}
 use Rattle.step_purse.specs.declared.dealings.Dealing.{Dealing}
 use Rattle.step_budget.specs.Budget.{Deals}
-use Rattle.command_text.specs.Words.{words}
+use Rattle.text_words.specs.Words.{words}
 use Rattle.command_text.specs.Requests.{Command, request}
 use Rattle.workspace.specs.State.{State}
 use Rattle.workspace.specs.Turn.{Turn}
@@ -35,7 +35,8 @@ IsLast cut is old dealings reply end new =
     ((is ≡ Waits) × (end ≡ None) × (dealings ≡ []) × (reply ≡ []) × (new ≡ old))
     ⊎ (((is ≡ Ends) × (end ≡ Some InputEnd) × (dealings ≡ []) × (reply ≡ []) × (new ≡ old))
     ⊎ (((c : Command) × (e : End) × (is ≡ Stops c e) × (end ≡ Some e) × Turn old c dealings reply new)
-    ⊎ ((c : Command) × (rest : List ℕ) × (cut ≡ true) × (is ≡ Goes c rest) × (end ≡ None) × Turn old c dealings reply new)))
+    ⊎ ((c : Command) × (rest : List ℕ) × (cut ≡ true) × (is ≡ Goes c rest) × (end ≡ None)
+    × Turn old c dealings reply new)))
 
 -- What stands next in bytes that have ended or not:
 abbrev pub Ahead : Type 0
@@ -57,8 +58,8 @@ pub record Went {S : Type 0} (ahead : Ahead) (leads : S → Dealing → S → Ty
   pub no_failure : new.touched.sink.failures ≡ old.touched.sink.failures
 
 -- an exchange in which the session ended or broke off, after so many reads and writes that failed
-pub record Final {S : Type 0} (ahead : Ahead) (cut : Bool) (leads : S → Dealing → S → Type 0) (failed_reads failed_writes : ℕ)
-    (old new : Scene S) (end : Option End) : Type 0 where
+pub record Final {S : Type 0} (ahead : Ahead) (cut : Bool) (leads : S → Dealing → S → Type 0)
+    (failed_reads failed_writes : ℕ) (old new : Scene S) (end : Option End) : Type 0 where
   pub dealings : List Dealing
   pub text : List ℕ
   pub written : List ℕ
@@ -69,11 +70,12 @@ pub record Final {S : Type 0} (ahead : Ahead) (cut : Bool) (leads : S → Dealin
   pub appended : Appends old.touched.sink.contents new.touched.sink.contents written
   pub failures : new.touched.sink.failures ≡ old.touched.sink.failures + failed_writes
 
-abbrev pub FinalWhole : {S : Type 0} → Ahead → (S → Dealing → S → Type 0) → ℕ → Scene S → Scene S → Option End → Type 0
+abbrev pub FinalWhole : {S : Type 0} → Ahead → (S → Dealing → S → Type 0) → ℕ → Scene S → Scene S → Option End
+    → Type 0
 FinalWhole ahead leads failed_reads old new end = (f : Final ahead false leads failed_reads 0 old new end) × (f.written ≡ f.text)
 
-abbrev pub Exchanged : {S : Type 0} → Ahead → (S → Dealing → S → Type 0) → Scene S → Scene S → Result (Option End) ServeFault
-    → Type 0
+abbrev pub Exchanged : {S : Type 0} → Ahead → (S → Dealing → S → Type 0) → Scene S → Scene S
+    → Result (Option End) ServeFault → Type 0
 Exchanged ahead leads old new (Ok None) = Went ahead leads old new
 Exchanged ahead leads old new (Ok (Some end)) = FinalWhole ahead leads 0 old new (Some end)
 Exchanged ahead leads old new (Err Read) = FinalWhole ahead leads 1 old new None

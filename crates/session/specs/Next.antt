@@ -1,7 +1,7 @@
 -- Which command stands next in a stream of bytes (this project's own).
 use Rattle.std.specs.Prelude.{ℕ, nat_lt, Bool, if◌then◌else◌, List, length, take, drop}
 use Rattle.wire.specs.Lines.{First, first, Partial, Over, Line, Nothing}
-use Rattle.command_text.specs.Words.{words}
+use Rattle.text_words.specs.Words.{words}
 use Rattle.command_text.specs.Requests.{Command, Quit, Break, Header, with_body, Request, Plain, Body, Fatal, request}
 use Rattle.command_text.specs.declared.rules.FatalRule.{FatalRule}
 use Rattle.command_text.specs.declared.rules.FatalRule.TheVariants.{InputEndsInBody, LineTooLong}

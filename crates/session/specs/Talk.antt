@@ -1,5 +1,6 @@
 -- A session from its first byte to its last: turns in a row over the commands of a stream of bytes (this project's own).
-use Rattle.std.specs.Prelude.{ℕ, ◌≡◌, ◌≤◌, ◌+◌, ◌||◌, Bool, true, false, List, [], ◌++◌, Option, None, Some, Result, Ok, Err}
+use Rattle.std.specs.Prelude.{ℕ, ◌≡◌, ◌≤◌, ◌+◌, ◌||◌, Bool, true, false, List, [], ◌++◌}
+use Rattle.std.specs.Prelude.{Option, None, Some, Result, Ok, Err}
 use Rattle.std.specs.Io.KnownBytes.{Consumes, Appends, IsAtEnd}
 use Rattle.wire.specs.Devices.{SourceState, SinkState}
 use Rattle.wire.specs.Prefixes.{IsPrefixOf}
@@ -18,14 +19,15 @@ use Rattle.session.specs.declared.end.ServeFault.TheVariants as faults
 -- and what the session then holds. Where `cut` is true, it may break off between two commands.
 pub data Talk : Bool → State → List ℕ → Bool → List Dealing → List ℕ → Option End → State → Type 0 where
   leave : (s : State) (bytes : List ℕ) (ended : Bool) → Talk true s bytes ended [] [] None s
-  wait : (cut : Bool) (s : State) (bytes : List ℕ) (ended : Bool) → next ended bytes ≡ Waits → Talk cut s bytes ended [] [] None s
+  wait : (cut : Bool) (s : State) (bytes : List ℕ) (ended : Bool) → next ended bytes ≡ Waits
+      → Talk cut s bytes ended [] [] None s
   finish : (cut : Bool) (s : State) (bytes : List ℕ) (ended : Bool) → next ended bytes ≡ Ends
       → Talk cut s bytes ended [] [] (Some InputEnd) s
   stop : (cut : Bool) (s t : State) (bytes : List ℕ) (ended : Bool) (c : Command) (e : End) (ds : List Dealing) (reply : List ℕ)
       → next ended bytes ≡ Stops c e → Turn s c ds reply t → Talk cut s bytes ended ds reply (Some e) t
-  go : (cut : Bool) (s t u : State) (bytes rest : List ℕ) (ended : Bool) (c : Command) (ds es : List Dealing) (reply text : List ℕ)
-      (end : Option End) → next ended bytes ≡ Goes c rest → Turn s c ds reply t → Talk cut t rest ended es text end u
-      → Talk cut s bytes ended (ds ++ es) (reply ++ text) end u
+  go : (cut : Bool) (s t u : State) (bytes rest : List ℕ) (ended : Bool) (c : Command) (ds es : List Dealing)
+      (reply text : List ℕ) (end : Option End) → next ended bytes ≡ Goes c rest → Turn s c ds reply t
+      → Talk cut t rest ended es text end u → Talk cut s bytes ended (ds ++ es) (reply ++ text) end u
 
 -- What a session is given, at one moment: its budget, what it reads from, and what it writes to.
 pub record Outside (S : Type 0) : Type 0 where
@@ -36,7 +38,8 @@ pub record Outside (S : Type 0) : Type 0 where
 -- What a session did from nothing bound or queued to an end or a fault: what it read, what it wrote, and its calls of the budget,
 -- by which each amount that was taken is settled, once and in the same order. The talk is of a stream that has ended exactly where
 -- the source told its end.
-pub record Said {S : Type 0} (cut : Bool) (leads : S → Dealing → S → Type 0) (old new : Outside S) (end : Option End) : Type 0 where
+pub record Said {S : Type 0} (cut : Bool) (leads : S → Dealing → S → Type 0) (old new : Outside S) (end : Option End)
+    : Type 0 where
   pub read : List ℕ
   pub ended : Bool
   pub dealings : List Dealing
@@ -65,7 +68,8 @@ pub record Counts {S : Type 0} (limit m n : ℕ) (old new : Outside S) : Type 0 
 -- What a session of at most so many reads leaves, by its answer. After a read that failed, or one too many, the text is that of the
 -- complete commands. After a write that failed, what was written is a prefix of the text of some first commands. Out of memory is
 -- answered only at the start: no read, no write and no call of the budget was made.
-abbrev pub Outcome : {S : Type 0} → (S → Dealing → S → Type 0) → ℕ → Outside S → Outside S → Result End ServeFault → Type 0
+abbrev pub Outcome : {S : Type 0} → (S → Dealing → S → Type 0) → ℕ → Outside S → Outside S → Result End ServeFault
+    → Type 0
 Outcome leads limit old new (Ok end) = SaidAll leads old new (Some end) × Counts limit 0 0 old new
 Outcome leads limit old new (Err faults.Read) = SaidAll leads old new None × Counts limit 1 0 old new
 Outcome leads limit old new (Err faults.Turns) =

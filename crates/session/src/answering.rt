@@ -102,8 +102,6 @@ pub fn respond_and_say<W: Sink, T: Steps, H: Threads + Wait>(
         total_price (state_of bench.old.workspace).queue + T.owes steps.new }
 {
     let end = respond(means, heard, bench, steps);
-    match say(writer, &bench.reply) {
-        Ok(()) => Ok(end),
-        Err(failed) => Err(failed),
-    }
+    say(writer, &bench.reply)?;
+    Ok(end)
 }

@@ -102,8 +102,7 @@ fn converse<R: Source, W: Sink, T: Steps, H: Threads + Wait>(
     writer: &mut W,
     steps: &mut T,
 ) -> Result<End, ServeFault>
-    requires bytes { desk.old.input.bytes ≡ [] }
-    requires open { desk.old.input.ended ≡ false }
+    requires input { (desk.old.input.bytes ≡ []) × (desk.old.input.ended ≡ false) }
     requires state { state_of desk.old.bench.workspace ≡ empty }
     ensures conversed { Conversed T.leads
         (scene_at desk.old (R.state reader.old) (W.state writer.old) steps.old)
@@ -226,54 +225,47 @@ impl Room {
     }
 }
 
-/// Serves one session as `serve` does, with so many reads at most.
+/// For tests: the program makes a `Room` and calls `Room::serve_counting`. Serves one session as `serve` does, with so many
+/// reads at most.
 ///
 /// # Errors
 ///
 /// As those of `serve`; `Turns` where more than so many reads were needed.
 pub fn serve_turns<R: Source, W: Sink, T: Steps, H: Threads + Wait>(
-    rt: &H,
-    alloc: Global,
+    means: &Means<'_, H>,
     reader: &mut R,
     writer: &mut W,
     steps: &mut T,
-    workers: u64,
     reads: u64,
 ) -> Result<End, ServeFault>
-    requires some { 1 ≤ workers }
-    requires few { workers ≤ 64 }
     ensures said { Outcome T.leads reads
         (record { budget = steps.old; source = R.state reader.old; sink = W.state writer.old })
         (record { budget = steps.new; source = R.state reader.new; sink = W.state writer.new }) result }
     ensures owed { T.owes steps.new ≡ T.owes steps.old }
 {
-    let Ok(room) = Room::with_reads(alloc, workers, reads) else {
+    let Ok(room) = Room::with_reads(means.alloc, means.workers, reads) else {
         return Err(ServeFault::Memory);
     };
-    room.serve(rt, reader, writer, steps)
+    room.serve(means.rt, reader, writer, steps)
 }
 
-/// Serves one session: reads commands, and writes the reply to each, until `quit`, the end of the input, or a refusal after
-/// which a session can't go on. Each batch runs on so many workers.
+/// For tests: the program makes a `Room` and calls `Room::serve_counting`. Serves one session: reads commands, and writes the reply
+/// to each, until `quit`, the end of the input, or a refusal after which a session can't go on.
 ///
 /// # Errors
 ///
 /// A device failed, more than 4,294,967,296 reads were needed, or the room that a session needs from its start was refused.
 /// On each end and each fault every reservation that is still held is settled with 0.
 pub fn serve<R: Source, W: Sink, T: Steps, H: Threads + Wait>(
-    rt: &H,
-    alloc: Global,
+    means: &Means<'_, H>,
     reader: &mut R,
     writer: &mut W,
     steps: &mut T,
-    workers: u64,
 ) -> Result<End, ServeFault>
-    requires some { 1 ≤ workers }
-    requires few { workers ≤ 64 }
     ensures said { Outcome T.leads 4294967296
         (record { budget = steps.old; source = R.state reader.old; sink = W.state writer.old })
         (record { budget = steps.new; source = R.state reader.new; sink = W.state writer.new }) result }
     ensures owed { T.owes steps.new ≡ T.owes steps.old }
 {
-    serve_turns(rt, alloc, reader, writer, steps, workers, MOST_READS)
+    serve_turns(means, reader, writer, steps, MOST_READS)
 }

@@ -1,5 +1,5 @@
 //! Whole sessions over memory: what is written, how each ends, and what the budget holds then, on values from outside.
-ghost use Rattle.std.specs.Prelude.{◌≡◌, ◌<◌};
+ghost use Rattle.wire.specs.Devices.{IsNewCount};
 
 mod endings;
 mod runs;
@@ -17,6 +17,7 @@ use std::test::Fail;
 use std::thread::Threads;
 use step_budget::{Steps, Tally, Totals};
 use wire::{FromRead, ToWrite};
+use workspace::Means;
 
 /// Commands that bind `A` to a matrix of the one entry 41, and `inc` to an operator of three instructions that adds 1.
 const SETUP: &str = "matrix A 62
@@ -127,25 +128,20 @@ fn serve_over<C: Ledger, F: Ledger, W: Ledger, D: Ledger, H: Threads + Wait>(
     reads: Option<u64>,
     blanks: (Blank, Blank, Blank, Blank),
 ) -> Result<End, ServeFault>
-    requires reads_name { blanks.0.name ≡ C.name }
-    requires reads_parts { blanks.0.parts ≡ C.parts }
-    requires reads_some { 0 < blanks.0.parts }
-    requires failures_name { blanks.1.name ≡ F.name }
-    requires failures_parts { blanks.1.parts ≡ F.parts }
-    requires failures_some { 0 < blanks.1.parts }
-    requires writes_name { blanks.2.name ≡ W.name }
-    requires writes_parts { blanks.2.parts ≡ W.parts }
-    requires writes_some { 0 < blanks.2.parts }
-    requires stuck_name { blanks.3.name ≡ D.name }
-    requires stuck_parts { blanks.3.parts ≡ D.parts }
-    requires stuck_some { 0 < blanks.3.parts }
+    requires reads { IsNewCount blanks.0 C.name C.parts × IsNewCount blanks.1 F.name F.parts }
+    requires writes { IsNewCount blanks.2 W.name W.parts × IsNewCount blanks.3 D.name D.parts }
 {
     let (calls, failures, writes, stuck) = blanks;
     let mut source = FromRead::<Pieces, C, F>::new(reader, calls, failures);
     let mut sink = ToWrite::<Trickle, W, D>::new(writer, writes, stuck);
+    let means = Means {
+        rt,
+        alloc,
+        workers: 1,
+    };
     match reads {
-        None => serve(rt, alloc, &mut source, &mut sink, steps, 1),
-        Some(reads) => serve_turns(rt, alloc, &mut source, &mut sink, steps, 1, reads),
+        None => serve(&means, &mut source, &mut sink, steps),
+        Some(reads) => serve_turns(&means, &mut source, &mut sink, steps, reads),
     }
 }
 

@@ -1,5 +1,6 @@
 -- What stands beside specs/Exchange.antt for this crate's own modules and proofs.
-use Rattle.std.specs.Prelude.{ℕ, ◌≡◌, ◌+◌, ◌||◌, Bool, true, false, List, ◌++◌, map, Option, None, Some, Result, Ok, Err}
+use Rattle.std.specs.Prelude.{ℕ, ◌≡◌, ◌+◌, ◌||◌, Bool, true, false, List, ◌++◌, map}
+use Rattle.std.specs.Prelude.{Option, None, Some, Result, Ok, Err}
 use Rattle.std.specs.Io.KnownBytes.{Consumes, Appends, IsAtEnd}
 use Rattle.wire.specs.Held.{Held}
 use Rattle.wire.specs.Prefixes.{IsPrefixOf}
@@ -43,8 +44,8 @@ Responds old heard dealings reply new (Some end) =
     (rest : List ℕ) (is : Next) → Hears heard rest is → (c : Command) × (is ≡ Stops c end) × Turn old c dealings reply new
 
 -- what was heard is answered, and the reply written, or a front part of it
-abbrev pub Tells : {S : Type 0} → (S → Dealing → S → Type 0) → Touched S → Touched S → Heard → Result (Option End) WriteFailed
-    → Type 0
+abbrev pub Tells : {S : Type 0} → (S → Dealing → S → Type 0) → Touched S → Touched S → Heard
+    → Result (Option End) WriteFailed → Type 0
 Tells leads old new heard (Ok end) =
     (dealings : List Dealing) × (reply : List ℕ) × Responds old.state heard dealings reply new.state end
     × Deals leads old.budget dealings new.budget × Appends old.sink.contents new.sink.contents reply
@@ -55,8 +56,8 @@ Tells leads old new heard (Err failed) =
     × Appends old.sink.contents new.sink.contents front × (new.sink.failures ≡ old.sink.failures + 1)
 
 -- What was said from the start to an end or a fault, before the reservations that are still held are settled.
-pub record Spoken {S : Type 0} (cut : Bool) (leads : S → Dealing → S → Type 0) (failed_reads failed_writes : ℕ) (old new : Scene S)
-    (end : Option End) : Type 0 where
+pub record Spoken {S : Type 0} (cut : Bool) (leads : S → Dealing → S → Type 0) (failed_reads failed_writes : ℕ)
+    (old new : Scene S) (end : Option End) : Type 0 where
   pub read : List ℕ
   pub ended : Bool
   pub dealings : List Dealing
@@ -78,7 +79,8 @@ pub record Spoken {S : Type 0} (cut : Bool) (leads : S → Dealing → S → Typ
 abbrev pub SpokenWhole : {S : Type 0} → (S → Dealing → S → Type 0) → ℕ → Scene S → Scene S → Option End → Type 0
 SpokenWhole leads failed_reads old new end = (s : Spoken false leads failed_reads 0 old new end) × (s.written ≡ s.text)
 
-abbrev pub Conversed : {S : Type 0} → (S → Dealing → S → Type 0) → Scene S → Scene S → Result End ServeFault → Type 0
+abbrev pub Conversed : {S : Type 0} → (S → Dealing → S → Type 0) → Scene S → Scene S → Result End ServeFault
+    → Type 0
 Conversed leads old new (Ok end) = SpokenWhole leads 0 old new (Some end)
 Conversed leads old new (Err Read) = SpokenWhole leads 1 old new None
 Conversed leads old new (Err Turns) = SpokenWhole leads 0 old new None × (new.stream.held.reads_left ≡ 0)

@@ -1,5 +1,5 @@
 use Rattle.std.proofs.Common.{sym, ap, ◌∙◌}
-use Rattle.command_text.specs.Words.{words}
+use Rattle.text_words.specs.Words.{words}
 use Rattle.command_text.specs.Requests.{request}
 use Rattle.command_text.specs.Readings.{request_of}
 use Rattle.workspace.specs.Workspace.{state_of}

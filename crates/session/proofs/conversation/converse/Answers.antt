@@ -11,7 +11,7 @@ use Rattle.session.proofs.conversation.converse.Goals as goal
 
 pub exchanges-init : goal.exchanges-init
 exchanges-init g c = record {
-  said = so_far_nothing g.T.Steps.leads _ c.requires.bytes c.requires.open c.requires.state;
+  said = so_far_nothing g.T.Steps.leads _ c.requires.input.0 c.requires.input.1 c.requires.state;
   owed = let e : total_price (state_of c.args.desk.now.bench.workspace).queue ≡ 0 = ap (λ (s : State). total_price s.queue) c.requires.state in omega arith;
 }
 
