@@ -1,5 +1,6 @@
 //! The settings that the words of the command line give.
-ghost use Rattle.std.specs.Prelude.{◌≡◌, ◌≢◌, ◌≤◌, ℕ, Option, Some, Err, true, is_some, codes, IfOk, IfSome, MatchResult, map};
+ghost use Rattle.std.specs.Prelude.{◌≡◌, ◌≢◌, ◌≤◌, ℕ, Option, Some, Err, true, is_some, codes, map};
+ghost use Rattle.std.specs.Prelude.{IfOk, IfSome, MatchResult};
 ghost use Rattle.clap.specs.Words.{first_of, found_of, kind_of, one_of, rows_of, takes};
 ghost use Rattle.command_line.specs.Words as line;
 ghost use Rattle.command_line.specs.Words.{AsksVersion, IsAsked, IsAskedIn, IsNumberOf, IsNumberIfAny, MayAskVersion};

@@ -1,9 +1,9 @@
 //! A listener whose connections are served.
-ghost use Rattle.std.specs.Prelude.{◌≡◌, ◌≤◌, ◌<◌, ◌+◌, ◌≢◌, None, OnOk, IfOk, IfSome};
-ghost use Rattle.wire.specs.Devices.{failures_in};
+ghost use Rattle.std.specs.Prelude.{◌≡◌, ◌≤◌, ◌<◌, ◌+◌, ◌≢◌, None, OnOk, IfOk};
+ghost use Rattle.wire.specs.Devices.{IsNewCount, failures_in};
 ghost use Rattle.step_purse.specs.Passes.{IsPassOf};
-ghost use Rattle.session.specs.Rooms.{full_room};
 ghost use Rattle.listener.specs.Listening.{Listened};
+ghost use Rattle.listener.specs.inner.Starting.{IsReady};
 
 use crate::connection::admit;
 use crate::entrance::{AcceptFailed, Entrance, FromListener};
@@ -47,12 +47,8 @@ fn start_next<
     entrance: &mut E,
     ready: Ready,
 ) -> Result<Ready, AcceptFailed>
-    requires own { IsPassOf house.now.purse.now ready.pass }
-    requires whole { 0 < ready.pass.known.share.wholes }
-    requires full { IfSome ready.room (λ r. r ≡ full_room house.now.terms.workers) }
-    ensures full { IfOk result (λ r. IfSome r.room (λ room. room ≡ full_room house.now.terms.workers)) }
-    ensures own { IfOk result (λ r. IsPassOf house.now.purse.now r.pass) }
-    ensures whole { IfOk result (λ r. 0 < r.pass.known.share.wholes) }
+    requires ready { IsReady house.now.purse.now house.now.terms.workers ready }
+    ensures ready { IfOk result (λ next. IsReady house.now.purse.now house.now.terms.workers next) }
     ensures accepted { OnOk result ((E.state entrance.old).accepted < (E.state entrance.new).accepted) }
     ensures failures { (E.state entrance.new).failures ≡ (E.state entrance.old).failures + failures_in result }
 {
@@ -92,18 +88,13 @@ fn start_some<
     ready: Ready,
     count: u64,
 ) -> Result<(), AcceptFailed>
-    requires own { IsPassOf house.now.purse.now ready.pass }
-    requires whole { 0 < ready.pass.known.share.wholes }
-    requires full { IfSome ready.room (λ r. r ≡ full_room house.now.terms.workers) }
+    requires ready { IsReady house.now.purse.now house.now.terms.workers ready }
     ensures accepted { OnOk result ((E.state entrance.old).accepted + count ≤ (E.state entrance.new).accepted) }
     ensures failures { (E.state entrance.new).failures ≡ (E.state entrance.old).failures + failures_in result }
 {
     let mut ready = ready;
     for _ in 0..count {
-        match start_next(scope, rt, house, entrance, ready) {
-            Ok(next) => ready = next,
-            Err(failed) => return Err(failed),
-        }
+        ready = start_next(scope, rt, house, entrance, ready)?;
     }
     Ok(())
 }
@@ -116,9 +107,7 @@ fn start_all<'s, 'a, E: Entrance + Drop, R: Threads + Wait + Clock + Sync, L: Le
     entrance: &mut E,
     ready: Ready,
 ) -> AcceptFailed
-    requires own { IsPassOf house.now.purse.now ready.pass }
-    requires whole { 0 < ready.pass.known.share.wholes }
-    requires full { IfSome ready.room (λ r. r ≡ full_room house.now.terms.workers) }
+    requires { IsReady house.now.purse.now house.now.terms.workers ready }
     ensures { (E.state entrance.new).failures ≡ (E.state entrance.old).failures + 1 }
 {
     let mut ready = ready;
@@ -143,9 +132,7 @@ fn start<'s, 'a, E: Entrance + Drop, R: Threads + Wait + Clock + Sync, L: Ledger
     entrance: &mut E,
     ready: Ready,
 ) -> Result<(), ListenFault>
-    requires own { IsPassOf house.now.purse.now ready.pass }
-    requires whole { 0 < ready.pass.known.share.wholes }
-    requires full { IfSome ready.room (λ r. r ≡ full_room house.now.terms.workers) }
+    requires { IsReady house.now.purse.now house.now.terms.workers ready }
     ensures { Listened house.now.terms.sessions (E.state entrance.old) (E.state entrance.new) result }
 {
     match house.terms.sessions {
@@ -186,9 +173,7 @@ pub fn serve_entrance<
         thread::scope_env(),
         rt,
         move |scope| -> (E, Result<(), ListenFault>)
-            requires own { IsPassOf house.now.purse.now ready.pass }
-            requires whole { 0 < ready.pass.known.share.wholes }
-            requires full { IfSome ready.room (λ r. r ≡ full_room house.now.terms.workers) }
+            requires ready { IsReady house.now.purse.now house.now.terms.workers ready }
             ensures ended { Listened house.entry.now.terms.sessions (E.state entrance) (E.state result.0) result.1 }
         {
             let mut entrance = entrance;
@@ -196,6 +181,13 @@ pub fn serve_entrance<
             (entrance, ended)
         },
     )
+}
+
+/// What sessions draw on: a purse, and a pass of it that can give others.
+#[derive(Drop)]
+struct Funds<'p> {
+    purse: &'p Purse,
+    pass: Pass,
 }
 
 /// As `serve_listener`, with the counts by ledgers of the caller's: of seats, of accepted connections and of failures.
@@ -208,19 +200,17 @@ fn serve_counted<
 >(
     rt: &R,
     listener: &N,
-    purse: &Purse,
-    pass: Pass,
+    funds: Funds<'_>,
     terms: Terms,
     journal: Option<&Journal>,
     blanks: (Blank, Blank, Blank),
 ) -> Result<(), ListenFault>
-    requires own { IsPassOf purse.now pass }
-    requires whole { 0 < pass.known.share.wholes }
+    requires funds { IsPassOf funds.purse.now funds.pass × (0 < funds.pass.known.share.wholes) }
     requires seats { (blanks.0.name ≡ L.name) × (blanks.0.parts ≡ L.parts) × (blanks.0.parts ≡ 16) }
-    requires accepted { (blanks.1.name ≡ C.name) × (blanks.1.parts ≡ C.parts) × (0 < blanks.1.parts) }
-    requires failures { (blanks.2.name ≡ F.name) × (blanks.2.parts ≡ F.parts) × (0 < blanks.2.parts) }
+    requires counts { IsNewCount blanks.1 C.name C.parts × IsNewCount blanks.2 F.name F.parts }
     ensures { OnOk result (terms.sessions ≢ None) }
 {
+    let Funds { purse, pass } = funds;
     let (seats, accepted, failures) = blanks;
     let house = House::<L>::new(rt.alloc(), purse, terms, journal, seats);
     let entrance = FromListener::<N, C, F>::new(listener, accepted, failures);
@@ -252,5 +242,6 @@ pub fn serve_listener<
     ensures { OnOk result (terms.sessions ≢ None) }
 {
     let blanks = (Blank::new(SEATS), Blank::new(1), Blank::new(1));
-    serve_counted::<N, R, Brand, Brand, Brand>(rt, listener, purse, pass, terms, journal, blanks)
+    let funds = Funds { purse, pass };
+    serve_counted::<N, R, Brand, Brand, Brand>(rt, listener, funds, terms, journal, blanks)
 }

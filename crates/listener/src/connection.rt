@@ -1,5 +1,6 @@
 //! One connection, from its start to its end.
-ghost use Rattle.std.specs.Prelude.{◌≡◌, ◌<◌, ◌⊎◌, true, false, Err, IfOk, IfErr, IfSome};
+ghost use Rattle.std.specs.Prelude.{◌≡◌, ◌⊎◌, true, false, Err, IfOk, IfErr, IfSome};
+ghost use Rattle.wire.specs.Devices.{IsNewCount};
 ghost use Rattle.step_purse.specs.Passes.{IsPassOf};
 ghost use Rattle.session.specs.Rooms.{full_room};
 
@@ -82,10 +83,8 @@ fn serve_counted<
     blanks: (Blank, Blank, Blank, Blank),
 ) -> Served
     requires own { IsPassOf purse.now given.1 }
-    requires reads { (blanks.0.name ≡ A.name) × (blanks.0.parts ≡ A.parts) × (0 < blanks.0.parts) }
-    requires failed_reads { (blanks.1.name ≡ B.name) × (blanks.1.parts ≡ B.parts) × (0 < blanks.1.parts) }
-    requires writes { (blanks.2.name ≡ C.name) × (blanks.2.parts ≡ C.parts) × (0 < blanks.2.parts) }
-    requires failed_writes { (blanks.3.name ≡ D.name) × (blanks.3.parts ≡ D.parts) × (0 < blanks.3.parts) }
+    requires reads { IsNewCount blanks.0 A.name A.parts × IsNewCount blanks.1 B.name B.parts }
+    requires writes { IsNewCount blanks.2 C.name C.parts × IsNewCount blanks.3 D.name D.parts }
 {
     let (room, pass) = given;
     let (reads, failed_reads, writes, failed_writes) = blanks;
@@ -111,7 +110,8 @@ fn serve_sides<R: Read + Drop, W: Write + Drop, H: Threads + Wait>(
 /// How a session ended, by its outcome, where a call that failed had waited for too long or not.
 fn ending_of(outcome: Result<End, ServeFault>, is_idle: bool) -> Ending
     ensures ended { IfOk outcome (λ end. result ≡ Ending.Ended end) }
-    ensures idle { is_idle ≡ true → (outcome ≡ Err ServeFault.Read) ⊎ (outcome ≡ Err ServeFault.Write) → result ≡ Ending.Idle }
+    ensures idle { is_idle ≡ true → (outcome ≡ Err ServeFault.Read) ⊎ (outcome ≡ Err ServeFault.Write)
+        → result ≡ Ending.Idle }
     ensures broken { IfErr outcome (λ fault. (is_idle ≡ false) ⊎ (fault ≡ ServeFault.Turns) ⊎ (fault ≡ ServeFault.Memory)
         → result ≡ Ending.BrokenOff fault) }
 {

@@ -1,5 +1,6 @@
 //! What connections come in by.
-ghost use Rattle.std.specs.Prelude.{◌≡◌, ◌<◌};
+ghost use Rattle.std.specs.Prelude.{◌≡◌};
+ghost use Rattle.wire.specs.Devices.{IsNewCount};
 ghost use Rattle.listener.specs.Entrances.{EntranceState, after_accept};
 
 use crate::fault::Cause;
@@ -48,8 +49,8 @@ impl<'l, N: OpenListener<Stream = TcpStream>, C: Ledger, F: Ledger> FromListener
     /// An entrance by this listener. `accepted` and `failures` are new ledgers of at least one part (`Blank::new(1)`), and the
     /// types `C` and `F` stand for them.
     pub fn new(listener: &'l N, accepted: Blank, failures: Blank) -> Self
-        requires accepted_blank { (accepted.name ≡ C.name) × (accepted.parts ≡ C.parts) × (0 < accepted.parts) }
-        requires failures_blank { (failures.name ≡ F.name) × (failures.parts ≡ F.parts) × (0 < failures.parts) }
+        requires accepted_blank { IsNewCount accepted C.name C.parts }
+        requires failures_blank { IsNewCount failures F.name F.parts }
         ensures { ⟦<FromListener<'l, N, C, F> as Entrance>⟧.state result ≡ record { accepted = 0; failures = 0 } }
     {
         FromListener {

@@ -44,9 +44,7 @@ impl<'p, L: Ledger> House<'p, L> {
         journal: Option<&'p Journal>,
         blank: Blank,
     ) -> Self
-        requires name { blank.name ≡ L.name }
-        requires parts { blank.parts ≡ L.parts }
-        requires sixteen { blank.parts ≡ 16 }
+        requires { (blank.name ≡ L.name) × (blank.parts ≡ L.parts) × (blank.parts ≡ 16) }
         ensures purse { result.purse.now ≡ purse.now }
         ensures terms { result.terms ≡ terms }
     {

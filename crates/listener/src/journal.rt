@@ -2,8 +2,8 @@
 //!
 //! A session never waits for the writer: it leaves its line in a queue, under a lock that nobody holds while it writes. Where the
 //! queue is full, since standard error takes nothing, the line is dropped and counted, and the count is written once there is room.
-ghost use Rattle.std.specs.Prelude.{◌≡◌, ◌<◌, ◌+◌, ◌-◌, ◌^◌, ◌++◌, ◌∷◌, [], ℕ, min, true, false, None, Some};
-ghost use Rattle.listener.specs.declared.journal.Next.TheVariants as next;
+ghost use Rattle.std.specs.Prelude.{◌≡◌, ◌+◌, ◌-◌, ◌^◌, ◌++◌, ◌∷◌, [], min, true, false};
+ghost use Rattle.listener.specs.inner.Waiting.{IsTaken};
 
 use crate::entry::Entry;
 use std::alloc::{AllocError, Global};
@@ -55,15 +55,7 @@ impl Waiting {
 
     /// Takes what is to be written next: the first line that waits, then how many were dropped. None, where there is nothing yet.
     fn take(&mut self) -> Option<Next>
-        ensures line { (entry : Entry) → result ≡ Some (next.Line entry) →
-            (self.old.entries.items ≡ entry ∷ self.new.entries.items) × (self.new.dropped ≡ self.old.dropped) }
-        ensures dropped { (count : ℕ) → result ≡ Some (next.Dropped count) →
-            (self.old.entries.items ≡ []) × (self.new.entries.items ≡ [])
-            × (0 < count) × (count ≡ self.old.dropped) × (self.new.dropped ≡ 0) }
-        ensures over { result ≡ Some next.Over →
-            (self.old.entries.items ≡ []) × (self.old.dropped ≡ 0) × (self.old.is_over ≡ true) }
-        ensures none { result ≡ None →
-            (self.old.entries.items ≡ []) × (self.old.dropped ≡ 0) × (self.old.is_over ≡ false) }
+        ensures taken { IsTaken result self.old self.new }
         ensures same { self.new.is_over ≡ self.old.is_over }
     {
         let Waiting {

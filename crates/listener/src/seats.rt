@@ -29,9 +29,7 @@ pub struct Token<L: Ledger> {
 impl<L: Ledger> Seats<L> {
     /// Sixteen free seats, counted by this ledger.
     pub fn new(blank: Blank) -> Self
-        requires name { blank.name ≡ L.name }
-        requires parts { blank.parts ≡ L.parts }
-        requires sixteen { blank.parts ≡ 16 }
+        requires { (blank.name ≡ L.name) × (blank.parts ≡ L.parts) × (blank.parts ≡ 16) }
         ensures { result.taken.total ≡ 0 }
     {
         let (taken, rest) = blank.open();

@@ -7,8 +7,8 @@
 //! `listener::serve_pass`. How serving a listener ends is the contract of `listener::serve_entrance`.
 #![tactic(auto)]
 
-ghost use Rattle.std.specs.Prelude.{◌≡◌, ◌≤◌, ◌^◌, IfOk};
-ghost use Rattle.command_line.specs.InRange.{IsInRange};
+ghost use Rattle.std.specs.Prelude.{◌≡◌, IfOk};
+ghost use Rattle.command_line.specs.InRange.{HasRoom, IsInRange};
 
 mod serving;
 mod solo;
@@ -56,9 +56,7 @@ fn tell_version<H: Print>(rt: &H) -> Result<Done, Failure> {
 fn run<H>(rt: &H, steps: u64, workers: u64, idle: Option<u64>) -> Result<Done, Failure>
 where
     H: Input + Print + Threads + Wait + AllocGlobal,
-    requires steps { steps ≤ 2 ^ 62 }
-    requires some { 1 ≤ workers }
-    requires few { workers ≤ 64 }
+    requires { HasRoom steps workers }
 {
     let (mut unread, mut unwritten) = (None, None);
     let reader = Side::input(rt.reader(), idle, &mut unread);

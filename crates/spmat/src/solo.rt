@@ -1,5 +1,7 @@
 //! One session on two devices, within a purse of its own.
-ghost use Rattle.std.specs.Prelude.{◌≡◌, ◌≤◌, ◌<◌, ◌^◌, [], IfOk};
+ghost use Rattle.std.specs.Prelude.{◌≡◌, [], IfOk};
+ghost use Rattle.wire.specs.Devices.{IsNewCount};
+ghost use Rattle.command_line.specs.InRange.{HasRoom};
 ghost use Rattle.step_purse.specs.Passes.{IsPassOf};
 ghost use Rattle.step_purse.specs.Histories.{newcomer};
 ghost use Rattle.step_purse.specs.Shares.{whole};
@@ -25,11 +27,8 @@ struct Prepared {
 
 /// A purse of so many steps, and the room of a session each of whose batches runs on so many workers.
 fn prepare(alloc: Global, steps: u64, workers: u64) -> Result<Prepared, AllocError>
-    requires steps { steps ≤ 2 ^ 62 }
-    requires some { 1 ≤ workers }
-    requires few { workers ≤ 64 }
-    ensures own { IfOk result (λ p. IsPassOf p.purse p.pass) }
-    ensures allowance { IfOk result (λ p. p.purse.allowance ≡ steps) }
+    requires { HasRoom steps workers }
+    ensures own { IfOk result (λ p. IsPassOf p.purse p.pass × (p.purse.allowance ≡ steps)) }
     ensures unused { IfOk result (λ p. p.pass.known ≡ newcomer [] whole) }
     ensures room { IfOk result (λ p. p.room ≡ full_room workers) }
 {
@@ -52,9 +51,7 @@ pub fn run<I: Source, O: Sink, H: Threads + Wait + AllocGlobal>(
     steps: u64,
     workers: u64,
 ) -> Result<End, ServeFault>
-    requires steps { steps ≤ 2 ^ 62 }
-    requires some { 1 ≤ workers }
-    requires few { workers ≤ 64 }
+    requires { HasRoom steps workers }
     ensures { Ran steps (record { source = I.state source.old; sink = O.state sink.old })
         (record { source = I.state source.new; sink = O.state sink.new }) result }
 {
@@ -83,13 +80,9 @@ fn run_counted<
     workers: u64,
     blanks: (Blank, Blank, Blank, Blank),
 ) -> Result<End, ServeFault>
-    requires steps { steps ≤ 2 ^ 62 }
-    requires some { 1 ≤ workers }
-    requires few { workers ≤ 64 }
-    requires reads { (blanks.0.name ≡ A.name) × (blanks.0.parts ≡ A.parts) × (0 < blanks.0.parts) }
-    requires failed_reads { (blanks.1.name ≡ B.name) × (blanks.1.parts ≡ B.parts) × (0 < blanks.1.parts) }
-    requires writes { (blanks.2.name ≡ C.name) × (blanks.2.parts ≡ C.parts) × (0 < blanks.2.parts) }
-    requires failed_writes { (blanks.3.name ≡ D.name) × (blanks.3.parts ≡ D.parts) × (0 < blanks.3.parts) }
+    requires bounds { HasRoom steps workers }
+    requires reads { IsNewCount blanks.0 A.name A.parts × IsNewCount blanks.1 B.name B.parts }
+    requires writes { IsNewCount blanks.2 C.name C.parts × IsNewCount blanks.3 D.name D.parts }
 {
     let (reads, failed_reads, writes, failed_writes) = blanks;
     let mut source = FromRead::<R, A, B>::new(reader, reads, failed_reads);
@@ -105,9 +98,7 @@ pub fn run_over<R: Read + Drop, W: Write + Drop, H: Threads + Wait + AllocGlobal
     steps: u64,
     workers: u64,
 ) -> Result<End, ServeFault>
-    requires steps { steps ≤ 2 ^ 62 }
-    requires some { 1 ≤ workers }
-    requires few { workers ≤ 64 }
+    requires { HasRoom steps workers }
 {
     let blanks = (Blank::new(1), Blank::new(1), Blank::new(1), Blank::new(1));
     run_counted::<R, W, H, Brand, Brand, Brand, Brand>(rt, reader, writer, steps, workers, blanks)
