@@ -6,7 +6,7 @@ ghost use Rattle.job_runner.specs.Whole.{IsRaced};
 
 use crate::answer::{BatchAnswer, BatchFault, Cause, JobResult};
 use crate::board::open_board;
-use crate::crew::work_all;
+use crate::crew::{Means, work_all};
 use crate::gate::Gate;
 use crate::gathered::Gathered;
 use crate::join::join_jobs;
@@ -87,7 +87,8 @@ fn results<H: Threads + Wait, G: Gate + Sync>(
         plan,
         board: &board,
     };
-    let (gathered, refused) = work_all(rt, alloc, task, gate, seats, gathered);
+    let means = Means { rt, alloc, gate };
+    let (gathered, refused) = work_all(means, task, seats, gathered);
     let Gathered {
         seats,
         places,

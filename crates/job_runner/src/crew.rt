@@ -1,11 +1,11 @@
 //! Workers in threads.
-ghost use Rattle.std.specs.Prelude.{◌≡◌, ◌<◌, ◌≤◌, ◌+◌, [], true, false, None, Some, All};
+ghost use Rattle.std.specs.Prelude.{◌≡◌, ◌≤◌, ◌+◌, []};
 ghost use Rattle.std.specs.Prelude.{vec_len, vec_capacity};
 ghost use Rattle.std.specs.List.{AllByRecursion};
-ghost use Rattle.race_board.specs.Race.{MayDrawAt, SeatState};
+ghost use Rattle.race_board.specs.Race.{MayDrawAt};
 ghost use Rattle.job_plan.specs.Chunks.{prices_of};
 ghost use Rattle.job_runner.specs.Worked.{IsEnded};
-ghost use Rattle.job_runner.specs.inner.Crew.{IsGathered};
+ghost use Rattle.job_runner.specs.inner.Crew.{AreFresh, IsGathered, IsRoomFor, IsStarted, IsWorked};
 
 use crate::answer::Cause;
 use crate::gate::Gate;
@@ -24,6 +24,14 @@ impl<'a> Promise<Ended> for Task<'a> {
     ghost kept_by = { λ t e. IsEnded t.board.now t.plan.now e };
 }
 
+/// What workers run by: threads, memory, and what is called around the work on a chunk.
+#[derive(Drop)]
+pub(crate) struct Means<'a, H, G> {
+    pub rt: &'a H,
+    pub alloc: Global,
+    pub gate: &'a G,
+}
+
 /// A worker's thread.
 pub type Handle<'a> = PromisedHandle<Ended, Task<'a>>;
 
@@ -40,24 +48,19 @@ fn work_at<G: Gate>(alloc: Global, task: Task<'_>, seat: BoardSeat, gate: &G) ->
 }
 
 /// Starts a thread for each of these seats, and answers whether the start of one was refused, whose seat is then lost.
-fn start<'s, 'a, G: Gate + Sync>(
+fn start<'s, 'a, H, G: Gate + Sync>(
+    means: Means<'a, H, G>,
     scope: &Scope<'s, &'a ()>,
-    alloc: Global,
     task: Task<'a>,
-    gate: &'a G,
     seats: Vec<BoardSeat>,
     handles: &mut Vec<Handle<'a>>,
 ) -> bool
-    requires ready { All (MayDrawAt task.board.now) seats.items }
-    requires fresh { All (λ (s : SeatState). s.worker.done ≡ []) seats.items }
-    requires prices { task.board.now.prices ≡ prices_of task.plan.now }
-    requires none { vec_len handles.old ≡ 0 }
-    requires room { vec_len seats ≤ vec_capacity handles.old }
+    requires fresh { AreFresh task.board.now task.plan.now seats.items }
+    requires room { (vec_len handles.old ≡ 0) × (vec_len seats ≤ vec_capacity handles.old) }
     ensures promised { AllByRecursion (λ h. h.promise ≡ task.entry) handles.new.items }
-    ensures some { vec_len handles.new ≤ vec_len seats }
-    ensures all { result ≡ false → vec_len handles.new ≡ vec_len seats }
-    ensures refused { result ≡ true → 0 < vec_len seats }
+    ensures started { IsStarted (vec_len seats) (vec_len handles.new) result }
 {
+    let Means { rt: _, alloc, gate } = means;
     let Task { plan, board } = task;
     let mut seats = seats;
     let mut refused = false;
@@ -94,31 +97,24 @@ fn join_all<H: Threads>(rt: &H, task: Task<'_>, handles: Vec<Handle<'_>>, gather
 /// what was refused: the start of a thread, or memory for the threads' handles. Then the workers that had started went on to their
 /// ends, and the calling thread's did nothing.
 fn work_beside<'s, 'a, H: Threads, G: Gate + Sync>(
-    rt: &H,
+    means: Means<'a, H, G>,
     scope: &Scope<'s, &'a ()>,
-    alloc: Global,
     task: Task<'a>,
-    gate: &'a G,
     own: BoardSeat,
     seats: Vec<BoardSeat>,
     gathered: Gathered,
 ) -> (Gathered, Option<Cause>)
     requires own { MayDrawAt task.board.now own × (own.worker.done ≡ []) }
-    requires ready { All (MayDrawAt task.board.now) seats.items }
-    requires fresh { All (λ (s : SeatState). s.worker.done ≡ []) seats.items }
-    requires prices { task.board.now.prices ≡ prices_of task.plan.now }
-    requires none { vec_len gathered.seats ≡ 0 }
-    requires room { vec_len seats + 1 ≤ vec_capacity gathered.seats }
-    requires gathered { IsGathered task.board.now task.plan.now gathered }
-    ensures gathered { IsGathered task.entry.board.now task.entry.plan.now result.0 }
-    ensures all { result.1 ≡ None → vec_len result.0.seats ≡ vec_len seats + 1 }
-    ensures thread { result.1 ≡ Some Cause.Thread → 0 < vec_len seats }
+    requires fresh { AreFresh task.board.now task.plan.now seats.items }
+    requires room { IsRoomFor task.board.now task.plan.now (vec_len seats + 1) gathered }
+    ensures { IsWorked task.entry.board.now task.entry.plan.now (vec_len seats + 1) result.0 result.1 }
 {
+    let Means { rt, alloc, gate } = means;
     let mut gathered = gathered;
     let Ok(mut handles) = Vec::with_capacity(alloc, seats.len()) else {
         return (gathered, Some(Cause::Memory));
     };
-    let refused = start(scope, alloc, task, gate, seats, &mut handles);
+    let refused = start(Means { rt, alloc, gate }, scope, task, seats, &mut handles);
     if refused {
         join_all(rt, task, handles, &mut gathered);
         return (gathered, Some(Cause::Thread));
@@ -131,23 +127,16 @@ fn work_beside<'s, 'a, H: Threads, G: Gate + Sync>(
 /// A worker at each of these seats: the last on the calling thread, the others in threads of their own. Answers what they did, and
 /// what was refused, as `work_beside` does.
 pub(crate) fn work_all<H: Threads + Wait, G: Gate + Sync>(
-    rt: &H,
-    alloc: Global,
+    means: Means<'_, H, G>,
     task: Task<'_>,
-    gate: &G,
     seats: Vec<BoardSeat>,
     gathered: Gathered,
 ) -> (Gathered, Option<Cause>)
-    requires ready { All (MayDrawAt task.board.now) seats.items }
-    requires fresh { All (λ (s : SeatState). s.worker.done ≡ []) seats.items }
-    requires prices { task.board.now.prices ≡ prices_of task.plan.now }
-    requires none { vec_len gathered.seats ≡ 0 }
-    requires room { vec_len seats ≤ vec_capacity gathered.seats }
-    requires gathered { IsGathered task.board.now task.plan.now gathered }
-    ensures gathered { IsGathered task.entry.board.now task.entry.plan.now result.0 }
-    ensures all { result.1 ≡ None → vec_len result.0.seats ≡ vec_len seats }
-    ensures thread { result.1 ≡ Some Cause.Thread → 1 < vec_len seats }
+    requires fresh { AreFresh task.board.now task.plan.now seats.items }
+    requires room { IsRoomFor task.board.now task.plan.now (vec_len seats) gathered }
+    ensures { IsWorked task.entry.board.now task.entry.plan.now (vec_len seats) result.0 result.1 }
 {
+    let Means { rt, alloc, gate } = means;
     let Task { plan, board } = task;
     let mut seats = seats;
     let Some(own) = seats.pop() else {
@@ -158,18 +147,13 @@ pub(crate) fn work_all<H: Threads + Wait, G: Gate + Sync>(
         rt,
         move |scope| -> (Gathered, Option<Cause>)
             requires own { MayDrawAt board.now own × (own.worker.done ≡ []) }
-            requires ready { All (MayDrawAt board.now) seats.items }
-            requires fresh { All (λ (s : SeatState). s.worker.done ≡ []) seats.items }
-            requires prices { board.now.prices ≡ prices_of plan.now }
-            requires none { vec_len gathered.seats ≡ 0 }
-            requires room { vec_len seats + 1 ≤ vec_capacity gathered.seats }
-            requires gathered { IsGathered board.now plan.now gathered }
-            ensures gathered { IsGathered board.entry.now plan.entry.now result.0 }
-            ensures all { result.1 ≡ None → vec_len result.0.seats ≡ vec_len seats + 1 }
-            ensures thread { result.1 ≡ Some Cause.Thread → 0 < vec_len seats }
+            requires fresh { AreFresh board.now plan.now seats.items }
+            requires room { IsRoomFor board.now plan.now (vec_len seats + 1) gathered }
+            ensures { IsWorked board.entry.now plan.entry.now (vec_len seats + 1) result.0 result.1 }
         {
+            let means = Means { rt, alloc, gate };
             let task = Task { plan, board };
-            work_beside(rt, scope, alloc, task, gate, own, seats, gathered)
+            work_beside(means, scope, task, own, seats, gathered)
         },
     )
 }

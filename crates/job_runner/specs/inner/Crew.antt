@@ -1,8 +1,12 @@
 -- What the workers of a batch did who have ended. This project's own.
-use Rattle.std.specs.Prelude.{◌≡◌, ℕ, ◌<◌, List, false, All}
+use Rattle.std.specs.Prelude.{◌≡◌, ℕ, ◌<◌, ◌≤◌, List, [], Bool, true, false, Option, None, Some, All}
+use Rattle.std.specs.Prelude.{vec_len, vec_capacity}
 use Rattle.job_plan.specs.Job.{Job}
-use Rattle.race_board.specs.Race.{BoardState, SeatState, IsSeatOf, IsToldEnd, workers_of}
+use Rattle.job_plan.specs.Chunks.{prices_of}
+use Rattle.race_board.specs.Race.{BoardState, SeatState, IsSeatOf, IsToldEnd, MayDrawAt, workers_of}
 use Rattle.race_board.specs.Chunks.{CostAtMost, CostJust, completed_by, recorded_by, times_in}
+use Rattle.job_runner.specs.declared.answer.Cause.{Cause}
+use Rattle.job_runner.specs.declared.answer.Cause.TheVariants.{Thread}
 use Rattle.job_runner.specs.declared.gathered.Gathered.{Gathered}
 use Rattle.job_runner.specs.Chunk.{chunk_steps}
 use Rattle.job_runner.specs.inner.Places.{ArePlaces, IsFull}
@@ -17,3 +21,27 @@ pub record IsGathered (board : BoardState) (jobs : List Job) (g : Gathered) : Ty
   pub there : (c : ℕ) → 0 < times_in c (completed_by (workers_of g.seats.items)) → IsFull g.places.items c
   -- where none failed, all were told the end
   pub told : g.failed ≡ false → All (λ (s : SeatState). IsToldEnd s.worker) g.seats.items
+
+-- seats of a board of these jobs' chunks, whose workers may draw and have done nothing
+pub record AreFresh (board : BoardState) (jobs : List Job) (seats : List SeatState) : Type 0 where
+  pub ready : All (MayDrawAt board) seats
+  pub fresh : All (λ (s : SeatState). s.worker.done ≡ []) seats
+  pub prices : board.prices ≡ prices_of jobs
+
+-- nobody has ended yet, and there is room for so many workers
+pub record IsRoomFor (board : BoardState) (jobs : List Job) (workers : ℕ) (g : Gathered) : Type 0 where
+  pub none : vec_len g.seats ≡ 0
+  pub room : workers ≤ vec_capacity g.seats
+  pub gathered : IsGathered board jobs g
+
+-- of so many threads that were to start these did; whether the start of one was refused
+pub record IsStarted (wanted started : ℕ) (refused : Bool) : Type 0 where
+  pub some : started ≤ wanted
+  pub all : refused ≡ false → started ≡ wanted
+  pub one : refused ≡ true → 0 < wanted
+
+-- what so many workers did; or, where a thread or memory was refused, those that had started
+pub record IsWorked (board : BoardState) (jobs : List Job) (workers : ℕ) (g : Gathered) (refused : Option Cause) : Type 0 where
+  pub gathered : IsGathered board jobs g
+  pub all : refused ≡ None → vec_len g.seats ≡ workers
+  pub thread : refused ≡ Some Thread → 1 < workers

@@ -65,7 +65,7 @@ fn copy_of(
     requires range { from ≤ to }
     requires within { to ≤ matrix.now.rows }
 {
-    assert!(rt; to <= from / RUN_ROWS * RUN_ROWS + RUN_ROWS);
+    assert!(rt; to - from / RUN_ROWS * RUN_ROWS <= RUN_ROWS);
     let mut copy = matrix.copying(alloc, from..to)?;
     for row in from..to {
         write_again(&mut copy, matrix.row(row));

@@ -7,8 +7,15 @@ use Rattle.job_runner.proofs.Racing.{gathered_whole, whole_rows}
 use Rattle.job_runner.proofs.batch.results.Given as given
 use Rattle.job_runner.proofs.batch.results.Goals as goal
 
-pub work_all-gathered-requires-clause-gathered : goal.work_all-gathered-requires-clause-gathered
-work_all-gathered-requires-clause-gathered g c κs within = c.in_ok-gathered.ensures.gathered c.in_ok-board.board
+pub work_all-gathered-requires-clause-room : goal.work_all-gathered-requires-clause-room
+work_all-gathered-requires-clause-room g c κs within =
+    let room = c.in_ok-gathered.ensures.room.1 in
+    let seats = c.in_ok-board.ensures.board.2 in
+    record {
+      none = c.in_ok-gathered.ensures.room.0;
+      room = omega (arith, room, seats);
+      gathered = c.in_ok-gathered.ensures.gathered c.in_ok-board.board;
+    }
 
 pub in_order-requires-clause-full : goal.in_order-requires-clause-full
 in_order-requires-clause-full g c =
