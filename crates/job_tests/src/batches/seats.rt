@@ -80,16 +80,17 @@ fn work_both<H: Threads>(
     requires prices { task.board.now.prices ≡ prices_of task.plan.now }
     ensures { IsSeatOf task.entry.board.now result.0.seat × IsSeatOf task.entry.board.now result.1.seat }
 {
+    let Task { plan, board } = task;
     join(
         rt,
         move || -> Ended
-            requires { MayDrawAt task.board.now first × (task.board.now.prices ≡ prices_of task.plan.now) }
-            ensures { IsSeatOf task.entry.board.now result.seat }
-        { work_at(alloc, task, first) },
+            requires { MayDrawAt board.now first × (board.now.prices ≡ prices_of plan.now) }
+            ensures { IsSeatOf board.entry.now result.seat }
+        { work_at(alloc, Task { plan, board }, first) },
         move || -> Ended
-            requires { MayDrawAt task.board.now second × (task.board.now.prices ≡ prices_of task.plan.now) }
-            ensures { IsSeatOf task.entry.board.now result.seat }
-        { work_at(alloc, task, second) },
+            requires { MayDrawAt board.now second × (board.now.prices ≡ prices_of plan.now) }
+            ensures { IsSeatOf board.entry.now result.seat }
+        { work_at(alloc, Task { plan, board }, second) },
     )
 }
 
@@ -191,16 +192,17 @@ fn fail_and_work<H: Threads>(
     ensures { IsSeatOf task.entry.board.now result.0 × IsSeatOf task.entry.board.now result.1.seat }
 {
     let (seat, chunk) = failing;
+    let Task { plan, board } = task;
     join(
         rt,
         move || -> BoardSeat
-            requires { IsSeatOf task.board.now seat × (seat.worker.stand ≡ Holds chunk) }
-            ensures { IsSeatOf task.entry.board.now result }
-        { fail(task.board, seat, chunk) },
+            requires { IsSeatOf board.now seat × (seat.worker.stand ≡ Holds chunk) }
+            ensures { IsSeatOf board.entry.now result }
+        { fail(board, seat, chunk) },
         move || -> Ended
-            requires { MayDrawAt task.board.now working × (task.board.now.prices ≡ prices_of task.plan.now) }
-            ensures { IsSeatOf task.entry.board.now result.seat }
-        { work_at(alloc, task, working) },
+            requires { MayDrawAt board.now working × (board.now.prices ≡ prices_of plan.now) }
+            ensures { IsSeatOf board.entry.now result.seat }
+        { work_at(alloc, Task { plan, board }, working) },
     )
 }
 
