@@ -1,5 +1,6 @@
 //! The first entry of a list at whose position an earlier one stands.
-ghost use Rattle.std.specs.Prelude.{◌≡◌, ◌≤◌, length, map, IfOk, MatchOption};
+ghost use Rattle.std.specs.Prelude.{◌≡◌, ◌≤◌, true, false, length, map, IfOk, MatchOption};
+ghost use Rattle.std.specs.List.Sorted.{IsNonDecreasingBy};
 ghost use Rattle.csr_store.specs.Grid.{limit};
 ghost use Rattle.csr_store.specs.Listed.{NoneTwice, IsFirstRepeat};
 ghost use Rattle.csr_store.specs.Packed.{unpacked};
@@ -54,4 +55,18 @@ fn least_again(keys: &[u128]) -> Option<usize>
         }
     }
     least
+}
+
+/// Whether two cells have one position, as one number, where these don't fall.
+pub fn meets_again(cells: &[Cell]) -> bool
+    requires { IsNonDecreasingBy (λ c. c.0) cells.now }
+    ensures twice { result ≡ true → NoneTwice (map unpacked cells.now) → ⊥ }
+    ensures once { result ≡ false → NoneTwice (map unpacked cells.now) }
+{
+    for k in 1..cells.len() {
+        if cells[k].0 == cells[k - 1].0 {
+            return true;
+        }
+    }
+    false
 }

@@ -87,6 +87,35 @@ fn list_refuses_a_position_given_twice(rt: HostRuntime) {
     assert_twice(&rt, rt.alloc(), &[(0, 0, 1), (0, 0, 1)]);
 }
 
+/// Whether a list of entries of a matrix of 4 rows and 4 columns gives a position twice.
+fn repeats(alloc: Global, entries: &[Triple]) -> Result<bool, StoreError> {
+    let mut list = EntryList::new(alloc, 4, 4);
+    for (row, column, value) in entries {
+        list.push(*row, *column, *value)?;
+    }
+    Ok(list.has_repeat())
+}
+
+/// A list gives a position twice, or it doesn't.
+fn assert_repeats(
+    rt: &impl Abort,
+    alloc: Global,
+    entries: &[Triple],
+    wanted: bool,
+) -> Result<(), Fail> {
+    let answer = repeats(alloc, entries)?;
+    assert_eq!(rt; answer, wanted);
+    Ok(())
+}
+
+#[test]
+fn repeats_are_seen_in_any_order(rt: HostRuntime) -> Result<(), Fail> {
+    assert_repeats(&rt, rt.alloc(), &[], false)?;
+    assert_repeats(&rt, rt.alloc(), &FIVE, false)?;
+    assert_repeats(&rt, rt.alloc(), &[(0, 0, 1), (0, 0, 1)], true)?;
+    assert_repeats(&rt, rt.alloc(), &[(3, 1, 5), (0, 2, 1), (3, 1, 6)], true)
+}
+
 /// Entries at the corners of the largest matrix.
 const CORNERS: [Triple; 3] = [(LAST, LAST, 2), (0, LAST, 1), (LAST, 0, 3)];
 
