@@ -84,19 +84,32 @@ fn read_header(text: &[u8]) -> Result<(Header, Place<'_>), MarketError>
     }
 }
 
-/// Reads the entries that a size line says.
+/// Reads the entries that a size line says. Where a line breaks a rule and no position before it is given again, its fault is told
+/// without further memory.
 fn read_entries(alloc: Global, header: Header, start: Place<'_>) -> Result<Matrix, MarketError>
     ensures { IsAnswer header start.entry result }
 {
-    let gathering = gather(alloc, header, start)?;
-    match gathering.fault {
-        Some(_) => settle(header, start, gathering),
-        None => match finish(gathering.list)? {
+    let Gathering { list, fault } = gather(alloc, header, start)?;
+    match fault {
+        Some(fault) => {
+            if list.has_repeat() {
+                return read_again(alloc, header, start);
+            }
+            Err(fault)
+        }
+        None => match finish(list)? {
             Some(matrix) => Ok(matrix),
-            // The sort that found a position given twice has left the entries in another order.
-            None => settle(header, start, gather(alloc, header, start)?),
+            None => read_again(alloc, header, start),
         },
     }
+}
+
+/// The answer to a text of which a position is given again. Its entries are gathered once more, since the sort that found this has
+/// left them in another order.
+fn read_again(alloc: Global, header: Header, start: Place<'_>) -> Result<Matrix, MarketError>
+    ensures { IsAnswer header start.entry result }
+{
+    settle(header, start, gather(alloc, header, start)?)
 }
 
 /// The answer to a text of which this was gathered: the fault of the first position that is given again stands before the other.
@@ -130,6 +143,7 @@ fn finish(list: EntryList) -> Result<Option<Matrix>, MarketError>
     match list.finish() {
         Ok(matrix) => Ok(Some(matrix)),
         Err(StoreError::PositionGivenTwice) => Ok(None),
-        Err(_) => Err(MarketError::Memory),
+        Err(StoreError::Memory) => Err(MarketError::Memory),
+        Err(StoreError::IndexOutOfRange | StoreError::TooManyEntries) => unreachable!(),
     }
 }
