@@ -38,7 +38,7 @@ slot_same sums c v h = get_or-set_same sums c v None h
 pub slot_other : (sums : List (Option ℕ)) (c j : ℕ) (v : Option ℕ) → (j ≡ c → ⊥) → slot (set sums c v) j ≡ slot sums j
 slot_other sums c j v h = get_or-set_other sums c j v None h
 
-at_other : (cell : Cell) (more : List Cell) (j : ℕ) → (j ≡ cell.0 → ⊥) → at (cell ∷ more) j ≡ at more j
+pub at_other : (cell : Cell) (more : List Cell) (j : ℕ) → (j ≡ cell.0 → ⊥) → at (cell ∷ more) j ≡ at more j
 at_other cell more j h = ap (λ b. cond b (Some cell.1) (at more j)) (ne_eqb j cell.0 h)
 
 -- a column that takes nothing

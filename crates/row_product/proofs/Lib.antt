@@ -11,7 +11,8 @@ pub mod Parts
 pub mod Multiplying
 pub mod Barren
 pub mod Bits
-pub mod Spreading
 pub mod Passing
 pub mod Column
 pub mod Listed
+pub mod Ordered
+pub mod Folded

@@ -18,8 +18,9 @@
 //! `specs/inner/Column.antt`). Those of up to 64 cells of a row of A are listed in one loop (`named`), in which no jump waits for
 //! whether B has a word.
 //!
-//! The sums have their room when a range has a term, never before, and not while the terms so far are few beside many columns: each
-//! row is then summed in lists that are as long as it has terms. So the work is linear in the multiplications, the rows and the
+//! The sums have their room when a range has a term, never before, and not while the terms so far are few beside many columns. The
+//! terms of each row are then listed (`listing`), put in order by their columns, those of one column as they were listed
+//! (`ordering`), and folded (`folding`), in lists that are kept. So the work is linear in the multiplications, the rows and the
 //! entries, but for the order of a row's columns; and the room of the result is taken row by row.
 //!
 //! Read `factors` and `product`, `room` (row after row, over `specs/inner/Masked.antt`), `row` (one row), `single` (a row of A with
@@ -27,22 +28,25 @@
 //! `progress` (rows of B, under the mask, over `specs/inner/Rows.antt`), `accumulator` (cells of one row of B) with `terms`,
 //! `additions`, `sums`, `held` and `marked` (what is kept of columns), `emit` (sums into the result, over
 //! `specs/inner/Emitting.antt`) and `marks` (the mask's row), over `specs/inner/Sums.antt`, `specs/inner/Adding.antt` and
-//! `specs/inner/Held.antt`; `few` (rows of few terms) with `columns` (the columns of these terms), over `specs/inner/Few.antt`;
-//! and `one_column` with `named`.
+//! `specs/inner/Held.antt`; `few` (rows of few terms) with `listing`, `ordering`, `folding` and `calling` (how a loop makes its
+//! calls), over `specs/inner/Few.antt`; and `one_column` with `named`.
 #![tactic(auto)]
 
 mod accumulator;
 mod additions;
 mod beside;
-mod columns;
+mod calling;
 mod emit;
 mod factors;
 mod few;
+mod folding;
 mod held;
+mod listing;
 mod marked;
 mod marks;
 mod named;
 mod one_column;
+mod ordering;
 mod product;
 mod progress;
 mod room;

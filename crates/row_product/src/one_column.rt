@@ -167,6 +167,8 @@ fn put_sum(sum: Option<u64>, rows: &mut Rows) -> Result<(), AllocError>
 impl Room for Summing {
     ghost is_ready = { λ columns s. (columns ≡ 1) × HasRoom s.terms };
 
+    ghost may_fill = { λ f i. Unit {0} };
+
     /// Work linear in the words of A's row. Of a row that doesn't pass the mask nothing is read.
     fn fill_row(
         &mut self,

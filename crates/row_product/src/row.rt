@@ -51,6 +51,8 @@ fn fill_summed(
 impl Room for Progress {
     ghost is_ready = { λ columns p. IsReady columns p × AllForbidden p };
 
+    ghost may_fill = { λ f i. Unit {0} };
+
     /// Work linear in the row's multiplications, the words of A's row and of the mask's, and its own entries, but for their order.
     fn fill_row(
         &mut self,
