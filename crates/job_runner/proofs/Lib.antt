@@ -11,3 +11,4 @@ pub mod Placing
 pub mod Gathering
 pub mod Racing
 pub mod Crews
+pub mod Answering

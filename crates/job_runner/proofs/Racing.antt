@@ -2,12 +2,12 @@
 use Rattle.std.proofs.Common.{◌≡◌, ◌<◌, ℕ, List, [], ◌∷◌, map, length, false, refl, sym, ap, ◌∙◌, subst, arith}
 use Rattle.std.specs.Prelude.{All}
 use Rattle.std.specs.FinMap.{get}
-use Rattle.csr_store.specs.Along.{along, cell_at, row_by, summed}
-use Rattle.csr_store.specs.Grid.{Grid, IsInside, row_of}
+use Rattle.csr_store.specs.Along.{along, cell_at, row_by}
+use Rattle.csr_store.specs.Grid.{Grid, row_of}
 use Rattle.csr_store.specs.Run.{Row, Run}
 use Rattle.csr_store.proofs.Along.{along-same, row_by-row_of}
 use Rattle.race_board.specs.Race.{Worker, BoardState, IsToldEnd, IsFinished, total_of, times_completed, one_if_below, steps_of, workers_of}
-use Rattle.race_board.specs.Chunks.{AreEachOnce, completed_by, recorded_by, steps_in}
+use Rattle.race_board.specs.Chunks.{AreEachOnce, completed_by, steps_in}
 use Rattle.race_board.proofs.Chunks.{closed_completed, completed_steps, recorded_completed, recorded_steps}
 use Rattle.race_board.proofs.Finishing.{all_told, told_finished}
 use Rattle.job_plan.specs.Chunks.{Cover, prices_of}
@@ -16,7 +16,7 @@ use Rattle.job_plan.specs.Meaning.{IsMatrixOf, row_count, column_count, rows_in,
 use Rattle.job_runner.specs.declared.gathered.Gathered.{Gathered}
 use Rattle.job_runner.specs.Batch.{Result, AreResultsOf, total_steps}
 use Rattle.job_runner.specs.Chunk.{chunk_total, chunks_in, chunk_steps, run_in_job}
-use Rattle.job_runner.specs.Whole.{IsWhole, IsRaced, all_rows, rows_of_chunks, whole}
+use Rattle.job_runner.specs.Whole.{IsWhole, all_rows, rows_of_chunks, whole}
 use Rattle.job_runner.specs.inner.Crew.{IsGathered}
 use Rattle.job_runner.proofs.Costs.{all_listed}
 use Rattle.job_runner.proofs.Gathering.{below_summed}

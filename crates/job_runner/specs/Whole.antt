@@ -1,5 +1,5 @@
 -- The race of workers over the chunks of a batch, and what it gives once it is whole. This project's own.
-use Rattle.std.specs.Prelude.{◌≡◌, ℕ, List, [], ◌∷◌, map, All}
+use Rattle.std.specs.Prelude.{◌≡◌, ℕ, List, [], ◌∷◌, map, length, All}
 use Rattle.csr_store.specs.Along.{along}
 use Rattle.csr_store.specs.Grid.{Grid, row_of}
 use Rattle.csr_store.specs.Run.{Row}
@@ -33,3 +33,7 @@ pub record IsRaced (jobs : List Job) (results : List Result) (spent : ℕ) : Typ
   pub is_whole : IsWhole jobs workers
   pub rows : map (λ (r : Result). all_rows r.matrix) results ≡ whole jobs
   pub recorded : spent ≡ total_of steps_of workers
+
+-- just so many workers ran that race
+abbrev pub IsRacedBy : ℕ → List Job → List Result → ℕ → Type 0
+IsRacedBy count jobs results spent = (raced : IsRaced jobs results spent) × (length raced.workers ≡ count)

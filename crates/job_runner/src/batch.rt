@@ -1,25 +1,24 @@
 //! A batch on workers.
 ghost use Rattle.std.specs.Prelude.{◌≡◌, ◌<◌, ◌≤◌, map, IfOk, IfErr};
 ghost use Rattle.job_runner.specs.Batch.{AreResultsOf, result_of, total_steps};
+ghost use Rattle.job_runner.specs.Answers.{IsBatch, MaySay, said_of};
 ghost use Rattle.job_runner.specs.Theorem.{BatchTheorem};
-ghost use Rattle.job_runner.specs.Whole.{IsRaced};
+ghost use Rattle.job_runner.specs.Whole.{IsRaced, IsRacedBy};
 
 use crate::answer::{BatchAnswer, BatchFault, Cause, JobResult};
 use crate::board::open_board;
+use crate::chunk::Kept;
 use crate::crew::{Means, work_all};
 use crate::gate::Gate;
 use crate::gathered::Gathered;
 use crate::join::join_jobs;
 use crate::places::in_order;
+use crate::size::crew_size;
 use crate::task::Task;
-use csr_store::RUN_ROWS;
-use job_plan::{Plan, price};
+use job_plan::Plan;
 use std::alloc::{AllocError, Global};
 use std::sync::Wait;
 use std::thread::Threads;
-
-/// How many steps or rows are worth a thread: by the clock it costs some 40 microseconds to start and to join one.
-const WORK_OF_A_WORKER: u64 = 200_000;
 
 /// Runs a plan on up to so many workers: no more than the plan has chunks, and no more than its price and its rows feed. One of
 /// them is on the calling thread, each other in a thread of its own. They draw chunks from one board, and share the plan's
@@ -44,10 +43,36 @@ pub fn run_batch<H: Threads + Wait, G: Gate + Sync>(
     ensures spent_all { IfOk result (λ a. a.spent ≡ total_steps plan.now) }
     ensures spent { IfErr result (λ f. f.spent ≤ total_steps plan.now) }
     ensures thread { IfErr result (λ f. f.cause ≡ Cause.Thread → 1 < workers) }
+    ensures told { MaySay workers plan.now (said_of result) }
+{
+    let mut kept = Kept::new();
+    run_batch_with(rt, alloc, plan, workers, gate, &mut kept)
+}
+
+/// As `run_batch`, with what is kept from batch to batch for a worker on the calling thread that is the only one: then no memory is
+/// taken for the worker, and no thread is started.
+///
+/// # Errors
+///
+/// As those of `run_batch`.
+pub fn run_batch_with<H: Threads + Wait, G: Gate + Sync>(
+    rt: &H,
+    alloc: Global,
+    plan: &Plan,
+    workers: u64,
+    gate: &G,
+    kept: &mut Kept,
+) -> Result<BatchAnswer, BatchFault>
+    requires some { 1 ≤ workers }
+    requires few { workers ≤ 64 }
+    ensures { IsBatch workers plan.now result }
 {
     plan.recall();
+    let count = crew_size(plan, workers);
     let mut spent = 0;
-    match results(rt, alloc, plan, workers, gate, &mut spent) {
+    let outcome = results(Means { rt, alloc, gate }, plan, count, kept, &mut spent);
+    kept.trim(plan);
+    match outcome {
         Ok(results) => Ok(BatchAnswer { results, spent }),
         Err(cause) => Err(BatchFault { cause, spent }),
     }
@@ -63,32 +88,30 @@ impl From<AllocError> for Cause {
     }
 }
 
-/// What each job gives. The steps of all calls are told, also where the batch is refused.
+/// What each job gives that so many workers compute. The steps of all calls are told, also where the batch is refused.
 fn results<H: Threads + Wait, G: Gate + Sync>(
-    rt: &H,
-    alloc: Global,
+    means: Means<'_, H, G>,
     plan: &Plan,
-    workers: u64,
-    gate: &G,
+    count: u64,
+    kept: &mut Kept,
     spent: &mut u64,
 ) -> Result<Vec<JobResult>, Cause>
-    requires { (1 ≤ workers) × (workers ≤ 64) }
+    requires { (1 ≤ count) × (count ≤ 64) }
     ensures results { IfOk result (λ rs. AreResultsOf plan.now (map result_of rs.items)
-        × IsRaced plan.now (map result_of rs.items) spent.new) }
+        × IsRacedBy count plan.now (map result_of rs.items) spent.new) }
     ensures spent { spent.new ≤ total_steps plan.now }
-    ensures thread { IfErr result (λ why. why ≡ Cause.Thread → 1 < workers) }
+    ensures thread { IfErr result (λ why. why ≡ Cause.Thread → 1 < count) }
 {
     plan.recall();
     *spent = 0;
-    let count = worker_count(plan, workers);
+    let alloc = means.alloc;
     let gathered = Gathered::new(alloc, plan, count)?;
     let (board, seats) = open_board(alloc, plan, count)?;
     let task = Task {
         plan,
         board: &board,
     };
-    let means = Means { rt, alloc, gate };
-    let (gathered, refused) = work_all(means, task, seats, gathered);
+    let (gathered, refused) = work_all(means, task, seats, gathered, kept);
     let Gathered {
         seats,
         places,
@@ -103,23 +126,4 @@ fn results<H: Threads + Wait, G: Gate + Sync>(
     }
     let pieces = in_order(alloc, plan, places)?;
     Ok(join_jobs(alloc, plan, pieces)?)
-}
-
-/// How many of so many workers a plan is given.
-fn worker_count(plan: &Plan, workers: u64) -> u64
-    requires { 1 ≤ workers }
-    ensures some { 1 ≤ result }
-    ensures few { result ≤ workers }
-{
-    let fed = 1 + work(plan) / WORK_OF_A_WORKER;
-    workers.min(plan.chunks()).min(fed).max(1)
-}
-
-/// What a plan's jobs may cost, with a step for each row of their chunks.
-fn work(plan: &Plan) -> u64 {
-    let mut work = plan.chunks().saturating_mul(RUN_ROWS);
-    for job in plan.jobs() {
-        work = work.saturating_add(price(job));
-    }
-    work
 }

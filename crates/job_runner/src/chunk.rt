@@ -34,6 +34,56 @@ impl Scratch {
     }
 }
 
+/// A product of more columns leaves no room behind for the next batch, so that a session keeps some megabytes at most.
+const KEPT_COLUMNS: u64 = 262_144;
+
+/// What the worker of a batch on one thread works with, kept for the next batch. It is made by the first one.
+#[derive(Drop)]
+pub struct Kept {
+    scratch: Option<Scratch>,
+}
+
+impl Kept {
+    /// Nothing yet. Takes no memory.
+    pub fn new() -> Kept {
+        Kept { scratch: None }
+    }
+
+    /// What is kept, which is made where there is nothing.
+    pub(crate) fn take(&mut self, alloc: Global) -> Result<Scratch, AllocError> {
+        match self.scratch.take() {
+            Some(scratch) => Ok(scratch),
+            None => Scratch::new(alloc),
+        }
+    }
+
+    /// Keeps what a worker has ended with.
+    pub(crate) fn put(&mut self, scratch: Scratch) {
+        self.scratch = Some(scratch);
+    }
+
+    /// Gives back the room of products, where a plan has one of more columns than are kept.
+    pub(crate) fn trim(&mut self, plan: &Plan) {
+        if let Some(scratch) = &mut self.scratch {
+            if is_wide(plan) {
+                scratch.row = row_product::Scratch::new();
+            }
+        }
+    }
+}
+
+/// Whether a plan has a product of more columns than are kept.
+fn is_wide(plan: &Plan) -> bool {
+    for priced in plan.jobs() {
+        if let Form::Product { right, .. } = priced.job().form() {
+            if right.columns() > KEPT_COLUMNS {
+                return true;
+            }
+        }
+    }
+    false
+}
+
 /// The rows of a chunk of a plan, with the steps of the calls that were made for them. Where memory is wanted, the steps are those
 /// of some of these calls.
 pub fn compute(alloc: Global, scratch: &mut Scratch, plan: &Plan, chunk: u64) -> Made

@@ -8,10 +8,11 @@ ghost use Rattle.job_runner.specs.Worked.{IsEnded};
 ghost use Rattle.job_runner.specs.inner.Crew.{AreFresh, IsGathered, IsRoomFor, IsStarted, IsWorked};
 
 use crate::answer::Cause;
+use crate::chunk::Kept;
 use crate::gate::Gate;
 use crate::gathered::{Ended, Gathered};
 use crate::task::Task;
-use crate::worker::work;
+use crate::worker::work_by;
 use race_board::BoardSeat;
 use std::alloc::Global;
 use std::sync::Wait;
@@ -36,15 +37,32 @@ pub(crate) struct Means<'a, H, G> {
 pub type Handle<'a> = PromisedHandle<Ended, Task<'a>>;
 
 /// A worker from a fresh seat to its end.
-fn work_at<G: Gate>(alloc: Global, task: Task<'_>, seat: BoardSeat, gate: &G) -> Ended
+fn work_at<G: Gate>(
+    alloc: Global,
+    kept: &mut Kept,
+    task: Task<'_>,
+    seat: BoardSeat,
+    gate: &G,
+) -> Ended
     requires ready { MayDrawAt task.board.now seat }
     requires fresh { seat.worker.done ≡ [] }
     requires prices { task.board.now.prices ≡ prices_of task.plan.now }
     ensures { IsEnded task.entry.board.now task.entry.plan.now result }
 {
     let mut seat = seat;
-    let worked = work(alloc, task, &mut seat, gate);
+    let worked = work_by(alloc, kept, task, &mut seat, gate);
     Ended { seat, worked }
+}
+
+/// As `work_at`, of a worker that keeps nothing.
+fn work_once<G: Gate>(alloc: Global, task: Task<'_>, seat: BoardSeat, gate: &G) -> Ended
+    requires ready { MayDrawAt task.board.now seat }
+    requires fresh { seat.worker.done ≡ [] }
+    requires prices { task.board.now.prices ≡ prices_of task.plan.now }
+    ensures { IsEnded task.entry.board.now task.entry.plan.now result }
+{
+    let mut kept = Kept::new();
+    work_at(alloc, &mut kept, task, seat, gate)
 }
 
 /// Starts a thread for each of these seats, and answers whether the start of one was refused, whose seat is then lost.
@@ -66,7 +84,7 @@ fn start<'s, 'a, H, G: Gate + Sync>(
     let mut refused = false;
     while let Some(seat) = seats.pop() {
         match scope.spawn_with(task, move || {
-            work_at(alloc, Task { plan, board }, seat, gate)
+            work_once(alloc, Task { plan, board }, seat, gate)
         }) {
             Ok(handle) => {
                 handles.push(handle).unwrap();
@@ -119,18 +137,19 @@ fn work_beside<'s, 'a, H: Threads, G: Gate + Sync>(
         join_all(rt, task, handles, &mut gathered);
         return (gathered, Some(Cause::Thread));
     }
-    gathered.add(task, work_at(alloc, task, own, gate));
+    gathered.add(task, work_once(alloc, task, own, gate));
     join_all(rt, task, handles, &mut gathered);
     (gathered, None)
 }
 
 /// A worker at each of these seats: the last on the calling thread, the others in threads of their own. Answers what they did, and
-/// what was refused, as `work_beside` does.
+/// what was refused, as `work_beside` does. One worker starts no thread, and works with what is kept.
 pub(crate) fn work_all<H: Threads + Wait, G: Gate + Sync>(
     means: Means<'_, H, G>,
     task: Task<'_>,
     seats: Vec<BoardSeat>,
     gathered: Gathered,
+    kept: &mut Kept,
 ) -> (Gathered, Option<Cause>)
     requires fresh { AreFresh task.board.now task.plan.now seats.items }
     requires room { IsRoomFor task.board.now task.plan.now (vec_len seats) gathered }
@@ -142,6 +161,11 @@ pub(crate) fn work_all<H: Threads + Wait, G: Gate + Sync>(
     let Some(own) = seats.pop() else {
         return (gathered, None);
     };
+    if seats.is_empty() {
+        let mut gathered = gathered;
+        gathered.add(task, work_at(alloc, kept, task, own, gate));
+        return (gathered, None);
+    }
     thread::scope(
         thread::scope_env(),
         rt,

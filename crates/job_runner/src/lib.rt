@@ -9,7 +9,7 @@
 //! what a worker did at its seat.
 //!
 //! Read `answer` first, then `chunk` (the work on one chunk), `board`, `task` and `worker` (one worker's chunks), `crew` (workers
-//! in threads), `gathered` and `places` (what came back of them), `join` (pieces of chunks as matrices of jobs) and `batch`.
+//! in threads), `gathered` and `places` (what came back of them), `join` (pieces of chunks as matrices of jobs), `size` (how many workers) and `batch`.
 #![tactic(auto)]
 
 mod answer;
@@ -22,13 +22,14 @@ mod gathered;
 mod join;
 mod piece;
 mod places;
+mod size;
 mod task;
 mod worker;
 
 pub use answer::{BatchAnswer, BatchFault, Cause, JobResult};
-pub use batch::run_batch;
+pub use batch::{run_batch, run_batch_with};
 pub use board::open_board;
-pub use chunk::{Scratch, compute};
+pub use chunk::{Kept, Scratch, compute};
 pub use gate::{Gate, Open};
 pub use piece::Piece;
 pub use task::Task;

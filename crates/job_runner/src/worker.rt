@@ -6,7 +6,7 @@ ghost use Rattle.job_plan.specs.Chunks.{prices_of};
 ghost use Rattle.job_runner.specs.Worked.{HasWorked};
 ghost use Rattle.job_runner.specs.inner.Worked.{IsHolding, IsMadeFor, IsCompleted, IsFailed};
 
-use crate::chunk::{Scratch, compute};
+use crate::chunk::{Kept, Scratch, compute};
 use crate::gate::Gate;
 use crate::piece::Piece;
 use crate::task::Task;
@@ -29,8 +29,28 @@ pub fn work<G: Gate>(alloc: Global, task: Task<'_>, seat: &mut BoardSeat, gate: 
     requires prices { task.board.now.prices ≡ prices_of task.plan.now }
     ensures { HasWorked task.entry.board.now task.entry.plan.now seat.old seat.new result }
 {
-    match Scratch::new(alloc) {
-        Ok(mut scratch) => work_with(alloc, &mut scratch, task, seat, gate),
+    let mut kept = Kept::new();
+    work_by(alloc, &mut kept, task, seat, gate)
+}
+
+/// The same, with what is kept from batch to batch.
+pub(crate) fn work_by<G: Gate>(
+    alloc: Global,
+    kept: &mut Kept,
+    task: Task<'_>,
+    seat: &mut BoardSeat,
+    gate: &G,
+) -> Worked
+    requires ready { MayDrawAt task.board.now seat.old }
+    requires prices { task.board.now.prices ≡ prices_of task.plan.now }
+    ensures { HasWorked task.entry.board.now task.entry.plan.now seat.old seat.new result }
+{
+    match kept.take(alloc) {
+        Ok(mut scratch) => {
+            let worked = work_with(alloc, &mut scratch, task, seat, gate);
+            kept.put(scratch);
+            worked
+        }
         Err(AllocError) => fail_first(alloc, task, seat, gate),
     }
 }

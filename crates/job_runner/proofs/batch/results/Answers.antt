@@ -1,6 +1,7 @@
 use Rattle.std.proofs.Common.{◌≡◌, ◌<◌, length, map, arith}
-use Rattle.race_board.specs.Race.{workers_of}
-use Rattle.job_runner.specs.Whole.{IsRaced}
+use Rattle.std.proofs.lemmas.List.{length-map}
+use Rattle.race_board.specs.Race.{SeatState, workers_of}
+use Rattle.job_runner.specs.Whole.{IsRacedBy}
 use Rattle.job_runner.specs.Batch.{result_of}
 use Rattle.job_runner.proofs.Gathering.{gathered_spent, gathered_full}
 use Rattle.job_runner.proofs.Racing.{gathered_whole, whole_rows}
@@ -24,7 +25,7 @@ in_order-requires-clause-full g c =
     let all = c.work_all-gathered.ensures.all (cc) in
     let seats = c.in_ok-board.ensures.board.2 in
     let workers = c.in_ok-board.ensures.board.1 in
-    let count = c.worker_count-count.ensures.some in
+    let count = c.requires.0 in
     let len = gathered.seats.ok.0 in
     let some : 0 < length gathered.seats.items = omega (arith, all, seats, count, len) in
     let whole : length gathered.seats.items ≡ board.workers = omega (arith, all, seats, workers, len) in
@@ -62,7 +63,7 @@ returns-clause-spent g c =
     c.in_ok-board.ensures.board.0 c.recall.ensures.cover
 
 raced : (g : given.Over) (c : goal.In_ok-join_jobs g)
-    → IsRaced c.args.plan.now (map result_of c.in_ok-join_jobs.field-0.items) c.close.result.spent
+    → IsRacedBy c.args.count c.args.plan.now (map result_of c.in_ok-join_jobs.field-0.items) c.close.result.spent
 raced g c =
     let board = c.in_ok-board.board in
     let jobs = c.args.plan.now in
@@ -70,17 +71,20 @@ raced g c =
     let all = c.work_all-gathered.ensures.all (cc) in
     let seats = c.in_ok-board.ensures.board.2 in
     let workers = c.in_ok-board.ensures.board.1 in
-    let count = c.worker_count-count.ensures.some in
+    let count = c.requires.0 in
     let len = gathered.seats.ok.0 in
     let some : 0 < length gathered.seats.items = omega (arith, all, seats, count, len) in
     let here : length gathered.seats.items ≡ board.workers = omega (arith, all, seats, workers, len) in
-    record {
-      workers = workers_of gathered.seats.items;
-      is_whole = gathered_whole board jobs gathered c.work_all-gathered.ensures.gathered c.close.ensures.completed
-          c.in_ok-board.ensures.board.0 some here c.if-failed.false;
-      rows = whole_rows c.recall.ensures.cover jobs (map result_of c.in_ok-join_jobs.field-0.items) c.in_ok-join_jobs.ensures;
-      recorded = c.close.ensures.spent;
-    }
+    let each = length-map gathered.seats.items (λ (s : SeatState). s.worker) in (
+      record {
+        workers = workers_of gathered.seats.items;
+        is_whole = gathered_whole board jobs gathered c.work_all-gathered.ensures.gathered c.close.ensures.completed
+            c.in_ok-board.ensures.board.0 some here c.if-failed.false;
+        rows = whole_rows c.recall.ensures.cover jobs (map result_of c.in_ok-join_jobs.field-0.items) c.in_ok-join_jobs.ensures;
+        recorded = c.close.ensures.spent;
+      },
+      omega (arith, each, here, workers),
+    )
 
 pub returns-clause-results : goal.returns-clause-results
 returns-clause-results g c = (c.in_ok-join_jobs.ensures, raced g c)

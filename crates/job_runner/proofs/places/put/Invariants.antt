@@ -1,4 +1,4 @@
-use Rattle.std.proofs.Common.{◌≡◌, ◌<◌, ◌⊎◌, ℕ, vec_len}
+use Rattle.std.proofs.Common.{◌<◌, ◌⊎◌, ℕ, vec_len}
 use Rattle.std.specs.List.{AllByRecursion}
 use Rattle.race_board.specs.Chunks.{times_in}
 use Rattle.job_runner.specs.Worked.{recorded, IsPieceOf}

@@ -1,5 +1,4 @@
-use Rattle.std.proofs.Common.{◌≤◌, ◌∙◌, refl}
-use Rattle.job_runner.specs.Chunk.{chunk_steps}
+use Rattle.std.proofs.Common.{◌∙◌, refl}
 use Rattle.job_runner.proofs.Costs.{chunk_there, price_there}
 use Rattle.job_runner.proofs.Joined.{steps-of-chunk, chunk_at_most}
 use Rattle.job_runner.proofs.worker.turn.Goals as goal

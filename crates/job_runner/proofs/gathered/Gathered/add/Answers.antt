@@ -1,4 +1,4 @@
-use Rattle.std.proofs.Common.{◌<◌, inl, inr, List, sym, subst, arith}
+use Rattle.std.proofs.Common.{◌<◌, inl, inr, List, sym, subst}
 use Rattle.std.specs.Prelude.{All}
 use Rattle.race_board.specs.Race.{SeatState, IsSeatOf, IsToldEnd, workers_of}
 use Rattle.race_board.specs.Chunks.{CostAtMost, CostJust, completed_by, recorded_by, times_in}

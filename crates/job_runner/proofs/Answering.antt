@@ -1,0 +1,43 @@
+-- What a batch answers, from what its workers did.
+use Rattle.std.proofs.Common.{◌≡◌, ◌<◌, ◌≤◌, ◌∙◌, ℕ, List, Ok, Err, map, arith}
+use Rattle.std.specs.List.{AllByRecursion}
+use Rattle.job_plan.specs.Chunks.{Cover}
+use Rattle.job_plan.specs.Job.{Job}
+use Rattle.job_plan.specs.Price.{IsWithinPrice}
+use Rattle.job_plan.specs.Refusal.{IsPriced}
+use Rattle.job_runner.specs.declared.answer.BatchAnswer.{BatchAnswer}
+use Rattle.job_runner.specs.declared.answer.BatchFault.{BatchFault}
+use Rattle.job_runner.specs.declared.answer.Cause.TheVariants.{Thread}
+use Rattle.job_runner.specs.Answers.{IsBatch, gave, broke}
+use Rattle.job_runner.specs.Batch.{AreResultsOf, result_of, total_steps}
+use Rattle.job_runner.specs.Crew.{crew_of}
+use Rattle.job_runner.specs.Whole.{IsRacedBy}
+use Rattle.job_runner.proofs.Racing.{whole_spent}
+use Rattle.job_runner.proofs.Theorem.{theorem_of}
+
+pub batch_gave : (workers : ℕ) (jobs : List Job) (a : BatchAnswer) → ((k : ℕ) (job : Job) → Cover k job)
+    → AllByRecursion IsPriced jobs → AllByRecursion IsWithinPrice jobs → AreResultsOf jobs (map result_of a.results.items)
+    → IsRacedBy (crew_of workers jobs) jobs (map result_of a.results.items) a.spent → IsBatch workers jobs (Ok a)
+batch_gave workers jobs a cover priced within are by = record {
+  theorem = theorem_of jobs (map result_of a.results.items) priced within are;
+  results = are;
+  raced = by.0;
+  spent_all = by.0.recorded ∙ whole_spent cover jobs by.0.workers by.0.is_whole;
+  spent = tt;
+  thread = tt;
+  told = gave workers jobs (map result_of a.results.items) a.spent by.0 by.1;
+}
+
+pub batch_broke : (workers count : ℕ) (jobs : List Job) (f : BatchFault) → count ≤ workers → f.spent ≤ total_steps jobs
+    → (f.cause ≡ Thread → 1 < count) → IsBatch workers jobs (Err f)
+batch_broke workers count jobs f few spent thread =
+    let several : f.cause ≡ Thread → 1 < workers = λ e. let m = thread e in omega arith in
+    record {
+      theorem = tt;
+      results = tt;
+      raced = tt;
+      spent_all = tt;
+      spent = spent;
+      thread = several;
+      told = broke workers jobs f.cause f.spent spent several;
+    }

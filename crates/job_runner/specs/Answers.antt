@@ -1,0 +1,39 @@
+-- What a batch may answer that may have so many workers. This project's own.
+use Rattle.std.specs.Prelude.{◌≡◌, ◌<◌, ◌≤◌, ℕ, List, map, length, IfOk, IfErr, Ok, Err}
+use Rattle.std.specs.Prelude as std
+use Rattle.job_plan.specs.Job.{Job}
+use Rattle.job_runner.specs.declared.answer.BatchAnswer.{BatchAnswer}
+use Rattle.job_runner.specs.declared.answer.BatchFault.{BatchFault}
+use Rattle.job_runner.specs.declared.answer.Cause.{Cause}
+use Rattle.job_runner.specs.declared.answer.Cause.TheVariants.{Thread}
+use Rattle.job_runner.specs.Batch.{Result, AreResultsOf, result_of, total_steps}
+use Rattle.job_runner.specs.Crew.{crew_of}
+use Rattle.job_runner.specs.Theorem.{BatchTheorem}
+use Rattle.job_runner.specs.Whole.{IsRaced}
+
+-- What a batch says: what each job gave, in order, with the steps spent together; or why it broke off, with the steps spent by then.
+pub data Said : Type 0 where
+  Gave : (results : List Result) → (spent : ℕ) → Said
+  Broke : Cause → (spent : ℕ) → Said
+
+abbrev pub said_of : std.Result BatchAnswer BatchFault → Said
+said_of (Ok a) = Gave (map result_of a.results.items) a.spent
+said_of (Err f) = Broke f.cause f.spent
+
+-- What a batch of these jobs may say that may have so many workers: what a race gave of just as many as `crew_of` tells; or, where it
+-- broke off, some of the steps, and for want of a thread only where it may have several.
+pub data MaySay : ℕ → List Job → Said → Type 0 where
+  gave : (workers : ℕ) (jobs : List Job) (results : List Result) (spent : ℕ) (raced : IsRaced jobs results spent)
+      → length raced.workers ≡ crew_of workers jobs → MaySay workers jobs (Gave results spent)
+  broke : (workers : ℕ) (jobs : List Job) (why : Cause) (spent : ℕ) → spent ≤ total_steps jobs
+      → (why ≡ Thread → 1 < workers) → MaySay workers jobs (Broke why spent)
+
+-- all that is promised of a batch
+pub record IsBatch (workers : ℕ) (jobs : List Job) (result : std.Result BatchAnswer BatchFault) : Type 0 where
+  pub theorem : IfOk result (λ a. BatchTheorem jobs (map result_of a.results.items))
+  pub results : IfOk result (λ a. AreResultsOf jobs (map result_of a.results.items))
+  pub raced : IfOk result (λ a. IsRaced jobs (map result_of a.results.items) a.spent)
+  pub spent_all : IfOk result (λ a. a.spent ≡ total_steps jobs)
+  pub spent : IfErr result (λ f. f.spent ≤ total_steps jobs)
+  pub thread : IfErr result (λ f. f.cause ≡ Thread → 1 < workers)
+  pub told : MaySay workers jobs (said_of result)
