@@ -1,5 +1,5 @@
--- How the program tells the end of what it served: its exit status, and what it says on standard error: the words of a fault, which
--- stay as they are, and behind them its cause, where the system tells one (this project's own).
+-- How the program tells the end of what it served: its exit status, and what it says on standard error: the words of a fault, alone
+-- on their line, and on the next line its cause, where the system tells one (this project's own).
 use Rattle.std.specs.Prelude.{ℕ, List, [], Option, None, Some, Result, Ok, Err, codes}
 use Rattle.std.specs.String.{string_bytes}
 use Rattle.session.specs.declared.end.End.TheVariants.{Quit, InputEnd, Refused}
@@ -68,7 +68,7 @@ abbrev pub failed_by : Option Cause → Detail
 failed_by None = Nothing
 failed_by (Some cause) = Failed cause
 
--- what is told behind the words
+-- what the second line tells
 abbrev pub detail_of : Result Done Failure → Detail
 detail_of (Ok done) = Nothing
 detail_of (Err (fails.Settings fault)) = Nothing

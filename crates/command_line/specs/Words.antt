@@ -1,6 +1,6 @@
 -- The command line of the program, as the parser of command lines reads it (this project's own):
 -- `spmat run --steps N --workers W [--idle SECONDS]`, `spmat serve --port P --steps N --workers W [--sessions K] [--idle SECONDS]
--- [--log]`, and `spmat --version`.
+-- [--session-steps N] [--session-reserve N] [--log] [--log-format FORMAT] [--log-every SECONDS]`, and `spmat --version`.
 use Rattle.std.specs.Prelude.{ℕ, ◌≡◌, ◌^◌, Bool, true, false, List, [], ◌∷◌, Option, Some, None, codes}
 use Rattle.std.specs.Str.Parse.{digits_value, without_leading_plus, IsNumeral}
 use Rattle.clap.specs.Words.{App, Row, Rule, Shape, Text, new_app, new_rule, with_rule, with_subcommand}
@@ -9,7 +9,9 @@ use Rattle.std.specs.Str.{bytes_eq}
 use Rattle.clap.specs.declared.builder.action.ArgAction.TheVariants.{SetTrue}
 use Rattle.clap.specs.declared.error.kind.ErrorKind.TheVariants.{DisplayVersion}
 use Rattle.clap.specs.declared.builder.value_parser.ValueParser.{ValueParser}
-use Rattle.clap.specs.declared.builder.value_parser.ValueParser.TheVariants.{Unsigned}
+use Rattle.clap.specs.declared.builder.value_parser.ValueParser.TheVariants.{Unsigned, String as TextParser}
+use Rattle.listener.specs.declared.journal.LogFormat.{LogFormat}
+use Rattle.listener.specs.declared.journal.LogFormat.TheVariants as formats
 use Rattle.command_line.specs.declared.settings.Settings.{Settings}
 use Rattle.command_line.specs.declared.settings.Settings.TheVariants.{Run, Serve}
 
@@ -33,6 +35,20 @@ sessions_option = number_option (codes "sessions") (Unsigned 1 1000000) false
 abbrev pub idle_option : Rule
 idle_option = number_option (codes "idle") (Unsigned 1 1000000) false
 
+abbrev pub session_steps_option : Rule
+session_steps_option = number_option (codes "session-steps") (Unsigned 1 (2 ^ 62)) false
+
+abbrev pub session_reserve_option : Rule
+session_reserve_option = number_option (codes "session-reserve") (Unsigned 1 (2 ^ 62)) false
+
+-- the option `--log-format FORMAT`, of any text
+abbrev pub log_format_option : Rule
+log_format_option =
+    record (new_rule (codes "log-format")) { long = Some (codes "log-format"); value_names = 1; parser = Some TextParser }
+
+abbrev pub log_every_option : Rule
+log_every_option = number_option (codes "log-every") (Unsigned 1 1000000) false
+
 -- the flag `--log`
 abbrev pub log_option : Rule
 log_option = record (new_rule (codes "log")) { long = Some (codes "log"); action = Some SetTrue }
@@ -45,7 +61,9 @@ run_command = with_rule (with_rule (with_rule (new_app (codes "run")) steps_opti
 abbrev pub serve_command : App
 serve_command =
     let app = with_rule (with_rule (new_app (codes "serve")) port_option) steps_option in
-    with_rule (with_rule (with_rule (with_rule app workers_option) sessions_option) idle_option) log_option
+    let all = with_rule (with_rule (with_rule app workers_option) sessions_option) idle_option in
+    let shares = with_rule (with_rule all session_steps_option) session_reserve_option in
+    with_rule (with_rule (with_rule shares log_option) log_format_option) log_every_option
 
 -- the program, which has a version, and of which a command has to be given
 abbrev pub required_command : Shape → Shape
@@ -74,15 +92,24 @@ abbrev pub is_set : Option Text → Bool
 is_set None = false
 is_set (Some text) = bytes_eq text (codes "true")
 
+-- the format that a text names where there is one, and none where there is none
+abbrev pub IsFormatIfAny : Option Text → Option LogFormat → Type 0
+IsFormatIfAny None o = o ≡ None
+IsFormatIfAny (Some text) None = ⊥
+IsFormatIfAny (Some text) (Some formats.Text) = text ≡ codes "text"
+IsFormatIfAny (Some text) (Some formats.Json) = text ≡ codes "json"
+
 -- the settings are of the command of this name, and have the numbers of the options among these rows
 abbrev pub IsAskedIn : Text → List Row → Settings → Type 0
 IsAskedIn name rows (Run steps workers idle) =
     (name ≡ codes "run") × IsNumberOf (one_of (codes "steps") rows) steps × IsNumberOf (one_of (codes "workers") rows) workers
     × IsNumberIfAny (one_of (codes "idle") rows) idle
-IsAskedIn name rows (Serve port steps workers sessions idle log) =
+IsAskedIn name rows (Serve port steps workers sessions idle session_steps session_reserve log log_format log_every) =
     (name ≡ codes "serve") × IsNumberOf (one_of (codes "port") rows) port × IsNumberOf (one_of (codes "steps") rows) steps
     × IsNumberOf (one_of (codes "workers") rows) workers × IsNumberIfAny (one_of (codes "sessions") rows) sessions
-    × IsNumberIfAny (one_of (codes "idle") rows) idle × (log ≡ is_set (first_of (codes "log") rows))
+    × IsNumberIfAny (one_of (codes "idle") rows) idle × IsNumberIfAny (one_of (codes "session-steps") rows) session_steps
+    × IsNumberIfAny (one_of (codes "session-reserve") rows) session_reserve × (log ≡ is_set (first_of (codes "log") rows))
+    × IsFormatIfAny (first_of (codes "log-format") rows) log_format × IsNumberIfAny (one_of (codes "log-every") rows) log_every
 
 abbrev pub IsAskedBy : Option (Text × List Row) → Settings → Type 0
 IsAskedBy None settings = ⊥

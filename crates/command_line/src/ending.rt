@@ -72,7 +72,7 @@ pub enum Status {
     SessionRefused = 3,
 }
 
-/// What is said behind the words of a fault.
+/// The second line of a fault, which tells its cause.
 #[derive(Clone, Copy, Debug, PartialEq, Eq)]
 pub enum Detail {
     /// Nothing.
@@ -89,16 +89,19 @@ impl fmt::Display for Detail {
     fn fmt<W: fmt::Write>(&self, f: &mut fmt::Formatter<W>) -> fmt::Result {
         match *self {
             Detail::Nothing => Ok(()),
-            Detail::Failed(cause) => write!(f, ": {cause}"),
-            Detail::NotBound { port, cause } => {
-                write!(f, ": can't listen on 127.0.0.1:{port}: {cause}")
+            Detail::Failed(cause) => write!(f, "\nspmat: because {cause}"),
+            Detail::NotBound { port, cause } => write!(
+                f,
+                "\nspmat: because listening on 127.0.0.1:{port} failed: {cause}"
+            ),
+            Detail::NotAccepted(cause) => {
+                write!(f, "\nspmat: because accepting a connection failed: {cause}")
             }
-            Detail::NotAccepted(cause) => write!(f, ": can't accept a connection: {cause}"),
         }
     }
 }
 
-/// A fault as it is told: its words, which stay as they are, and what is said behind them.
+/// A fault as it is printed: its words, alone on a line, and a second line with its cause, where the system tells one.
 #[derive(Clone, Copy, Debug, PartialEq, Eq)]
 pub struct Fault {
     pub words: &'static str,
@@ -117,7 +120,7 @@ impl fmt::Display for Fault {
 pub enum Message {
     /// Nothing.
     Nothing,
-    /// A line that names a fault.
+    /// A fault, on a line of its own, and its cause on the next.
     Fault(Fault),
     /// The text that answers the words of the command line.
     Words(String),

@@ -94,6 +94,28 @@ fn idle_option<'a>(alloc: Global) -> Arg<'a>
     number_option(alloc, "idle", "SECONDS", help, numbers, false)
 }
 
+/// The option `--session-steps N`.
+fn session_steps_option<'a>(alloc: Global) -> Arg<'a>
+    ensures rule { rule_of result ≡ line.session_steps_option }
+    ensures local { result.global ≡ false }
+{
+    let help =
+        "Steps that each session may spend of these: 1 to 4611686018427387904; without it any may spend all";
+    let numbers = value_parser!(u64).range(1..MOST_STEPS + 1);
+    number_option(alloc, "session-steps", "N", help, numbers, false)
+}
+
+/// The option `--session-reserve N`.
+fn session_reserve_option<'a>(alloc: Global) -> Arg<'a>
+    ensures rule { rule_of result ≡ line.session_reserve_option }
+    ensures local { result.global ≡ false }
+{
+    let help =
+        "Steps that the queued jobs of each session may reserve at once: 1 to 4611686018427387904; without it any may reserve all";
+    let numbers = value_parser!(u64).range(1..MOST_STEPS + 1);
+    number_option(alloc, "session-reserve", "N", help, numbers, false)
+}
+
 /// The flag `--log`.
 fn log_option<'a>(alloc: Global) -> Arg<'a>
     ensures rule { rule_of result ≡ line.log_option }
@@ -102,9 +124,32 @@ fn log_option<'a>(alloc: Global) -> Arg<'a>
     Arg::new(alloc, "log")
         .long("log")
         .help(
-            "Write a line on standard error for each session that ends, and for each client turned away",
+            "Write a line on standard error for each session that starts or ends, each client turned away, and refusals of steps, memory and threads",
         )
         .action(ArgAction::SetTrue)
+}
+
+/// The option `--log-format FORMAT`.
+fn log_format_option<'a>(alloc: Global) -> Arg<'a>
+    ensures rule { rule_of result ≡ line.log_format_option }
+    ensures local { result.global ≡ false }
+{
+    Arg::new(alloc, "log-format")
+        .long("log-format")
+        .value_name("FORMAT")
+        .help("Write the log as `text`, or as `json`: an object a line")
+        .value_parser(ValueParser::String)
+}
+
+/// The option `--log-every SECONDS`.
+fn log_every_option<'a>(alloc: Global) -> Arg<'a>
+    ensures rule { rule_of result ≡ line.log_every_option }
+    ensures local { result.global ≡ false }
+{
+    let help =
+        "Write what each session has reserved and spent after so many seconds each: 1 to 1000000";
+    let numbers = value_parser!(u64).range(1..MOST_SECONDS + 1);
+    number_option(alloc, "log-every", "SECONDS", help, numbers, false)
 }
 
 /// The command `run`.
@@ -131,7 +176,11 @@ fn serve_command<'a>(alloc: Global) -> Result<Command<'a>, AllocError>
         .arg(workers_option(alloc))?
         .arg(sessions_option(alloc))?
         .arg(idle_option(alloc))?
-        .arg(log_option(alloc))
+        .arg(session_steps_option(alloc))?
+        .arg(session_reserve_option(alloc))?
+        .arg(log_option(alloc))?
+        .arg(log_format_option(alloc))?
+        .arg(log_every_option(alloc))
 }
 
 /// The command line: `spmat run ..`, `spmat serve ..` or `spmat --version`.

@@ -2,6 +2,7 @@
 ghost use Rattle.std.specs.Prelude.{◌≡◌};
 ghost use Rattle.command_line.specs.declared.settings.SettingsFault.TheVariants.{Memory};
 
+use listener::LogFormat;
 use std::alloc::{AllocError, AllocFailed};
 use thiserror::Error;
 
@@ -15,15 +16,21 @@ pub enum Settings {
         workers: u64,
         idle: Option<u64>,
     },
-    /// Serve sessions on a port of this machine, all on one purse of so many steps: so many sessions, if a number is given, and
-    /// for so many seconds without a word of its client each, if a number is given; with a log of them or without.
+    /// Serve sessions on a port of this machine, all on one purse of so many steps: so many
+    /// sessions, if a number is given, and for so many seconds without a word of its client each, if a number is given. Each
+    /// session may spend so many steps, and reserve so many at once, if numbers are given. There is a log of them, or none; its
+    /// lines may have a format; and it tells of the sessions that run after so many seconds each, if a number is given.
     Serve {
         port: u16,
         steps: u64,
         workers: u64,
         sessions: Option<u64>,
         idle: Option<u64>,
+        session_steps: Option<u64>,
+        session_reserve: Option<u64>,
         log: bool,
+        log_format: Option<LogFormat>,
+        log_every: Option<u64>,
     },
 }
 

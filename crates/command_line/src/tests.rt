@@ -2,7 +2,7 @@
 use crate::ending::{Detail, Done, Ending, Failure, Fault, Message, Status, ending_of, finish};
 use crate::settings::{Settings, SettingsFault};
 use crate::words::settings_of;
-use listener::{Cause, End, FatalRule, ListenFault, ServeFault};
+use listener::{Cause, End, FatalRule, ListenFault, LogFormat, ServeFault};
 use std::alloc::Global;
 use std::io;
 use std::process::{Abort, ExitCode};
@@ -31,7 +31,11 @@ fn words_that_are_taken(rt: HostRuntime) {
         workers: 1,
         sessions: None,
         idle: None,
+        session_steps: None,
+        session_reserve: None,
         log: false,
+        log_format: None,
+        log_every: None,
     };
     let all = Settings::Serve {
         port: 65535,
@@ -39,7 +43,23 @@ fn words_that_are_taken(rt: HostRuntime) {
         workers: 64,
         sessions: Some(1_000_000),
         idle: Some(2),
+        session_steps: Some(8),
+        session_reserve: Some(4_611_686_018_427_387_904),
         log: true,
+        log_format: Some(LogFormat::Json),
+        log_every: Some(60),
+    };
+    let as_text = Settings::Serve {
+        port: 2,
+        steps: 9,
+        workers: 1,
+        sessions: None,
+        idle: None,
+        session_steps: None,
+        session_reserve: None,
+        log: false,
+        log_format: Some(LogFormat::Text),
+        log_every: None,
     };
     let patient = Settings::Run {
         steps: 1,
@@ -57,8 +77,12 @@ fn words_that_are_taken(rt: HostRuntime) {
         (" run --steps 1 --workers 1", run(1, 1)),
         ("spmat serve --port 1 --steps 0 --workers 1", few),
         (
-            "spmat serve --idle 2 --log --sessions 1000000 --workers 64 --steps 9 --port 65535",
+            "spmat serve --idle 2 --log --sessions 1000000 --workers 64 --steps 9 --port 65535 --log-every 60 --log-format json --session-steps 8 --session-reserve 4611686018427387904",
             all,
+        ),
+        (
+            "spmat serve --port 2 --steps 9 --workers 1 --log-format=text",
+            as_text,
         ),
         ("spmat run --idle 1000000 --steps 1 --workers 1", patient),
     ];
@@ -90,6 +114,7 @@ fn words_that_are_refused(rt: HostRuntime) {
     let cases = [
         ("spmat", "'spmat' requires a subcommand"),
         ("spmat stop", "unrecognized subcommand 'stop'"),
+        ("spmat pagerank", "commands of spmat-graph"),
         ("spmat run", "required arguments were not provided"),
         ("spmat run --steps 1", "--workers <W>"),
         ("spmat run --workers 1", "--steps <N>"),
@@ -121,6 +146,18 @@ fn words_that_are_refused(rt: HostRuntime) {
         (
             "spmat serve --port 65536 --steps 1 --workers 1",
             "65536 is not in 1..=65535",
+        ),
+        (
+            "spmat serve --port 7 --steps 1 --workers 1 --session-steps 0",
+            "0 is not in 1..=4611686018427387904",
+        ),
+        (
+            "spmat serve --port 7 --steps 1 --workers 1 --log-format xml",
+            "--log-format is `text` or `json`",
+        ),
+        (
+            "spmat run --steps 1 --workers 1 --session-reserve 1",
+            "unexpected argument '--session-reserve'",
         ),
         (
             "spmat serve --port 7 --steps 1 --workers 1 --sessions 0",
@@ -262,17 +299,17 @@ fn faults_tell_their_causes(rt: HostRuntime) -> Result<(), Fail> {
         (
             "spmat: network failed",
             in_use,
-            "spmat: network failed: can't listen on 127.0.0.1:7171: the address is in use",
+            "spmat: network failed\nspmat: because listening on 127.0.0.1:7171 failed: the address is in use",
         ),
         (
             "spmat: network failed",
             Detail::NotAccepted(cause(24)),
-            "spmat: network failed: can't accept a connection: Too many open files (os error 24)",
+            "spmat: network failed\nspmat: because accepting a connection failed: Too many open files (os error 24)",
         ),
         (
             "spmat: write failed",
             Detail::Failed(cause(32)),
-            "spmat: write failed: the other end is closed",
+            "spmat: write failed\nspmat: because the other end is closed",
         ),
         (
             "spmat: too many reads",

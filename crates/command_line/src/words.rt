@@ -3,19 +3,25 @@ ghost use Rattle.std.specs.Prelude.{◌≡◌, ◌≢◌, ◌≤◌, ℕ, Option
 ghost use Rattle.std.specs.Prelude.{IfOk, IfSome, MatchResult};
 ghost use Rattle.clap.specs.Words.{first_of, found_of, kind_of, one_of, rows_of, takes};
 ghost use Rattle.command_line.specs.Words as line;
-ghost use Rattle.command_line.specs.Words.{AsksVersion, IsAsked, IsAskedIn, IsNumberOf, IsNumberIfAny, MayAskVersion};
+ghost use Rattle.command_line.specs.Words.{AsksVersion, IsAsked, IsAskedIn, IsNumberOf, IsFormatIfAny, IsNumberIfAny, MayAskVersion};
+ghost use Rattle.listener.specs.declared.journal.LogFormat.{LogFormat};
 ghost use Rattle.command_line.specs.InRange.{IsInRange, IsWithin};
 
 use crate::grammar::{LAST_PORT, MOST_SECONDS, MOST_SESSIONS, MOST_STEPS, MOST_WORKERS, program};
 use crate::settings::{Settings, SettingsFault};
 use clap::ArgMatches;
 use clap::error::ErrorKind;
+use listener::LogFormat;
 use std::alloc::Global;
 use std::convert::AsStr;
 
-/// The text where an option has no number, which `clap` would have to let pass.
-const NO_NUMBERS: &str =
-    "error: a number is missing or not in its range, as `--help` of the command tells them\n";
+/// The text where a format is none, or an option has no number, which `clap` would have to let pass.
+const NO_VALUES: &str =
+    "error: --log-format is `text` or `json`; numbers are in their ranges, as `--help` of the command tells them\n";
+
+/// What follows the text where a command is named that there isn't.
+const OTHER_COMMANDS: &str =
+    "\nAlgorithms on graphs, as pagerank, are commands of spmat-graph (python3 -m spmat).\n";
 
 /// The fault that an error of `clap` is: memory ran out, the version is asked for, or the words are refused with its text.
 fn fault_of(alloc: Global, error: &clap::Error) -> SettingsFault
@@ -29,7 +35,12 @@ fn fault_of(alloc: Global, error: &clap::Error) -> SettingsFault
     if error.kind() == ErrorKind::DisplayVersion {
         return SettingsFault::Version;
     }
-    match format!(in alloc; "{error}") {
+    let text = if error.kind() == ErrorKind::InvalidSubcommand {
+        format!(in alloc; "{error}{OTHER_COMMANDS}")
+    } else {
+        format!(in alloc; "{error}")
+    };
+    match text {
         Ok(text) => SettingsFault::Words(text),
         Err(_) => SettingsFault::Memory,
     }
@@ -85,6 +96,22 @@ fn number_if_any(matches: &ArgMatches<'_>, name: &str, most: u64) -> Option<Opti
     Some(Some(number))
 }
 
+/// The format of the log, where it is given.
+fn format_if_any(matches: &ArgMatches<'_>) -> Option<Option<LogFormat>>
+    ensures given { IfSome result (λ o. IsFormatIfAny (first_of (codes "log-format") (rows_of (found_of matches.now))) o) }
+    ensures taken { (o : Option LogFormat) → IsFormatIfAny (first_of (codes "log-format") (rows_of (found_of matches.now))) o →
+        result ≡ Some o }
+{
+    match matches.get_str("log-format") {
+        None => Some(None),
+        Some(text) => match text {
+            "text" => Some(Some(LogFormat::Text)),
+            "json" => Some(Some(LogFormat::Json)),
+            _ => None,
+        },
+    }
+}
+
 /// The settings of `run`.
 fn run_settings(matches: &ArgMatches<'_>) -> Option<Settings>
     ensures asked { IfSome result (λ s. IsAskedIn (codes "run") (rows_of (found_of matches.now)) s) }
@@ -114,7 +141,11 @@ fn serve_settings(matches: &ArgMatches<'_>) -> Option<Settings>
         workers,
         sessions: number_if_any(matches, "sessions", MOST_SESSIONS as u64)?,
         idle: number_if_any(matches, "idle", MOST_SECONDS as u64)?,
+        session_steps: number_if_any(matches, "session-steps", MOST_STEPS as u64)?,
+        session_reserve: number_if_any(matches, "session-reserve", MOST_STEPS as u64)?,
         log: is_set(matches, "log"),
+        log_format: format_if_any(matches)?,
+        log_every: number_if_any(matches, "log-every", MOST_SECONDS as u64)?,
     })
 }
 
@@ -157,5 +188,5 @@ pub fn settings_of<'a, S: AsStr>(alloc: Global, words: &'a [S]) -> Result<Settin
             return Ok(settings);
         }
     }
-    Err(SettingsFault::Words(String::from_str(alloc, NO_NUMBERS)?))
+    Err(SettingsFault::Words(String::from_str(alloc, NO_VALUES)?))
 }

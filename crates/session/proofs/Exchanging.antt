@@ -1,15 +1,12 @@
 -- How an exchange is made of its parts.
-use Rattle.std.proofs.Common.{◌≡◌, ◌+◌, ℕ, Bool, true, false, List, [], ◌++◌, Option, None, Some, Result, Ok, Err, inl, inr, refl, sym, ap, ◌∙◌, subst, arith}
-use Rattle.wire.specs.Devices.{SinkState}
-use Rattle.wire.specs.Held.{Held, Stream}
-use Rattle.wire.specs.Prefixes.{IsPrefixOf}
-use Rattle.wire.specs.Fetching.{Fetched, IsLined, failed_reads}
-use Rattle.wire.specs.declared.fault.ReadFault.{ReadFault}
-use Rattle.wire.specs.declared.fault.ReadFault.TheVariants.{Failed, OutOfReads}
+use Rattle.std.proofs.Common.{◌≡◌, ℕ, Bool, true, false, List, [], ◌++◌, Option, None, Some, Result, Ok, Err, inl, inr, refl, sym, ap, ◌∙◌, subst}
+use Rattle.wire.specs.Held.{Stream}
+use Rattle.wire.specs.Fetching.{Fetched, IsLined}
+use Rattle.wire.specs.Sending.{Outgoing, Sent}
+use Rattle.wire.proofs.Sending.{sent_then}
 use Rattle.wire.specs.declared.fetch.Lined.{Lined}
 use Rattle.wire.specs.declared.fetch.Lined.TheVariants as lined
 use Rattle.wire.specs.declared.device.WriteFailed.{WriteFailed}
-use Rattle.wire.proofs.Known.{append_nil, appends_nothing}
 use Rattle.wire.proofs.Fetching.{fetched_map, fetched_on}
 use Rattle.text_words.specs.Words.{words}
 use Rattle.command_text.specs.Requests.{Request, request}
@@ -19,7 +16,7 @@ use Rattle.step_purse.specs.declared.dealings.Dealing.{Dealing}
 use Rattle.workspace.specs.State.{State}
 use Rattle.session.specs.Next.{Next, Waits, Ends, Goes, refused, next, next_of, next_request}
 use Rattle.session.specs.Exchange.{Touched, Scene, IsLast, Ahead, Went, Final, FinalWhole, Exchanged, behind}
-use Rattle.session.specs.inner.Exchange.{Hears, IsHeard, Responds, Tells}
+use Rattle.session.specs.inner.Exchange.{Hears, IsHeardOf, IsEmptied, Awaited, Responds, Tells}
 use Rattle.session.specs.declared.end.End.{End}
 use Rattle.session.specs.declared.end.End.TheVariants.{InputEnd}
 use Rattle.session.specs.declared.end.ServeFault.{ServeFault}
@@ -31,70 +28,63 @@ use Rattle.session.proofs.Grammar.{next_behind}
 -- what comes of what a command's answer says next
 last_of : (cut : Bool) (is : Next) (rest : List ℕ) (old new : State) (heard : Heard) (ds : List Dealing) (reply : List ℕ) (end : Option End)
     → cut ≡ true → Responds old heard ds reply new end → Hears heard rest is → IsLast cut is old ds reply end new
-last_of cut is rest old new heard ds reply None c r h = let w = r rest is h in inr (inr (inr (w.0, rest, c, w.1, refl, w.2)))
+last_of cut is rest old new heard ds reply None c r h = let w = r rest is h in inr (inr (inr (inl (w.0, rest, c, w.1, refl, w.2))))
 last_of cut is rest old new heard ds reply (Some e) c r h = let w = r rest is h in inr (inr (inl (w.0, e, w.1, refl, w.2)))
 
-whole_prefix : (text : List ℕ) → IsPrefixOf text text
-whole_prefix text = ([], sym (append_nil text))
-
--- the fault of a session that could not read on
-abbrev pub IsFaultOf : ReadFault → ServeFault → Type 0
-IsFaultOf fault result = (fault ≡ Failed → result ≡ Read) × (fault ≡ OutOfReads → result ≡ Turns)
-
-module _ {S : Type 0} (leads : S → Dealing → S → Type 0) (ahead : Ahead) (s t : Stream) (was : Touched S) where
+module _ {S : Type 0} (leads : S → Dealing → S → Type 0) (ahead : Ahead) (s t : Stream) (o p : Outgoing) (budget : S) (was now : State) (kept : now ≡ was) where
   abbrev before : Scene S
-  before = record { stream = s; touched = was }
+  before = record { stream = s; touched = record { budget = budget; out = o; state = was } }
 
   abbrev after : Scene S
-  after = record { stream = t; touched = was }
+  after = record { stream = t; touched = record { budget = budget; out = p; state = now } }
 
   -- nothing was said, since more is waited for or the input has ended
-  silent : (n : ℕ) (is : Next) (end : Option End) → ((bytes : List ℕ) → ahead t.held.ended bytes ≡ is → IsLast false (ahead t.held.ended bytes) was.state [] [] end was.state)
-      → Fetched n s t (λ bytes. ahead t.held.ended bytes ≡ is) → FinalWhole ahead leads n before after end
-  silent n is end last f = (
+  silent : (n : ℕ) (is : Next) (end : Option End) → ((bytes : List ℕ) → ahead t.held.ended bytes ≡ is → IsLast false (ahead t.held.ended bytes) was [] [] end now)
+      → Fetched n s t (λ bytes. ahead t.held.ended bytes ≡ is) → IsEmptied o p → FinalWhole ahead leads n before after end
+  silent n is end last f e = (
     record {
       dealings = [];
       text = [];
-      written = [];
-      fetched = fetched_map n s t (λ bytes. ahead t.held.ended bytes ≡ is) (λ bytes. IsLast false (ahead t.held.ended bytes) was.state [] [] end was.state) f last;
+      fetched = fetched_map n s t (λ bytes. ahead t.held.ended bytes ≡ is) (λ bytes. IsLast false (ahead t.held.ended bytes) was [] [] end now) f last;
       dealt = refl;
-      in_front = ([], refl);
-      appended = appends_nothing was.sink.contents;
-      failures = omega arith;
+      sent = e.0;
     },
-    refl,
+    e.1,
   )
 
-  waits : (n : ℕ) → Fetched n s t (λ bytes. ahead t.held.ended bytes ≡ Waits) → FinalWhole ahead leads n before after None
-  waits n f = silent n Waits None (λ bytes w. inl (w, refl, refl, refl, refl)) f
-
   -- the input ended
-  pub exchanged_end : Fetched 0 s t (λ bytes. ahead t.held.ended bytes ≡ Ends) → Exchanged ahead leads before after (Ok (Some InputEnd))
-  exchanged_end f = silent 0 Ends (Some InputEnd) (λ bytes w. inr (inl (w, refl, refl, refl, refl))) f
+  pub exchanged_end : Fetched 0 s t (λ bytes. ahead t.held.ended bytes ≡ Ends) → IsEmptied o p → Exchanged ahead leads before after (Ok (Some InputEnd))
+  exchanged_end f e = silent 0 Ends (Some InputEnd) (λ bytes w. inr (inl (w, refl, refl, refl, kept))) f e
 
-  -- a read failed, or was one too many
-  pub exchanged_fault : (fault : ReadFault) (result : ServeFault) (q : Request) → IsFaultOf fault result → ((e : Bool) (bytes : List ℕ) → ahead e bytes ≡ next_request e q bytes)
-      → Fetched (failed_reads {A = Heard} (Err fault)) s t (IsHeard q (Err fault) t.held) → Exchanged ahead leads before after (Err result)
-  exchanged_fault Failed result q is same f =
-      subst (λ (r : ServeFault). Exchanged ahead leads before after (Err r)) (sym (is.0 refl))
-      (waits 1 (fetched_map 1 s t (IsHeard q (Err Failed) t.held) (λ bytes. ahead t.held.ended bytes ≡ Waits) f (λ bytes w. same t.held.ended bytes ∙ w)))
-  exchanged_fault OutOfReads result q is same f =
-      subst (λ (r : ServeFault). Exchanged ahead leads before after (Err r)) (sym (is.1 refl))
-      (waits 0 (fetched_map 0 s t (IsHeard q (Err OutOfReads) t.held) (λ bytes. ahead t.held.ended bytes ≡ Waits) f (λ bytes w. same t.held.ended bytes ∙ w.0)), f.holds.1)
+  waits : (n : ℕ) → Fetched n s t (λ bytes. ahead t.held.ended bytes ≡ Waits) → IsEmptied o p → FinalWhole ahead leads n before after None
+  waits n f e = silent n Waits None (λ bytes w. inl (w, refl, refl, refl, kept)) f e
 
-  -- the same, before a line was there
-  pub exchanged_unlined : (fault : ReadFault) (result : ServeFault) (line : List ℕ) → IsFaultOf fault result → ((e : Bool) (bytes : List ℕ) → ahead e bytes ≡ next e bytes)
-      → Fetched (failed_reads {A = Lined} (Err fault)) s t (IsLined (Err fault) line t.held) → Exchanged ahead leads before after (Err result)
-  exchanged_unlined Failed result line is same f =
-      subst (λ (r : ServeFault). Exchanged ahead leads before after (Err r)) (sym (is.0 refl))
-      (waits 1 (fetched_map 1 s t (IsLined (Err Failed) line t.held) (λ bytes. ahead t.held.ended bytes ≡ Waits) f (λ bytes w. same t.held.ended bytes ∙ ap (next_of t.held.ended) w)))
-  exchanged_unlined OutOfReads result line is same f =
-      subst (λ (r : ServeFault). Exchanged ahead leads before after (Err r)) (sym (is.1 refl))
-      (waits 0 (fetched_map 0 s t (IsLined (Err OutOfReads) line t.held) (λ bytes. ahead t.held.ended bytes ≡ Waits) f (λ bytes w. same t.held.ended bytes ∙ ap (next_of t.held.ended) w.0)), f.holds.1)
+  -- nothing was said, and a write failed
+  pub exchanged_stuck : (P : List ℕ → Type 0) → Fetched 0 s t P → Sent false [] o p → Exchanged ahead leads before after (Err Write)
+  exchanged_stuck P f sent = (
+    None,
+    record {
+      dealings = [];
+      text = [];
+      fetched = fetched_map 0 s t P (λ bytes. IsLast true (ahead t.held.ended bytes) was [] [] None now) f (λ bytes w. inr (inr (inr (inr (refl, refl, refl, refl, kept)))));
+      dealt = refl;
+      sent = sent;
+    },
+  )
 
-module _ {S : Type 0} (leads : S → Dealing → S → Type 0) (ahead : Ahead) (s t : Stream) (was now : Touched S) (heard : Heard) (f : Fetched 0 s t (λ bytes. Hears heard t.held.bytes (ahead t.held.ended bytes))) where
+  -- what was waited for isn't there
+  pub exchanged_fault : {A : Type 0} (fault : ServeFault) (came : A → List ℕ → Type 0) (missing : List ℕ → Type 0)
+      → ((bytes : List ℕ) → missing bytes → ahead t.held.ended bytes ≡ Waits) → Awaited (Err fault) came missing s t o p
+      → Exchanged ahead leads before after (Err fault)
+  exchanged_fault Read came missing same w = waits 1 (fetched_map 1 s t missing (λ bytes. ahead t.held.ended bytes ≡ Waits) w.0 same) w.1
+  exchanged_fault Turns came missing same w = (waits 0 (fetched_map 0 s t missing (λ bytes. ahead t.held.ended bytes ≡ Waits) w.0 same) w.2, w.1)
+  exchanged_fault Write came missing same w = exchanged_stuck (λ bytes. Unit {0}) w.0 w.1
+  exchanged_fault Memory came missing same w = absurd w
+
+module _ {S : Type 0} (leads : S → Dealing → S → Type 0) (ahead : Ahead) (s t : Stream) (o : Outgoing) (was now : Touched S) (heard : Heard) (f : Fetched 0 s t (λ bytes. Hears heard t.held.bytes (ahead t.held.ended bytes)))
+    (first : Sent true [] o was.out) where
   abbrev before_answer : Scene S
-  before_answer = record { stream = s; touched = was }
+  before_answer = record { stream = s; touched = record { budget = was.budget; out = o; state = was.state } }
 
   abbrev after_answer : Scene S
   after_answer = record { stream = t; touched = now }
@@ -110,48 +100,48 @@ module _ {S : Type 0} (leads : S → Dealing → S → Type 0) (ahead : Ahead) (
         fetched = record { got = f.got; consumed = f.consumed; follows = f.follows; at_end = f.at_end; told = f.told; reads = f.reads; failures = f.failures; holds = r.1 };
         turn = r.2;
         dealt = w.3;
-        appended = w.4;
-        no_failure = w.5;
+        sent = sent_then true [] w.1 o was.out now.out first w.4;
       }
   exchanged_told (Some e) w =
       let r = w.2 t.held.bytes (ahead t.held.ended (s.held.bytes ++ f.got)) f.holds in (
         record {
           dealings = w.0;
           text = w.1;
-          written = w.1;
           fetched = record { got = f.got; consumed = f.consumed; follows = f.follows; at_end = f.at_end; told = f.told; reads = f.reads; failures = f.failures; holds = inr (inr (inl (r.0, e, r.1, refl, r.2))) };
           dealt = w.3;
-          in_front = whole_prefix w.1;
-          appended = w.4;
-          failures = let k = w.5 in omega arith;
+          sent = sent_then true [] w.1 o was.out now.out first w.4;
         },
-        refl,
+        w.5 e refl,
       )
 
-  -- what was heard was answered, and the reply was not written whole
+  -- what was heard was answered, and not all that was said is written
   pub exchanged_cut : (failed : WriteFailed) → Tells leads was now heard (Err failed) → Exchanged ahead leads before_answer after_answer (Err Write)
   exchanged_cut failed w = (
     w.2,
     record {
       dealings = w.0;
       text = w.1;
-      written = w.5;
       fetched = fetched_map 0 s t (λ bytes. Hears heard t.held.bytes (ahead t.held.ended bytes)) (λ bytes. IsLast true (ahead t.held.ended bytes) was.state w.0 w.1 w.2 now.state) f
           (λ bytes k. last_of true (ahead t.held.ended bytes) t.held.bytes was.state now.state heard w.0 w.1 w.2 refl w.3 k);
       dealt = w.4;
-      in_front = w.6;
-      appended = w.7;
-      failures = w.8;
+      sent = sent_then false [] w.1 o was.out now.out first w.5;
     },
   )
+
+  -- the state was the same before
+  pub exchanged_from : (state : State) (result : Result (Option End) ServeFault) → was.state ≡ state → Exchanged ahead leads before_answer after_answer result
+      → Exchanged ahead leads (record { stream = s; touched = record { budget = was.budget; out = o; state = state } }) after_answer result
+  exchanged_from state result kept w =
+      subst (λ (x : State). Exchanged ahead leads (record { stream = s; touched = record { budget = was.budget; out = o; state = x } }) after_answer result) kept w
 
 -- a refusal by which the session ends doesn't let it go on
 pub told_stopped : {S : Type 0} (leads : S → Dealing → S → Type 0) (was now : Touched S) (rule : FatalRule) → Tells leads was now (h.Stopped rule) (Ok None) → ⊥
 told_stopped leads was now rule w = let r = w.2 [] (refused rule) refl in let bad = r.1 in absurd (cc)
 
-module _ {S : Type 0} (leads : S → Dealing → S → Type 0) (s t u : Stream) (was now : Touched S) (line : List ℕ) (f : Fetched 0 s t (IsLined (Ok lined.Whole) line t.held)) where
+module _ {S : Type 0} (leads : S → Dealing → S → Type 0) (s t u : Stream) (o : Outgoing) (was now : Touched S) (line : List ℕ) (f : Fetched 0 s t (IsLined (Ok lined.Whole) line t.held))
+    (first : Sent true [] o was.out) where
   abbrev at_start : Scene S
-  at_start = record { stream = s; touched = was }
+  at_start = record { stream = s; touched = record { budget = was.budget; out = o; state = was.state } }
 
   abbrev behind_line : Scene S
   behind_line = record { stream = t; touched = was }
@@ -168,39 +158,34 @@ module _ {S : Type 0} (leads : S → Dealing → S → Type 0) (s t u : Stream) 
         (λ bytes q. next_behind t.held.ended u.held.ended bytes w.fetched.got line t.held.bytes q w.fetched.follows ∙ w.fetched.holds);
     turn = w.turn;
     dealt = w.dealt;
-    appended = w.appended;
-    no_failure = w.no_failure;
+    sent = sent_then true [] w.reply o was.out now.out first w.sent;
   }
 
-  final_then : (cut : Bool) (m n : ℕ) (end : Option End) → Final (behind line) cut leads m n behind_line at_end end → Final next cut leads m n at_start at_end end
-  final_then cut m n end w = record {
+  final_then : (cut : Bool) (m : ℕ) (well : Bool) (end : Option End) → Final (behind line) cut leads m well behind_line at_end end → Final next cut leads m well at_start at_end end
+  final_then cut m well end w = record {
     dealings = w.dealings;
     text = w.text;
-    written = w.written;
     fetched = fetched_on 0 m s t u (IsLined (Ok lined.Whole) line t.held) (λ bytes. IsLast cut (behind line u.held.ended bytes) was.state w.dealings w.text end now.state) (λ bytes. IsLast cut (next u.held.ended bytes) was.state w.dealings w.text end now.state) f w.fetched refl
         (λ bytes q. subst (λ is. IsLast cut is was.state w.dealings w.text end now.state) (sym (next_behind t.held.ended u.held.ended bytes w.fetched.got line t.held.bytes q w.fetched.follows)) w.fetched.holds);
     dealt = w.dealt;
-    in_front = w.in_front;
-    appended = w.appended;
-    failures = w.failures;
+    sent = sent_then well [] w.text o was.out now.out first w.sent;
   }
 
   -- a line came first
   pub exchanged_then : (result : Result (Option End) ServeFault) → Exchanged (behind line) leads behind_line at_end result → Exchanged next leads at_start at_end result
-  unfolding final_then
   exchanged_then (Ok None) w = went_then w
-  exchanged_then (Ok (Some end)) w = (final_then false 0 0 (Some end) w.0, w.1)
-  exchanged_then (Err Read) w = (final_then false 1 0 None w.0, w.1)
-  exchanged_then (Err Turns) w = ((final_then false 0 0 None w.0.0, w.0.1), w.1)
-  exchanged_then (Err Write) w = (w.0, final_then true 0 1 w.0 w.1)
+  exchanged_then (Ok (Some end)) w = (final_then false 0 true (Some end) w.0, w.1)
+  exchanged_then (Err Read) w = (final_then false 1 true None w.0, w.1)
+  exchanged_then (Err Turns) w = ((final_then false 0 true None w.0.0, w.0.1), w.1)
+  exchanged_then (Err Write) w = (w.0, final_then true 0 false w.0 w.1)
   exchanged_then (Err Memory) w = absurd w
 
 module _ (s t : Stream) where
   -- what a line asked for was heard
-  pub heard_behind : (q : Request) (said line : List ℕ) (heard : Heard) → q ≡ request (words said) → said ≡ line → Fetched 0 s t (IsHeard q (Ok heard) t.held)
+  pub heard_behind : (q : Request) (said line : List ℕ) (heard : Heard) → q ≡ request (words said) → said ≡ line → Fetched 0 s t (IsHeardOf q t.held heard)
       → Fetched 0 s t (λ bytes. Hears heard t.held.bytes (behind line t.held.ended bytes))
   heard_behind q said line heard e same f =
-      fetched_map 0 s t (IsHeard q (Ok heard) t.held) (λ bytes. Hears heard t.held.bytes (behind line t.held.ended bytes)) f
+      fetched_map 0 s t (IsHeardOf q t.held heard) (λ bytes. Hears heard t.held.bytes (behind line t.held.ended bytes)) f
       (λ bytes w. subst (λ r. Hears heard t.held.bytes (next_request t.held.ended r bytes)) (e ∙ ap (λ l. request (words l)) same) w)
 
   -- a line was too long

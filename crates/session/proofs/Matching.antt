@@ -1,5 +1,5 @@
 -- Each amount that was taken is settled once, in order, or is still held.
-use Rattle.std.proofs.Common.{◌≡◌, ℕ, Bool, true, false, List, [], ◌∷◌, ◌++◌, map, Option, None, Some, Result, Ok, Err, MatchBool, ◌⊎◌, inl, inr, refl, sym, ap, ◌∙◌, append_assoc}
+use Rattle.std.proofs.Common.{◌≡◌, ℕ, Bool, true, false, List, [], ◌∷◌, ◌++◌, map, Option, None, Some, Ok, Err, MatchBool, ◌⊎◌, inl, inr, refl, sym, ap, ◌∙◌, append_assoc}
 use Rattle.std.proofs.lemmas.List.{map-append}
 use Rattle.std.specs.Prelude.{nat_lt, length}
 use Rattle.hex.specs.Hex.{decode_of}
@@ -11,6 +11,7 @@ use Rattle.command_text.specs.Words.{is_name, kind_of_word}
 use Rattle.command_text.specs.Hexadecimal.{without_gaps}
 use Rattle.command_text.specs.Replies.{refusal_text}
 use Rattle.command_text.specs.Requests.{Command, Blank, Matrix, Op, Asm, Dis, Submit, Run, Show, Types, Budget, Quit, Refuse, Break}
+use Rattle.command_text.specs.declared.refusal.Refusal.{Refusal}
 use Rattle.command_text.specs.declared.refusal.Refusal.TheVariants as no
 use Rattle.command_text.specs.declared.rules.SessionRule.TheVariants.{MalformedName}
 use Rattle.job_plan.specs.Job.{Job}
@@ -21,7 +22,7 @@ use Rattle.job_runner.specs.Batch as batch
 use Rattle.job_runner.specs.Batch.{AreResultsOf}
 use Rattle.workspace.specs.State.{State}
 use Rattle.workspace.specs.Found.{job_found}
-use Rattle.workspace.specs.Turn.{Turn, TakesMatrix, TakesOperator, TakesDigits, TakesKind, Submits, Prices, Finds, Shows, TellsTypes, TakesProgram, TakesAssembly, TakesKindOfAssembly, TellsAssembly, RunTurn, Refuses, Replies, settled, charged, released}
+use Rattle.workspace.specs.Turn.{Turn, TakesMatrix, TakesOperator, TakesDigits, TakesKind, Submits, Prices, Finds, Shows, TellsTypes, TakesProgram, TakesAssembly, TakesKindOfAssembly, TellsAssembly, RunTurn, BatchRefused, batch_refusal, Refuses, Replies, settled, charged, released}
 use Rattle.bpf_insn.specs.declared.insn.Insn.{Insn}
 use Rattle.session.specs.Next.{Next}
 use Rattle.session.specs.Exchange.{IsLast}
@@ -155,10 +156,17 @@ module _ (s t : State) (ds : List Dealing) where
   assembly_told_matched reply None h = said _ reply h
   assembly_told_matched reply (Some o) h = elim h [ inl w ↦ said _ reply w | inr w ↦ said _ reply w ]
 
+  refused_matched : (refusal : Refusal) (spent : ℕ) (reply : List ℕ) → BatchRefused refusal spent s ds reply t → IsMatched s ds t
+  refused_matched refusal spent reply w =
+      emptied (ap amounts_settled w.0 ∙ settled-charged s.queue spent) (ap amounts_taken w.0 ∙ taken-charged s.queue spent) (ap (λ (x : State). x.queue) w.2)
+
   run_matched : (reply : List ℕ) → RunTurn s ds reply t → IsMatched s ds t
   run_matched reply h = elim h [
-    | inl w ↦ emptied (ap amounts_settled w.2 ∙ settled-settled s.queue w.0 w.1) (ap amounts_taken w.2 ∙ taken-settled s.queue w.0) (ap (λ (x : State). x.queue) w.4)
-    | inr w ↦ emptied (ap amounts_settled w.3.0 ∙ settled-charged s.queue w.1) (ap amounts_taken w.3.0 ∙ taken-charged s.queue w.1) (ap (λ (x : State). x.queue) w.3.2)
+    | inl w ↦ emptied (ap amounts_settled w.3 ∙ settled-settled s.queue w.0 w.1) (ap amounts_taken w.3 ∙ taken-settled s.queue w.0) (ap (λ (x : State). x.queue) w.5)
+    | inr v ↦ elim v [
+      | inl w ↦ refused_matched (batch_refusal w.0 w.1) w.1 reply w.3
+      | inr w ↦ refused_matched (no.BatchMemory 0) 0 reply w
+    ]
   ]
 
   matrix_matched : (name body reply : List ℕ) → TakesMatrix s name body ds reply t → IsMatched s ds t
@@ -203,7 +211,10 @@ module _ (s t : State) (ds : List Dealing) where
       | inl w ↦ quiet w.2 (ap (λ (x : State). x.queue) w.4)
       | inr n ↦ elim n [
         | inl w ↦ turn_matched w.0 text w.4
-        | inr w ↦ turn_matched w.0 text w.5
+        | inr k ↦ elim k [
+          | inl w ↦ turn_matched w.0 text w.5
+          | inr w ↦ quiet w.2 (ap (λ (x : State). x.queue) w.4)
+        ]
       ]
     ]
   ]

@@ -1,9 +1,11 @@
 -- What was said so far, and whatever comes.
-use Rattle.std.proofs.Common.{◌≡◌, ◌≤◌, ◌+◌, ◌&&◌, ◌||◌, not, ℕ, Bool, true, false, List, [], ◌∷◌, ◌++◌, map, Option, None, Some, Result, Ok, Err, inl, inr, refl, sym, ap, ◌∙◌, subst, append_assoc, arith}
-use Rattle.std.specs.Io.KnownBytes.{Consumes, Appends, IsAtEnd}
-use Rattle.wire.specs.Held.{Held, Stream}
-use Rattle.wire.specs.Fetching.{Follows, Fetched}
-use Rattle.wire.proofs.Known.{append_nil, consumes_nothing, appends_nothing, consumes_more, appends_more}
+use Rattle.std.proofs.Common.{◌≡◌, ◌+◌, ◌&&◌, ◌||◌, not, ℕ, Bool, true, false, List, [], ◌∷◌, ◌++◌, map, Option, None, Some, Result, Ok, Err, inl, inr, refl, sym, ap, ◌∙◌, subst, append_assoc, arith}
+use Rattle.std.specs.Io.KnownBytes.{Consumes, IsAtEnd}
+use Rattle.wire.specs.Prefixes.{IsPrefixOf}
+use Rattle.wire.specs.Sending.{Sent, IsWritten, failed_writes}
+use Rattle.wire.proofs.Sending.{sent_nothing, sent_then}
+use Rattle.wire.specs.Fetching.{Follows}
+use Rattle.wire.proofs.Known.{append_nil, consumes_nothing, consumes_more}
 use Rattle.wire.proofs.Fetching.{follows_more}
 use Rattle.step_purse.specs.declared.dealings.Dealing.{Dealing}
 use Rattle.step_budget.specs.Budget.{Deals, amounts_taken, amounts_settled}
@@ -11,8 +13,9 @@ use Rattle.job_plan.specs.Price.{price_of}
 use Rattle.workspace.specs.State.{State, empty}
 use Rattle.workspace.specs.Turn.{released}
 use Rattle.session.specs.Next.{next}
+use Rattle.session.specs.Rooms.{RoomState}
 use Rattle.session.specs.Talk.{Talk, leave, wait, finish, stop, go, Outside, Said, SaidAll, Counts, Outcome}
-use Rattle.session.specs.Exchange.{IsLast, Touched, Scene, Went, Final, FinalWhole, Exchanged}
+use Rattle.session.specs.Exchange.{IsLast, Scene, Went, Final, FinalWhole, Exchanged}
 use Rattle.session.specs.inner.Exchange.{Spoken, SpokenWhole, Conversed}
 use Rattle.session.specs.declared.end.End.{End}
 use Rattle.session.specs.declared.end.ServeFault.{ServeFault}
@@ -29,10 +32,13 @@ last_said cut s t bytes ended ds text end l =
         | inl w ↦ rw (w.1, w.2, w.3, w.4) (finish cut s bytes ended w.0)
         | inr n ↦ elim n [
           | inl w ↦ rw w.3 (stop cut s t bytes ended w.0 w.1 ds text w.2 w.4)
-          | inr w ↦
-              let whole = go true s t t bytes w.1 ended w.0 ds [] text [] None w.3 w.5 (leave t w.1 ended) in
-              rw (w.2, w.4)
-              (subst (λ xs. Talk true s bytes ended xs text None t) (append_nil ds) (subst (λ xs. Talk true s bytes ended (ds ++ []) xs None t) (append_nil text) whole))
+          | inr k ↦ elim k [
+            | inl w ↦
+                let whole = go true s t t bytes w.1 ended w.0 ds [] text [] None w.3 w.5 (leave t w.1 ended) in
+                rw (w.2, w.4)
+                (subst (λ xs. Talk true s bytes ended xs text None t) (append_nil ds) (subst (λ xs. Talk true s bytes ended (ds ++ []) xs None t) (append_nil text) whole))
+            | inr w ↦ rw (w.0, w.1, w.2, w.3, w.4) (leave s bytes ended)
+          ]
         ]
       ]
     ]
@@ -44,6 +50,16 @@ told_so_far false u v true b xs f p q = q ∙ (ap (λ w. w || (b && false)) p �
 told_so_far false u v false true xs f p q = q ∙ ap (λ w. w || true) p
 told_so_far false u v false false xs f p q = q ∙ ap (λ w. w || false) p
 
+-- what was written of a text, where nothing waited before it, is a front part of it
+front_of : (well : Bool) (due text written waits : List ℕ) → due ≡ [] → IsWritten well (due ++ text) written waits → IsPrefixOf written text
+front_of true due text written waits none w = (waits, ap (λ xs. xs ++ text) (sym none) ∙ w)
+front_of false due text written waits none w = (w.0, ap (λ xs. xs ++ text) (sym none) ∙ w.1)
+
+-- all of it was, where none waits
+all_written : (due text written waits : List ℕ) → due ≡ [] → waits ≡ [] → due ++ text ≡ written ++ waits → written ≡ text
+all_written due text written waits none left w =
+    sym (append_nil written) ∙ ap (λ xs. written ++ xs) (sym left) ∙ sym w ∙ ap (λ xs. xs ++ text) none
+
 pub record SoFar {S : Type 0} (leads : S → Dealing → S → Type 0) (old now : Scene S) : Type 0 where
   pub read : List ℕ
   pub dealings : List Dealing
@@ -53,15 +69,14 @@ pub record SoFar {S : Type 0} (leads : S → Dealing → S → Type 0) (old now 
   pub at_end : now.stream.held.ended ≡ true → IsAtEnd now.stream.source.remaining
   pub reads : now.stream.source.reads + now.stream.held.reads_left ≡ old.stream.source.reads + old.stream.held.reads_left
   pub no_failed_read : now.stream.source.failures ≡ old.stream.source.failures
-  pub no_failed_write : now.touched.sink.failures ≡ old.touched.sink.failures
-  pub appended : Appends old.touched.sink.contents now.touched.sink.contents text
+  pub sent : Sent true text old.touched.out now.touched.out
   -- what was taken is what was settled, and then the prices of the jobs that wait
   pub matched : amounts_taken dealings ≡ amounts_settled dealings ++ map price_of now.touched.state.queue
   -- what the budget does next comes after what it did
   pub dealt : (es : List Dealing) (last : S) → Deals leads now.touched.budget es last → Deals leads old.touched.budget (dealings ++ es) last
   -- what is said to what is left is said after what was said
   pub goes_on : (cut : Bool) (more : List ℕ) (e : Bool) (es : List Dealing) (text_of_more : List ℕ) (end : Option End) (last : State) → Follows now.stream.held.ended more e
-      → Talk cut now.touched.state (now.stream.held.bytes ++ more) e es text_of_more end last → Talk cut empty (read ++ more) e (dealings ++ es) (text ++ text_of_more) end last
+      → Talk cut now.touched.state (now.stream.held.bytes ++ more) e es text_of_more end last → Talk cut (empty old.touched.state.workers) (read ++ more) e (dealings ++ es) (text ++ text_of_more) end last
 
 or_false : (t : Bool) → t ≡ (t || false)
 or_false true = refl
@@ -73,7 +88,7 @@ module _ {S : Type 0} (leads : S → Dealing → S → Type 0) where
   deals_more old mid (d ∷ ds) es new a b = (a.0, a.1, deals_more a.0 mid ds es new a.2 b)
 
   -- nothing was said
-  pub so_far_nothing : (old : Scene S) → old.stream.held.bytes ≡ [] → old.stream.held.ended ≡ false → old.touched.state ≡ empty → SoFar leads old old
+  pub so_far_nothing : (old : Scene S) → old.stream.held.bytes ≡ [] → old.stream.held.ended ≡ false → old.touched.state ≡ empty old.touched.state.workers → SoFar leads old old
   so_far_nothing old none fresh start = record {
     read = [];
     dealings = [];
@@ -83,9 +98,8 @@ module _ {S : Type 0} (leads : S → Dealing → S → Type 0) where
     at_end = λ e. absurd (let bad : true ≡ false = sym e ∙ fresh in cc);
     reads = refl;
     no_failed_read = refl;
-    no_failed_write = refl;
-    appended = appends_nothing old.touched.sink.contents;
-    matched = rw start refl;
+    sent = sent_nothing old.touched.out;
+    matched = ap (λ (s : State). map price_of s.queue) (sym start);
     dealt = λ es last d. d;
     goes_on = λ cut more e es t end last f k. subst (λ s. Talk cut s more e es t end last) start (subst (λ bs. Talk cut old.touched.state (bs ++ more) e es t end last) none k);
   }
@@ -107,8 +121,7 @@ module _ {S : Type 0} (leads : S → Dealing → S → Type 0) where
           at_end = w.fetched.at_end so.at_end;
           reads = w.fetched.reads ∙ so.reads;
           no_failed_read = let a = so.no_failed_read in let b = w.fetched.failures in omega arith;
-          no_failed_write = w.no_failure ∙ so.no_failed_write;
-          appended = appends_more old.touched.sink.contents now.touched.sink.contents new.touched.sink.contents so.text w.reply so.appended w.appended;
+          sent = sent_then true so.text w.reply old.touched.out now.touched.out new.touched.out so.sent w.sent;
           matched = matched_more s t so.dealings w.dealings so.matched (turn_matched s t w.dealings w.command w.reply w.turn);
           dealt = λ es last d. subst (λ fs. Deals leads old.touched.budget fs last) (sym (append_assoc so.dealings w.dealings es)) (so.dealt (w.dealings ++ es) last (deals_more now.touched.budget new.touched.budget w.dealings es last w.dealt d));
           goes_on = λ cut more e es text end last f talk.
@@ -117,65 +130,72 @@ module _ {S : Type 0} (leads : S → Dealing → S → Type 0) where
               let one = go cut s t last ((h0.bytes ++ got) ++ more) (h1.bytes ++ more) e w.command w.dealings es w.reply text end whole_next w.turn talk in
               let all = so.goes_on cut (got ++ more) e (w.dealings ++ es) (w.reply ++ text) end last (follows_more h0.ended h1.ended e got more w.fetched.follows f)
               (subst (λ bs. Talk cut s bs e (w.dealings ++ es) (w.reply ++ text) end last) (append_assoc h0.bytes got more) one) in
-              subst (λ bs. Talk cut empty bs e ((so.dealings ++ w.dealings) ++ es) ((so.text ++ w.reply) ++ text) end last) (sym (append_assoc so.read got more))
-              (subst (λ fs. Talk cut empty (so.read ++ (got ++ more)) e fs ((so.text ++ w.reply) ++ text) end last) (sym (append_assoc so.dealings w.dealings es))
-              (subst (λ xs. Talk cut empty (so.read ++ (got ++ more)) e (so.dealings ++ (w.dealings ++ es)) xs end last) (sym (append_assoc so.text w.reply text)) all));
+              subst (λ bs. Talk cut (empty old.touched.state.workers) bs e ((so.dealings ++ w.dealings) ++ es) ((so.text ++ w.reply) ++ text) end last) (sym (append_assoc so.read got more))
+              (subst (λ fs. Talk cut (empty old.touched.state.workers) (so.read ++ (got ++ more)) e fs ((so.text ++ w.reply) ++ text) end last) (sym (append_assoc so.dealings w.dealings es))
+              (subst (λ xs. Talk cut (empty old.touched.state.workers) (so.read ++ (got ++ more)) e (so.dealings ++ (w.dealings ++ es)) xs end last) (sym (append_assoc so.text w.reply text)) all));
         }
 
     -- the last exchange was made
-    spoken_last : (cut : Bool) (m n : ℕ) (end : Option End) → Final next cut leads m n now new end → Spoken cut leads m n old new end
-    spoken_last cut m n end w =
+    spoken_last : (fresh : old.touched.out.waits ≡ []) (cut : Bool) (m : ℕ) (well : Bool) (end : Option End)
+        → Final next cut leads m well now new end → Spoken cut leads m (failed_writes well) old new end
+    spoken_last fresh cut m well end w =
         let s = now.touched.state in
         let t = new.touched.state in
         let h0 = now.stream.held in
         let h1 = new.stream.held in
         let got = w.fetched.got in
         let said = last_said cut s t (h0.bytes ++ got) h1.ended w.dealings w.text end w.fetched.holds in
+        let sent = sent_then well so.text w.text old.touched.out now.touched.out new.touched.out so.sent w.sent in
         record {
           read = so.read ++ got;
           ended = h1.ended;
           dealings = so.dealings ++ w.dealings;
           text = so.text ++ w.text;
-          written = so.text ++ w.written;
+          written = sent.written;
           consumed = consumes_more old.stream.source.remaining now.stream.source.remaining new.stream.source.remaining so.read got so.consumed w.fetched.consumed;
           told = told_so_far old.stream.source.told_end now.stream.source.told_end new.stream.source.told_end h0.ended h1.ended got w.fetched.follows so.told w.fetched.told;
           at_end = w.fetched.at_end so.at_end;
           reads = w.fetched.reads ∙ so.reads;
           failed_reads_are = let a = so.no_failed_read in let b = w.fetched.failures in omega arith;
-          failed_writes_are = let a = so.no_failed_write in let b = w.failures in omega arith;
-          appended = appends_more old.touched.sink.contents now.touched.sink.contents new.touched.sink.contents so.text w.written so.appended w.appended;
-          in_front = (w.in_front.0, ap (λ xs. so.text ++ xs) w.in_front.1 ∙ sym (append_assoc so.text w.written w.in_front.0));
+          failed_writes_are = sent.failures;
+          appended = sent.appended;
+          in_front = front_of well old.touched.out.waits (so.text ++ w.text) sent.written new.touched.out.waits fresh sent.is_written;
           dealt = so.dealt w.dealings new.touched.budget w.dealt;
           matched = matched_more s t so.dealings w.dealings so.matched (last_matched s t w.dealings cut (next h1.ended (h0.bytes ++ got)) w.text end w.fetched.holds);
           talk = so.goes_on cut got h1.ended w.dealings w.text end t w.fetched.follows said;
         }
 
     -- all of it was written
-    spoken_whole : (m : ℕ) (end : Option End) → FinalWhole next leads m now new end → SpokenWhole leads m old new end
+    spoken_whole : (fresh : old.touched.out.waits ≡ []) (m : ℕ) (end : Option End) → FinalWhole next leads m now new end → SpokenWhole leads m old new end
     unfolding spoken_last
-    spoken_whole m end w = (spoken_last false m 0 end w.0, ap (λ xs. so.text ++ xs) w.1)
+    spoken_whole fresh m end w = (
+      spoken_last fresh false m true end w.0,
+      all_written old.touched.out.waits (so.text ++ w.0.text) _ new.touched.out.waits fresh w.1
+          (sent_then true so.text w.0.text old.touched.out now.touched.out new.touched.out so.sent w.0.sent).is_written,
+    )
 
     -- the session ended
-    pub conversed_end : (end : End) → Exchanged next leads now new (Ok (Some end)) → Conversed leads old new (Ok end)
-    conversed_end end w = spoken_whole 0 (Some end) w
+    pub conversed_end : old.touched.out.waits ≡ [] → (end : End) → Exchanged next leads now new (Ok (Some end)) → Conversed leads old new (Ok end)
+    conversed_end fresh end w = spoken_whole fresh 0 (Some end) w
 
     -- the session broke off
-    pub conversed_fault : (fault : ServeFault) → Exchanged next leads now new (Err fault) → Conversed leads old new (Err fault)
-    conversed_fault Read w = spoken_whole 1 None w
-    conversed_fault Turns w = (spoken_whole 0 None w.0, w.1)
-    conversed_fault Write w = (w.0, spoken_last true 0 1 w.0 w.1)
-    conversed_fault Memory w = absurd w
+    pub conversed_fault : old.touched.out.waits ≡ [] → (fault : ServeFault) → Exchanged next leads now new (Err fault) → Conversed leads old new (Err fault)
+    conversed_fault fresh Read w = spoken_whole fresh 1 None w
+    conversed_fault fresh Turns w = (spoken_whole fresh 0 None w.0, w.1)
+    conversed_fault fresh Write w = (w.0, spoken_last fresh true 0 false w.0 w.1)
+    conversed_fault fresh Memory w = absurd w
 
-module _ {S : Type 0} (leads : S → Dealing → S → Type 0) (limit : ℕ) (old mid : Scene S) (last : S) (start : old.stream.held.reads_left ≡ limit)
+module _ {S : Type 0} (leads : S → Dealing → S → Type 0) (room : RoomState) (old mid : Scene S) (last : S) (start : old.stream.held.reads_left ≡ room.reads)
+    (crew : old.touched.state.workers ≡ room.workers)
     (end_of : Deals leads mid.touched.budget (released mid.touched.state.queue) last) where
   abbrev given : Outside S
-  given = record { budget = old.touched.budget; source = old.stream.source; sink = old.touched.sink }
+  given = record { budget = old.touched.budget; source = old.stream.source; sink = old.touched.out.sink }
 
   abbrev left : Outside S
-  left = record { budget = last; source = mid.stream.source; sink = mid.touched.sink }
+  left = record { budget = last; source = mid.stream.source; sink = mid.touched.out.sink }
 
   -- what is still held was settled
-  said_last : (cut : Bool) (m n : ℕ) (end : Option End) → Spoken cut leads m n old mid end → Said cut leads given left end
+  said_last : (cut : Bool) (m n : ℕ) (end : Option End) → Spoken cut leads m n old mid end → Said room.workers cut leads given left end
   said_last cut m n end s = record {
     read = s.read;
     ended = s.ended;
@@ -190,21 +210,21 @@ module _ {S : Type 0} (leads : S → Dealing → S → Type 0) (limit : ℕ) (ol
     in_front = s.in_front;
     dealt = deals_more leads old.touched.budget mid.touched.budget s.dealings (released mid.touched.state.queue) last s.dealt end_of;
     matched = matched_last mid.touched.state s.dealings s.matched;
-    talk = s.talk;
+    talk = subst (λ n. Talk cut (empty n) s.read s.ended s.dealings s.text end mid.touched.state) crew s.talk;
   }
 
-  counts_of : (cut : Bool) (m n : ℕ) (end : Option End) → Spoken cut leads m n old mid end → Counts limit m n given left
+  counts_of : (cut : Bool) (m n : ℕ) (end : Option End) → Spoken cut leads m n old mid end → Counts room.reads m n given left
   counts_of cut m n end s = record {
     reads = let a = s.reads in omega arith;
     failed_reads = s.failed_reads_are;
     failed_writes = s.failed_writes_are;
   }
 
-  said_whole : (m : ℕ) (end : Option End) → SpokenWhole leads m old mid end → SaidAll leads given left end × Counts limit m 0 given left
+  said_whole : (m : ℕ) (end : Option End) → SpokenWhole leads m old mid end → SaidAll room.workers leads given left end × Counts room.reads m 0 given left
   unfolding said_last
   said_whole m end s = ((said_last false m 0 end s.0, s.1), counts_of false m 0 end s.0)
 
-  pub outcome_of : (result : Result End ServeFault) → Conversed leads old mid result → Outcome leads limit given left result
+  pub outcome_of : (result : Result End ServeFault) → Conversed leads old mid result → Outcome leads room given left result
   outcome_of (Ok end) s = said_whole 0 (Some end) s
   outcome_of (Err Read) s = said_whole 1 None s
   outcome_of (Err Turns) s = let w = said_whole 0 None s.0 in (w.0, (w.1, let a = s.0.0.reads in let b = s.1 in omega arith))

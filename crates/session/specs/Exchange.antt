@@ -1,10 +1,8 @@
 -- One exchange of a session: a command is read, answered, and its reply written (this project's own).
-use Rattle.std.specs.Prelude.{ℕ, ◌≡◌, ◌+◌, ◌⊎◌, Bool, true, false, List, [], Option, None, Some, Result, Ok, Err}
-use Rattle.std.specs.Io.KnownBytes.{Appends}
-use Rattle.wire.specs.Devices.{SinkState}
+use Rattle.std.specs.Prelude.{ℕ, ◌≡◌, ◌⊎◌, Bool, true, false, List, [], Option, None, Some, Result, Ok, Err}
 use Rattle.wire.specs.Held.{Stream}
-use Rattle.wire.specs.Prefixes.{IsPrefixOf}
 use Rattle.wire.specs.Fetching.{Fetched}
+use Rattle.wire.specs.Sending.{Outgoing, Sent}
 use Rattle.step_purse.specs.declared.dealings.Dealing.{Dealing}
 use Rattle.step_budget.specs.Budget.{Deals}
 use Rattle.text_words.specs.Words.{words}
@@ -17,10 +15,10 @@ use Rattle.session.specs.declared.end.End.TheVariants.{InputEnd}
 use Rattle.session.specs.declared.end.ServeFault.{ServeFault}
 use Rattle.session.specs.declared.end.ServeFault.TheVariants.{Read, Write, Turns, Memory}
 
--- what an answer touches: the budget, what is written to, and what the session holds
+-- what an answer touches: the budget, what is written to with what waits to be, and what the session holds
 pub record Touched (S : Type 0) : Type 0 where
   pub budget : S
-  pub sink : SinkState
+  pub out : Outgoing
   pub state : State
 
 -- all that an exchange touches
@@ -29,14 +27,15 @@ pub record Scene (S : Type 0) : Type 0 where
   pub touched : Touched S
 
 -- What is said where this stands next: nothing, since more is waited for; nothing, at the end; the turn of a command that ends
--- the session; or, where the talk may break off, the turn of another command.
+-- the session; or, where the talk may break off, the turn of another command, or nothing.
 abbrev pub IsLast : Bool → Next → State → List Dealing → List ℕ → Option End → State → Type 0
 IsLast cut is old dealings reply end new =
     ((is ≡ Waits) × (end ≡ None) × (dealings ≡ []) × (reply ≡ []) × (new ≡ old))
     ⊎ (((is ≡ Ends) × (end ≡ Some InputEnd) × (dealings ≡ []) × (reply ≡ []) × (new ≡ old))
     ⊎ (((c : Command) × (e : End) × (is ≡ Stops c e) × (end ≡ Some e) × Turn old c dealings reply new)
-    ⊎ ((c : Command) × (rest : List ℕ) × (cut ≡ true) × (is ≡ Goes c rest) × (end ≡ None)
-    × Turn old c dealings reply new)))
+    ⊎ (((c : Command) × (rest : List ℕ) × (cut ≡ true) × (is ≡ Goes c rest) × (end ≡ None)
+    × Turn old c dealings reply new)
+    ⊎ ((cut ≡ true) × (end ≡ None) × (dealings ≡ []) × (reply ≡ []) × (new ≡ old)))))
 
 -- What stands next in bytes that have ended or not:
 abbrev pub Ahead : Type 0
@@ -46,7 +45,7 @@ Ahead = Bool → List ℕ → Next
 abbrev pub behind : List ℕ → Ahead
 behind line ended bytes = next_request ended (request (words line)) bytes
 
--- a command was read, answered, and its reply written
+-- a command was read, answered, and its reply said
 pub record Went {S : Type 0} (ahead : Ahead) (leads : S → Dealing → S → Type 0) (old new : Scene S) : Type 0 where
   pub command : Command
   pub dealings : List Dealing
@@ -54,25 +53,22 @@ pub record Went {S : Type 0} (ahead : Ahead) (leads : S → Dealing → S → Ty
   pub fetched : Fetched 0 old.stream new.stream (λ bytes. ahead new.stream.held.ended bytes ≡ Goes command new.stream.held.bytes)
   pub turn : Turn old.touched.state command dealings reply new.touched.state
   pub dealt : Deals leads old.touched.budget dealings new.touched.budget
-  pub appended : Appends old.touched.sink.contents new.touched.sink.contents reply
-  pub no_failure : new.touched.sink.failures ≡ old.touched.sink.failures
+  pub sent : Sent true reply old.touched.out new.touched.out
 
--- an exchange in which the session ended or broke off, after so many reads and writes that failed
+-- an exchange in which the session ended or broke off, after so many reads that failed, with all writes well or one that failed
 pub record Final {S : Type 0} (ahead : Ahead) (cut : Bool) (leads : S → Dealing → S → Type 0)
-    (failed_reads failed_writes : ℕ) (old new : Scene S) (end : Option End) : Type 0 where
+    (failed_reads : ℕ) (well : Bool) (old new : Scene S) (end : Option End) : Type 0 where
   pub dealings : List Dealing
   pub text : List ℕ
-  pub written : List ℕ
   pub fetched : Fetched failed_reads old.stream new.stream
       (λ bytes. IsLast cut (ahead new.stream.held.ended bytes) old.touched.state dealings text end new.touched.state)
   pub dealt : Deals leads old.touched.budget dealings new.touched.budget
-  pub in_front : IsPrefixOf written text
-  pub appended : Appends old.touched.sink.contents new.touched.sink.contents written
-  pub failures : new.touched.sink.failures ≡ old.touched.sink.failures + failed_writes
+  pub sent : Sent well text old.touched.out new.touched.out
 
+-- nothing waits to be written
 abbrev pub FinalWhole : {S : Type 0} → Ahead → (S → Dealing → S → Type 0) → ℕ → Scene S → Scene S → Option End
     → Type 0
-FinalWhole ahead leads failed_reads old new end = (f : Final ahead false leads failed_reads 0 old new end) × (f.written ≡ f.text)
+FinalWhole ahead leads failed_reads old new end = Final ahead false leads failed_reads true old new end × (new.touched.out.waits ≡ [])
 
 abbrev pub Exchanged : {S : Type 0} → Ahead → (S → Dealing → S → Type 0) → Scene S → Scene S
     → Result (Option End) ServeFault → Type 0
@@ -80,5 +76,5 @@ Exchanged ahead leads old new (Ok None) = Went ahead leads old new
 Exchanged ahead leads old new (Ok (Some end)) = FinalWhole ahead leads 0 old new (Some end)
 Exchanged ahead leads old new (Err Read) = FinalWhole ahead leads 1 old new None
 Exchanged ahead leads old new (Err Turns) = FinalWhole ahead leads 0 old new None × (new.stream.held.reads_left ≡ 0)
-Exchanged ahead leads old new (Err Write) = (end : Option End) × Final ahead true leads 0 1 old new end
+Exchanged ahead leads old new (Err Write) = (end : Option End) × Final ahead true leads 0 false old new end
 Exchanged ahead leads old new (Err Memory) = ⊥

@@ -1,7 +1,7 @@
 -- What contracts see of the room of a session (this project's own).
 use Rattle.std.specs.Prelude.{ℕ}
 
--- how many reads the session may make, and on how many workers each of its batches runs
+-- how many reads the session may make, and how many workers each of its batches may have
 pub record RoomState : Type 0 where
   pub reads : ℕ
   pub workers : ℕ

@@ -10,6 +10,7 @@ use Rattle.command_text.specs.Requests.{Command}
 use Rattle.workspace.specs.State.{State, empty}
 use Rattle.workspace.specs.Turn.{Turn, released}
 use Rattle.session.specs.Next.{Waits, Ends, Goes, Stops, next}
+use Rattle.session.specs.Rooms.{RoomState}
 use Rattle.session.specs.declared.end.End.{End}
 use Rattle.session.specs.declared.end.End.TheVariants.{InputEnd}
 use Rattle.session.specs.declared.end.ServeFault.{ServeFault}
@@ -35,10 +36,10 @@ pub record Outside (S : Type 0) : Type 0 where
   pub source : SourceState
   pub sink : SinkState
 
--- What a session did from nothing bound or queued to an end or a fault: what it read, what it wrote, and its calls of the budget,
--- by which each amount that was taken is settled, once and in the same order. The talk is of a stream that has ended exactly where
--- the source told its end.
-pub record Said {S : Type 0} (cut : Bool) (leads : S → Dealing → S → Type 0) (old new : Outside S) (end : Option End)
+-- What a session, each of whose batches may have so many workers, did from nothing bound or queued to an end or a fault: what it
+-- read, what it wrote, and its calls of the budget, by which each amount that was taken is settled, once and in the same order. The
+-- talk is of a stream that has ended exactly where the source told its end.
+pub record Said {S : Type 0} (workers : ℕ) (cut : Bool) (leads : S → Dealing → S → Type 0) (old new : Outside S) (end : Option End)
     : Type 0 where
   pub read : List ℕ
   pub ended : Bool
@@ -53,11 +54,11 @@ pub record Said {S : Type 0} (cut : Bool) (leads : S → Dealing → S → Type 
   pub in_front : IsPrefixOf written text
   pub dealt : Deals leads old.budget (dealings ++ released held.queue) new.budget
   pub matched : amounts_settled (dealings ++ released held.queue) ≡ amounts_taken (dealings ++ released held.queue)
-  pub talk : Talk cut empty read ended dealings text end held
+  pub talk : Talk cut (empty workers) read ended dealings text end held
 
 -- all of the text was written
-abbrev pub SaidAll : {S : Type 0} → (S → Dealing → S → Type 0) → Outside S → Outside S → Option End → Type 0
-SaidAll leads old new end = (said : Said false leads old new end) × (said.written ≡ said.text)
+abbrev pub SaidAll : {S : Type 0} → ℕ → (S → Dealing → S → Type 0) → Outside S → Outside S → Option End → Type 0
+SaidAll workers leads old new end = (said : Said workers false leads old new end) × (said.written ≡ said.text)
 
 -- at most so many reads were made, m of them failed, and n writes failed
 pub record Counts {S : Type 0} (limit m n : ℕ) (old new : Outside S) : Type 0 where
@@ -65,14 +66,16 @@ pub record Counts {S : Type 0} (limit m n : ℕ) (old new : Outside S) : Type 0 
   pub failed_reads : new.source.failures ≡ old.source.failures + m
   pub failed_writes : new.sink.failures ≡ old.sink.failures + n
 
--- What a session of at most so many reads leaves, by its answer. After a read that failed, or one too many, the text is that of the
+-- What a session in such a room leaves, by its answer. After a read that failed, or one too many, the text is that of the
 -- complete commands. After a write that failed, what was written is a prefix of the text of some first commands. Out of memory is
 -- answered only at the start: no read, no write and no call of the budget was made.
-abbrev pub Outcome : {S : Type 0} → (S → Dealing → S → Type 0) → ℕ → Outside S → Outside S → Result End ServeFault
+abbrev pub Outcome : {S : Type 0} → (S → Dealing → S → Type 0) → RoomState → Outside S → Outside S → Result End ServeFault
     → Type 0
-Outcome leads limit old new (Ok end) = SaidAll leads old new (Some end) × Counts limit 0 0 old new
-Outcome leads limit old new (Err faults.Read) = SaidAll leads old new None × Counts limit 1 0 old new
-Outcome leads limit old new (Err faults.Turns) =
-    SaidAll leads old new None × (Counts limit 0 0 old new × (new.source.reads ≡ old.source.reads + limit))
-Outcome leads limit old new (Err faults.Write) = ((end : Option End) × Said true leads old new end) × Counts limit 0 1 old new
-Outcome leads limit old new (Err faults.Memory) = new ≡ old
+Outcome leads room old new (Ok end) = SaidAll room.workers leads old new (Some end) × Counts room.reads 0 0 old new
+Outcome leads room old new (Err faults.Read) = SaidAll room.workers leads old new None × Counts room.reads 1 0 old new
+Outcome leads room old new (Err faults.Turns) =
+    SaidAll room.workers leads old new None
+    × (Counts room.reads 0 0 old new × (new.source.reads ≡ old.source.reads + room.reads))
+Outcome leads room old new (Err faults.Write) =
+    ((end : Option End) × Said room.workers true leads old new end) × Counts room.reads 0 1 old new
+Outcome leads room old new (Err faults.Memory) = new ≡ old

@@ -1,11 +1,9 @@
-//! The answer to what was heard: its turn, and its reply written.
-ghost use Rattle.std.specs.Prelude.{◌≡◌, ◌≤◌, ◌+◌, ℕ, List, OnOk, OnErr};
-ghost use Rattle.std.specs.Io.KnownBytes.{Appends};
+//! The answer to what was heard: its turn, and its reply said.
+ghost use Rattle.std.specs.Prelude.{◌≡◌, ◌≤◌, ◌+◌, [], true, List, OnOk, is_ok};
 ghost use Rattle.command_text.specs.ReplyText.{whole};
 ghost use Rattle.step_budget.specs.Budget.{Deals};
 ghost use Rattle.step_purse.specs.declared.dealings.Dealing.{Dealing};
-ghost use Rattle.wire.specs.Devices.{failures_in};
-ghost use Rattle.wire.specs.Prefixes.{IsPrefixOf};
+ghost use Rattle.wire.specs.Sending.{Sent};
 ghost use Rattle.job_plan.specs.Price.{total_price};
 ghost use Rattle.workspace.specs.Workspace.{state_of};
 ghost use Rattle.session.specs.inner.Exchange.{Responds, Tells};
@@ -15,15 +13,17 @@ use crate::desk::Bench;
 use crate::end::End;
 use crate::hearing::Heard;
 use command_text::{Command, Refusal, Reply, refuse};
+use std::alloc::Global;
 use std::sync::Wait;
 use std::thread::Threads;
 use step_budget::Steps;
-use wire::{Sink, WriteFailed, put};
-use workspace::{Means, answer, answer_with_body};
+use wire::{Output, Sink, WriteFailed};
+use workspace::{answer, answer_with_body};
 
 /// Answers what was heard. Tells how the session ends, if it does.
 fn respond<T: Steps, H: Threads + Wait>(
-    means: &Means<'_, H>,
+    rt: &H,
+    alloc: Global,
     heard: Heard<'_>,
     bench: &mut Bench,
     steps: &mut T,
@@ -34,22 +34,27 @@ fn respond<T: Steps, H: Threads + Wait>(
         (state_of bench.new.workspace) result × Deals T.leads steps.old dealings steps.new }
     ensures owed { total_price (state_of bench.new.workspace).queue + T.owes steps.old ≡
         total_price (state_of bench.old.workspace).queue + T.owes steps.new }
+    ensures output { bench.new.output ≡ bench.old.output }
 {
-    let Bench { workspace, reply } = bench;
+    let Bench {
+        workspace,
+        reply,
+        ..
+    } = bench;
     match heard {
         Heard::Stopped(rule) => {
             refuse(reply, Refusal::Fatal(rule));
             Some(End::Refused(rule))
         }
         Heard::Plain(command) => {
-            answer(means, workspace, command, steps, reply);
+            answer(rt, alloc, workspace, command, steps, reply);
             match command {
                 Command::Quit => Some(End::Quit),
                 _ => None,
             }
         }
         Heard::Whole { header, body } => {
-            answer_with_body(means.alloc, workspace, header, body, reply);
+            answer_with_body(alloc, workspace, header, body, reply);
             None
         }
         Heard::Dropped { .. } => {
@@ -59,35 +64,39 @@ fn respond<T: Steps, H: Threads + Wait>(
     }
 }
 
-/// Writes a reply, whole.
+/// Says a reply, behind what waits to be written. After the last one all is written.
 ///
 /// # Errors
 ///
-/// A write failed. What was written by then is a front part of the reply.
-fn say<W: Sink>(writer: &mut W, reply: &Reply) -> Result<(), WriteFailed>
-    ensures written { OnOk result
-        (Appends (W.state writer.old).contents (W.state writer.new).contents (whole reply.now)) }
-    ensures cut { OnErr result ((front : List ℕ) × IsPrefixOf front (whole reply.now) ×
-        Appends (W.state writer.old).contents (W.state writer.new).contents front) }
-    ensures failures { (W.state writer.new).failures ≡ (W.state writer.old).failures + failures_in result }
+/// A write failed. What was written by then is a front part of what waited and the reply.
+fn say<W: Sink>(
+    writer: &mut W,
+    output: &mut Output,
+    reply: &Reply,
+    last: bool,
+) -> Result<(), WriteFailed>
+    ensures sent { Sent (is_ok result) (whole reply.now)
+        (record { sink = W.state writer.old; waits = output.old })
+        (record { sink = W.state writer.new; waits = output.new }) }
+    ensures none { last ≡ true → OnOk result (output.new ≡ []) }
 {
-    match put(writer, reply.line()) {
-        Ok(()) => {}
-        Err(failed) => return Err(failed),
-    }
-    match put(writer, reply.attached()) {
-        Ok(()) => Ok(()),
-        Err(failed) => Err(failed),
-    }
+    let Ok(()) = output.say(writer, reply.line()) else {
+        return Err(WriteFailed);
+    };
+    let Ok(()) = output.say(writer, reply.attached()) else {
+        return Err(WriteFailed);
+    };
+    if last { output.flush(writer) } else { Ok(()) }
 }
 
-/// Answers what was heard, and writes the reply. Tells how the session ends, if it does.
+/// Answers what was heard, and says the reply. Tells how the session ends, if it does.
 ///
 /// # Errors
 ///
 /// A write failed.
 pub fn respond_and_say<W: Sink, T: Steps, H: Threads + Wait>(
-    means: &Means<'_, H>,
+    rt: &H,
+    alloc: Global,
     heard: Heard<'_>,
     bench: &mut Bench,
     writer: &mut W,
@@ -101,7 +110,9 @@ pub fn respond_and_say<W: Sink, T: Steps, H: Threads + Wait>(
     ensures owed { total_price (state_of bench.new.workspace).queue + T.owes steps.old ≡
         total_price (state_of bench.old.workspace).queue + T.owes steps.new }
 {
-    let end = respond(means, heard, bench, steps);
-    say(writer, &bench.reply)?;
-    Ok(end)
+    let end = respond(rt, alloc, heard, bench, steps);
+    match say(writer, &mut bench.output, &bench.reply, end.is_some()) {
+        Ok(()) => Ok(end),
+        Err(failed) => Err(failed),
+    }
 }

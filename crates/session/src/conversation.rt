@@ -14,30 +14,20 @@ ghost use Rattle.session.specs.Talk.{Outcome};
 use crate::answering::respond_and_say;
 use crate::desk::Desk;
 use crate::end::{End, ServeFault};
-use crate::hearing::{Heard, hear};
+use crate::hearing::{Heard, hear, hear_line};
 use command_text::{FatalRule, parse};
 use std::alloc::{AllocError, Global};
 use std::marker::Model;
 use std::sync::Wait;
 use std::thread::Threads;
 use step_budget::Steps;
-use wire::{Lined, ReadFault, Sink, Source, next_line};
-use workspace::{Means, release};
+use wire::{Lined, Sink, Source};
+use workspace::release;
 
-/// The fault of a session whose stream could not be read on.
-fn fault_of(fault: ReadFault) -> ServeFault
-    ensures failed { fault ≡ ReadFault.Failed → result ≡ ServeFault.Read }
-    ensures out { fault ≡ ReadFault.OutOfReads → result ≡ ServeFault.Turns }
-{
-    match fault {
-        ReadFault::Failed => ServeFault::Read,
-        ReadFault::OutOfReads => ServeFault::Turns,
-    }
-}
-
-/// Reads what a line asks for to its end, answers it, and writes the reply.
+/// Reads what a line asks for to its end, answers it, and says the reply.
 fn answer_line<R: Source, W: Sink, T: Steps, H: Threads + Wait>(
-    means: &Means<'_, H>,
+    rt: &H,
+    alloc: Global,
     desk: &mut Desk,
     reader: &mut R,
     writer: &mut W,
@@ -51,21 +41,28 @@ fn answer_line<R: Source, W: Sink, T: Steps, H: Threads + Wait>(
         total_price (state_of desk.old.bench.workspace).queue + T.owes steps.new }
     ensures bounded { reach desk.new.input ≤ reach desk.old.input }
 {
-    match hear(means.alloc, parse(&desk.line), &mut desk.input, reader) {
+    let Desk {
+        input,
+        line,
+        bench,
+        commands,
+    } = desk;
+    match hear(alloc, parse(line), input, bench, reader, writer) {
         Ok(heard) => {
-            desk.commands = desk.commands.saturating_add(heard.count());
-            match respond_and_say(means, heard, &mut desk.bench, writer, steps) {
+            *commands = commands.saturating_add(heard.count());
+            match respond_and_say(rt, alloc, heard, bench, writer, steps) {
                 Ok(end) => Ok(end),
                 Err(_) => Err(ServeFault::Write),
             }
         }
-        Err(fault) => Err(fault_of(fault)),
+        Err(fault) => Err(fault),
     }
 }
 
-/// Reads one command, answers it, and writes the reply. Tells how the session ends, if it does.
+/// Reads one command, answers it, and says the reply. Tells how the session ends, if it does: then all that was said is written.
 fn exchange<R: Source, W: Sink, T: Steps, H: Threads + Wait>(
-    means: &Means<'_, H>,
+    rt: &H,
+    alloc: Global,
     desk: &mut Desk,
     reader: &mut R,
     writer: &mut W,
@@ -79,38 +76,49 @@ fn exchange<R: Source, W: Sink, T: Steps, H: Threads + Wait>(
         total_price (state_of desk.old.bench.workspace).queue + T.owes steps.new }
     ensures less { result ≡ Ok None → reach desk.new.input < reach desk.old.input }
 {
-    match next_line(&mut desk.input, reader, &mut desk.line) {
-        Ok(Lined::Whole) => answer_line(means, desk, reader, writer, steps),
+    let Desk {
+        input,
+        line,
+        bench,
+        ..
+    } = desk;
+    match hear_line(input, line, &mut bench.output, reader, writer) {
+        Ok(Lined::Whole) => answer_line(rt, alloc, desk, reader, writer, steps),
         Ok(Lined::Over) => {
             let heard = Heard::Stopped(FatalRule::LineTooLong);
             desk.commands = desk.commands.saturating_add(heard.count());
-            match respond_and_say(means, heard, &mut desk.bench, writer, steps) {
+            match respond_and_say(rt, alloc, heard, &mut desk.bench, writer, steps) {
                 Ok(end) => Ok(end),
                 Err(_) => Err(ServeFault::Write),
             }
         }
-        Ok(Lined::Nothing) => Ok(Some(End::InputEnd)),
-        Err(fault) => Err(fault_of(fault)),
+        Ok(Lined::Nothing) => match desk.bench.output.flush(writer) {
+            Ok(()) => Ok(Some(End::InputEnd)),
+            Err(_) => Err(ServeFault::Write),
+        },
+        Err(fault) => Err(fault),
     }
 }
 
 /// Makes exchanges until the session ends or breaks off.
 fn converse<R: Source, W: Sink, T: Steps, H: Threads + Wait>(
-    means: &Means<'_, H>,
+    rt: &H,
+    alloc: Global,
     desk: &mut Desk,
     reader: &mut R,
     writer: &mut W,
     steps: &mut T,
 ) -> Result<End, ServeFault>
     requires input { (desk.old.input.bytes ≡ []) × (desk.old.input.ended ≡ false) }
-    requires state { state_of desk.old.bench.workspace ≡ empty }
+    requires output { desk.old.bench.output ≡ [] }
+    requires state { state_of desk.old.bench.workspace ≡ empty (state_of desk.old.bench.workspace).workers }
     ensures conversed { Conversed T.leads
         (scene_at desk.old (R.state reader.old) (W.state writer.old) steps.old)
         (scene_at desk.new (R.state reader.new) (W.state writer.new) steps.new) result }
     ensures owed { total_price (state_of desk.new.bench.workspace).queue + T.owes steps.old ≡ T.owes steps.new }
 {
     'exchanges: loop {
-        match exchange(means, desk, reader, writer, steps) {
+        match exchange(rt, alloc, desk, reader, writer, steps) {
             Ok(None) => {}
             Ok(Some(end)) => return Ok(end),
             Err(fault) => return Err(fault),
@@ -119,26 +127,25 @@ fn converse<R: Source, W: Sink, T: Steps, H: Threads + Wait>(
 }
 
 /// The room of one session, made before it begins, so that a server can know that it has it. A contract sees how many reads
-/// the session may make, and on how many workers its batches run.
+/// the session may make, and how many workers each of its batches may have.
 #[derive(Drop)]
 pub struct Room {
     alloc: Global,
-    workers: u64,
     desk: Desk,
 }
 
 impl Model for Room {
-    ghost use Rattle.std.specs.Prelude.{◌≡◌, ◌≤◌, [], false};
+    ghost use Rattle.std.specs.Prelude.{◌≡◌, [], false};
     ghost use Rattle.workspace.specs.State.{empty};
     ghost use Rattle.workspace.specs.Workspace.{state_of};
     ghost use Rattle.session.specs.Rooms.{RoomState};
 
     ghost Value = { RoomState };
 
-    ghost view = { λ r. record { reads = r.desk.input.reads_left; workers = r.workers } };
+    ghost view = { λ r. record { reads = r.desk.input.reads_left; workers = r.desk.bench.workspace.workers } };
 
-    ghost invariant = { λ r. (1 ≤ r.workers) × (r.workers ≤ 64) ×
-        (r.desk.input.bytes ≡ []) × (r.desk.input.ended ≡ false) × (state_of r.desk.bench.workspace ≡ empty) };
+    ghost invariant = { λ r. (r.desk.input.bytes ≡ []) × (r.desk.input.ended ≡ false) × (r.desk.bench.output ≡ [])
+        × (state_of r.desk.bench.workspace ≡ empty r.desk.bench.workspace.workers) };
 }
 
 /// The most reads that a session makes.
@@ -168,12 +175,8 @@ impl Room {
         requires few { workers ≤ 64 }
         ensures { IfOk result (λ r. r ≡ record { reads = reads; workers = workers }) }
     {
-        let desk = Desk::new(alloc, reads)?;
-        Ok(Room {
-            alloc,
-            workers,
-            desk,
-        })
+        let desk = Desk::new(alloc, workers, reads)?;
+        Ok(Room { alloc, desk })
     }
 
     /// Serves a session in this room, as `serve` does.
@@ -188,7 +191,7 @@ impl Room {
         writer: &mut W,
         steps: &mut T,
     ) -> Result<End, ServeFault>
-        ensures said { Outcome T.leads self.reads
+        ensures said { Outcome T.leads self
             (record { budget = steps.old; source = R.state reader.old; sink = W.state writer.old })
             (record { budget = steps.new; source = R.state reader.new; sink = W.state writer.new }) result }
         ensures owed { T.owes steps.new ≡ T.owes steps.old }
@@ -207,19 +210,14 @@ impl Room {
         writer: &mut W,
         steps: &mut T,
     ) -> (Result<End, ServeFault>, u64)
-        ensures said { Outcome T.leads self.reads
+        ensures said { Outcome T.leads self
             (record { budget = steps.old; source = R.state reader.old; sink = W.state writer.old })
             (record { budget = steps.new; source = R.state reader.new; sink = W.state writer.new }) result.0 }
         ensures owed { T.owes steps.new ≡ T.owes steps.old }
         ensures begun { result.0 ≢ Err ServeFault.Memory }
     {
-        let Room {
-            alloc,
-            workers,
-            mut desk,
-        } = self;
-        let means = Means { rt, alloc, workers };
-        let outcome = converse(&means, &mut desk, reader, writer, steps);
+        let Room { alloc, mut desk } = self;
+        let outcome = converse(rt, alloc, &mut desk, reader, writer, steps);
         release(rt, &desk.bench.workspace, steps);
         (outcome, desk.commands)
     }
@@ -232,40 +230,49 @@ impl Room {
 ///
 /// As those of `serve`; `Turns` where more than so many reads were needed.
 pub fn serve_turns<R: Source, W: Sink, T: Steps, H: Threads + Wait>(
-    means: &Means<'_, H>,
+    rt: &H,
+    alloc: Global,
     reader: &mut R,
     writer: &mut W,
     steps: &mut T,
-    reads: u64,
+    workers: u64,
+    turns: u64,
 ) -> Result<End, ServeFault>
-    ensures said { Outcome T.leads reads
+    requires some { 1 ≤ workers }
+    requires few { workers ≤ 64 }
+    ensures said { Outcome T.leads (record { reads = turns; workers = workers })
         (record { budget = steps.old; source = R.state reader.old; sink = W.state writer.old })
         (record { budget = steps.new; source = R.state reader.new; sink = W.state writer.new }) result }
     ensures owed { T.owes steps.new ≡ T.owes steps.old }
 {
-    let Ok(room) = Room::with_reads(means.alloc, means.workers, reads) else {
+    let Ok(room) = Room::with_reads(alloc, workers, turns) else {
         return Err(ServeFault::Memory);
     };
-    room.serve(means.rt, reader, writer, steps)
+    room.serve(rt, reader, writer, steps)
 }
 
-/// For tests: the program makes a `Room` and calls `Room::serve_counting`. Serves one session: reads commands, and writes the reply
-/// to each, until `quit`, the end of the input, or a refusal after which a session can't go on.
+/// For tests: the program makes a `Room` and calls `Room::serve_counting`. Serves one session, each of whose batches may have so many
+/// workers: reads commands, and says the reply to each, until `quit`, the end of the input, or a refusal after which a session can't
+/// go on.
 ///
 /// # Errors
 ///
 /// A device failed, more than 4,294,967,296 reads were needed, or the room that a session needs from its start was refused.
 /// On each end and each fault every reservation that is still held is settled with 0.
 pub fn serve<R: Source, W: Sink, T: Steps, H: Threads + Wait>(
-    means: &Means<'_, H>,
+    rt: &H,
+    alloc: Global,
     reader: &mut R,
     writer: &mut W,
     steps: &mut T,
+    workers: u64,
 ) -> Result<End, ServeFault>
-    ensures said { Outcome T.leads 4294967296
+    requires some { 1 ≤ workers }
+    requires few { workers ≤ 64 }
+    ensures said { Outcome T.leads (full_room workers)
         (record { budget = steps.old; source = R.state reader.old; sink = W.state writer.old })
         (record { budget = steps.new; source = R.state reader.new; sink = W.state writer.new }) result }
     ensures owed { T.owes steps.new ≡ T.owes steps.old }
 {
-    serve_turns(means, reader, writer, steps, MOST_READS)
+    serve_turns(rt, alloc, reader, writer, steps, workers, MOST_READS)
 }

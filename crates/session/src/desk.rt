@@ -5,17 +5,18 @@ ghost use Rattle.workspace.specs.Workspace.{state_of};
 
 use command_text::Reply;
 use std::alloc::{AllocError, Global};
-use wire::Input;
+use wire::{Input, Output};
 use workspace::Workspace;
 
 /// Room for a line, with its line end.
 const LINE_ROOM: usize = 1026;
 
-/// What commands are answered at: what the session holds, and the reply to the last command.
+/// What commands are answered at: what the session holds, the reply to the last command, and the replies that are not written yet.
 #[derive(Drop)]
 pub struct Bench {
     pub workspace: Workspace,
     pub reply: Reply,
+    pub output: Output,
 }
 
 /// What a session works at: what it reads into, and its bench.
@@ -30,19 +31,27 @@ pub struct Desk {
 }
 
 impl Desk {
-    /// Nothing read, nothing bound, and so many reads that may be made.
-    pub fn new(alloc: Global, reads: u64) -> Result<Desk, AllocError>
+    /// Nothing read, nothing said, nothing bound, so many reads that may be made, and so many workers for each batch.
+    pub fn new(alloc: Global, workers: u64, reads: u64) -> Result<Desk, AllocError>
+        requires some { 1 ≤ workers }
+        requires few { workers ≤ 64 }
         ensures input { IfOk result (λ d. d.input ≡ record { bytes = []; ended = false; reads_left = reads }) }
-        ensures state { IfOk result (λ d. state_of d.bench.workspace ≡ empty) }
+        ensures output { IfOk result (λ d. d.bench.output ≡ []) }
+        ensures state { IfOk result (λ d. state_of d.bench.workspace ≡ empty workers) }
     {
         let input = Input::new(alloc, reads)?;
         let line = Vec::with_capacity(alloc, LINE_ROOM)?;
         let reply = Reply::new(alloc)?;
-        let workspace = Workspace::new(alloc)?;
+        let output = Output::new(alloc)?;
+        let workspace = Workspace::new(alloc, workers)?;
         Ok(Desk {
             input,
             line,
-            bench: Bench { workspace, reply },
+            bench: Bench {
+                workspace,
+                reply,
+                output,
+            },
             commands: 0,
         })
     }

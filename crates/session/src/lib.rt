@@ -7,7 +7,7 @@
 //! what a line and a body are `wire`'s, and what the budget's calls are `step_budget`'s.
 //!
 //! Read these definitions first. Then `conversation`, from `Room` down to one exchange; then `hearing` (what is read for a
-//! command), `answering` (its turn, and its reply written), `desk` (what both work at) and `end` (how a session ends).
+//! command), `answering` (its turn, and its reply said), `desk` (what both work at) and `end` (how a session ends).
 #![tactic(auto)]
 
 mod answering;
@@ -23,4 +23,3 @@ pub use conversation::{Room, serve, serve_turns};
 pub use end::{End, ServeFault};
 pub use step_budget::{Steps, Tally, Wallet};
 pub use wire::{FromRead, Sink, Source, ToWrite};
-pub use workspace::Means;

@@ -17,7 +17,6 @@ use std::test::Fail;
 use std::thread::Threads;
 use step_budget::{Steps, Tally, Totals};
 use wire::{FromRead, ToWrite};
-use workspace::Means;
 
 /// Commands that bind `A` to a matrix of the one entry 41, and `inc` to an operator of three instructions that adds 1.
 const SETUP: &str = "matrix A 62
@@ -134,14 +133,9 @@ fn serve_over<C: Ledger, F: Ledger, W: Ledger, D: Ledger, H: Threads + Wait>(
     let (calls, failures, writes, stuck) = blanks;
     let mut source = FromRead::<Pieces, C, F>::new(reader, calls, failures);
     let mut sink = ToWrite::<Trickle, W, D>::new(writer, writes, stuck);
-    let means = Means {
-        rt,
-        alloc,
-        workers: 1,
-    };
     match reads {
-        None => serve(&means, &mut source, &mut sink, steps),
-        Some(reads) => serve_turns(&means, &mut source, &mut sink, steps, reads),
+        None => serve(rt, alloc, &mut source, &mut sink, steps, 1),
+        Some(reads) => serve_turns(rt, alloc, &mut source, &mut sink, steps, 1, reads),
     }
 }
 

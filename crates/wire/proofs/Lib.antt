@@ -2,4 +2,5 @@ pub mod Known
 pub mod Fetching
 pub mod Gathering
 pub mod Carriage
+pub mod Sending
 pub mod Stays

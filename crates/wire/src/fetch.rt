@@ -1,5 +1,6 @@
 //! Reading on, until a line or a body is there.
-ghost use Rattle.std.specs.Prelude.{ℕ, ◌≡◌, ◌<◌, ◌≤◌, ◌++◌, OnOk, [], take, vec_capacity, vec_len, IfOk, Ok};
+ghost use Rattle.std.specs.Prelude.{ℕ, ◌≡◌, ◌<◌, ◌≤◌, ◌++◌, OnOk, [], take, vec_capacity, vec_len, IfOk, IfNone, IfSome, Ok, Some};
+ghost use Rattle.wire.specs.Devices.{SourceState};
 ghost use Rattle.wire.specs.Fetching.{Fetched, IsLined, IsBody, failed_reads, reach};
 ghost use Rattle.wire.specs.inner.Keeping.{IsKept, IsSkipped};
 
@@ -29,6 +30,27 @@ pub enum Body {
     Dropped,
     /// The input ended in it.
     Cut,
+}
+
+/// Takes the first line of the bytes that are held, which is copied out, where they have one. Nothing is read.
+pub fn line_held(input: &mut Input, line: &mut Vec<u8>) -> Option<Lined>
+    requires room { 1026 ≤ vec_capacity line.old }
+    ensures fetched { IfSome result (λ lined. (s : SourceState) → Fetched 0
+        (record { source = s; held = input.old }) (record { source = s; held = input.new })
+        (IsLined (Ok lined) line.new.items input.new)) }
+    ensures none { IfNone result (input.new ≡ input.old) }
+    ensures room { 1026 ≤ vec_capacity line.new }
+    ensures less { result ≡ Some Lined.Whole → reach input.new < reach input.old }
+{
+    match find_first(input.bytes(), input.has_ended()) {
+        Found::Partial => None,
+        Found::Over => Some(Lined::Over),
+        Found::Nothing => Some(Lined::Nothing),
+        Found::Line { length, taken } => {
+            input.take_line(length, taken, line);
+            Some(Lined::Whole)
+        }
+    }
 }
 
 /// Reads on until a line is there, which is copied out and taken from the input.

@@ -6,6 +6,7 @@ use crate::fault::ReadFault;
 use crate::fetch::{Body, Lined, next_line, read_body};
 use crate::input::Input;
 use crate::lines::{Found, find_first};
+use crate::output::Output;
 use crate::wrap::{FromRead, ToWrite};
 use std::alloc::Global;
 use std::io;
@@ -181,4 +182,35 @@ fn a_text_is_written_whole_or_not(rt: HostRuntime) {
         Blank::new(1),
     );
     assert!(rt; cut.is_err());
+}
+
+/// Says two texts to a writer, and writes them where that is wanted. Answers whether all went well.
+fn say_two<W: io::Write + Drop, C: Ledger, F: Ledger>(
+    alloc: Global,
+    writer: W,
+    flushes: bool,
+    blanks: (Blank, Blank),
+) -> Result<bool, Fail>
+    requires writes { IsNewCount blanks.0 C.name C.parts }
+    requires failures { IsNewCount blanks.1 F.name F.parts }
+{
+    let mut sink = ToWrite::<W, C, F>::new(writer, blanks.0, blanks.1);
+    let mut output = Output::new(alloc)?;
+    let said = output.say(&mut sink, b"one ").is_ok() && output.say(&mut sink, b"two").is_ok();
+    Ok(said && (!flushes || output.flush(&mut sink).is_ok()))
+}
+
+#[test]
+fn what_is_said_waits_until_it_is_written(rt: HostRuntime) -> Result<(), Fail> {
+    let alloc = rt.alloc();
+    let mut room = [0; 7];
+    for (flushes, want) in [(false, [0; 7]), (true, *b"one two")] {
+        let blanks = (Blank::new(1), Blank::new(1));
+        let well = say_two::<&mut [u8], Brand, Brand>(alloc, &mut room, flushes, blanks)?;
+        assert!(rt; well && room == want);
+    }
+    let blanks = (Blank::new(1), Blank::new(1));
+    let well = say_two::<&mut [u8], Brand, Brand>(alloc, &mut room[..3], true, blanks)?;
+    assert!(rt; !well);
+    Ok(())
 }

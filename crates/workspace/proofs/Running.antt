@@ -26,7 +26,7 @@ use Rattle.job_plan.specs.Price.{IsWithinPrice}
 use Rattle.job_plan.specs.Refusal.{IsPriced}
 use Rattle.job_plan.proofs.Faults.{low_price}
 use Rattle.std.specs.Prelude.{Result, Ok, Err, IfOk}
-use Rattle.command_text.specs.Replies.{job_text, refusal_text}
+use Rattle.command_text.specs.Replies.{job_text, refusal_text, run_text}
 use Rattle.command_text.specs.declared.refusal.Refusal.TheVariants as no
 use Rattle.step_budget.specs.Budget.{Deals}
 use Rattle.step_purse.specs.declared.dealings.Dealing.{Dealing}
@@ -34,12 +34,13 @@ use Rattle.std.specs.List.{AllByRecursion}
 use Rattle.workspace.specs.Queued.{AreNamed}
 use Rattle.workspace.specs.inner.Queued.{AreCheap, AreWithin, steps_sum}
 use Rattle.job_runner.specs.Batch.{AreResultsOf, result_of, total_steps}
+use Rattle.job_runner.specs.Answers.{MaySay, Gave, Broke}
+use Rattle.job_runner.specs.declared.answer.Cause.{Cause}
 use Rattle.std.specs.List.{flat_map}
 use Rattle.std.proofs.Common.{append_assoc, ◌++◌}
 use Rattle.command_text.specs.ReplyText.{ReplyText}
-use Rattle.workspace.specs.Turn.{RunTurn, all_bound, charged, job_line, job_lines}
+use Rattle.workspace.specs.Turn.{RunTurn, all_bound, batch_refusal, charged, job_line, job_lines, settled}
 use Rattle.job_runner.specs.declared.answer.JobResult.{JobResult}
-use Rattle.job_runner.specs.declared.answer.Cause.TheVariants as cause
 
 -- what holds of each of the first i elements, and of the next one, holds of one more
 pub each_more : {A : Type 0} (P : A → Type 0) (xs : List A) (i : ℕ) (x : A) → i < length xs → x ≡ get_or xs i x
@@ -110,13 +111,14 @@ zip_done s t r e h same = by (subst (λ o. zip_steps iter_steps into_iter_steps 
     by (inr b) = nil_from_length _ (same ∙ b.1.0)
 
 -- a state of these parts
-abbrev state_with : (List ℕ → Option Grid) → (List ℕ → Option Accepted) → List Job → State
-state_with matrices operators queue = record { matrices = matrices; operators = operators; queue = queue }
+abbrev state_with : (List ℕ → Option Grid) → (List ℕ → Option Accepted) → List Job → ℕ → State
+state_with matrices operators queue workers = record { matrices = matrices; operators = operators; queue = queue; workers = workers }
 
 -- states are the same, where what they hold is
-pub same_state : (f g : List ℕ → Option Grid) (operators : List ℕ → Option Accepted) (queue rest : List Job) → f ≡ g → queue ≡ rest
-    → state_with f operators queue ≡ state_with g operators rest
-same_state f g operators queue rest e q = ap (λ names. state_with names operators queue) e ∙ ap (λ jobs. state_with g operators jobs) q
+pub same_state : (f g : List ℕ → Option Grid) (operators : List ℕ → Option Accepted) (queue rest : List Job) (workers : ℕ) → f ≡ g → queue ≡ rest
+    → state_with f operators queue workers ≡ state_with g operators rest workers
+same_state f g operators queue rest workers e q =
+    ap (λ names. state_with names operators queue workers) e ∙ ap (λ jobs. state_with g operators jobs workers) q
 
 -- no job took more than its price
 pub within_prices : (jobs : List Job) (results : List batch.Result) → AreResultsOf jobs results → AllByRecursion IsWithinPrice jobs → AreWithin jobs results
@@ -214,6 +216,37 @@ module _ {S : Type 0} (leads : S → Dealing → S → Type 0) (s t : S) where
   refused_before old mid jobs queue reply e h q r d =
       let same : jobs ≡ old.queue = h ∙ ap (λ (x : State). x.queue) e in (
         charged old.queue 0,
-        inr (cause.Memory, 0, omega arith, (refl, r, ap (λ js. record mid { queue = js }) q ∙ ap (λ (x : State). record x { queue = [] }) e)),
+        inr (inr (refl, r, ap (λ js. record mid { queue = js }) q ∙ ap (λ (x : State). record x { queue = [] }) e)),
         subst (λ js. Deals leads s (charged js 0) t) same d,
       )
+
+  -- the batch of a plan gave all, which is a turn of `run`
+  pub ran : (old mid new : State) (jobs : List Job) (results : List batch.Result) (spent : ℕ) (reply : List ℕ) → jobs ≡ old.queue
+      → mid ≡ record old { queue = [] } → AreResultsOf jobs results → MaySay mid.workers jobs (Gave results spent) → spent ≡ total_steps jobs
+      → Deals leads s (settled jobs results) t → reply ≡ run_text (total_steps jobs) (job_lines jobs results)
+      → new ≡ record mid { matrices = all_bound mid.matrices jobs results }
+      → (ds : List Dealing) × RunTurn old ds reply new × Deals leads s ds t
+  ran old mid new jobs results spent reply q m are say all d r n = (
+    settled old.queue results,
+    inl (
+      results,
+      subst (λ js. AreResultsOf js results) q are,
+      subst (λ js. MaySay old.workers js (Gave results (total_steps js))) q (subst (λ k. MaySay old.workers jobs (Gave results k)) all (subst (λ (x : State). MaySay x.workers jobs (Gave results spent)) m say)),
+      refl,
+      r ∙ ap (λ js. run_text (total_steps js) (job_lines js results)) q,
+      n ∙ ap (λ (x : State). record x { matrices = all_bound x.matrices jobs results }) m
+          ∙ ap (λ js. record old { matrices = all_bound old.matrices js results; queue = [] }) q,
+    ),
+    subst (λ js. Deals leads s (settled js results) t) q d,
+  )
+
+  -- the batch of a plan broke off, which is a turn of `run`
+  pub broke_off : (old mid : State) (jobs : List Job) (why : Cause) (spent : ℕ) (reply : List ℕ) → jobs ≡ old.queue
+      → mid ≡ record old { queue = [] } → MaySay mid.workers jobs (Broke why spent)
+      → Deals leads s (charged jobs spent) t → reply ≡ refusal_text (batch_refusal why spent)
+      → (ds : List Dealing) × RunTurn old ds reply mid × Deals leads s ds t
+  broke_off old mid jobs why spent reply q m say d r = (
+    charged old.queue spent,
+    inr (inl (why, spent, subst (λ js. MaySay old.workers js (Broke why spent)) q (subst (λ (x : State). MaySay x.workers jobs (Broke why spent)) m say), (refl, r, m))),
+    subst (λ js. Deals leads s (charged js spent) t) q d,
+  )

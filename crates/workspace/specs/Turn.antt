@@ -1,33 +1,7 @@
 -- What one command does: from what the session holds, by which calls of the budget and with which reply, to what it then holds
 -- (this project's own).
 -- A relation, since the budget is asked on the way, and since a command may run out of memory where it takes some.
-use Rattle.std.specs.Prelude.{
-  ℕ,
-  ◌≡◌,
-  ◌+◌,
-  ◌-◌,
-  ◌≤◌,
-  ◌⊎◌,
-  min,
-  nat_lt,
-  Bool,
-  true,
-  false,
-  List,
-  [],
-  ◌∷◌,
-  ◌++◌,
-  length,
-  map,
-  codes,
-  Option,
-  None,
-  Some,
-  Result,
-  Ok,
-  Err,
-  MatchBool,
-}
+use Rattle.std.specs.Prelude.{ℕ, ◌≡◌, ◌+◌, ◌-◌, ◌⊎◌, min, nat_lt, List, [], ◌∷◌, ◌++◌, length, map, codes, Option, None, Some, Result, Ok, Err, MatchBool}
 use Rattle.hex.specs.Hex.{decode_of}
 use Rattle.hex.specs.declared.error.FromHexError.{FromHexError}
 use Rattle.csr_store.specs.Grid.{Grid, IsGrid}
@@ -64,6 +38,7 @@ use Rattle.job_runner.specs.declared.answer.Cause.{Cause}
 use Rattle.job_runner.specs.declared.answer.Cause.TheVariants as cause
 use Rattle.job_runner.specs.Batch as batch
 use Rattle.job_runner.specs.Batch.{AreResultsOf, total_steps}
+use Rattle.job_runner.specs.Answers.{MaySay, Gave, Broke}
 use Rattle.command_text.specs.Replies.{
   JobLine,
   refusal_text,
@@ -241,14 +216,25 @@ abbrev pub batch_refusal : Cause → ℕ → Refusal
 batch_refusal cause.Memory spent = no.BatchMemory spent
 batch_refusal cause.Thread spent = no.BatchThread spent
 
--- all jobs come to an end; or the batch breaks off when its calls have taken some of the steps of all
+-- a batch of all jobs that wait, which may have as many workers as the session has, gave each job's matrix and steps
+abbrev pub Gives : State → List Dealing → List ℕ → State → Type 0
+Gives old dealings reply new =
+    (results : List batch.Result) × AreResultsOf old.queue results
+    × MaySay old.workers old.queue (Gave results (total_steps old.queue))
+    × (dealings ≡ settled old.queue results) × (reply ≡ run_text (total_steps old.queue) (job_lines old.queue results))
+    × (new ≡ record old { matrices = all_bound old.matrices old.queue results; queue = [] })
+
+-- it broke off, when its calls had taken some of the steps of all
+abbrev pub BreaksOff : State → List Dealing → List ℕ → State → Type 0
+BreaksOff old dealings reply new =
+    (why : Cause) × (spent : ℕ) × MaySay old.workers old.queue (Broke why spent)
+    × BatchRefused (batch_refusal why spent) spent old dealings reply new
+
+-- all jobs come to an end; or the batch breaks off, as it says; or there is no memory to begin it
 abbrev pub RunTurn : State → List Dealing → List ℕ → State → Type 0
 RunTurn old dealings reply new =
-    ((results : List batch.Result) × AreResultsOf old.queue results
-    × (dealings ≡ settled old.queue results) × (reply ≡ run_text (total_steps old.queue) (job_lines old.queue results))
-    × (new ≡ record old { matrices = all_bound old.matrices old.queue results; queue = [] }))
-    ⊎ ((why : Cause) × (spent : ℕ) × (spent ≤ total_steps old.queue)
-    × BatchRefused (batch_refusal why spent) spent old dealings reply new)
+    Gives old dealings reply new
+    ⊎ (BreaksOff old dealings reply new ⊎ BatchRefused (no.BatchMemory 0) 0 old dealings reply new)
 
 -- ---- `show NAME`
 

@@ -10,4 +10,5 @@ state_of w = record {
   matrices = λ name. option_map arc_value (value_at w.matrices.declared name);
   operators = λ name. option_map arc_value (value_at w.operators.declared name);
   queue = w.queue;
+  workers = w.workers;
 }

@@ -7,13 +7,13 @@
 //! Read `turn` first, which hands each command to its function; then `workspace` (matrices, operators and jobs) over `names`;
 //! then the commands, each a function whose contract is its turn: `bind` (`matrix`, `op`, `asm`), `tell` (`show`, `dis`,
 //! and `types` over the module of that name), `jobs` (the jobs' commands, over `found` and `share`, and `budget`)
-//! and `run`. `means` is what they are answered by.
+//! and `run`. `long` says what is better written before a command is answered.
 #![tactic(auto)]
 
 mod bind;
 mod found;
 mod jobs;
-mod means;
+mod long;
 mod names;
 mod run;
 mod share;
@@ -22,7 +22,7 @@ mod turn;
 mod types;
 mod workspace;
 
-pub use means::Means;
+pub use long::takes_long;
 pub use run::release;
 pub use turn::{answer, answer_with_body};
 pub use workspace::Workspace;

@@ -17,14 +17,13 @@ ghost use Rattle.command_text.specs.ReplyText.{whole};
 ghost use Rattle.workspace.specs.Turn.{RunTurn, settled, charged, all_bound, batch_refusal, job_line, job_lines, released};
 ghost use Rattle.workspace.specs.Workspace.{state_of};
 
-use crate::means::Means;
 use crate::names::Names;
 use crate::workspace::Workspace;
 use command_text::{JobLine, Refusal, Reply, add_job, begin_run, refuse};
 use csr_store::Version;
 use job_plan::{Plan, Priced, price};
-use job_runner::{BatchAnswer, BatchFault, Cause, JobResult, Open, run_batch};
-use std::alloc::AllocError;
+use job_runner::{BatchAnswer, BatchFault, Cause, JobResult, Open, run_batch_with};
+use std::alloc::{AllocError, Global};
 use std::sync::Wait;
 use std::thread::Threads;
 use step_budget::Steps;
@@ -201,7 +200,8 @@ fn begin(workspace: &mut Workspace) -> Result<Plan, AllocError>
 /// each job. Where memory or a thread is refused, no name is bound, and the steps that were taken are charged to the jobs in
 /// order. No job waits any longer.
 pub fn run<T: Steps, H: Threads + Wait>(
-    means: &Means<'_, H>,
+    rt: &H,
+    alloc: Global,
     workspace: &mut Workspace,
     steps: &mut T,
     reply: &mut Reply,
@@ -212,7 +212,6 @@ pub fn run<T: Steps, H: Threads + Wait>(
         Deals T.leads steps.old dealings steps.new }
     ensures owed { T.owes steps.new + total_price (state_of workspace.old).queue ≡ T.owes steps.old }
 {
-    let rt = means.rt;
     let Ok(plan) = begin(workspace) else {
         let fault = BatchFault {
             cause: Cause::Memory,
@@ -222,7 +221,8 @@ pub fn run<T: Steps, H: Threads + Wait>(
         workspace.queue.clear();
         return;
     };
-    match run_batch(rt, means.alloc, &plan, means.workers, &Open) {
+    let workers = workspace.workers;
+    match run_batch_with(rt, alloc, &plan, workers, &Open, &mut workspace.kept) {
         Ok(answer) => finish(rt, workspace, &plan, answer, steps, reply),
         Err(fault) => break_off(rt, steps, reply, plan.jobs(), fault),
     }

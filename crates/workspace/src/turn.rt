@@ -12,7 +12,6 @@ ghost use Rattle.workspace.specs.Workspace.{state_of};
 
 use crate::bind::{assembly, matrix, operator};
 use crate::jobs::{budget, submit};
-use crate::means::Means;
 use crate::run::run;
 use crate::tell::{disassembly, show, types};
 use crate::workspace::Workspace;
@@ -46,7 +45,8 @@ pub fn answer_with_body(
 
 /// Answers a command without a body. What the caller owes its budget grows and shrinks with the prices of the jobs that wait.
 pub fn answer<T: Steps, H: Threads + Wait>(
-    means: &Means<'_, H>,
+    rt: &H,
+    alloc: Global,
     workspace: &mut Workspace,
     command: Command<'_>,
     steps: &mut T,
@@ -59,11 +59,10 @@ pub fn answer<T: Steps, H: Threads + Wait>(
     ensures owed { total_price (state_of workspace.new).queue + T.owes steps.old ≡
         total_price (state_of workspace.old).queue + T.owes steps.new }
 {
-    let (rt, alloc) = (means.rt, means.alloc);
     match command {
         Command::Blank => silent(reply),
         Command::Submit(submission) => submit(rt, alloc, workspace, &submission, steps, reply),
-        Command::Run => run(means, workspace, steps, reply),
+        Command::Run => run(rt, alloc, workspace, steps, reply),
         Command::Show { name } => show(alloc, workspace, name, reply),
         Command::Types { name } => types(alloc, workspace, name, reply),
         Command::Dis { name } => disassembly(alloc, workspace, name, reply),

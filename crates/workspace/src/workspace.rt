@@ -13,33 +13,44 @@ use bpf_verify::Operator;
 use command_text::Name;
 use csr_store::{Matrix, Version};
 use job_plan::{Priced, Queue};
+use job_runner::Kept;
 use std::alloc::{AllocError, Global};
 use std::sync::Arc;
 
-/// Matrices and operators by their names, and the jobs that wait, for which there is room from the start.
+/// Matrices and operators by their names, the jobs that wait, for which there is room from the start, and what runs them: so many
+/// workers, and what is kept for them from batch to batch.
 #[derive(Drop)]
 pub struct Workspace {
     pub matrices: Names<Version>,
     pub operators: Names<Arc<Prepared>>,
     pub queue: Queue,
+    /// How many workers a batch may have: 1 to 64.
+    pub workers: u64,
+    pub kept: Kept,
     ghost named: { AreNamed queue },
+    ghost some: { 1 ≤ workers },
+    ghost few: { workers ≤ 64 },
 }
 
 impl Workspace {
     ghost use Rattle.workspace.specs.Workspace.{state_of};
 
-    /// Nothing bound, and no job that waits.
+    /// Nothing bound, and no job that waits, of a session whose batches may have so many workers.
     ///
     /// # Errors
     ///
     /// There is no memory for the room of the jobs.
-    pub fn new(alloc: Global) -> Result<Self, AllocError>
-        ensures { IfOk result (λ w. state_of w ≡ empty) }
+    pub fn new(alloc: Global, workers: u64) -> Result<Self, AllocError>
+        requires some { 1 ≤ workers }
+        requires few { workers ≤ 64 }
+        ensures { IfOk result (λ w. state_of w ≡ empty workers) }
     {
         Ok(Workspace {
             matrices: Names::new(alloc),
             operators: Names::new(alloc),
             queue: Queue::open(alloc)?,
+            workers,
+            kept: Kept::new(),
         })
     }
 

@@ -1,11 +1,13 @@
 -- What stands beside specs/Exchange.antt for this crate's own modules and proofs.
 use Rattle.std.specs.Prelude.{ℕ, ◌≡◌, ◌+◌, ◌||◌, Bool, true, false, List, ◌++◌, map}
-use Rattle.std.specs.Prelude.{Option, None, Some, Result, Ok, Err}
+use Rattle.std.specs.Prelude.{Option, None, Some, [], Result, Ok, Err}
 use Rattle.std.specs.Io.KnownBytes.{Consumes, Appends, IsAtEnd}
-use Rattle.wire.specs.Held.{Held}
+use Rattle.wire.specs.Held.{Held, Stream}
+use Rattle.wire.specs.Fetching.{Fetched, IsLined}
+use Rattle.wire.specs.Lines as lines
 use Rattle.wire.specs.Prefixes.{IsPrefixOf}
-use Rattle.wire.specs.declared.fault.ReadFault.{ReadFault}
-use Rattle.wire.specs.declared.fault.ReadFault.TheVariants.{Failed, OutOfReads}
+use Rattle.wire.specs.Sending.{Outgoing, Sent}
+use Rattle.wire.specs.declared.fetch.Lined.{Lined}
 use Rattle.wire.specs.declared.device.WriteFailed.{WriteFailed}
 use Rattle.step_purse.specs.declared.dealings.Dealing.{Dealing}
 use Rattle.step_budget.specs.Budget.{Deals, amounts_taken, amounts_settled}
@@ -30,12 +32,6 @@ Hears (h.Plain command) rest is = is ≡ next_plain (command_of command) rest
 Hears (h.Whole header body) rest is = is ≡ Goes (with_body (header_of header) body.items) rest
 Hears (h.Dropped header) rest is = (body : List ℕ) × (is ≡ Goes (with_body (header_of header) body) rest)
 
--- what the request and the bytes behind it have next was heard; or, after a fault, its body is not all there
-abbrev pub IsHeard : Request → Result Heard ReadFault → Held → List ℕ → Type 0
-IsHeard request (Ok heard) new bytes = Hears heard new.bytes (next_request new.ended request bytes)
-IsHeard request (Err Failed) new bytes = next_request new.ended request bytes ≡ Waits
-IsHeard request (Err OutOfReads) new bytes = (next_request new.ended request bytes ≡ Waits) × (new.reads_left ≡ 0)
-
 -- what was heard is answered by its turn: the session goes on, or ends
 abbrev pub Responds : State → Heard → List Dealing → List ℕ → State → Option End → Type 0
 Responds old heard dealings reply new None =
@@ -43,17 +39,44 @@ Responds old heard dealings reply new None =
 Responds old heard dealings reply new (Some end) =
     (rest : List ℕ) (is : Next) → Hears heard rest is → (c : Command) × (is ≡ Stops c end) × Turn old c dealings reply new
 
--- what was heard is answered, and the reply written, or a front part of it
+-- All that waited is written.
+abbrev pub IsEmptied : Outgoing → Outgoing → Type 0
+IsEmptied old new = Sent true [] old new × (new.waits ≡ [])
+
+-- What was waited for came, and what was said before it may wait on. Or it isn't there, after a fault: all that was said is written,
+-- but for where a write failed.
+abbrev pub Awaited : {A : Type 0} → Result A ServeFault → (came : A → List ℕ → Type 0) → (missing : List ℕ → Type 0)
+    → Stream → Stream → Outgoing → Outgoing → Type 0
+Awaited (Ok a) came missing s t o p = Fetched 0 s t (came a) × Sent true [] o p
+Awaited (Err Read) came missing s t o p = Fetched 1 s t missing × IsEmptied o p
+Awaited (Err Turns) came missing s t o p = Fetched 0 s t missing × (t.held.reads_left ≡ 0) × IsEmptied o p
+Awaited (Err Write) came missing s t o p = Fetched 0 s t (λ bytes. Unit {0}) × Sent false [] o p
+Awaited (Err Memory) came missing s t o p = ⊥
+
+-- a line stands first in the bytes, or less than a line
+abbrev pub IsLineOf : List ℕ → Held → Lined → List ℕ → Type 0
+IsLineOf line new lined bytes = IsLined (Ok lined) line new bytes
+
+abbrev pub LacksLine : Held → List ℕ → Type 0
+LacksLine new bytes = lines.first new.ended bytes ≡ lines.Partial
+
+-- what the request and the bytes behind it have next was heard, or its body is not all there
+abbrev pub IsHeardOf : Request → Held → Heard → List ℕ → Type 0
+IsHeardOf request new heard bytes = Hears heard new.bytes (next_request new.ended request bytes)
+
+abbrev pub LacksBody : Request → Held → List ℕ → Type 0
+LacksBody request new bytes = next_request new.ended request bytes ≡ Waits
+
+-- what was heard is answered, and the reply said; where the session ends, all is written, or a front part of it
 abbrev pub Tells : {S : Type 0} → (S → Dealing → S → Type 0) → Touched S → Touched S → Heard
     → Result (Option End) WriteFailed → Type 0
 Tells leads old new heard (Ok end) =
     (dealings : List Dealing) × (reply : List ℕ) × Responds old.state heard dealings reply new.state end
-    × Deals leads old.budget dealings new.budget × Appends old.sink.contents new.sink.contents reply
-    × (new.sink.failures ≡ old.sink.failures)
+    × Deals leads old.budget dealings new.budget × Sent true reply old.out new.out
+    × ((e : End) → end ≡ Some e → new.out.waits ≡ [])
 Tells leads old new heard (Err failed) =
     (dealings : List Dealing) × (reply : List ℕ) × (end : Option End) × Responds old.state heard dealings reply new.state end
-    × Deals leads old.budget dealings new.budget × (front : List ℕ) × IsPrefixOf front reply
-    × Appends old.sink.contents new.sink.contents front × (new.sink.failures ≡ old.sink.failures + 1)
+    × Deals leads old.budget dealings new.budget × Sent false reply old.out new.out
 
 -- What was said from the start to an end or a fault, before the reservations that are still held are settled.
 pub record Spoken {S : Type 0} (cut : Bool) (leads : S → Dealing → S → Type 0) (failed_reads failed_writes : ℕ)
@@ -68,13 +91,13 @@ pub record Spoken {S : Type 0} (cut : Bool) (leads : S → Dealing → S → Typ
   pub at_end : ended ≡ true → IsAtEnd new.stream.source.remaining
   pub reads : new.stream.source.reads + new.stream.held.reads_left ≡ old.stream.source.reads + old.stream.held.reads_left
   pub failed_reads_are : new.stream.source.failures ≡ old.stream.source.failures + failed_reads
-  pub failed_writes_are : new.touched.sink.failures ≡ old.touched.sink.failures + failed_writes
-  pub appended : Appends old.touched.sink.contents new.touched.sink.contents written
+  pub failed_writes_are : new.touched.out.sink.failures ≡ old.touched.out.sink.failures + failed_writes
+  pub appended : Appends old.touched.out.sink.contents new.touched.out.sink.contents written
   pub in_front : IsPrefixOf written text
   pub dealt : Deals leads old.touched.budget dealings new.touched.budget
   -- what was taken is what was settled, and then the prices of the jobs that wait
   pub matched : amounts_taken dealings ≡ amounts_settled dealings ++ map price_of new.touched.state.queue
-  pub talk : Talk cut empty read ended dealings text end new.touched.state
+  pub talk : Talk cut (empty old.touched.state.workers) read ended dealings text end new.touched.state
 
 abbrev pub SpokenWhole : {S : Type 0} → (S → Dealing → S → Type 0) → ℕ → Scene S → Scene S → Option End → Type 0
 SpokenWhole leads failed_reads old new end = (s : Spoken false leads failed_reads 0 old new end) × (s.written ≡ s.text)

@@ -6,7 +6,11 @@ use Rattle.session.specs.declared.desk.Bench.{Bench}
 use Rattle.session.specs.declared.desk.Desk.{Desk}
 
 abbrev pub touched_at : {S : Type 0} → Bench → SinkState → S → Touched S
-touched_at bench sink budget = record { budget = budget; sink = sink; state = state_of bench.workspace }
+touched_at bench sink budget = record {
+  budget = budget;
+  out = record { sink = sink; waits = bench.output };
+  state = state_of bench.workspace;
+}
 
 abbrev pub scene_at : {S : Type 0} → Desk → SourceState → SinkState → S → Scene S
 scene_at desk source sink budget = record {

@@ -81,26 +81,29 @@ fn a_failing_read_ends_the_session(rt: HostRuntime) -> Result<(), Fail> {
 
 #[test]
 fn a_failing_write_ends_the_session(rt: HostRuntime) -> Result<(), Fail> {
-    // The bytes that a write takes at most, the writes that succeed, the bytes written by then, and the steps spent. A write that
-    // takes none has failed.
+    // The bytes that a read brings and that a write takes at most, the writes that succeed, the bytes written by then, and the steps
+    // spent. All replies to one read are one write. A write that takes none has failed.
     let failing = [
-        (8192, 0, 0, 0),
-        (8192, 1, 16, 0),
-        (8192, 2, 26, 0),
-        (8192, 3, 40, 3),
-        (8192, 4, 61, 3),
-        (8192, 5, 72, 3),
-        (8192, 6, 134, 3),
-        (1, 33, 33, 0),
-        (1, 100, 100, 3),
-        (1, 141, 141, 3),
-        (0, 9, 0, 0),
+        (8192, 8192, 0, 0, 3),
+        (17, 8192, 0, 0, 0),
+        (17, 8192, 1, 16, 0),
+        (17, 8192, 2, 26, 0),
+        (17, 8192, 3, 40, 3),
+        (17, 1, 33, 33, 0),
+        (17, 1, 100, 100, 3),
+        (17, 1, 141, 141, 3),
+        (8192, 1, 141, 141, 3),
+        (17, 0, 9, 0, 0),
     ];
-    for (piece, calls, length, spent) in failing {
+    for (read, piece, calls, length, spent) in failing {
         let want = Want {
             outcome: Err(ServeFault::Write),
             text: FIRST_RUN_TEXT.get(..length).ok_or("a front part")?,
             spent,
+        };
+        let reads = Pace {
+            piece: read,
+            ..AMPLE
         };
         let writes = Pace {
             piece,
@@ -110,13 +113,31 @@ fn a_failing_write_ends_the_session(rt: HostRuntime) -> Result<(), Fail> {
         assert_talk(
             &rt,
             rt.alloc(),
-            (FIRST_RUN.as_bytes(), AMPLE),
+            (FIRST_RUN.as_bytes(), reads),
             writes,
             100,
             want,
         )?;
     }
     Ok(())
+}
+
+#[test]
+fn replies_to_one_read_are_one_write(rt: HostRuntime) -> Result<(), Fail> {
+    let want = Want {
+        outcome: Ok(End::Quit),
+        text: FIRST_RUN_TEXT,
+        spent: 3,
+    };
+    let writes = Pace { calls: 1, ..AMPLE };
+    assert_talk(
+        &rt,
+        rt.alloc(),
+        (FIRST_RUN.as_bytes(), AMPLE),
+        writes,
+        100,
+        want,
+    )
 }
 
 #[test]

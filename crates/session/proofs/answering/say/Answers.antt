@@ -1,23 +1,41 @@
-use Rattle.std.proofs.Common.{◌≡◌, List, ℕ, ◌++◌, Option, sym, ap, ◌∙◌, append_assoc}
-use Rattle.std.specs.Io.KnownBytes.{Appends}
-use Rattle.wire.specs.Prefixes.{IsPrefixOf}
-use Rattle.wire.proofs.Known.{appends_more}
+use Rattle.std.proofs.Common.{◌≡◌, Bool, true, false, is_ok, List, ℕ, [], ◌++◌, sym, ap, ◌∙◌, subst, append_assoc}
+use Rattle.wire.specs.Sending.{Outgoing, Sent}
+use Rattle.wire.proofs.Known.{append_nil}
+use Rattle.wire.proofs.Sending.{sent_then}
 use Rattle.session.proofs.answering.say.Goals as goal
 
--- a front part of the lines is one of the whole reply
-cut_in_lines : (i j : Option (List ℕ)) (line text said : List ℕ) → said ≡ line → (front : List ℕ) × IsPrefixOf front said × Appends i j front
-    → (front : List ℕ) × IsPrefixOf front (line ++ text) × Appends i j front
-cut_in_lines i j line text said e h = (h.0, (h.1.0 ++ text, ap (λ xs. xs ++ text) (sym e ∙ h.1.1) ∙ append_assoc h.0 h.1.0 text), h.2)
+-- a text was not written whole, and so one behind it was not
+cut_behind : (a b : List ℕ) (o p : Outgoing) → Sent false a o p → Sent false (a ++ b) o p
+cut_behind a b o p s = record {
+  written = s.written;
+  appended = s.appended;
+  is_written = (s.is_written.0 ++ b, sym (append_assoc o.waits a b) ∙ ap (λ xs. xs ++ b) s.is_written.1 ∙ append_assoc s.written s.is_written.0 b);
+  failures = s.failures;
+}
 
--- the lines with a front part of the text are one of the whole reply
-cut_in_text : (i j k : Option (List ℕ)) (line text said shown : List ℕ) → said ≡ line → shown ≡ text → Appends i j said → (front : List ℕ) × IsPrefixOf front shown × Appends j k front
-    → (front : List ℕ) × IsPrefixOf front (line ++ text) × Appends i k front
-cut_in_text i j k line text said shown e f a h =
-    (said ++ h.0, (h.1.0, ap (λ xs. xs ++ text) (sym e) ∙ (ap (λ xs. said ++ xs) (sym f ∙ h.1.1) ∙ sym (append_assoc said h.0 h.1.0))), appends_more i j k said h.0 a h.2)
+-- what is sent is the line and the text of the reply
+as_said : (well : Bool) (x y : List ℕ) (o p : Outgoing) → x ≡ y → Sent well x o p → Sent well y o p
+as_said well x y o p e s = subst (λ xs. Sent well xs o p) e s
 
-pub returns-in-Err-clause-cut : goal.returns-in-Err-clause-cut
-returns-in-Err-clause-cut g c = cut_in_lines _ _ c.args.reply.now.line c.args.reply.now.text c.line.result.now c.line.ensures c.in-Err.ensures.cut
+pub returns-in_default-clause-sent : goal.returns-in_default-clause-sent
+returns-in_default-clause-sent g c =
+    cut_behind c.args.reply.now.line c.args.reply.now.text _ _ (as_said false _ _ _ _ c.line.ensures c.in_default.ensures.sent)
 
-pub returns-in-Err-put-clause-cut : goal.returns-in-Err-put-clause-cut
-returns-in-Err-put-clause-cut g c =
-    cut_in_text _ _ _ c.args.reply.now.line c.args.reply.now.text c.line.result.now c.attached.result.now c.line.ensures c.attached.ensures c.in-Ok.ensures.written c.in-Err-put.ensures.cut
+pub returns-in_default-say-clause-sent : goal.returns-in_default-say-clause-sent
+returns-in_default-say-clause-sent g c =
+    sent_then false c.args.reply.now.line c.args.reply.now.text _ _ _ (as_said true _ _ _ _ c.line.ensures c.in-Ok.ensures.sent)
+    (as_said false _ _ _ _ c.attached.ensures c.in_default-say.ensures.sent)
+
+pub returns-then-last-clause-sent : goal.returns-then-last-clause-sent
+returns-then-last-clause-sent g c =
+    let line = c.args.reply.now.line in
+    let text = c.args.reply.now.text in
+    as_said (is_ok c.flush.result) ((line ++ text) ++ []) (line ++ text) _ _ (append_nil (line ++ text))
+    (sent_then (is_ok c.flush.result) (line ++ text) [] _ _ _
+    (sent_then true line text _ _ _ (as_said true _ _ _ _ c.line.ensures c.in-Ok.ensures.sent) (as_said true _ _ _ _ c.attached.ensures c.in-Ok-say.ensures.sent))
+    c.flush.ensures.sent)
+
+pub returns-else-last-clause-sent : goal.returns-else-last-clause-sent
+returns-else-last-clause-sent g c =
+    sent_then true c.args.reply.now.line c.args.reply.now.text _ _ _ (as_said true _ _ _ _ c.line.ensures c.in-Ok.ensures.sent)
+    (as_said true _ _ _ _ c.attached.ensures c.in-Ok-say.ensures.sent)

@@ -1,4 +1,4 @@
-use Rattle.std.proofs.Common.{◌≡◌, ◌≤◌, Ok, None, Some, Option, ap, subst, arith}
+use Rattle.std.proofs.Common.{◌≡◌, Ok, Option, ap, subst, arith}
 use Rattle.job_plan.specs.Price.{total_price}
 use Rattle.workspace.specs.State.{State}
 use Rattle.workspace.specs.Workspace.{state_of}
@@ -28,8 +28,8 @@ pub returns-in-Ok-Some-clause-conversed : goal.returns-in-Ok-Some-clause-convers
 returns-in-Ok-Some-clause-conversed g c =
     let old = scene_at c.exchanges.desk (g.R.Source.state c.exchanges.reader) (g.W.Sink.state c.exchanges.writer) c.exchanges.steps in
     let new = scene_at c.exchange.new.desk (g.R.Source.state c.exchange.new.reader) (g.W.Sink.state c.exchange.new.writer) c.exchange.new.steps in
-    conversed_end g.T.Steps.leads _ old new c.exchanges.invariant.said c.in-Ok-Some.end
+    conversed_end g.T.Steps.leads _ old new c.exchanges.invariant.said c.requires.output c.in-Ok-Some.end
     (subst (λ (r : Option End). Exchanged next g.T.Steps.leads old new (Ok r)) c.in-Ok-Some.field-0-is c.in-Ok-Some.ensures.exchanged)
 
 pub returns-in-Err-clause-conversed : goal.returns-in-Err-clause-conversed
-returns-in-Err-clause-conversed g c = conversed_fault g.T.Steps.leads _ _ _ c.exchanges.invariant.said c.in-Err.fault c.in-Err.ensures.exchanged
+returns-in-Err-clause-conversed g c = conversed_fault g.T.Steps.leads _ _ _ c.exchanges.invariant.said c.requires.output c.in-Err.fault c.in-Err.ensures.exchanged

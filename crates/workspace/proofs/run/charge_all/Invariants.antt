@@ -1,4 +1,4 @@
-use Rattle.std.proofs.Common.{◌≡◌, ◌+◌, map, drop}
+use Rattle.std.proofs.Common.{◌≡◌, ◌+◌, drop}
 use Rattle.step_budget.specs.Budget.{Deals}
 use Rattle.job_plan.specs.Price.{total_price}
 use Rattle.workspace.specs.Turn.{charged}

@@ -1,5 +1,4 @@
 use Rattle.std.proofs.Common.{IsTrue, get_or, ◌∙◌, rules, arith}
-use Rattle.std.specs.String.{string_bytes}
 use Rattle.workspace.specs.inner.Names.{is_declared}
 use Rattle.job_plan.specs.Job.{Job}
 use Rattle.workspace.proofs.Running.{each_more}

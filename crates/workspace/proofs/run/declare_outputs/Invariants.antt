@@ -1,5 +1,4 @@
 use Rattle.std.proofs.Common.{◌≡◌, ◌<◌, ℕ, List, IsTrue, get_or}
-use Rattle.std.specs.String.{string_bytes}
 use Rattle.workspace.specs.Names.{value_at}
 use Rattle.workspace.specs.inner.Names.{is_declared}
 use Rattle.job_plan.specs.Job.{Job}

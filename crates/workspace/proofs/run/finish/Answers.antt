@@ -46,5 +46,5 @@ returns-clause-turn g c =
           ∙ ap (λ js. run_text (total_steps jobs) (job_lines js (map result_of c.deref-2.result.now))) c.jobs-jobs.ensures.jobs
           ∙ ap (λ rs. run_text (total_steps jobs) (job_lines jobs (map result_of rs))) c.deref-2.ensures.value,
       same_state (grid_at c.bind_all.new.matrices.declared) (all_bound (grid_at was.matrices.declared) c.args.plan.now results) (state_of was).operators
-          was.queue was.queue (fun_ext (rw c.jobs-jobs.ensures.jobs at c.bind_all.ensures)) refl,
+          was.queue was.queue was.workers (fun_ext (rw c.jobs-jobs.ensures.jobs at c.bind_all.ensures)) refl,
     )

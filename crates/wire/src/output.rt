@@ -1,0 +1,111 @@
+//! The text that was said to a sink and is not written yet, in room made at the start.
+ghost use Rattle.std.specs.Prelude.{◌≡◌, ◌≤◌, ◌+◌, [], true, false, is_ok, vec_len, vec_capacity, IfOk, OnOk};
+ghost use Rattle.wire.specs.Sending.{Sent};
+
+use crate::device::{Sink, WriteFailed, put};
+use crate::input::ROOM;
+use std::alloc::{AllocError, Global};
+use std::marker::Model;
+
+/// Text that waits to be written: up to `ROOM` bytes, so that many short texts are one write. A contract sees the bytes.
+#[derive(Drop)]
+pub struct Output {
+    room: Vec<u8>,
+}
+
+impl Model for Output {
+    ghost use Rattle.std.specs.Prelude.{ℕ, List};
+
+    ghost Value = { List ℕ };
+
+    ghost view = { λ o. o.room.items };
+
+    ghost invariant = { λ o. Unit {0} };
+}
+
+impl Output {
+    /// Nothing waits, and there is room for `ROOM` bytes.
+    ///
+    /// # Errors
+    ///
+    /// There is no memory for the room.
+    pub fn new(alloc: Global) -> Result<Self, AllocError>
+        ensures { IfOk result (λ o. o ≡ []) }
+    {
+        Ok(Output {
+            room: Vec::with_capacity(alloc, ROOM)?,
+        })
+    }
+
+    /// Writes all that waits.
+    ///
+    /// # Errors
+    ///
+    /// The first call that fails ends it. What was written by then is a front part of what waited.
+    pub fn flush<W: Sink>(&mut self, writer: &mut W) -> Result<(), WriteFailed>
+        ensures sent { Sent (is_ok result) []
+            (record { sink = W.state writer.old; waits = self.old })
+            (record { sink = W.state writer.new; waits = self.new }) }
+        ensures none { OnOk result (self.new ≡ []) }
+    {
+        empty(&mut self.room, writer)
+    }
+
+    /// Says a text, which waits behind what waits. Where there is no room for it, what waited is written first; a text that is
+    /// longer than all the room doesn't wait.
+    ///
+    /// # Errors
+    ///
+    /// The first call that fails ends it. What was written by then is a front part of what waited and the text.
+    pub fn say<W: Sink>(&mut self, writer: &mut W, text: &[u8]) -> Result<(), WriteFailed>
+        ensures sent { Sent (is_ok result) text.now
+            (record { sink = W.state writer.old; waits = self.old })
+            (record { sink = W.state writer.new; waits = self.new }) }
+    {
+        match make_room(&mut self.room, writer, text.len()) {
+            Ok(true) => {
+                self.room.extend_from_slice(text).unwrap();
+                Ok(())
+            }
+            Ok(false) => match put(writer, text) {
+                Ok(()) => Ok(()),
+                Err(failed) => Err(failed),
+            },
+            Err(failed) => Err(failed),
+        }
+    }
+}
+
+/// Writes all that is in a room, which is then empty.
+fn empty<W: Sink>(room: &mut Vec<u8>, writer: &mut W) -> Result<(), WriteFailed>
+    ensures sent { Sent (is_ok result) []
+        (record { sink = W.state writer.old; waits = room.old.items })
+        (record { sink = W.state writer.new; waits = room.new.items }) }
+    ensures none { OnOk result (room.new.items ≡ []) }
+    ensures room { vec_capacity room.old ≤ vec_capacity room.new }
+{
+    match put(writer, room) {
+        Ok(()) => {
+            room.clear();
+            Ok(())
+        }
+        Err(failed) => Err(failed),
+    }
+}
+
+/// Makes room for so many bytes more: empties it, where there is too little. Answers whether it is enough.
+fn make_room<W: Sink>(room: &mut Vec<u8>, writer: &mut W, count: usize) -> Result<bool, WriteFailed>
+    ensures sent { Sent (is_ok result) []
+        (record { sink = W.state writer.old; waits = room.old.items })
+        (record { sink = W.state writer.new; waits = room.new.items }) }
+    ensures enough { IfOk result (λ b. b ≡ true → vec_len room.new + count ≤ vec_capacity room.new) }
+    ensures none { IfOk result (λ b. b ≡ false → room.new.items ≡ []) }
+{
+    if count <= room.capacity() - room.len() {
+        return Ok(true);
+    }
+    match empty(room, writer) {
+        Ok(()) => Ok(count <= room.capacity()),
+        Err(failed) => Err(failed),
+    }
+}
