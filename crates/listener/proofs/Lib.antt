@@ -1,1 +1,3 @@
+pub mod Metering
 pub mod Serving
+pub mod Speaking

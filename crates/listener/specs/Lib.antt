@@ -1,4 +1,5 @@
 pub mod Entrances
+pub mod Limits
 pub mod Listening
 pub mod Metering
 pub mod inner

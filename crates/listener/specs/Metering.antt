@@ -17,3 +17,9 @@ spent_by (d ∷ ds) = spent_in d + spent_by ds
 -- a count as it is told: the largest number of 64 bits stands for all above it
 abbrev pub told_steps : ℕ → ℕ
 told_steps n = min n (2 ^ 64 - 1)
+
+-- the count after a call
+abbrev pub spent_after : ℕ → Dealing → ℕ
+spent_after count (Reserved amount reply) = count
+spent_after count (Settled amount spent) = told_steps (count + spent)
+spent_after count (Told totals) = count

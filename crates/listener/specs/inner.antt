@@ -1,4 +1,4 @@
 -- What serves this crate's own modules: contracts between them, invariants and proofs. No public contract reaches it.
-pub mod Metering
+pub mod Speaking
 pub mod Starting
 pub mod Waiting

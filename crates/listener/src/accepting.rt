@@ -33,7 +33,7 @@ struct Ready {
 /// # Errors
 ///
 /// No connection could be accepted.
-#[tactic(auto, using(step_purse::proofs::Shares::whole_gives))]
+#[tactic(auto, using(step_purse::proofs::Shares::whole_gives, crate::proofs::Metering::begins_within))]
 fn start_next<
     's,
     'a,

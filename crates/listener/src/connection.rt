@@ -3,13 +3,18 @@ ghost use Rattle.std.specs.Prelude.{◌≡◌, ◌⊎◌, true, false, Err, IfOk
 ghost use Rattle.wire.specs.Devices.{IsNewCount};
 ghost use Rattle.step_purse.specs.Passes.{IsPassOf};
 ghost use Rattle.session.specs.Rooms.{full_room};
+ghost use Rattle.listener.specs.Limits.{IsWithin};
+ghost use Rattle.listener.specs.inner.Speaking.{SpokeOver, beginning};
 
 use crate::entrance::Caller;
-use crate::entry::{Ending, Entry};
+use crate::entry::{Account, Ending, Event};
 use crate::house::House;
+use crate::journal::Journal;
+use crate::notice::{Notice, Noticing};
 use crate::patient::{Patient, Traffic, set_idle};
+use crate::roster::Watch;
 use crate::seats::{Seat, take_seat};
-use crate::streams::{Served, serve_pass};
+use crate::streams::{Given, Served, serve_within};
 use session::{End, FromRead, Room, ServeFault, ToWrite};
 use std::io::{Read, Write};
 use std::marker::Brand;
@@ -50,22 +55,22 @@ fn turn_away(stream: &TcpStream) {
 }
 
 /// Leaves a line in the log, if there is one, for a client that was turned away.
-fn note_turned_away<R: Wait, L: Ledger>(rt: &R, house: &House<'_, L>, client: SocketAddr) {
+fn note_turned_away<R: Wait + Clock, L: Ledger>(rt: &R, house: &House<'_, L>, client: SocketAddr) {
     if let Some(journal) = house.journal {
-        let entry = Entry {
-            client,
+        let account = Account {
             ending: Ending::TurnedAway,
             time: Some(Duration::ZERO),
             received: 0,
             sent: NO_BUSY.len() as u64,
             commands: 0,
             spent: 0,
+            refused: 0,
         };
-        journal.note(rt, entry);
+        journal.note(rt, client, Event::End(account));
     }
 }
 
-/// As `serve_pass`, over a reader and a writer whose calls are counted by ledgers of the caller's.
+/// As `serve_within`, over a reader and a writer whose calls are counted by ledgers of the caller's.
 fn serve_counted<
     R: Read + Drop,
     W: Write + Drop,
@@ -77,34 +82,47 @@ fn serve_counted<
 >(
     rt: &H,
     purse: &Purse,
-    given: (Room, Pass),
+    given: Given<'_>,
     reader: R,
     writer: W,
     blanks: (Blank, Blank, Blank, Blank),
 ) -> Served
-    requires own { IsPassOf purse.now given.1 }
+    requires own { IsPassOf purse.now given.pass }
+    requires within { IsWithin (beginning given.pass given.limits) }
     requires reads { IsNewCount blanks.0 A.name A.parts × IsNewCount blanks.1 B.name B.parts }
     requires writes { IsNewCount blanks.2 C.name C.parts × IsNewCount blanks.3 D.name D.parts }
+    ensures { SpokeOver given.entry.room (beginning given.entry.pass given.entry.limits) (R.remaining reader)
+        (W.contents writer) result }
 {
-    let (room, pass) = given;
     let (reads, failed_reads, writes, failed_writes) = blanks;
     let mut source = FromRead::<R, A, B>::new(reader, reads, failed_reads);
     let mut sink = ToWrite::<W, C, D>::new(writer, writes, failed_writes);
-    serve_pass(rt, room, &mut source, &mut sink, purse, pass)
+    serve_within(rt, given, &mut source, &mut sink, purse)
 }
 
-/// As `serve_pass`, over a reader and a writer.
-fn serve_sides<R: Read + Drop, W: Write + Drop, H: Threads + Wait>(
+/// As `serve_within`, over a reader and a writer, within the purse of a house, in a room and within limits that are its.
+fn serve_sides<R: Read + Drop, W: Write + Drop, H: Threads + Wait, L: Ledger>(
     rt: &H,
-    purse: &Purse,
-    given: (Room, Pass),
+    house: &House<'_, L>,
+    given: Given<'_>,
     reader: R,
     writer: W,
 ) -> Served
-    requires { IsPassOf purse.now given.1 }
+    requires own { IsPassOf house.now.purse.now given.pass }
+    requires within { IsWithin (beginning given.pass house.now.terms.limits) }
+    requires full { (given.room ≡ full_room house.now.terms.workers) × (given.limits ≡ house.now.terms.limits) }
+    ensures { SpokeOver (full_room house.now.terms.workers) (beginning given.entry.pass house.now.terms.limits) (R.remaining reader)
+        (W.contents writer) result }
 {
     let blanks = (Blank::new(1), Blank::new(1), Blank::new(1), Blank::new(1));
-    serve_counted::<R, W, H, Brand, Brand, Brand, Brand>(rt, purse, given, reader, writer, blanks)
+    serve_counted::<R, W, H, Brand, Brand, Brand, Brand>(
+        rt,
+        house.purse,
+        given,
+        reader,
+        writer,
+        blanks,
+    )
 }
 
 /// How a session ended, by its outcome, where a call that failed had waited for too long or not.
@@ -122,6 +140,14 @@ fn ending_of(outcome: Result<End, ServeFault>, is_idle: bool) -> Ending
     }
 }
 
+/// Where a session's reservations are noted, if a log tells them.
+fn watch_in<'j>(journal: Option<&'j Journal>, client: SocketAddr) -> Option<Watch<'j>> {
+    match journal {
+        Some(journal) => journal.watch(client),
+        None => None,
+    }
+}
+
 /// A session from its start to its end, in a thread of its own. Its seat is free before its connection is closed, so that a
 /// client that saw the end finds it.
 fn attend<'a, R: Threads + Wait + Clock, L: Ledger>(
@@ -133,29 +159,40 @@ fn attend<'a, R: Threads + Wait + Clock, L: Ledger>(
     seat: Seat<'a, R, L>,
 )
     requires own { IsPassOf house.now.purse.now pass }
+    requires within { IsWithin (record { pass = pass; spent = 0; limits = house.now.terms.limits }) }
     requires full { room ≡ full_room house.now.terms.workers }
 {
     let Caller { stream, address } = caller;
     let began = match house.journal {
-        Some(_) => Instant::now(rt).ok(),
+        Some(journal) => {
+            journal.note_start(rt, address);
+            Instant::now(rt).ok()
+        }
         None => None,
     };
-    let (mut received, mut sent) = (Traffic::none(), Traffic::none());
+    let (mut received, mut sent, mut refused) = (Traffic::none(), Traffic::none(), 0);
     let reader = Patient::new(&stream, &mut received);
-    let writer = Patient::new(&stream, &mut sent);
-    let served = serve_sides(rt, house.purse, (room, pass), reader, writer);
+    let notice = Notice::of(rt, house.journal, address);
+    let writer = Noticing::new(Patient::new(&stream, &mut sent), notice, &mut refused);
+    let given = Given {
+        room,
+        pass,
+        limits: house.terms.limits,
+        watch: watch_in(house.journal, address),
+    };
+    let served = serve_sides(rt, house, given, reader, writer);
     drop(seat);
     if let Some(journal) = house.journal {
-        let entry = Entry {
-            client: address,
+        let account = Account {
             ending: ending_of(served.outcome, received.is_idle || sent.is_idle),
             time: began.and_then(|began| began.elapsed(rt).ok()),
             received: received.bytes,
             sent: sent.bytes,
             commands: served.commands,
             spent: served.spent,
+            refused,
         };
-        journal.note(rt, entry);
+        journal.note_end(rt, address, account);
     }
     hang_up(&stream);
 }
@@ -171,6 +208,7 @@ pub fn admit<'s, 'a, R: Threads + Wait + Clock + Sync, L: Ledger + Send + Sync>(
     caller: Caller,
 ) -> bool
     requires own { IsPassOf house.now.purse.now pass }
+    requires within { IsWithin (record { pass = pass; spent = 0; limits = house.now.terms.limits }) }
     requires full { IfSome room (λ r. r ≡ full_room house.now.terms.workers) }
 {
     let client = caller.address;

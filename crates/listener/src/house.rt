@@ -3,6 +3,7 @@ ghost use Rattle.std.specs.Prelude.{◌≡◌, ◌≤◌, IfSome};
 ghost use Rattle.session.specs.Rooms.{full_room};
 
 use crate::journal::Journal;
+use crate::limits::Limits;
 use crate::seats::Seats;
 use session::Room;
 use std::alloc::Global;
@@ -20,6 +21,8 @@ pub struct Terms {
     /// For how many seconds a session waits for its client to send something, or to take something of a reply, one at
     /// least. Without a number there is no end.
     pub idle: Option<u64>,
+    /// What each session may take of the purse.
+    pub limits: Limits,
     ghost some: { 1 ≤ workers },
     ghost few: { workers ≤ 64 },
 }

@@ -2,13 +2,29 @@
 //!
 //! A session never waits for the writer: it leaves its line in a queue, under a lock that nobody holds while it writes. Where the
 //! queue is full, since standard error takes nothing, the line is dropped and counted, and the count is written once there is room.
+//! Of the refusals of one second a few have lines, and the others are counted (`Pace`).
 ghost use Rattle.std.specs.Prelude.{◌≡◌, ◌+◌, ◌-◌, ◌^◌, ◌++◌, ◌∷◌, [], min, true, false};
 ghost use Rattle.listener.specs.inner.Waiting.{IsTaken};
 
-use crate::entry::Entry;
+use crate::entry::{Account, AsJson, AsText, Entry, Event};
+use crate::pace::Pace;
+use crate::refusal::Refusal;
+use crate::roster::{Roster, Row, Watch};
+use crate::seats::SEATS;
 use std::alloc::{AllocError, Global};
 use std::collections::VecDeque;
+use std::net::SocketAddr;
 use std::sync::{Condvar, Mutex, Wait};
+use std::time::{Clock, Duration, Instant, SystemTime};
+
+/// How the lines of a log are written.
+#[derive(Clone, Copy, Debug, PartialEq, Eq)]
+pub enum LogFormat {
+    /// As words, and fields `NAME=VALUE`.
+    Text,
+    /// As an object of JSON each.
+    Json,
+}
 
 /// How many lines wait at most.
 const MOST_WAITING: usize = 1024;
@@ -75,20 +91,45 @@ impl Waiting {
     }
 }
 
+/// The second that the clock tells, or 0 where it can't be read.
+fn this_second<R: Clock>(rt: &R) -> u64 {
+    match SystemTime::now(rt) {
+        Ok(now) => match now.duration_since(SystemTime::UNIX_EPOCH) {
+            Ok(since) => since.as_secs(),
+            Err(_) => 0,
+        },
+        Err(_) => 0,
+    }
+}
+
+/// What is told of a session that runs.
+fn runs<R: Clock>(rt: &R, row: &Row) -> Event {
+    Event::Runs {
+        time: row.began.and_then(|began| began.elapsed(rt).ok()),
+        reserved: row.reserved,
+        spent: row.spent,
+    }
+}
+
 /// The log of a server. Sessions leave lines in it, and `write_out` writes them.
 #[derive(Drop)]
 pub struct Journal {
     waiting: Mutex<Waiting>,
     change: Condvar,
+    pace: Mutex<Pace>,
+    format: LogFormat,
+    every: Option<u64>,
+    roster: Roster,
 }
 
 impl Journal {
-    /// A log in which no line waits, with the room for all that may.
+    /// A log in which no line waits, with the room for all that may. It has lines of this format. Where a number of seconds is
+    /// given, it tells so often what each session has reserved and spent.
     ///
     /// # Errors
     ///
     /// There is no memory for it.
-    pub fn new(alloc: Global) -> Result<Self, AllocError> {
+    pub fn new(alloc: Global, format: LogFormat, every: Option<u64>) -> Result<Self, AllocError> {
         let entries = VecDeque::with_capacity(alloc, MOST_WAITING)?;
         let waiting = Waiting {
             entries,
@@ -98,13 +139,51 @@ impl Journal {
         Ok(Journal {
             waiting: Mutex::new(waiting),
             change: Condvar::new(),
+            pace: Mutex::new(Pace::new()),
+            format,
+            every,
+            roster: Roster::new(alloc, SEATS as usize)?,
         })
     }
 
     /// Leaves a line to be written, or counts it as dropped. It doesn't wait for the writer.
-    pub fn note<R: Wait>(&self, rt: &R, entry: Entry) {
-        self.waiting.lock(rt).add(entry);
+    pub fn note<R: Wait + Clock>(&self, rt: &R, client: SocketAddr, event: Event) {
+        let at = SystemTime::now(rt).ok();
+        self.waiting.lock(rt).add(Entry { at, client, event });
         self.change.notify_one();
+    }
+
+    /// Leaves a line that a session starts.
+    pub fn note_start<R: Wait + Clock>(&self, rt: &R, client: SocketAddr) {
+        if self.every.is_some() {
+            self.roster.enter(rt, client);
+        }
+        self.note(rt, client, Event::Start);
+    }
+
+    /// Leaves a line of how a session ended.
+    pub fn note_end<R: Wait + Clock>(&self, rt: &R, client: SocketAddr, account: Account) {
+        if self.every.is_some() {
+            self.roster.leave(rt, client);
+        }
+        self.note(rt, client, Event::End(account));
+    }
+
+    /// Leaves a line of a refusal, or counts it, where this second has had its lines.
+    pub fn note_refusal<R: Wait + Clock>(&self, rt: &R, client: SocketAddr, refusal: Refusal) {
+        let told = self.pace.lock(rt).tell(this_second(rt));
+        if let Some(untold) = told {
+            self.note(rt, client, Event::Refused { refusal, untold });
+        }
+    }
+
+    /// Where what a session has reserved and spent is noted, if that is told.
+    pub fn watch(&self, client: SocketAddr) -> Option<Watch<'_>> {
+        let _seconds = self.every?;
+        Some(Watch {
+            roster: &self.roster,
+            client,
+        })
     }
 
     /// Tells that no more lines come.
@@ -113,30 +192,80 @@ impl Journal {
         self.change.notify_one();
     }
 
-    /// What is to be written next, once there is something.
-    fn next<R: Wait>(&self, rt: &R) -> Next {
+    /// What is to be written next, once there is something. None, where there is nothing for so long, if a time is given.
+    fn next<R: Wait + Clock>(&self, rt: &R, longest: Option<Duration>) -> Option<Next> {
         let mut waiting = self.waiting.lock(rt);
         for _ in rt.forever() {
             if let Some(next) = waiting.take() {
-                return next;
+                return Some(next);
             }
-            waiting = self.change.wait(rt, waiting);
+            match longest {
+                None => waiting = self.change.wait(rt, waiting),
+                Some(longest) => {
+                    let (guard, waited) = self.change.wait_timeout(rt, waiting, longest);
+                    if waited.timed_out() {
+                        return None;
+                    }
+                    waiting = guard;
+                }
+            }
         }
         unreachable!()
     }
 
+    /// Writes a line to standard error. One that it doesn't take is lost.
+    fn write<R: Eprint>(&self, rt: &R, entry: &Entry) {
+        let _ = match self.format {
+            LogFormat::Text => rt.eprintln(AsText(entry)),
+            LogFormat::Json => rt.eprintln(AsJson(entry)),
+        };
+    }
+
+    /// Writes how many lines were dropped.
+    fn write_dropped<R: Eprint>(&self, rt: &R, count: u64) {
+        let _ = match self.format {
+            LogFormat::Text => eprintln!(rt; "spmat: {count} lines of the log were dropped"),
+            LogFormat::Json => eprintln!(rt; "{{\"event\":\"dropped\",\"lines\":{count}}}"),
+        };
+    }
+
+    /// Writes what each session has reserved and spent.
+    fn write_roster<R: Wait + Clock + Eprint>(&self, rt: &R) {
+        let at = SystemTime::now(rt).ok();
+        for place in 0..SEATS as usize {
+            if let Some(row) = self.roster.at(rt, place) {
+                let event = runs(rt, &row);
+                let client = row.client;
+                self.write(rt, &Entry { at, client, event });
+            }
+        }
+    }
+
+    /// How long it is until the roster is to be written again. None, where it isn't.
+    fn until_roster<R: Clock>(&self, rt: &R, written: Option<Instant>) -> Option<Duration> {
+        let every = Duration::from_secs(self.every?);
+        match written.and_then(|written| written.elapsed(rt).ok()) {
+            Some(since) => Some(every.saturating_sub(since)),
+            None => Some(every),
+        }
+    }
+
     /// Writes the lines to standard error, each as it comes, until `end` was called and all are written. A line that standard
     /// error doesn't take is lost, and the next one is tried.
-    pub fn write_out<R: Wait + Eprint>(&self, rt: &R) {
+    pub fn write_out<R: Wait + Clock + Eprint>(&self, rt: &R) {
+        let mut written = Instant::now(rt).ok();
         for _ in rt.forever() {
-            match self.next(rt) {
-                Next::Line(entry) => {
-                    let _ = rt.eprintln(entry);
-                }
-                Next::Dropped(count) => {
-                    let _ = eprintln!(rt; "spmat: {count} lines of the log were dropped");
-                }
-                Next::Over => return,
+            let longest = self.until_roster(rt, written);
+            if longest == Some(Duration::ZERO) {
+                self.write_roster(rt);
+                written = Instant::now(rt).ok();
+                continue;
+            }
+            match self.next(rt, longest) {
+                Some(Next::Line(entry)) => self.write(rt, &entry),
+                Some(Next::Dropped(count)) => self.write_dropped(rt, count),
+                Some(Next::Over) => return,
+                None => {}
             }
         }
     }

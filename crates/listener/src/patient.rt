@@ -54,17 +54,19 @@ impl Traffic {
 }
 
 /// A side of a connection whose calls are made again where a signal cut them short, as where the process was stopped and goes on.
-/// The client's time begins anew then.
+/// The client's time begins anew then. Its bytes are those of the device below.
 #[derive(Drop)]
-pub struct Patient<'s> {
-    stream: &'s TcpStream,
-    traffic: &'s mut Traffic,
+pub struct Patient<'t, D: Drop> {
+    device: D,
+    traffic: &'t mut Traffic,
 }
 
-impl<'s> Patient<'s> {
-    /// A side of this connection, whose traffic is noted.
-    pub fn new(stream: &'s TcpStream, traffic: &'s mut Traffic) -> Self {
-        Patient { stream, traffic }
+impl<'t, D: Drop> Patient<'t, D> {
+    /// A side over this device, whose traffic is noted.
+    pub fn new(device: D, traffic: &'t mut Traffic) -> Self
+        ensures { result.device ≡ device }
+    {
+        Patient { device, traffic }
     }
 }
 
@@ -79,10 +81,12 @@ fn is_cut_short<T>(outcome: &io::Result<T>) -> bool
     }
 }
 
-impl Read for Patient<'_> {
+impl<R: Read + Drop> Read for Patient<'_, R> {
+    ghost remaining = { λ s. R.remaining s.device };
+
     fn read(&mut self, buf: &mut [u8]) -> io::Result<usize> {
         for _ in 0..u64::MAX {
-            let outcome = self.stream.read(buf);
+            let outcome = self.device.read(buf);
             if !is_cut_short(&outcome) {
                 self.traffic.note(&outcome);
                 return outcome;
@@ -92,10 +96,12 @@ impl Read for Patient<'_> {
     }
 }
 
-impl Write for Patient<'_> {
+impl<W: Write + Drop> Write for Patient<'_, W> {
+    ghost contents = { λ s. W.contents s.device };
+
     fn write(&mut self, buf: &[u8]) -> io::Result<usize> {
         for _ in 0..u64::MAX {
-            let outcome = self.stream.write(buf);
+            let outcome = self.device.write(buf);
             if !is_cut_short(&outcome) {
                 self.traffic.note(&outcome);
                 return outcome;

@@ -2,7 +2,7 @@
 ghost use Rattle.std.specs.Prelude.{◌≡◌, ◌<◌};
 ghost use Rattle.step_purse.specs.Passes.{IsPassOf};
 
-use listener::{ListenFault, Terms, serve_listener};
+use listener::{Limits, ListenFault, Terms, serve_listener};
 use std::alloc::AllocError;
 use std::io;
 use std::io::{Read, Write};
@@ -77,6 +77,7 @@ pub fn serve_beside<
             workers: 2,
             sessions,
             idle: None,
+            limits: Limits::none(),
         };
         serve_listener(rt, listener, purse, pass, terms, None)
     };

@@ -31,21 +31,22 @@ impl Read for Given<'_> {
     }
 }
 
-/// A writer that takes so many pieces, and then fails.
+/// A writer that takes so many bytes, and then fails.
 #[derive(Drop)]
 struct Taking<'a> {
     text: &'a mut Vec<u8>,
-    pieces: u64,
+    room: usize,
 }
 
 impl Write for Taking<'_> {
     fn write(&mut self, buf: &[u8]) -> io::Result<usize> {
-        if self.pieces == 0 {
+        if self.room == 0 {
             return Err(io::Error::from(ErrorKind::BrokenPipe));
         }
-        self.pieces -= 1;
-        self.text.extend_from_slice(buf)?;
-        Ok(buf.len())
+        let count = self.room.min(buf.len());
+        self.room -= count;
+        self.text.extend_from_slice(&buf[..count])?;
+        Ok(count)
     }
 
     fn flush(&mut self) -> io::Result<()> {
@@ -94,7 +95,8 @@ fn serve_over<H: Threads + Wait>(
 struct Last<'a> {
     text: &'a str,
     read_fails: bool,
-    pieces: u64,
+    /// Whether nothing is taken behind the replies to what went before.
+    write_fails: bool,
     reads: u64,
     outcome: Result<End, ServeFault>,
     /// How many commands it takes beside those that went before.
@@ -114,19 +116,23 @@ fn assert_settled<H: Threads + Wait + Abort>(
         bytes: said.as_bytes(),
         fails: last.read_fails,
     };
+    let queued = format!(in alloc;
+        "{SET_UP}ok queued 1 12\nok run 1 9\nC 1 1 1 9\nok queued 1 12\n"
+    )?;
     let mut text = Vec::new(alloc);
     let writer = Taking {
         text: &mut text,
-        pieces: last.pieces,
+        room: if last.write_fails {
+            queued.len()
+        } else {
+            usize::MAX
+        },
     };
     let room = Room::with_reads(alloc, 2, last.reads)?;
     let served = serve_over(rt, reader, writer, &purse, (room, pass));
     assert_eq!(rt; served.outcome, last.outcome);
     assert_eq!(rt; served.spent, 9);
     assert_eq!(rt; served.commands, last.commands.wrapping_add(7));
-    let queued = format!(in alloc;
-        "{SET_UP}ok queued 1 12\nok run 1 9\nC 1 1 1 9\nok queued 1 12\n"
-    )?;
     assert!(rt; text.starts_with(queued.as_bytes()));
     let totals = Totals {
         left: 15,
@@ -141,7 +147,7 @@ fn assert_settled<H: Threads + Wait + Abort>(
 const LAST: Last<'static> = Last {
     text: "",
     read_fails: false,
-    pieces: u64::MAX,
+    write_fails: false,
     reads: 4,
     outcome: Ok(End::InputEnd),
     commands: 0,
@@ -192,7 +198,7 @@ fn each_fault_settles(rt: HostRuntime) -> Result<(), Fail> {
         },
         Last {
             text: "budget\n",
-            pieces: 7,
+            write_fails: true,
             commands: 1,
             outcome: Err(ServeFault::Write),
             ..LAST

@@ -3,25 +3,28 @@
 //! The program is thin: `command_line` reads its words and tells its end; `solo` has one session on any two devices, `standard`
 //! makes devices of standard input and output, and `serving` has sessions over TCP.
 //!
-//! What a session reads, does and writes is the contract of `solo::run` (`specs/inner/Running.antt`), and for one of many that of
-//! `listener::serve_pass`. How serving a listener ends is the contract of `listener::serve_entrance`.
+//! What a session reads, does and writes is the contract of `run_on` and of `solo::run` (`specs/inner/Running.antt`), and for one of
+//! many that of `listener::serve_within`. How serving a listener ends is the contract of `listener::serve_entrance`.
 #![tactic(auto)]
 
-ghost use Rattle.std.specs.Prelude.{◌≡◌, IfOk};
+ghost use Rattle.std.specs.Prelude.{◌≡◌, IfOk, Result};
+ghost use Rattle.session.specs.declared.end.End.{End};
+ghost use Rattle.session.specs.declared.end.ServeFault.{ServeFault};
 ghost use Rattle.command_line.specs.InRange.{HasRoom, IsInRange};
+ghost use Rattle.spmat.specs.inner.Running.{IsDoneAs, IsTold, RanOver};
 
 mod serving;
 mod solo;
 mod standard;
 
-use crate::serving::serve;
+use crate::serving::{Log, serve};
 use crate::solo::run_over;
 use crate::standard::Side;
 use command_line::{
     Done, Failure, Settings, SettingsFault, VERSION, ending_of, finish, settings_of,
 };
-use listener::{Cause, ServeFault, Terms};
-use std::io::ErrorKind;
+use listener::{Cause, Limits, LogFormat, ServeFault, Terms};
+use std::io::{ErrorKind, Read, Write};
 use std::net::{Net, TcpListener, TcpStream};
 use std::process::ExitCode;
 use std::rt::Env;
@@ -45,22 +48,31 @@ fn read_settings<H: Env + AllocGlobal>(rt: &H) -> Result<Settings, SettingsFault
 }
 
 /// Tells the version on standard output.
-fn tell_version<H: Print>(rt: &H) -> Result<Done, Failure> {
+fn tell_version<H: Print>(rt: &H) -> Result<Done, Failure>
+    ensures { IfOk result (λ done. done ≡ Done.Version) }
+{
     match println!(rt; "spmat {VERSION}") {
         Ok(()) => Ok(Done::Version),
         Err(error) => Err(Failure::Output(Cause::of(&error))),
     }
 }
 
-/// Serves one session on standard input and output, each call of which waits for so many seconds at most, if a number is given.
-fn run<H>(rt: &H, steps: u64, workers: u64, idle: Option<u64>) -> Result<Done, Failure>
-where
-    H: Input + Print + Threads + Wait + AllocGlobal,
+/// Serves one session on these devices of standard input and output, each call of which waits for so many seconds at most, if a
+/// number is given.
+fn run_on<R: Read + Drop, W: Write + Drop, H: Threads + Wait + AllocGlobal>(
+    rt: &H,
+    input: R,
+    output: W,
+    steps: u64,
+    workers: u64,
+    idle: Option<u64>,
+) -> Result<Done, Failure>
     requires { HasRoom steps workers }
+    ensures { (ran : Result End ServeFault) × RanOver steps workers (R.remaining input) (W.contents output) ran × IsTold ran result }
 {
     let (mut unread, mut unwritten) = (None, None);
-    let reader = Side::input(rt.reader(), idle, &mut unread);
-    let writer = Side::output(io::writer(rt), idle, &mut unwritten);
+    let reader = Side::input(input, idle, &mut unread);
+    let writer = Side::output(output, idle, &mut unwritten);
     match run_over(rt, reader, writer, steps, workers) {
         Ok(end) => Ok(Done::Session(end)),
         Err(fault) => {
@@ -70,6 +82,77 @@ where
                 ServeFault::Turns | ServeFault::Memory => None,
             };
             Err(Failure::Session { fault, cause })
+        }
+    }
+}
+
+/// The log that the words of the command line ask for: by its flag, or by how it is to be.
+fn log_of(is_asked: bool, format: Option<LogFormat>, every: Option<u64>) -> Option<Log> {
+    if is_asked || format.is_some() || every.is_some() {
+        let format = match format {
+            Some(format) => format,
+            None => LogFormat::Text,
+        };
+        Some(Log { format, every })
+    } else {
+        None
+    }
+}
+
+/// Serves one session on standard input and output.
+fn run<H>(rt: &H, steps: u64, workers: u64, idle: Option<u64>) -> Result<Done, Failure>
+where
+    H: Input + Print + Threads + Wait + AllocGlobal,
+    requires { HasRoom steps workers }
+    ensures { (ran : Result End ServeFault) × IsTold ran result }
+{
+    run_on(rt, rt.reader(), io::writer(rt), steps, workers, idle)
+}
+
+/// Does what settings ask for.
+fn perform<H>(rt: &H, settings: Settings) -> Result<Done, Failure>
+where
+    H: Clock
+        + Input
+        + Print
+        + Eprint
+        + Net<Listener = TcpListener, Stream = TcpStream>
+        + Threads
+        + Wait
+        + Sync
+        + AllocGlobal,
+    requires { IsInRange settings }
+    ensures { IsDoneAs settings result }
+{
+    match settings {
+        Settings::Run {
+            steps,
+            workers,
+            idle,
+        } => run(rt, steps, workers, idle),
+        Settings::Serve {
+            port,
+            steps,
+            workers,
+            sessions,
+            idle,
+            session_steps,
+            session_reserve,
+            log,
+            log_format,
+            log_every,
+        } => {
+            let terms = Terms {
+                workers,
+                sessions,
+                idle,
+                limits: Limits {
+                    steps: session_steps,
+                    reserve: session_reserve,
+                },
+            };
+            serve(rt, port, steps, terms, log_of(log, log_format, log_every))?;
+            Ok(Done::Sessions)
         }
     }
 }
@@ -89,31 +172,7 @@ where
         + AllocGlobal,
 {
     match read_settings(rt) {
-        Ok(
-            Settings::Run {
-                steps,
-                workers,
-                idle,
-            },
-        ) => run(rt, steps, workers, idle),
-        Ok(
-            Settings::Serve {
-                port,
-                steps,
-                workers,
-                sessions,
-                idle,
-                log,
-            },
-        ) => {
-            let terms = Terms {
-                workers,
-                sessions,
-                idle,
-            };
-            serve(rt, port, steps, terms, log)?;
-            Ok(Done::Sessions)
-        }
+        Ok(settings) => perform(rt, settings),
         Err(SettingsFault::Version) => tell_version(rt),
         Err(fault) => Err(Failure::Settings(fault)),
     }

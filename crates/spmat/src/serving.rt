@@ -1,16 +1,23 @@
 //! Sessions over TCP.
-ghost use Rattle.std.specs.Prelude.{◌≡◌, ◌≤◌, ◌<◌, ◌^◌, IfOk};
+ghost use Rattle.std.specs.Prelude.{◌≡◌, ◌≢◌, ◌≤◌, ◌<◌, ◌^◌, None, OnOk, IfOk};
 ghost use Rattle.step_purse.specs.Passes.{IsPassOf};
 ghost use Rattle.spmat.specs.inner.Address.{IsLocal};
 
 use command_line::Failure;
-use listener::{Cause, Journal, ListenFault, Terms, serve_listener};
+use listener::{Cause, Journal, ListenFault, LogFormat, Terms, serve_listener};
 use std::alloc::{AllocError, Global};
 use std::net::{IpAddr, Ipv4Addr, Net, SocketAddr, TcpListener, TcpStream};
 use std::sync::Wait;
 use std::thread::{Threads, join};
 use std::time::Clock;
 use step_purse::{Pass, Purse};
+
+/// How a log is written: in which format, and after how many seconds each it tells of the sessions that run, if it does.
+#[derive(Clone, Copy, Debug, PartialEq, Eq)]
+pub struct Log {
+    pub format: LogFormat,
+    pub every: Option<u64>,
+}
 
 /// A purse of so many steps, with its one pass.
 fn prepare(alloc: Global, steps: u64) -> Result<(Purse, Pass), AllocError>
@@ -61,10 +68,12 @@ where
     H: Threads + Wait + Clock + Sync + Eprint + AllocGlobal,
     requires own { IsPassOf purse.now pass }
     requires whole { 0 < pass.known.share.wholes }
+    ensures { OnOk result (terms.sessions ≢ None) }
 {
     let served = move || -> Result<(), ListenFault>
         requires own { IsPassOf purse.now pass }
         requires whole { 0 < pass.known.share.wholes }
+        ensures { OnOk result (terms.sessions ≢ None) }
     {
         let served = serve_listener(rt, listener, purse, pass, terms, Some(journal));
         journal.end(rt);
@@ -80,7 +89,13 @@ where
 ///
 /// In this order: there is no memory for the purse, or the log; the port can't be bound; the line `listening P` can't be
 /// written; no more connections are taken.
-pub fn serve<H>(rt: &H, port: u16, steps: u64, terms: Terms, log: bool) -> Result<(), Failure>
+pub fn serve<H>(
+    rt: &H,
+    port: u16,
+    steps: u64,
+    terms: Terms,
+    log: Option<Log>,
+) -> Result<(), Failure>
 where
     H: Net<Listener = TcpListener, Stream = TcpStream>
         + Threads
@@ -91,17 +106,17 @@ where
         + Eprint
         + AllocGlobal,
     requires { steps ≤ 2 ^ 62 }
+    ensures { OnOk result (terms.sessions ≢ None) }
 {
     let Ok((purse, pass)) = prepare(rt.alloc(), steps) else {
         return Err(Failure::Memory);
     };
-    let journal = if log {
-        match Journal::new(rt.alloc()) {
+    let journal = match log {
+        Some(Log { format, every }) => match Journal::new(rt.alloc(), format, every) {
             Ok(journal) => Some(journal),
             Err(_) => return Err(Failure::Memory),
-        }
-    } else {
-        None
+        },
+        None => None,
     };
     let listener = listen(rt, port)?;
     if let Err(error) = println!(rt; "listening {port}") {

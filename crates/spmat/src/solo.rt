@@ -6,7 +6,7 @@ ghost use Rattle.step_purse.specs.Passes.{IsPassOf};
 ghost use Rattle.step_purse.specs.Histories.{newcomer};
 ghost use Rattle.step_purse.specs.Shares.{whole};
 ghost use Rattle.session.specs.Rooms.{full_room};
-ghost use Rattle.spmat.specs.inner.Running.{Ran};
+ghost use Rattle.spmat.specs.inner.Running.{Ran, RanOver};
 
 use listener::{End, FromRead, Room, ServeFault, Sink, Source, ToWrite, serve_pass};
 use std::alloc::{AllocError, Global};
@@ -52,7 +52,7 @@ pub fn run<I: Source, O: Sink, H: Threads + Wait + AllocGlobal>(
     workers: u64,
 ) -> Result<End, ServeFault>
     requires { HasRoom steps workers }
-    ensures { Ran steps (record { source = I.state source.old; sink = O.state sink.old })
+    ensures { Ran steps workers (record { source = I.state source.old; sink = O.state sink.old })
         (record { source = I.state source.new; sink = O.state sink.new }) result }
 {
     let Ok(prepared) = prepare(rt.alloc(), steps, workers) else {
@@ -83,6 +83,7 @@ fn run_counted<
     requires bounds { HasRoom steps workers }
     requires reads { IsNewCount blanks.0 A.name A.parts × IsNewCount blanks.1 B.name B.parts }
     requires writes { IsNewCount blanks.2 C.name C.parts × IsNewCount blanks.3 D.name D.parts }
+    ensures { RanOver steps workers (R.remaining reader) (W.contents writer) result }
 {
     let (reads, failed_reads, writes, failed_writes) = blanks;
     let mut source = FromRead::<R, A, B>::new(reader, reads, failed_reads);
@@ -99,6 +100,7 @@ pub fn run_over<R: Read + Drop, W: Write + Drop, H: Threads + Wait + AllocGlobal
     workers: u64,
 ) -> Result<End, ServeFault>
     requires { HasRoom steps workers }
+    ensures { RanOver steps workers (R.remaining reader) (W.contents writer) result }
 {
     let blanks = (Blank::new(1), Blank::new(1), Blank::new(1), Blank::new(1));
     run_counted::<R, W, H, Brand, Brand, Brand, Brand>(rt, reader, writer, steps, workers, blanks)

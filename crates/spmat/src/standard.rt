@@ -51,7 +51,7 @@ impl Patience {
 }
 
 /// A standard stream as a side of a session: a call waits for so many seconds at most, if a number is given, and the cause of
-/// the last one that failed is kept.
+/// the last one that failed is kept. Its bytes are those of its device.
 #[derive(Drop)]
 pub struct Side<'c, D: Drop> {
     device: D,
@@ -61,7 +61,9 @@ pub struct Side<'c, D: Drop> {
 
 impl<'c, D: Drop> Side<'c, D> {
     /// Standard input, which is read by this device.
-    pub fn input(device: D, idle: Option<u64>, cause: &'c mut Option<Cause>) -> Self {
+    pub fn input(device: D, idle: Option<u64>, cause: &'c mut Option<Cause>) -> Self
+        ensures { result.device ≡ device }
+    {
         let patience = Patience {
             descriptor: 0,
             event: POLLIN,
@@ -75,7 +77,9 @@ impl<'c, D: Drop> Side<'c, D> {
     }
 
     /// Standard output, which is written by this device.
-    pub fn output(device: D, idle: Option<u64>, cause: &'c mut Option<Cause>) -> Self {
+    pub fn output(device: D, idle: Option<u64>, cause: &'c mut Option<Cause>) -> Self
+        ensures { result.device ≡ device }
+    {
         let patience = Patience {
             descriptor: 1,
             event: POLLOUT,
@@ -89,7 +93,9 @@ impl<'c, D: Drop> Side<'c, D> {
     }
 
     /// Waits until the stream is ready. Where it isn't in time, the cause is kept.
-    fn wait(&mut self) -> io::Result<()> {
+    fn wait(&mut self) -> io::Result<()>
+        ensures { self.new.device ≡ self.old.device }
+    {
         match self.patience.wait() {
             Ok(()) => Ok(()),
             Err(cause) => {
@@ -100,7 +106,9 @@ impl<'c, D: Drop> Side<'c, D> {
     }
 
     /// Keeps the cause of a call that failed.
-    fn note(&mut self, outcome: &io::Result<usize>) {
+    fn note(&mut self, outcome: &io::Result<usize>)
+        ensures { self.new.device ≡ self.old.device }
+    {
         if let Err(error) = outcome {
             *self.cause = Some(Cause::of(error));
         }
@@ -108,6 +116,8 @@ impl<'c, D: Drop> Side<'c, D> {
 }
 
 impl<R: Read + Drop> Read for Side<'_, R> {
+    ghost remaining = { λ s. R.remaining s.device };
+
     fn read(&mut self, buf: &mut [u8]) -> io::Result<usize> {
         self.wait()?;
         let outcome = self.device.read(buf);
@@ -117,6 +127,8 @@ impl<R: Read + Drop> Read for Side<'_, R> {
 }
 
 impl<W: Write + Drop> Write for Side<'_, W> {
+    ghost contents = { λ s. W.contents s.device };
+
     fn write(&mut self, buf: &[u8]) -> io::Result<usize> {
         self.wait()?;
         let most = match self.patience.idle {

@@ -1,0 +1,10 @@
+use Rattle.std.proofs.Common.{◌∙◌}
+use Rattle.spmat.proofs.Running.{ran_from}
+use Rattle.spmat.proofs.solo.run.Goals as goal
+
+pub returns : goal.returns
+returns g c =
+    let made = c.in-Ok.ensures in
+    ran_from c.args.steps c.args.workers c.in-Ok.prepared.room c.in-Ok.prepared.pass c.serve_pass-served.result.pass _ _ _ _ made.room
+    (made.own.0.1 ∙ made.own.1) made.unused c.serve_pass-served.result.outcome c.serve_pass-served.ensures.begun
+    c.serve_pass-served.ensures.said
