@@ -15,11 +15,11 @@ SAMPLES = {
 }
 FOLDERS = ['bench', 'clients', 'crates', 'docs', 'reference', 'tests']
 # generated, mutants, sessions as bytes, and pages that speak of the whole
-PASSED_OVER = re.compile(r'(^|/)(out|wrong|must-fail|__pycache__|[.][^/]*)/|^tests/cases/|\.(svg|png|mtx|hex|pyc)$|README\.md$|'
-                         r'^docs/(DECISIONS|performance|recipes|api|examples|scaling)\.md$')
+PASSED_OVER = re.compile(r'(^|/)(out|wrong|must-fail|__pycache__|[.][^/]*)/|^tests/cases/|^bench/\w+\.txt$|\.(svg|png|mtx|hex|pyc)$|README\.md$|'
+                         r'^docs/(DECISIONS|performance|examples|scaling)\.md$')
 # ready operators are named by algorithms and by one another, opcodes by the operators of tests
 USES = {'A ready operator': re.compile(r'^clients/python/spmat/(algorithms|networkx)/|^bench/'),
-        'An opcode': re.compile(r'\.asm$|^bench/|^clients/python/spmat/algorithms/|^crates/(form|job)_tests/|^docs/api'),
+        'An opcode': re.compile(r'\.asm$|^bench/|^clients/python/spmat/algorithms/|^crates/(form|job)_tests/'),
         'A form of job': re.compile(r'^bench/'), 'A command': re.compile(r'^bench/')}
 
 

@@ -1,4 +1,4 @@
-"""What the sessions met: commands, operators, jobs and refusals. And what they have to meet, so that a run that met nothing
+"""What the sessions met: commands, operators, jobs and refusals. And what they are required to meet, so that a run that met nothing
 fails."""
 import re
 from collections import Counter

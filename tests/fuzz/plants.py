@@ -1,4 +1,4 @@
-"""Faults that are planted into copies of the reference, one at a time. The fuzzer has to find each."""
+"""Faults that are planted into copies of the reference, one at a time. The fuzzer must find each."""
 import importlib
 import os
 import shutil

@@ -1,4 +1,4 @@
-"""Random sessions. A session is made of pieces, one a command with its body, so that it can be cut down to what matters."""
+"""Random sessions. A session consists of pieces, one command with its body each, so that it can be cut down to what matters."""
 import random
 import re
 from typing import Dict, List, Optional, Tuple

@@ -1,4 +1,4 @@
-"""How texts are written in many ways: lines, blanks, numbers, comments, the ends of lines; and how they are spoilt."""
+"""Ways to write texts: lines, blanks, numbers, comments and line ends; and ways to spoil them."""
 import random
 from typing import List
 

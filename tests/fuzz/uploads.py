@@ -1,4 +1,4 @@
-"""Operators as they are uploaded: assembly text and code in hexadecimal, in many ways, and spoilt."""
+"""Operators as clients upload them: assembly text and hexadecimal code, written in many ways, valid and spoilt."""
 import random
 from typing import Dict, List
 from .operators import EXIT, SET, Line, code_of, line

@@ -1,4 +1,4 @@
-"""What goes into a session: commands, matrix texts and operator code. For the programs of this folder."""
+"""The parts of a session: commands, matrix texts and operator code."""
 import functools
 import glob
 import os

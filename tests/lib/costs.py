@@ -1,4 +1,4 @@
-"""What a session costs a server: the processor's seconds and the most memory, beside the bytes that it sends."""
+"""What a session costs a server: processor seconds and peak memory, beside the bytes that it sends."""
 import os
 import re
 import subprocess

@@ -1,4 +1,4 @@
-"""What was measured of this version, in figures.txt, and bounds above that. `bench/measure` writes that file anew."""
+"""The measured figures of this version, in figures.txt, and bounds above them. `bench/measure` rewrites that file."""
 import os
 from typing import Dict, List, Tuple
 

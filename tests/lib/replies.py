@@ -1,4 +1,4 @@
-"""Cuts what a server writes into the replies to commands."""
+"""Cuts a server's output into the replies to commands."""
 from typing import Callable
 
 LINES_FOLLOW = ([b'ok', b'run'], [b'ok', b'dis'], [b'ok', b'types'])

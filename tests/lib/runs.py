@@ -1,4 +1,4 @@
-"""Runs a session of a program, and compares what it wrote and how it ended with what is wanted."""
+"""Runs a session of a program, and compares its output and its end with what is expected."""
 import contextlib
 import os
 import resource

@@ -1,4 +1,4 @@
-"""A session over the built program whose batches are timed, from `run` to its answer. For the parts of bench/run."""
+"""A session of the built program whose batches are timed, from `run` to its answer; bench/run uses it."""
 import subprocess
 import time
 

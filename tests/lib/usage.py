@@ -1,4 +1,4 @@
-"""How a command of the repository begins and ends: `--help` prints the head of its file, which says what it does and takes."""
+"""How a command of the repository starts and ends: `--help` prints the head of its file, which says what it does and which arguments it takes."""
 import sys
 from typing import Callable, List
 

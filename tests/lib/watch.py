@@ -1,4 +1,4 @@
-"""A test that hangs ends all, and is named."""
+"""A test that hangs ends the whole run, and is named."""
 import faulthandler
 import unittest
 from typing import Any

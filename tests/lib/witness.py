@@ -1,4 +1,4 @@
-"""Runs a program with memory_witness.c between it and the C library, which refuses requests for memory and counts blocks."""
+"""Runs a program with memory_witness.c between it and the C library. It makes allocations fail and counts blocks."""
 import os
 import shutil
 import struct

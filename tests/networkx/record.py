@@ -1,5 +1,5 @@
-"""A plugin of pytest for networkx' own tests (`-p record`): what the backend served in each test, as lines of JSON in the file that
-RECORD names, and the tests of EXPECTED, which are to fail and for what reason."""
+"""A pytest plugin for networkx' own tests (`-p record`). It writes what the backend served in each test, as lines of JSON, to the file that
+RECORD names. It also marks the tests of EXPECTED as expected failures, with their reasons."""
 import collections
 import functools
 import json

@@ -1,4 +1,4 @@
-"""The files of packaging/ that the documents have word for word.
+"""The files of packaging/ that the documents print word for word.
 
 A line that ends in a link to the file and a colon, `[packaging/NAME](../packaging/NAME):`, stands before a block that is the file.
 """

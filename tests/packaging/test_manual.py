@@ -1,12 +1,15 @@
 """The manual pages written by hand say what the programs take."""
+import os
 import re
+import shutil
 import subprocess
+import unittest
 from typing import Set
 
-from tests.packaging.pages import text_of
+from tests.packaging.pages import TOP, text_of
 from tests.packaging.rooms import SECONDS, Room, program
 
-OPTION = r'--[a-z]+'
+OPTION = r'--[a-z-]+'
 
 
 def helped(*words: str) -> Set[str]:
@@ -39,3 +42,24 @@ class Manual(Room):
         section = plain('spmat.1').split('.SH EXIT STATUS')[1].split('.SH')[0]
         table = text_of('docs/protocol.md').split('| Status | When |')[1].split('\n\n')[0]
         self.assertEqual(re.findall(r'^\.B (\d+)$', section, re.M), re.findall(r'^\| (\d+) \|', table, re.M))
+
+
+class Completion(Room):
+    """What completes the words of `spmat` asks its help for them."""
+
+    def completed(self, *words: str) -> Set[str]:
+        """What bash offers for the last word."""
+        script = 'source "$0"; spmat() { "$PROGRAM" "$@"; }; COMP_WORDS=("$@"); COMP_CWORD=$(($# - 1)); _spmat spmat; printf "%s\\n" "${COMPREPLY[@]}"'
+        said = subprocess.run(['bash', '-c', script, os.path.join(TOP, 'packaging/completion/spmat.bash'), *words], stdout=subprocess.PIPE,
+                              env=dict(os.environ, PROGRAM=program()), text=True, timeout=SECONDS, check=True)
+        return set(said.stdout.split())
+
+    def test_bash(self) -> None:
+        self.assertEqual(self.completed('spmat', ''), {'run', 'serve', 'help', '--help', '--version'})
+        for command in ('run', 'serve'):
+            self.assertEqual(self.completed('spmat', command, '--'), helped(command))
+        self.assertEqual(self.completed('spmat', 'serve', '--por'), {'--port'})
+
+    @unittest.skipIf(shutil.which('zsh') is None, 'no zsh')
+    def test_zsh(self) -> None:
+        subprocess.run(['zsh', '-n', os.path.join(TOP, 'packaging/completion/spmat.zsh')], timeout=SECONDS, check=True)

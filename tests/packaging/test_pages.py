@@ -1,11 +1,27 @@
-"""The documents have each file of packaging/ that they speak of word for word."""
+"""The documents lead to each file of packaging/ that users take: they print the short ones word for word, and link to the others."""
 import glob
 import os
+import re
 import unittest
+from typing import List, Set
 
-from tests.packaging.pages import PAGES, TOP, blocks, is_file
+from tests.packaging.pages import PAGES, TOP, blocks, is_file, text_of
 
-SHOWN = ('ssh/*', 'stunnel/*', 'systemd/*.service', 'systemd/*.socket', 'spmat-health')
+PRINTED = ('ssh/*', 'stunnel/session.py')
+LINKED = ('ssh/*', 'stunnel/*', 'systemd/*.service', 'systemd/*.socket', 'spmat-health')
+UNITS = ('systemd/*.service', 'systemd/*.socket')
+# What the page calls by a name of this kind, and isn't a setting: variables of /etc/default/spmat.
+OTHER_SETTINGS = {'SERVE', 'SESSION'}
+
+
+def files_of(forms: 'tuple[str, ...]') -> List[str]:
+    """The files of packaging/ that have one of these names, from the top of the repository."""
+    return sorted(os.path.relpath(path, TOP) for form in forms for path in glob.glob(os.path.join(TOP, 'packaging', form)))
+
+
+def settings(text: str) -> Set[str]:
+    """The settings that units have, each at the beginning of a line."""
+    return set(re.findall(r'^([A-Z][A-Za-z]+)=', text, re.M))
 
 
 class Pages(unittest.TestCase):
@@ -15,10 +31,20 @@ class Pages(unittest.TestCase):
                 with self.subTest(page=page, file=block.file):
                     self.assertTrue(is_file(block), 'tests/snippets --write puts the file into the page')
 
-    def test_each_file_is_shown_once(self) -> None:
-        files = [os.path.relpath(path, TOP) for form in SHOWN for path in glob.glob(os.path.join(TOP, 'packaging', form))]
-        shown = [block.file for page in PAGES for block in blocks(page)]
-        self.assertEqual(sorted(files), sorted(shown))
+    def test_short_files_are_printed_once(self) -> None:
+        self.assertEqual(files_of(PRINTED), sorted(block.file for page in PAGES for block in blocks(page)))
+
+    def test_each_file_is_linked(self) -> None:
+        page = text_of('docs/server.md')
+        for file in files_of(LINKED):
+            with self.subTest(file=file):
+                self.assertIn('](../%s)' % file, page)
+
+    def test_settings_that_the_page_names_are_those_of_the_units(self) -> None:
+        """What users are told of a setting, they find in a unit."""
+        named = set(re.findall(r'`([A-Z][A-Za-z]+)=[^`]*`', text_of('docs/server.md')))
+        self.assertGreater(len(named), 9)
+        self.assertEqual(named - set().union(*(settings(text_of(file)) for file in files_of(UNITS))) - OTHER_SETTINGS, set())
 
 
 if __name__ == '__main__':

@@ -15,6 +15,7 @@ import zipfile
 from typing import Dict, List
 
 from tests.releases.copies import PROGRAM, SECONDS, TOP, Copy, needs_git
+from tools.releasing import look
 
 WHOLE = False                                      # the Debian packages too, and every Python of this machine
 FIRST_SESSION = re.compile(r'A first session in Python:\n\n((?:    .*\n)+)\nprints\n\n((?:    .*\n)+)')
@@ -118,6 +119,7 @@ class Made(unittest.TestCase):
         told = json.loads(self.one(r'spmat-[\d.]+\.cdx\.json'))
         self.assertEqual((told['bomFormat'], told['specVersion']), ('CycloneDX', '1.5'))
         self.assertEqual(told['metadata']['component']['hashes'][0]['content'], sum_of(self.program()))
+        self.assertEqual(told['metadata']['component']['externalReferences'], [{'type': 'website', 'url': look.homepage()}])
         known = [part['bom-ref'] for part in told['components']] + ['release']
         self.assertEqual(len(known), len(set(known)))
         links = {link['ref']: link['dependsOn'] for link in told['dependencies']}
@@ -141,8 +143,10 @@ class Made(unittest.TestCase):
             self.assertEqual(sum_of(program.read()), sum_of(self.program()))
         self.assertEqual(names['bin/spmat'].mode, 0o755)
         for name in ('share/man/man1/spmat.1', 'share/man/man7/spmat-server.7', 'lib/systemd/system/spmat@.service',
-                     'share/doc/spmat/THIRD-PARTY.md', 'share/doc/spmat/docs/protocol.md', 'bin/spmat-health'):
+                     'share/doc/spmat/THIRD-PARTY.md', 'share/doc/spmat/docs/protocol.md', 'share/doc/spmat/docs/api.md', 'bin/spmat-health', 'bin/spmat-drain',
+                     'share/bash-completion/completions/spmat', 'share/zsh/site-functions/_spmat'):
             self.assertIn(name, names)
+        self.assertNotIn('share/man/man1/spmat-graph.1', names)
 
     def test_the_wheels(self) -> None:
         self.wants('wheels')
@@ -156,6 +160,8 @@ class Made(unittest.TestCase):
                 if carried in held.namelist():
                     self.assertEqual(sum_of(held.read(carried)), sum_of(self.program()))
                     self.assertEqual(held.getinfo(carried).external_attr >> 16 & 0o777, 0o755)
+                about = held.read(next(entry for entry in held.namelist() if entry.endswith('/METADATA'))).decode()
+                self.assertRegex(about, r'(?m)^(Home-page|Project-URL: Homepage,|Project-URL: homepage,) ?:? ?%s$' % re.escape(look.homepage()))
                 listed = held.read(next(entry for entry in held.namelist() if entry.endswith('/RECORD'))).decode().splitlines()
                 self.assertEqual(sorted(line.split(',')[0] for line in listed), sorted(held.namelist()))
 
@@ -174,6 +180,8 @@ class Made(unittest.TestCase):
         self.assertEqual(self.ran(room, ['env/bin/python', '-c', text]), printed)
         with open(os.path.join(TOP, 'VERSION'), encoding='ascii') as file:
             self.assertEqual(self.ran(room, ['env/bin/python', '-c', 'import spmat; print(spmat.__version__)']), file.read())
+        karate = os.path.join(TOP, 'docs', 'karate.mtx')
+        self.assertEqual(self.ran(room, ['env/bin/spmat-graph', 'triangle-count', karate]), '45\n')
         self.assertEqual(self.ran(room, ['env/bin/spmat', 'run', '--steps', '5', '--workers', '1'], 'budget\n'), 'ok budget 5 0 0\n')
 
     def ran(self, room: str, words: List[str], given: str = '') -> str:
@@ -192,9 +200,11 @@ class Made(unittest.TestCase):
                 subprocess.run(['dpkg-deb', '-x', os.path.join(self.folder, name), room], check=True)
             self.assertEqual(sum_of(self.bytes_of(os.path.join(room, 'usr/bin/spmat'))), sum_of(self.program()))
             for path in ('usr/share/man/man1/spmat.1.gz', 'usr/share/man/man7/spmat-protocol.7.gz', 'usr/share/man/man7/spmat-operators.7.gz',
-                         'usr/share/man/man7/spmat-server.7.gz', 'usr/bin/spmat-health', 'etc/default/spmat', 'usr/lib/sysusers.d/spmat.conf',
+                         'usr/share/man/man7/spmat-server.7.gz', 'usr/bin/spmat-health', 'usr/bin/spmat-drain', 'etc/default/spmat', 'usr/lib/sysusers.d/spmat.conf',
                          'usr/lib/python3/dist-packages/spmat/VERSION', 'usr/share/doc/spmat/copyright',
-                         'usr/share/doc/spmat/CHANGELOG.md'):
+                         'usr/share/doc/spmat/CHANGELOG.md', 'usr/share/doc/spmat/docs/api.md', 'usr/bin/spmat-graph', 'usr/share/man/man1/spmat-graph.1.gz',
+                         'usr/share/bash-completion/completions/spmat', 'usr/share/bash-completion/completions/spmat-graph',
+                         'usr/share/zsh/vendor-completions/_spmat', 'usr/share/zsh/vendor-completions/_spmat-graph'):
                 self.assertTrue(os.path.exists(os.path.join(room, path)), path)
             units = {os.path.basename(path) for path in glob.glob(os.path.join(room, '*/systemd/system/*')) +
                      glob.glob(os.path.join(room, 'usr/lib/systemd/system/*'))}

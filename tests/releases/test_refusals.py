@@ -101,13 +101,18 @@ class Refusals(InCopy):
         self.refused('no gate has passed here')
 
     def test_a_gate_amid_which_something_changed(self) -> None:
-        for change in (lambda: self.copy.write('docs/more.md', 'more\n'), self.copy.commit):
-            state = self.copy.release('--state').stdout.strip()
-            change()
-            self.copy.release('--passed', state)
+        for change in ('echo more > docs/more.md', 'git add -A; git commit -q --allow-empty -m "another"'):
+            self.copy.pass_gate(change)
             with open(self.copy.path('crates/spmat/out/passed.json'), encoding='utf-8') as file:
                 self.assertEqual(json.load(file)['commit'], 'none')
             self.refused('the gate passed commit none')
+
+    def test_a_gate_that_left_steps_out(self) -> None:
+        """What ran is noted, and no command notes what didn't."""
+        self.copy.pass_gate(steps='gate.STEPS[:-2]')
+        self.refused('the gate that is noted didn\'t run snippets, release')
+        for words in (['--passed', 'none'], ['--state']):
+            self.assertEqual(self.copy.release(*words).returncode, 2)
 
     def test_another_toolchain(self) -> None:
         """The gate's look only says it, as one may try a newer toolchain."""
@@ -130,6 +135,12 @@ class Refusals(InCopy):
     def test_a_library_that_is_not_listed(self) -> None:
         self.copy.replace('crates.txt', 'spmat: command_line', 'spmat: regex command_line')
         self.checked('regex')
+
+    def test_homepages_that_differ(self) -> None:
+        self.copy.replace('clients/python/pyproject.toml', 'Homepage = "https://', 'Homepage = "https://another.')
+        self.checked('clients/python/pyproject.toml names the homepage https://another.')
+        self.copy.replace('packaging/debian/control', 'Homepage: ', 'Vcs-Git: ')
+        self.checked('README.md names the homepage')
 
     def test_data_without_a_source(self) -> None:
         self.copy.replace('docs/karate.mtx', 'Zachary', 'somebody')

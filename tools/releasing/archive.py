@@ -13,7 +13,11 @@ PLACES = {'packaging/systemd/*.service': 'lib/systemd/system/', 'packaging/syste
           'packaging/systemd/*.sysusers': 'lib/sysusers.d/', 'packaging/ssh/*': 'share/doc/spmat/ssh/',
           'packaging/stunnel/*': 'share/doc/spmat/stunnel/', 'docs/*.md': 'share/doc/spmat/docs/', 'docs/*.mtx': 'share/doc/spmat/docs/',
           'packaging/systemd/*.default': 'share/doc/spmat/', '*.md': 'share/doc/spmat/', 'LICENSE': 'share/doc/spmat/',
-          'packaging/spmat-health': 'bin/'}
+          'packaging/spmat-health': 'bin/', 'packaging/spmat-drain': 'bin/'}
+# Files that shells look for by the program's name.
+COMPLETION = {'packaging/completion/spmat.bash': 'share/bash-completion/completions/spmat',
+              'packaging/completion/spmat.zsh': 'share/zsh/site-functions/_spmat'}
+CLIENT = 'spmat-graph.'                            # a page of the Python client, which isn't in the archive
 
 
 def files(program: str, pages: Dict[str, str]) -> Dict[str, bytes]:
@@ -22,7 +26,11 @@ def files(program: str, pages: Dict[str, str]) -> Dict[str, bytes]:
     for form, to in PLACES.items():
         for path in glob.glob(tree.path_of(form)):
             found[to + os.path.basename(path).replace('.sysusers', '.conf')] = tree.bytes_of(path)
+    found['share/doc/spmat/' + tree.REFERENCE] = tree.reference().encode()
+    found.update((to, tree.bytes_of(tree.path_of(path))) for path, to in COMPLETION.items())
     for name, text in pages.items():
+        if name.startswith(CLIENT):
+            continue
         found['share/man/man%s/%s' % (name[-1], name)] = text.encode()
     return found
 

@@ -8,7 +8,7 @@ import subprocess
 import uuid
 from typing import Any, Dict, List
 
-from tools.releasing import parts, tree
+from tools.releasing import look, parts, tree
 
 SPACE = uuid.UUID('6ba7b811-9dad-11d1-80b4-00c04fd430c8')           # that of names which are addresses (RFC 9562)
 C_LIBRARIES = ('c/libos_c.a', 'c/liblibc_c.a')
@@ -74,7 +74,7 @@ def bill(program: str) -> str:
     """The list, as JSON."""
     components = ([of_crate(name) for name in parts.crates()] + [of_part(part) for part in parts.PARTS] + of_own() + of_c())
     of = {'type': 'application', 'bom-ref': 'release', 'name': 'spmat', 'version': tree.version(), 'hashes': hashes(program),
-          'licenses': [{'expression': 'MIT'}],
+          'licenses': [{'expression': 'MIT'}], 'externalReferences': [{'type': 'website', 'url': look.homepage()}],
           'properties': [{'name': 'spmat:commit', 'value': tree.commit()}, {'name': 'spmat:logic', 'value': logic_of(program)}]}
     time = datetime.datetime.fromtimestamp(tree.commit_time(), datetime.timezone.utc).strftime('%Y-%m-%dT%H:%M:%SZ')
     told = {'bomFormat': 'CycloneDX', 'specVersion': '1.5',

@@ -20,7 +20,7 @@ PAGES = {
 # The first session of the program, and what it prints.
 FIRST_SESSION = ('crates/spmat/stdin', 'crates/spmat/stdout')
 # Those of section 1, which are written by hand.
-BY_HAND = ('spmat', 'spmat-health')
+BY_HAND = ('spmat', 'spmat-health', 'spmat-drain', 'spmat-graph')
 CHANGES = """spmat (%s) unstable; urgency=medium
 
   * %s
@@ -98,7 +98,7 @@ def lay_out(stage: str) -> None:
     for path in glob.glob(os.path.join(stage, 'packaging/systemd/*')):
         shutil.copy(path, debian)
     os.mkdir(os.path.join(debian, 'man'))
-    for name, text in {'changelog': changes(), 'copyright': copyright_text(),
+    for name, text in {'../' + tree.REFERENCE: tree.reference(), 'changelog': changes(), 'copyright': copyright_text(),
                        **{'man/' + page: text for page, text in manuals().items()}}.items():
         with open(os.path.join(debian, name), 'w', encoding='utf-8') as file:
             file.write(text)

@@ -1,14 +1,70 @@
-"""What the gate notes at its end of the program that passed it: the commit, the toolchain, and the SHA-256 of the program."""
+"""The gate's run, and what it notes at its end of the program that passed it: the commit, the toolchain, the program's SHA-256, and the steps.
+
+Only a run writes the note, of the steps that it ran itself: there is no command that does. (Whoever owns a machine can write any file on it.
+What this keeps out is a release that nobody tried.)
+"""
 import datetime
 import json
 import os
 import shutil
-from typing import Dict, List
+import subprocess
+import time
+from typing import Any, Dict, List, Mapping, NamedTuple, Optional, Sequence
 
 from tools.releasing import tree
 
 NOTE = os.path.join('crates', 'spmat', 'out', 'passed.json')
 UNKNOWN = 'none'
+# A run that lacks one of these is none of the gate.
+STEPS = ('documents', 'definitions', 'release --check', 'a fresh clone', 'rt ci', 'refused memory', 'little memory', 'cases', 'served',
+         'instructions', 'odd texts', 'altered code', 'opcodes', 'fuzzer', 'client', 'networkx', 'snippets', 'release')
+MOST_SECONDS = 20 * 60                             # of a step that has no other limit
+
+
+class Failed(Exception):
+    """A step failed: its words say which, and how."""
+
+
+class Step(NamedTuple):
+    """What was run, and how long it took."""
+    name: str
+    seconds: int
+
+
+class Run:
+    """A run of the gate. What was run by `step` is noted by `note`."""
+
+    def __init__(self) -> None:
+        self.began = state()
+        self.steps: List[Step] = []
+
+    def step(self, name: str, words: Sequence[str], environment: Optional[Mapping[str, str]] = None, most: Optional[int] = MOST_SECONDS,
+             folder: str = tree.TOP) -> None:
+        """Runs a command. Failed where it fails, or takes more seconds than it may: a gate without an end tells nothing. (At SIGABRT Python
+        tells where it stood.)"""
+        print('== %s: %s' % (name, ' '.join(words)), flush=True)
+        begun = time.monotonic()
+        limited = [] if most is None else ['timeout', '--signal=ABRT', '--kill-after=30', str(most)]
+        status = subprocess.run([*limited, *words], cwd=folder, env={**os.environ, 'PYTHONFAULTHANDLER': '1', **(environment or {})},
+                                check=False).returncode
+        seconds = round(time.monotonic() - begun)
+        if status:
+            raise Failed('%s: %s after %d s' % (name, 'it hung' if status == 124 else 'status %d' % status, seconds))
+        print('-- %s: %d s' % (name, seconds), flush=True)
+        self.steps.append(Step(name, seconds))
+
+    def note(self) -> Dict[str, Any]:
+        """Writes the note. Where the state is another one than at the beginning, it names no commit."""
+        toolchain = tree.toolchain()
+        note = {'commit': self.began if self.began == state() else UNKNOWN,
+                'toolchain': ' logic '.join(toolchain) if toolchain else UNKNOWN,
+                'program': tree.sum_of(tree.path_of(tree.PROGRAM)),
+                'ended': datetime.datetime.now(datetime.timezone.utc).strftime('%Y-%m-%dT%H:%M:%SZ'),
+                'steps': {step.name: step.seconds for step in self.steps}}
+        with open(tree.path_of(NOTE), 'w', encoding='utf-8') as file:
+            json.dump(note, file, indent=1)
+            file.write('\n')
+        return note
 
 
 def state() -> str:
@@ -18,25 +74,12 @@ def state() -> str:
     return tree.commit()
 
 
-def write(began: str) -> Dict[str, str]:
-    """Writes the note, for a gate that began with this state. Where the state is another one now, the note names no commit."""
-    toolchain = tree.toolchain()
-    note = {'commit': began if began == state() else UNKNOWN,
-            'toolchain': ' logic '.join(toolchain) if toolchain else UNKNOWN,
-            'program': tree.sum_of(tree.path_of(tree.PROGRAM)),
-            'ended': datetime.datetime.now(datetime.timezone.utc).strftime('%Y-%m-%dT%H:%M:%SZ')}
-    with open(tree.path_of(NOTE), 'w', encoding='utf-8') as file:
-        json.dump(note, file, indent=1)
-        file.write('\n')
-    return note
-
-
-def read() -> Dict[str, str]:
+def read() -> Dict[str, Any]:
     """The note, empty where no gate has passed here."""
     if not os.path.exists(tree.path_of(NOTE)):
         return {}
     with open(tree.path_of(NOTE), encoding='utf-8') as file:
-        note: Dict[str, str] = json.load(file)
+        note: Dict[str, Any] = json.load(file)
     return note
 
 
@@ -56,4 +99,7 @@ def faults() -> List[str]:
     here = ' logic '.join(toolchain) if toolchain else UNKNOWN
     if note.get('toolchain') != here:
         out.append('the gate passed by %s, and the toolchain here is %s' % (note.get('toolchain'), here))
+    missing = [name for name in STEPS if name not in note.get('steps', {})]
+    if missing:
+        out.append('the gate that is noted didn\'t run %s' % ', '.join(missing))
     return out

@@ -13,6 +13,9 @@ PLACES = {'CHANGELOG.md': r'^## (\d[^ \n]*)', PROGRAMS: r'^pub const VERSION: &s
 # Names of files of a release, in the documents.
 RELEASED = r'\bspmat[_-](\d+(?:\.\d+)+)[_-]'
 DOCUMENTS = ('README.md', 'docs/server.md', 'clients/python/README.md')
+# Where the homepage stands: whoever publishes puts theirs into each.
+HOMEPAGES = {'packaging/debian/control': r'^Homepage: (\S+)$', 'clients/python/pyproject.toml': r'^Homepage = "(\S+)"$',
+             'README.md': r'<(https://\S+)>'}
 # Where the toolchain that proves is named.
 PROVED = ('README.md', 'CHANGELOG.md', 'docs/proved.md')
 
@@ -70,6 +73,20 @@ def other_toolchain() -> Optional[str]:
     return 'the toolchain here is %s, logic %s, and the documents name %s' % (here.kit, here.logic, ', '.join(toolchains()))
 
 
+def homepage() -> str:
+    """The homepage, as the packages name it; nothing where they name none."""
+    path, form = next(iter(HOMEPAGES.items()))
+    found = re.search(form, tree.text_of(path), re.M)
+    return found.group(1) if found else ''
+
+
+def homepage_faults() -> List[str]:
+    """Places that name another homepage than the packages do, or none."""
+    told = {path: re.findall(form, tree.text_of(path), re.M) for path, form in HOMEPAGES.items()}
+    return ['%s names the homepage %s, and packaging/debian/control %s' % (path, found[0] if found else 'nowhere', homepage() or 'none')
+            for path, found in told.items() if not homepage() or found[:1] != [homepage()]]
+
+
 def source_faults() -> List[str]:
     """Data of others that doesn't say where it comes from."""
     return [] if 'Zachary' in tree.text_of('docs/karate.mtx') else ['docs/karate.mtx doesn\'t name its source']
@@ -77,7 +94,7 @@ def source_faults() -> List[str]:
 
 def faults() -> List[str]:
     """What stands against a release of this tree, whatever was changed in it since its last commit, and before any gate has passed."""
-    return version_faults() + toolchain_faults() + parts.faults() + source_faults()
+    return version_faults() + toolchain_faults() + homepage_faults() + parts.faults() + source_faults()
 
 
 def program_faults() -> List[str]:

@@ -18,17 +18,20 @@ class Part(NamedTuple):
 
 EITHER = 'MIT OR Apache-2.0'
 PARTS = [
+    Part('arrayvec', 'arrayvec 0.7.8', EITHER, 'LICENSE-MIT'),
     Part('clap', 'clap_builder 4.6.7, clap_lex 1.1.1', EITHER, 'LICENSE-MIT'),
     Part('crossbeam_utils', 'crossbeam-utils 0.8.23', EITHER, 'LICENSE-MIT'),
     Part('hex', 'hex 0.4.3', EITHER, 'LICENSE-MIT'),
     Part('itoa', 'itoa 1.0.18', EITHER, 'LICENSE'),
+    Part('jiff', 'jiff 0.2.39', 'MIT OR Unlicense', 'LICENSE-MIT'),
     Part('strsim', 'strsim 0.11.1', 'MIT', 'LICENSE'),
     Part('thiserror', 'thiserror 2.0.21', EITHER, 'LICENSE'),
 ]
 # Libraries of the toolchain's own, beside core and std: they are no ports, and have no licence file.
 OWN = ('atomic_table', 'libc', 'os')
-# What a library of the toolchain stands on, beside its standard library, and crates.txt doesn't name.
-BELOW = {'clap': ['strsim']}
+# What a library of the toolchain stands on, beside its standard library, and crates.txt doesn't name. The ports jiff_core, jiff_tz and so
+# on are of jiff itself.
+BELOW = {'clap': ['strsim'], 'jiff': ['arrayvec']}
 
 
 def crates() -> List[str]:

@@ -4,12 +4,14 @@ import os
 import re
 import shutil
 import subprocess
+import sys
 from typing import List, NamedTuple, Optional
 
 TOP = os.path.dirname(os.path.dirname(os.path.dirname(os.path.abspath(__file__))))
 CLIENT = 'clients/python/'
 # What of it isn't installed: tests, and what makes a checkout look installed.
 LEFT_OUT = tuple(CLIENT + folder for folder in ('tests/', 'benchmarks/', 'spmat.dist-info/'))
+REFERENCE = 'docs/api.md'                          # made for releases and packages; the repository has none
 PROGRAM = os.path.join('crates', 'spmat', 'out', 'spmat')
 
 
@@ -86,3 +88,10 @@ def kit_folder() -> Optional[str]:
     """Where the toolchain of this machine lies."""
     found = shutil.which('rt')
     return os.path.dirname(os.path.dirname(os.path.realpath(found))) if found else None
+
+
+def reference() -> str:
+    """The reference of the Python client, as tools/api_page makes it from the docstrings."""
+    environment = dict(os.environ, PYTHONDONTWRITEBYTECODE='1')
+    return subprocess.run([sys.executable, path_of('tools/api_page')], cwd=TOP, env=environment, stdout=subprocess.PIPE, check=True,
+                          text=True, encoding='utf-8').stdout

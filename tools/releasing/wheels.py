@@ -18,7 +18,8 @@ from tools.releasing import tree
 
 # The C library of 2.34 is the oldest that has what the program calls.
 PLATFORM = 'manylinux_2_34_x86_64'
-COMMAND = '[console_scripts]\nspmat = spmat.program:main\n'
+SECTION = b'[console_scripts]\n'                       # of entry_points.txt, as setuptools writes it
+COMMAND = b'spmat = spmat.program:main\n'
 ANY = 'py3-none-any'
 TIME = (1980, 1, 1, 0, 0, 0)
 
@@ -72,7 +73,9 @@ def with_program(files: Dict[str, Entry], program: str) -> Dict[str, Entry]:
     kind = files[information('WHEEL')].data.decode()
     assert 'Tag: %s\n' % ANY in kind and 'Root-Is-Purelib: true\n' in kind, kind
     kind = kind.replace('Tag: %s\n' % ANY, 'Tag: py3-none-%s\n' % PLATFORM).replace('Root-Is-Purelib: true', 'Root-Is-Purelib: false')
-    points = files[information('entry_points.txt')].data + b'\n' + COMMAND.encode()
+    points = files[information('entry_points.txt')].data
+    assert points.count(SECTION) == 1, points
+    points = points.replace(SECTION, SECTION + COMMAND)
     return {**files, information('WHEEL'): Entry(kind.encode()), information('entry_points.txt'): Entry(points),
             information('THIRD-PARTY.md'): Entry(tree.bytes_of(tree.path_of('THIRD-PARTY.md'))),
             'spmat/carried/spmat': Entry(tree.bytes_of(program), is_program=True)}

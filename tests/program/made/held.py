@@ -1,6 +1,5 @@
-"""Cases that watch what sessions hold and ask for: bytes for each form of job, for many operators, for rows, for texts that promise
-more than they have, and behind a text that was shown; and the requests for memory that a batch makes. Their bounds are in
-figures.txt."""
+"""Cases about memory in use: bytes for each form of job, for many operators, for rows, for texts that announce more than they contain, and after
+a text was shown; and the allocations of a batch. figures.txt has their bounds."""
 from typing import Callable, Dict, List, NamedTuple, Tuple
 
 from tests.lib.commands import BANNER, INCREMENT, assembly_command, matrix_command, matrix_text, operator_command, run_words

@@ -1,5 +1,5 @@
-"""Jobs of each form by operators that the program knows by their code, and by operators that nearly are one: another register, another order, another
-width, one more instruction, a jump over two. Values and steps are those of the plain server in Python (reference)."""
+"""Jobs of each form with operators that the program recognises by their code, and with operators that are nearly such: another register, another
+order, another width, one more instruction, a jump over two. Values and steps are those of the plain server in Python (reference)."""
 import os
 import subprocess
 import sys

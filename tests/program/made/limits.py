@@ -1,7 +1,7 @@
-"""Sessions at the limits of size: matrices of 16,777,216 entries, rows and columns, operators of 4,096 slots of each kind, and as
-many workers as there may be. A program that answers want of memory, or stops, at a size that nothing smaller reaches, is refused.
+"""Sessions at the limits of size: matrices of 16,777,216 entries, rows and columns, operators of 4,096 slots of each kind, and the greatest number
+of workers. A program that reports "out of memory", or stops, at a size that no smaller test reaches, is refused.
 
-Inputs and outputs are made piece by piece, since some have 200 MB.
+Inputs and outputs are made piece by piece, because some have 200 MB.
 """
 import os
 import subprocess

@@ -1,5 +1,5 @@
-"""Cases on results of batches: as operands of every form, as masks, shown, and read again. A result keeps its cells in lists of 256
-rows, a matrix that was read keeps them in one; so each job goes over a result of few rows, of 256, and of one row more or less."""
+"""Cases on results of batches: as operands of every form, as masks, shown, and read again. A result keeps its cells in lists of 256 rows, while a
+matrix that was read keeps them in one. So each job runs on a result of few rows, of 256 rows, and of one row more or less."""
 import random
 from typing import Callable, Dict, Optional, Tuple
 

@@ -1,6 +1,6 @@
-"""Cases at size, whose inputs are made here: what only a large input shows, as a limit that no rule names, or memory that is kept.
+"""Cases at size, whose inputs are made here. They show what only a large input shows, such as a limit that no rule names, or memory that isn't freed.
 
-Each is a function that is given a program, and tells by `Wrong` what the program got wrong.
+Each case is a function of a program, and raises `Wrong` to say what the program got wrong.
 """
 import random
 from tests.lib.commands import (EXIT, INCREMENT, RESULT_IS_OPERAND, add, assembly_command, instruction, matrix_command, matrix_text,

@@ -1,4 +1,4 @@
-"""What the program does at its standard streams, beside a session: its version, and the time that `run` gives to a silent client."""
+"""What the program does on its standard streams besides a session: its version, and how long `run` waits for a silent client."""
 import os
 import select
 import socket
@@ -9,7 +9,7 @@ from typing import Callable, Dict, List
 from tests.lib.commands import TOP, matrix_command, matrix_text, run_words
 from tests.lib.runs import SECONDS, Wrong, expect, started
 
-TIME_IS_OVER = ': the time that --idle gives is over\n'
+TIME_IS_OVER = '\nspmat: because the time that --idle gives is over\n'
 LITTLE_TIME = 0.3
 
 
@@ -26,7 +26,7 @@ def version_is_not_written(program: str) -> None:
     """Where standard output takes nothing, the status is 1."""
     with open('/dev/full', 'wb') as full:
         done = subprocess.run([program, '--version'], stdout=full, stderr=subprocess.PIPE, timeout=SECONDS)
-    expect('status and error', (1, b'spmat: write failed: No space left on device (os error 28)\n'), (done.returncode, done.stderr))
+    expect('status and error', (1, b'spmat: write failed\nspmat: because No space left on device (os error 28)\n'), (done.returncode, done.stderr))
 
 
 def waiting(seconds: int) -> List[str]:

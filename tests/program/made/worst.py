@@ -1,4 +1,4 @@
-"""What costs a server most for what is sent, with bounds on memory and on the processor's time. `bench/costs` finds such."""
+"""What costs a server most for what a client sends, with bounds on memory and processor time. `bench/costs` finds such sessions."""
 from typing import Callable, Dict
 
 from tests.lib.commands import INCREMENT, assembly_command, matrix_command, matrix_text, operator_command

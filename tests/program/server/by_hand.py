@@ -114,7 +114,7 @@ def few_descriptors(program: str) -> None:
             client.expect(b'budget\n', b'ok budget %d 0 0\n' % server.steps)
             client.expect(b'quit\n', b'ok quit\n')
             client.close()
-        server.expect_end(1, b"spmat: network failed: can't accept a connection: Too many open files (os error 24)\n")
+        server.expect_end(1, b"spmat: network failed\nspmat: because accepting a connection failed: Too many open files (os error 24)\n")
         for client in clients:
             client.close()
 

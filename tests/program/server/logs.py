@@ -1,23 +1,29 @@
-"""What a server tells of its sessions on standard error, with --log: a line for each that ends and for each client turned away."""
+"""What a server tells of its sessions on standard error, with --log: a line for each that starts or ends, for each client turned away, and
+for refusals of steps, memory and threads."""
 import fcntl
+import json
 import os
 import re
+import resource
 import subprocess
 import threading
 import time
 from concurrent.futures import ThreadPoolExecutor
 from typing import Callable, Dict, List, NamedTuple, Optional
 
-from tests.lib.commands import matrix_command
+from tests.lib.commands import assembly_command, matrix_command, matrix_text
 from tests.lib.limits import MOST_SESSIONS, MOST_STEPS
 from tests.lib.ports import free_port
-from tests.lib.runs import Wrong, expect
+from tests.lib.runs import CHECKED, Wrong, expect
 from tests.program.server.hostile import LITTLE_ROOM, full_house, large_matrix
 from tests.program.server.server import BUSY, Client, Server, serve_words, until
 from tests.program.server.sessions import PRODUCT, UPLOADED, UPLOADS
 
-LINE = re.compile(r'spmat: session client=127\.0\.0\.1:(\d+) end=([a-z-]+|refused-S\d) seconds=(\d+\.\d{3}) in=(\d+) out=(\d+) '
-                  r'commands=(\d+) steps=(\d+)')
+TIME = r'spmat: time=\d{4}-\d\d-\d\dT\d\d:\d\d:\d\d\.\d{3}Z '
+LINE = re.compile(TIME + r'session client=127\.0\.0\.1:(\d+) end=([a-z-]+|refused-S\d) seconds=(\d+\.\d{3}) in=(\d+) out=(\d+) '
+                  r'commands=(\d+) steps=(\d+) refused=(\d+)')
+START = re.compile(TIME + r'start client=127\.0\.0\.1:(\d+)')
+REFUSED = re.compile(TIME + r'refused client=127\.0\.0\.1:(\d+) rule=(S8|memory|thread)(?: price=(\d+) left=(\d+))? untold=(\d+)')
 DROPPED = re.compile(r'spmat: (\d+) lines of the log were dropped')
 # how many lines wait for standard error at most
 QUEUE = 1024
@@ -32,6 +38,7 @@ class Entry(NamedTuple):
     sent: int
     commands: int
     steps: int
+    refused: int
 
 
 def entry_of(line: str) -> Entry:
@@ -39,8 +46,13 @@ def entry_of(line: str) -> Entry:
     told = LINE.fullmatch(line)
     if not told:
         raise Wrong('no line of the log: %.200r' % line)
-    port, end, seconds, received, sent, commands, steps = told.groups()
-    return Entry(int(port), end, float(seconds), int(received), int(sent), int(commands), int(steps))
+    port, end, seconds, received, sent, commands, steps, refused = told.groups()
+    return Entry(int(port), end, float(seconds), int(received), int(sent), int(commands), int(steps), int(refused))
+
+
+def entries_of(lines: List[str]) -> List[Entry]:
+    """What the log tells of ends, in order."""
+    return [entry_of(line) for line in lines if not START.fullmatch(line) and not REFUSED.fullmatch(line)]
 
 
 class Logging(Server):
@@ -66,13 +78,14 @@ class Logging(Server):
         port = client.socket.getsockname()[1]
 
         def found() -> Optional[Entry]:
-            return next((each for each in map(entry_of, list(self.lines)) if each.port == port), None)
+            return next((each for each in entries_of(list(self.lines)) if each.port == port), None)
         return until('a line of the log for %d' % port, found)
 
 
-def expect_entry(server: Logging, client: Client, end: str, received: int, sent: int, commands: int, steps: int = 0) -> None:
+def expect_entry(server: Logging, client: Client, end: str, received: int, sent: int, commands: int, steps: int = 0,
+                 refused: int = 0) -> None:
     entry = server.entry(client)
-    expect('the line of the log', (end, received, sent, commands, steps), tuple(entry[1:2] + entry[3:]))
+    expect('the line of the log', (end, received, sent, commands, steps, refused), tuple(entry[1:2] + entry[3:]))
 
 
 def each_end_has_its_line(program: str) -> None:
@@ -137,7 +150,7 @@ def broken_off(program: str) -> None:
         time.sleep(0.2)
         port = client.socket.getsockname()[1]
         client.reset()
-        end = until('a line', lambda: [e for e in map(entry_of, list(server.lines)) if e.port == port])[0]
+        end = until('a line', lambda: [e for e in entries_of(list(server.lines)) if e.port == port])[0]
         expect('end and commands', ('read-failed', 1), (end.end, end.commands))
         client = server.client(LITTLE_ROOM)
         client.reply(matrix_command('A', text))
@@ -147,7 +160,7 @@ def broken_off(program: str) -> None:
         time.sleep(0.5)
         port = client.socket.getsockname()[1]
         client.reset()
-        end = until('a line', lambda: [e for e in map(entry_of, list(server.lines)) if e.port == port])[0]
+        end = until('a line', lambda: [e for e in entries_of(list(server.lines)) if e.port == port])[0]
         expect('end, and whether a command was cut short', ('write-failed', True), (end.end, 2 <= end.commands < 9))
 
 
@@ -162,7 +175,7 @@ def sixteen_end_at_once(program: str) -> None:
             for client in clients:
                 server.entry(client)
                 client.close()
-            told = [entry_of(line) for line in list(server.lines)]
+            told = entries_of(list(server.lines))
             lost = ports - {entry.port for entry in told if entry.end == 'quit'}
             if lost or sum(entry.end == 'quit' for entry in told) != (turn + 1) * MOST_SESSIONS:
                 raise Wrong('turn %d: %d lines, none for %r' % (turn, len(told), lost))
@@ -195,7 +208,7 @@ def port_of(child: 'subprocess.Popen[bytes]') -> int:
 
 def nobody_reads_the_log(program: str) -> None:
     """Where nobody takes the lines, each session is served all the same. Those that fit no more are counted: once they are read,
-    lines and dropped ones are as many as there were sessions."""
+    lines and dropped ones are two for each session."""
     sessions = QUEUE + 400
     reads, writes = os.pipe()
     fcntl.fcntl(writes, fcntl.F_SETPIPE_SZ, 4096)
@@ -210,8 +223,9 @@ def nobody_reads_the_log(program: str) -> None:
         child.kill()
         child.stdout.close()
     dropped = [int(told.group(1)) for told in map(DROPPED.fullmatch, lines) if told]
-    kept = [entry_of(line) for line in lines if not DROPPED.fullmatch(line)]
-    expect('lines and dropped ones', sessions, len(kept) + sum(dropped))
+    kept = [line for line in lines if not DROPPED.fullmatch(line)]
+    expect('lines and dropped ones', 2 * sessions, len(kept) + sum(dropped))
+    expect('whether each is a line', True, all(START.fullmatch(line) or entry_of(line) for line in kept))
     if not dropped or len(kept) < QUEUE:
         raise Wrong('%d lines, %r dropped' % (len(kept), dropped))
 
@@ -240,6 +254,104 @@ def silent_without_the_flag(program: str) -> None:
         server.expect_end(0)
 
 
+def starts_and_refusals(program: str) -> None:
+    """A line when a session starts, and one for each refusal of steps with its price and what is left, but at most ten in a second:
+    the others are counted, in the next such line and in that of the end."""
+    many = 300
+    with Logging(program, steps=12) as server, server.client() as client:
+        port = client.socket.getsockname()[1]
+        until('the start', lambda: any(told and int(told.group(1)) == port for told in map(START.fullmatch, list(server.lines))))
+        for command, reply in zip(UPLOADS, UPLOADED):
+            client.expect(command, reply)
+        client.expect(PRODUCT, b'ok queued 1 12\n')
+        client.expect(b'foo\n', b'no S1\n')
+        client.send(PRODUCT * many)
+        for _ in range(many):
+            expect('reply', b'no S8 12 0\n', client.replies.reply())
+        time.sleep(1.1)
+        client.expect(PRODUCT, b'no S8 12 0\n')
+        client.expect(b'run\n', b'ok run 1 9\nC 1 1 1 9\n')
+        client.expect(b'quit\n', b'ok quit\n')
+        expect('refused', many + 1, server.entry(client).refused)
+        told = [match.groups() for match in map(REFUSED.fullmatch, list(server.lines)) if match]
+        expect('what refusals tell', {(str(port), 'S8', '12', '0')}, {groups[:4] for groups in told})
+        expect('refusals that are told or counted', many + 1, len(told) + sum(int(groups[4]) for groups in told))
+        if len(told) > 60:
+            raise Wrong('%d lines of refusals' % len(told))
+
+
+def memory_that_is_refused(program: str) -> None:
+    """A command that is refused memory has a line; names that read like a refusal have none. A program with run-time checks wants all
+    addresses for itself, so it is not tried there."""
+    if os.environ.get(CHECKED):
+        return
+    with Logging(program, limits={resource.RLIMIT_AS: 1 << 30}) as server, server.client() as client:
+        client.expect(matrix_command('no', matrix_text(1, 1, [(1, 1, 41)])), b'ok matrix 1 1 1\n')
+        client.expect(assembly_command('memory', b'mov64 r0, r1\nexit\n', 'unary'), b'ok op 2 2\n')
+        client.expect(b'apply no memory no\n', b'ok queued 1 2\n')
+        client.expect(b'run\n', b'ok run 1 2\nno 1 1 1 2\n')
+        client.reply(b'show no\n')
+        replies = [client.reply(matrix_command('A%d' % turn, large_matrix_of_rows())) for turn in range(12)]
+        refused = replies.count(b'no memory\n')
+        expect('whether some are refused and some are taken', True, 0 < refused < 12)
+        client.expect(b'quit\n', b'ok quit\n')
+        expect('refused', refused, server.entry(client).refused)
+        told = [match.groups() for match in map(REFUSED.fullmatch, list(server.lines)) if match]
+        expect('what refusals tell', {('memory', None, None)}, {groups[1:4] for groups in told})
+
+
+def large_matrix_of_rows() -> bytes:
+    """A short text of a matrix that takes 134 MB."""
+    return matrix_text(1 << 24, 1, [])
+
+
+def log_in_json(program: str) -> None:
+    """With `--log-format json` each line is an object, with the same numbers."""
+    child = subprocess.Popen([program] + serve_words(free_port(), 12, sessions=1) + ['--log-format', 'json'], stdin=subprocess.DEVNULL,
+                             stdout=subprocess.PIPE, stderr=subprocess.PIPE)
+    with Client(port_of(child)) as client:
+        name = '%s:%d' % client.socket.getsockname()
+        for command in UPLOADS:
+            client.reply(command)
+        client.expect(PRODUCT, b'ok queued 1 12\n')
+        client.expect(PRODUCT, b'no S8 12 0\n')
+        client.expect(b'quit\n', b'ok quit\n')
+    objects = [json.loads(line) for line in child.communicate(timeout=60)[1].splitlines()]
+    for told in objects:
+        expect('time', True, bool(re.fullmatch(r'\d{4}-\d\d-\d\dT\d\d:\d\d:\d\d\.\d{3}Z', told.pop('time'))))
+        expect('client', name, told.pop('client'))
+    seconds = objects[2].pop('seconds')
+    expect('whether a session has seconds', True, isinstance(seconds, float) and 0 <= seconds < 60)
+    received = sum(map(len, UPLOADS)) + 2 * len(PRODUCT) + 5
+    sent = sum(map(len, UPLOADED)) + len(b'ok queued 1 12\nno S8 12 0\nok quit\n')
+    expect('the log', [{'event': 'start'}, {'event': 'refused', 'rule': 'S8', 'price': 12, 'left': 0, 'untold': 0},
+                       {'event': 'session', 'end': 'quit', 'in': received, 'out': sent, 'commands': 7, 'steps': 0, 'refused': 1}], objects)
+
+
+def told_every_second(program: str) -> None:
+    """With `--log-every 1` a line a second and session tells what each has reserved and spent so far, also of those that do nothing."""
+    runs = re.compile(TIME + r'runs client=127\.0\.0\.1:(\d+) seconds=\d+\.\d{3} reserved=(\d+) steps=(\d+)')
+    child = subprocess.Popen([program] + serve_words(free_port(), 100, sessions=2) + ['--log-every', '1'], stdin=subprocess.DEVNULL,
+                             stdout=subprocess.PIPE, stderr=subprocess.PIPE)
+    port = port_of(child)
+    with Client(port) as one, Client(port) as other:
+        for client in (one, other):
+            for command in UPLOADS:
+                client.reply(command)
+            client.expect(PRODUCT, b'ok queued 1 12\n')
+        one.expect(b'run\n', b'ok run 1 9\nC 1 1 1 9\n')
+        time.sleep(3.5)
+        names = [str(client.socket.getsockname()[1]) for client in (one, other)]
+        for client in (one, other):
+            client.expect(b'quit\n', b'ok quit\n')
+    lines = child.communicate(timeout=60)[1].decode().splitlines()
+    told = [match.groups() for match in map(runs.fullmatch, lines) if match]
+    for name, numbers in zip(names, (('0', '9'), ('12', '0'))):
+        last = [groups[1:] for groups in told if groups[0] == name][1:]
+        expect('what is told of a session', {numbers}, set(last))
+        expect('whether it is told each second', True, 1 <= len(last) <= 4)
+
+
 LOG_CASES: Dict[str, Callable[[str], None]] = {
     'log-of-each-end': each_end_has_its_line,
     'log-of-time-and-busy': time_and_busy,
@@ -247,5 +359,9 @@ LOG_CASES: Dict[str, Callable[[str], None]] = {
     'log-of-sixteen-at-once': sixteen_end_at_once,
     'log-that-nobody-reads': nobody_reads_the_log,
     'log-that-is-closed': log_that_is_closed,
+    'log-of-starts-and-refusals': starts_and_refusals,
+    'log-of-refused-memory': memory_that_is_refused,
+    'log-in-json': log_in_json,
+    'log-every-second': told_every_second,
     'no-log-without-the-flag': silent_without_the_flag,
 }

@@ -12,7 +12,7 @@ from tests.program.server.hostile import LITTLE_ROOM, large_matrix
 from tests.program.server.server import LOOPBACK, SECONDS, Server, free_port, serve_words, until
 from tests.program.server.sessions import LONG_PRICE, LONG_SECONDS, PRODUCT, UPLOADS, long_uploads, queue_long_jobs, ran_long_jobs
 
-NETWORK_FAILED = b"spmat: network failed: can't listen on 127.0.0.1:%d: the address is in use\n"
+NETWORK_FAILED = b"spmat: network failed\nspmat: because listening on 127.0.0.1:%d failed: the address is in use\n"
 MOST_NUMBER = 1000000
 
 
@@ -37,6 +37,9 @@ REFUSED_WORDS = [
     changed('--steps', str(MOST_STEPS + 1)), changed('--steps', '1e6'), changed('--workers', '0'), changed('--workers', '65'),
     changed('--sessions', '0'), changed('--sessions', str(MOST_NUMBER + 1)), changed('--idle', '0'),
     changed('--idle', str(MOST_NUMBER + 1)), changed('--idle', '0.5'),
+    serve_words(1, session_steps=0), serve_words(1, session_steps=MOST_STEPS + 1), serve_words(1, session_reserve=0),
+    serve_words(1) + ['--session-reserve', 'all'], serve_words(1) + ['--log-format', 'xml'], serve_words(1) + ['--log-every', '0'],
+    ['run', '--steps', '1', '--workers', '1', '--session-steps', '1'],
     serve_words(1, log=True) + ['--log'], serve_words(1) + ['--log=yes'], serve_words(1) + ['--version'],
 ]
 
@@ -75,7 +78,7 @@ def listening_is_not_written(program: str) -> None:
     with open('/dev/full', 'wb') as full:
         done = subprocess.run([program] + serve_words(free_port()), stdin=subprocess.DEVNULL, stdout=full, stderr=subprocess.PIPE,
                               timeout=SECONDS)
-    expect('status and error', (1, b'spmat: write failed: No space left on device (os error 28)\n'), (done.returncode, done.stderr))
+    expect('status and error', (1, b'spmat: write failed\nspmat: because No space left on device (os error 28)\n'), (done.returncode, done.stderr))
 
 
 def loopback_alone(program: str) -> None:

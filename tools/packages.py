@@ -1,0 +1,70 @@
+"""Debian's packages that the gate wants beside the toolchain and Python, what each is for, and installing those that are missing."""
+import os
+import shutil
+import subprocess
+import sys
+from typing import List, NamedTuple
+
+DISTRIBUTION = '/usr/bin/python3'                  # the Python that Debian's packages serve, whatever comes first on the PATH
+MODULES = ('import sys, importlib.util; sys.exit(importlib.util.find_spec(sys.argv[1]) is None)')
+
+
+class Package(NamedTuple):
+    """A package, what is left out without it, and how it is seen: a program, or a module of the distribution's Python."""
+    name: str
+    of: str
+    program: str = ''
+    module: str = ''
+
+    def is_there(self) -> bool:
+        """Whether what it brings is here, from wherever."""
+        if self.program:
+            return shutil.which(self.program, path=os.environ.get('PATH', '') + ':/usr/sbin:/sbin') is not None
+        python = DISTRIBUTION if os.path.exists(DISTRIBUTION) else sys.executable
+        return subprocess.run([python, '-c', MODULES, self.module], check=False).returncode == 0
+
+
+PACKAGES = (
+    Package('mypy', 'the client\'s types', program='mypy'),
+    Package('pylint', 'the client\'s style', program='pylint'),
+    Package('valgrind', 'counts of instructions', program='valgrind'),
+    Package('python3-pytest', 'networkx\' own tests', module='pytest'),
+    Package('python3-scipy', 'the client with numpy and scipy', module='scipy'),
+    Package('python3-pandas', 'lists that pandas reads, and frames', module='pandas'),
+    Package('python3-networkx', 'the networkx backend', module='networkx'),
+    Package('python3-matplotlib', 'pictures', module='matplotlib'),
+    Package('python3-distributed', 'row blocks on Dask', module='distributed'),
+    Package('openssh-server', 'SSH in front of a server', program='sshd'),
+    Package('openssh-client', 'SSH in front of a server', program='ssh'),
+    Package('stunnel4', 'TLS in front of a server', program='stunnel4'),
+    Package('openssl', 'TLS in front of a server', program='openssl'),
+    Package('socat', 'a socket file in front of a server', program='socat'),
+    Package('strace', 'a socket file in front of a server', program='strace'),
+    Package('systemd', 'units', program='systemd-analyze'),
+)
+
+
+def missing() -> List[Package]:
+    """Those that aren't here."""
+    return [package for package in PACKAGES if not package.is_there()]
+
+
+def line(packages: List[Package]) -> str:
+    """What installs packages, to type."""
+    return 'apt-get install -y --no-install-recommends ' + ' '.join(package.name for package in packages)
+
+
+def install() -> None:
+    """Installs what is missing. What can't be had is named, and left out."""
+    wanted = missing()
+    if not wanted:
+        return
+    if shutil.which('apt-get') is None or os.geteuid() != 0:
+        print('not installed, as this is no root of Debian: ' + line(wanted), file=sys.stderr, flush=True)
+        return
+    environment = {**os.environ, 'DEBIAN_FRONTEND': 'noninteractive'}
+    subprocess.run(['apt-get', 'update'], env=environment, check=False)
+    words = line(wanted).split()
+    if subprocess.run(words, env=environment, check=False).returncode:
+        for package in wanted:                     # one that can't be had doesn't keep the others out
+            subprocess.run(words[:4] + [package.name], env=environment, check=False)

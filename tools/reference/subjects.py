@@ -1,0 +1,64 @@
+"""The subjects of the reference, in order, each with the names that it shows. A new name that no subject has is shown at the end."""
+from typing import Dict, List, NamedTuple, Sequence, Tuple
+
+
+class Subject(NamedTuple):
+    """A heading, and the members of a class or the functions below it."""
+    title: str
+    names: Tuple[str, ...]
+
+
+SESSION = (
+    Subject('Open, run, close', ('connect', 'run', 'runs', 'budget', 'close')),
+    Subject('Build a matrix', ('from_edgelist', 'from_coo', 'from_triples', 'from_dense', 'from_text', 'full', 'identity', 'adopt')),
+    Subject('Convert from other libraries', ('from_networkx', 'from_pandas_edgelist', 'from_scipy_sparse')),
+    Subject('Read and save files', ('read_graph', 'read_edgelist', 'mmread', 'save', 'load')),
+    Subject('Look at an operator', ('check', 'dis', 'types')),
+)
+MATRIX = (
+    Subject('Shape, names and state', ('shape', 'nvals', 'nodes', 'row_nodes', 'column_nodes', 'directed', 'index', 'price', 'wait')),
+    Subject('Apply and select', ('apply', 'select', '__getitem__')),
+    Subject('Element-wise operations', ('ewise_add', 'ewise_mult', 'isequal')),
+    Subject('Products', ('mxm', 'mxv', 'vxm')),
+    Subject('Reductions', ('reduce_rowwise', 'reduce_columnwise', 'reduce_scalar')),
+    Subject('Transpose, masks, copies', ('T', 'S', 'V', 'without', 'diag', 'dup', 'update')),
+    Subject('Results as Python values', ('to_list', 'to_dict', 'to_triples', 'to_coo', 'to_edgelist', 'by_node', 'top')),
+    Subject('Convert to other libraries', ('to_dense', 'to_scipy_sparse', 'to_networkx', 'to_pandas', 'to_pandas_edgelist')),
+    Subject('Write files', ('to_text', 'mmwrite', 'write_edgelist', 'to_csv', 'to_parquet')),
+)
+OPERATORS = (
+    Subject('Make operators', ('asm', 'c', 'code', 'semiring')),
+    Subject('Inside functions that become operators', ('where', 'udiv', 'umod', 'cdiv', 'cmod', 'rsh', 'ult')),
+    Subject('See operators and prices', ('explain', 'code_of', 'price')),
+    Subject('Loops and graphs', ('fixpoint', 'loop', 'steady', 'empty', 'bipartite')),
+)
+# The modules of spmat.algorithms under their subjects: an algorithm is shown where its module is.
+ALGORITHM_MODULES = {
+    'Degrees, triangles, undirected graphs': ('graph', 'common', 'counts'),
+    'Searches and shortest paths': ('traversal', 'paths', 'routes', 'pairs', 'batches', 'distances'),
+    'Components, orders and trees': ('components', 'strong', 'sides', 'orders', 'trees'),
+    'Centrality': ('ranks', 'through', 'centralities'),
+    'Communities and dense parts': ('communities', 'louvain', 'cores', 'trusses'),
+    'Similarity': ('similarity',),
+}
+PICTURES = ('spy', 'degree_histogram', 'levels')
+BLOCKS = ('Sessions', 'Threads', 'Dask')
+# What sessions and matrices do for one another: no user calls it by name.
+INNER = {'keep', 'ones', 'new', 'waits', 'made', 'submit', 'cut_as', 'results', 'new_file', 'job', 'masked', 'check_shape', 'counts',
+         'read_text', 'in_one_place', 'is_named', 'is_traced', 'notes'}
+OTHERS = 'Others'
+
+
+def with_others(subjects: Sequence[Subject], names: Sequence[str]) -> List[Subject]:
+    """The subjects with those of their names that there are, and behind them what has no subject."""
+    known = {name for subject in subjects for name in subject.names}
+    found = [Subject(subject.title, tuple(name for name in subject.names if name in names)) for subject in subjects]
+    others = tuple(name for name in names if name not in known)
+    return [subject for subject in found if subject.names] + ([Subject(OTHERS, others)] if others else [])
+
+
+def algorithms_by_subject(modules: Dict[str, str]) -> List[Subject]:
+    """The algorithms by subject; `modules` says in which module each one is."""
+    found = [Subject(title, tuple(name for part in parts for name, module in modules.items() if module == part))
+             for title, parts in ALGORITHM_MODULES.items()]
+    return with_others(found, list(modules))
