@@ -3,14 +3,14 @@
 A session uploads an operator at its first use, and each operator once, whatever object it comes in: two descriptions of the same
 kind and the same text or code are equal. The ready ones are one file each, `KIND/NAME.asm` beside this one, in the assembly text
 of docs/operators.md, by python-graphblas' names: `unary.abs`, `binary.plus`, `indexunary.tril`, and `semiring.min_plus` for any
-two binary names. Wherever an operator is wanted its name does as well: `A.apply("abs")`.
+two binary names. Wherever an operator is wanted its name does as well, `A.apply("abs")`, and so does a function of Python: `A.apply(lambda x: x * x)`.
 """
 from __future__ import annotations
 
 import difflib
 import os
 from dataclasses import dataclass, field
-from typing import Dict, Iterator, List, Optional, Tuple, Union
+from typing import Any, Callable, Dict, Iterator, List, Optional, Tuple, Union, overload
 
 from .grammar import without_labels
 
@@ -21,7 +21,7 @@ _LEFT = (('mov64 r2, r1', 'bf12000000000000'), ('mov64 r1, r4', 'bf4100000000000
 _SIGNS = {'==': 'valueeq', '!=': 'valuene', '<': 'valuelt', '<=': 'valuele', '>': 'valuegt', '>=': 'valuege'}
 
 
-@dataclass(frozen=True)
+@dataclass(frozen=True, eq=False)
 class Operator:
     """A program and its kind, `unary`, `binary` or `index`: assembly text, or code as bytes. `name` is for people and for the
     session's messages; operators that differ in nothing else are equal."""
@@ -35,6 +35,14 @@ class Operator:
             raise ValueError('a kind is unary, binary or index, not %r' % (self.kind,))
         if (self.text is None) == (self.code is None):
             raise ValueError('an operator has assembly text, or code')
+
+    def __eq__(self, other: object) -> bool:
+        if not isinstance(other, Operator):
+            return NotImplemented
+        return self.kind == other.kind and self.text == other.text and self.code == other.code
+
+    def __hash__(self) -> int:
+        return hash((self.kind, self.text, self.code))
 
     def __repr__(self) -> str:
         first = '' if self.text is None else next((line for _, line in self.slots()), '')
@@ -68,6 +76,17 @@ class Operator:
                 yield slot, bare
                 slot += 2 if bare.split()[0] == 'wide' else 1
 
+    def lines(self) -> List[Tuple[int, str]]:
+        """The slot of each instruction, and its assembly text: of code, too."""
+        if self.text is not None:
+            return list(self.slots())
+        from .disassembly import lines_of_code
+        return lines_of_code(self.code or b'')
+
+    def origin(self) -> Tuple[str, str]:
+        """The language that it was written in, and its source: the assembly text, where nothing else is known."""
+        return 'assembly', self.text if self.text is not None else ''.join(text + '\n' for _, text in self.lines())
+
     def bind_right(self) -> Operator:
         """OP(x, thunk) of a binary OP as an index operator; one instruction more."""
         return self._behind(_RIGHT, '_right')
@@ -86,9 +105,13 @@ class Operator:
         return Operator('index', code=bytes.fromhex(''.join(digits for _, digits in moves)) + (self.code or b''), name=name)
 
 
+Op = Union[str, Operator, Callable[..., Any]]
+"""What is given for an operator: itself, the name of a ready one, or a function."""
+
+
 @dataclass(frozen=True)
 class Semiring:
-    """Two binary operators for products, given as operators or by name: terms `mul(a, b)`, folded by `add` with ascending index."""
+    """Two binary operators for products, given as operators, by name or as functions: terms `mul(a, b)`, folded by `add` with ascending index."""
     add: Operator
     mul: Operator
 
@@ -98,6 +121,10 @@ class Semiring:
 
     def __repr__(self) -> str:
         return '<semiring %s_%s>' % (self.add.name or '?', self.mul.name or '?')
+
+    def _repr_html_(self) -> str:
+        from .. import html
+        return html.semiring(self)
 
 
 def asm(kind: str, text: str, name: Optional[str] = None) -> Operator:
@@ -119,14 +146,55 @@ def code(kind: str, data: Union[str, bytes, bytearray], name: Optional[str] = No
 
 
 class Ready:
-    """The ready operators of one kind, by name: `binary.plus`, `binary['plus']`, `'plus' in binary`; iterating gives the names."""
+    """The ready operators of one kind, by name: `binary.plus`, `binary['plus']`, `'plus' in binary`; iterating gives the names. Called
+    with a function it makes an operator of it."""
 
     def __init__(self, kind: str) -> None:
         self._kind = kind
         self._known: Dict[str, Operator] = {}
+        self._own: List[str] = []
 
     def __repr__(self) -> str:
         return '<ready %s operators: %s>' % (self._kind, ', '.join(self))
+
+    @overload
+    def __call__(self, function: Callable[..., Any], *, name: Optional[str] = None, check: bool = True) -> Operator: ...
+
+    @overload
+    def __call__(self, *, name: Optional[str] = None, check: bool = True) -> Callable[[Callable[..., Any]], Operator]: ...
+
+    def __call__(self, function: Any = None, *, name: Optional[str] = None, check: bool = True) -> Any:
+        """An operator of this kind from a function of x, of x and y, or for an index operator of x, row, column and thunk or the first
+        of these: `binary(lambda x, y: x + 2 * y)`; also as a decorator.
+
+        The function is called now, with words that are no numbers yet, once for each way through it. Globals, closures and defaults are
+        as they are now. It may use Python's operations on whole numbers but /, comparisons, if, and, or, not, min, max, sorted, loops
+        that end by themselves, and functions. Each result wraps to 64 bits; x // 0 is 0 and x % 0 is x. docs/operators.md has all that
+        it may do. `name` is for people and messages. With `check` the code is called beside the function, on edges and random words.
+
+        CompileError says what can't be an operator, on which line, and what to write instead. In python-graphblas
+        `BinaryOp.register_anonymous`."""
+        if function is None:
+            return lambda function: self(function, name=name, check=check)
+        from .functions import operator_of
+        return operator_of(self._kind, function, name, check)
+
+    def register_anonymous(self, func: Callable[..., Any], name: Optional[str] = None) -> Operator:
+        """An operator from a function, as python-graphblas has it: `binary(func, name=name)`."""
+        return self(func, name=name)
+
+    def register_new(self, name: str, func: Callable[..., Any]) -> Operator:
+        """An operator from a function, which has a name from now on in this process: `binary.NAME`, `"NAME"` wherever an operator is
+        wanted, and `"min_NAME"` for a semiring. The name has letters and digits; that of a ready operator stays with it. In
+        python-graphblas `BinaryOp.register_new`."""
+        if not (name.isascii() and name.isalnum() and name.isidentifier()):
+            raise ValueError('a name has letters and digits and begins with a letter, as "toll" (`_` parts the names of a semiring), not %r' % name)
+        if os.path.isfile(self._file(name)):
+            raise ValueError('%r is the name of a ready %s operator: take another one' % (name, self._kind))
+        self._known[name] = made = self(func, name=name)
+        if name not in self._own:
+            self._own.append(name)
+        return made
 
     def _file(self, name: str) -> str:
         return os.path.join(_FOLDER, self._kind, name + '.asm')
@@ -150,18 +218,35 @@ class Ready:
     def __contains__(self, name: object) -> bool:
         return isinstance(name, str) and (name in self._known or (name.isidentifier() and os.path.isfile(self._file(name))))
 
+    def ready(self) -> List[str]:
+        """The names of the ready operators, without those that were registered."""
+        return sorted(file[:-4] for file in os.listdir(os.path.join(_FOLDER, self._kind)) if file.endswith('.asm'))
+
     def __iter__(self) -> Iterator[str]:
-        return iter(sorted(file[:-4] for file in os.listdir(os.path.join(_FOLDER, self._kind)) if file.endswith('.asm')))
+        return iter(sorted([*self.ready(), *self._own]))
 
     def __dir__(self) -> List[str]:
-        return list(self)
+        return [*self, 'register_anonymous', 'register_new']
+
+
+# Semirings that are asked for most, with what a product of theirs tells.
+USES = {'plus_times': 'the product of linear algebra; how many paths, by their weights', 'plus_pair': 'how many paths of two edges',
+        'any_pair': 'whether there is a path', 'min_plus': 'the shortest path', 'max_plus': 'the longest path', 'max_min': 'the widest path',
+        'min_second': 'the least value of a neighbour', 'plus_second': 'the sum of the neighbours\' values'}
 
 
 class Semirings:
     """`semiring.min_plus` is Semiring(binary.min, binary.plus): any two ready binary names, joined by `_`. `semiring(add, mul)` is one
-    of two binary operators, own ones or by name."""
+    of two binary operators, own ones, by name or as functions: `semiring("min", lambda x, y: x + y + 1)`."""
 
-    def __call__(self, add: Union[str, Operator], mul: Union[str, Operator]) -> Semiring:
+    def __repr__(self) -> str:
+        return '<semirings of any two binary operators, joined by _: %s, ..>' % ', '.join(USES)
+
+    def _repr_html_(self) -> str:
+        from .. import html
+        return html.semirings(USES)
+
+    def __call__(self, add: Op, mul: Op) -> Semiring:
         return Semiring(find('binary', add), find('binary', mul))
 
     def __getitem__(self, name: str) -> Semiring:
@@ -174,7 +259,7 @@ class Semirings:
         try:
             return self[name]
         except KeyError:
-            raise AttributeError('no semiring %r: two ready binary names, joined by _, are wanted' % name) from None
+            raise AttributeError('no semiring %r: expected two ready binary names, joined by _' % name) from None
 
     def __dir__(self) -> List[str]:
         return sorted({*super().__dir__(), *('%s_%s' % (add, mul) for add in binary for mul in binary)})
@@ -186,13 +271,16 @@ select = indexunary
 READY = {'unary': unary, 'binary': binary, 'index': indexunary}
 
 
-def find(kind: str, op: Union[str, Operator]) -> Operator:
-    """An operator that is given as itself, or by the name of a ready one of this kind. TypeError for anything else, ValueError
-    for a name that no ready one has. An operator of another kind is given back as it is."""
+def find(kind: str, op: Op) -> Operator:
+    """An operator that is given as itself, by the name of a ready one of this kind, or as a function. TypeError for anything else,
+    ValueError for a name that no ready one has, CompileError for a function that can't be one. An operator of another kind is given
+    back as it is."""
     if isinstance(op, Operator):
         return op
     if not isinstance(op, str):
-        raise TypeError('an operator or its name is wanted, not %r' % (op,))
+        if not callable(op):
+            raise TypeError('expected an operator, its name or a function, got %r' % (op,))
+        return READY[kind](op)
     name = _SIGNS.get(op, op) if kind == 'index' else op
     if name not in READY[kind]:
         raise ValueError('no ready %s operator is called %r%s' % (kind, op, _instead(kind, op)))
@@ -209,15 +297,15 @@ def _instead(kind: str, name: str) -> str:
     return '; near it: ' + ', '.join(near) if near else ''
 
 
-def find_semiring(op: Union[str, Semiring, Tuple[Union[str, Operator], Union[str, Operator]]]) -> Semiring:
-    """A semiring that is given as itself, by its name, or as a pair of operators. TypeError and ValueError as `find`."""
+def find_semiring(op: Union[str, Semiring, Tuple[Op, Op]]) -> Semiring:
+    """A semiring that is given as itself, by its name, or as a pair of operators, names or functions. TypeError and ValueError as `find`."""
     if isinstance(op, Semiring):
         return op
     if isinstance(op, tuple) and len(op) == 2:
         return Semiring(*op)  # type: ignore[arg-type]
     if not isinstance(op, str):
-        raise TypeError('a semiring or its name is wanted, not %r' % (op,))
+        raise TypeError('expected a semiring or its name, got %r' % (op,))
     try:
         return semiring[op]
     except KeyError:
-        raise ValueError('no semiring is called %r: two ready binary names, joined by _, are wanted' % op) from None
+        raise ValueError('no semiring is called %r: expected two ready binary names, joined by _' % op) from None

@@ -63,14 +63,15 @@ def rows_of(lines: List[str], types: List[str]) -> List[List[str]]:
 
 def rows_before(operator: Operator, slot: int) -> List[List[str]]:
     """The rows of one that is refused, up to the instruction of a slot, as the client reckons them."""
-    steps = _steps(operator)
+    steps = steps_of(operator)
     before = flow.walk(operator.kind, steps)
     return [[str(step.slot), step.text] + (['no way leads here'] if step.slot not in before else
                                            [flow.tag(kinds).replace('u', '-') for kinds in before[step.slot]])
             for step in steps if step.slot <= slot]
 
 
-def _steps(operator: Operator) -> List[flow.Step]:
+def steps_of(operator: Operator) -> List[flow.Step]:
+    """The instructions of an operator, as text or code has them."""
     if operator.text is not None:
         return flow.steps_of_text(operator.text)
     return flow.steps_of_code(operator.code or b'')
@@ -100,7 +101,7 @@ def mended(operator: Operator, refused: OperatorRefused) -> OperatorRefused:
 
 def register_of(operator: Operator, rule: str, slot: int) -> str:
     """The register that is read there and unset on some path, or set differently on two, with the paths."""
-    steps = _steps(operator)
+    steps = steps_of(operator)
     step = next((step for step in steps if step.slot == slot), None)
     state = flow.walk(operator.kind, steps).get(slot)
     if step is None or state is None:
