@@ -1,5 +1,10 @@
 """Matrices in row blocks over threads give the bytes, the prices and the steps of one session, and refusals name the block."""
+import contextlib
+import importlib.util
+import os
 import random
+import signal
+import time
 import unittest
 
 import graphs
@@ -7,8 +12,11 @@ import model
 import support
 import spmat
 from spmat import algorithms, blocks
+from spmat.algorithms.lines import SWAPPED, Vector
+from spmat.blocks import fronts
 
 COUNTS = (1, 2, 5)
+BY_FRONTS = ('components', 'bfs_levels', 'bfs_parents', 'sssp', 'core')
 
 
 def entries(seed, nrows, ncols, many, rows=None):
@@ -197,6 +205,8 @@ class Algorithms(unittest.TestCase):
                             spent = one.budget().spent - before[0], many.budget().spent - before[1]
                             if function.__name__ == 'pagerank':    # a row is folded by a reduction, a column by a product
                                 self.assertLess(abs(spent[0] - spent[1]), 0.1 * max(spent))
+                            elif function.__name__ in BY_FRONTS:   # what blocks find for one vertex is folded by the client
+                                self.assertLessEqual(spent[1], spent[0])
                             else:
                                 self.assertEqual(*spent)
 
@@ -288,39 +298,22 @@ class Refusals(unittest.TestCase):
             self.assertEqual((caught.exception.rule, caught.exception.at), ('V14', 0))
             self.assertEqual(X.apply('abs').nvals, 9)                           # the sessions go on
 
-    def test_budget(self):
-        """Each session has its own; the one of a block that wants too much stops the job."""
-        with blocks.Sessions(3, steps=1000) as s:
-            X = s.from_triples([(i, 0, 1) for i in range(4)] + [(9, j, 1) for j in range(300)], 10, 300)
-            self.assertEqual(s.budget(), spmat.Budget(3000, 0, 0))
-            self.assertEqual(X.cut.rows(1), (9, 10))
-            Y = X.apply('identity')
-            self.assertEqual((Y.price, Y.steps, s.budget()), (608, 608, spmat.Budget(2392, 0, 608)))
-            self.assertEqual(sorted(budget.spent for budget in s.budgets().values()), [0, 8, 600])
-            with self.assertRaisesRegex(spmat.BudgetExceeded, 'block 1 of 3, rows 9 to 9; all sessions have spent') as caught:
-                Y.apply('identity').nvals
-            self.assertEqual((caught.exception.price, caught.exception.left), (600, 400))
-            self.assertEqual(caught.exception.spent_in_all, s.budget().spent)
-            self.assertIn(s.budget().spent, (608, 616))
-            self.assertEqual(s.budget().reserved, 0)
+    def test_a_program_that_dies_again_and_again(self):
+        class Dying(blocks.Threads):
+            killing = False
 
-    def test_a_session_that_is_lost(self):
-        with blocks.Sessions(2) as s:
-            X = s.from_triples([(i, i, i) for i in range(8)], 8, 8)
-            place = next(store for key, store in s.engine._stores.items() if key[1] == 1)
-            place.session.connection._channel.process.kill()
-            with self.assertRaisesRegex(blocks.BlockFailed, 'block 1 of 2, rows 4 to 7: Closed: the program ended') as caught:
+            def store(self, settings, place):
+                held = super().store(settings, place)
+                if self.killing and place == 1:
+                    os.kill(held.session.connection.process, signal.SIGKILL)
+                    time.sleep(.05)
+                return held
+        with blocks.Sessions(Dying(2)) as s:
+            X = s.from_coo(range(40), range(40), 1, 40, 40)
+            s.engine.killing = True
+            with self.assertRaisesRegex(blocks.BlockFailed, 'block 1 of 2, rows 20 to 39: Closed: ') as caught:
                 X.apply('abs').nvals
-            self.assertEqual(caught.exception.block, 'block 1 of 2, rows 4 to 7')
-
-    def test_little_memory(self):
-        """One block's product wants more than its process may take."""
-        limited = ['sh', '-c', 'ulimit -v 60000; exec "$0" "$@"', support.program()]
-        with blocks.Sessions(2, program=limited) as s:
-            A = s.from_triples([(0, 0, 1)] + [(i, j, 1) for i in range(2000, 4000) for j in range(2)], 4000, 2).recut([0, 2000, 4000])
-            B = s.full(2, 4000)
-            with self.assertRaisesRegex((spmat.OutOfMemory, blocks.BlockFailed), 'block 1 of 2, rows 2000 to 3999'):
-                A.mxm(B).nvals
+            self.assertEqual(caught.exception.block, 'block 1 of 2, rows 20 to 39')
 
     def test_settings(self):
         for wrong in ({'steps': -1}, {'workers': 0}, {'blocks': 0}, {'engine': 0}, {'engine': 65}):
@@ -334,6 +327,103 @@ class Refusals(unittest.TestCase):
         with blocks.Sessions(2) as s:
             with self.assertRaisesRegex(TypeError, 'belongs to its sessions'):
                 pickle.dumps(s.full(3, 3))
+
+
+class Lost(unittest.TestCase):
+    """What a program of this machine held is made again where the program was killed."""
+
+    def kill(self, s, place=1):
+        store = next(store for key, store in s.engine._stores.items() if key[1] == place)
+        with contextlib.suppress(ProcessLookupError):              # it was killed before, and nobody asked since
+            os.kill(store.session.connection.process, signal.SIGKILL)
+
+    def test_between_jobs(self):
+        told = []
+        with spmat.Session() as one, blocks.Sessions(3, progress=lambda *now: told.append(now)) as s:
+            (A, B, K), (X, Y, Z) = Pair(one, s, 'random').sides
+            W = X.mxm(Z).ewise_add(X.mxm(Z, 'min_plus'))
+            W.wait()
+            self.assertEqual(s.again, 0)
+            for place in (1, 0, 2, 1):
+                self.kill(s, place)
+                self.assertEqual(X.ewise_add(Y).to_text(), A.ewise_add(B).to_text())
+                self.assertEqual(W.T.to_text(), A.mxm(K).ewise_add(A.mxm(K, 'min_plus')).T.to_text())
+            self.assertGreater(s.again, 4)
+            self.assertIn('blocks', [word for word, _, _ in told])
+
+    def test_amid_an_algorithm(self):
+        """In each round another program is killed; the answer is right, and a chain of rounds isn't made again from the start."""
+        graph = graphs.UNDIRECTED[-1]
+        with spmat.Session() as one, blocks.Sessions(3) as s:
+            want = algorithms.pagerank(graph.matrix(one), damping=.6, tolerance=.001).to_text()
+
+            def progress(word, number, of):
+                self.kill(s, number % 3)
+            got = algorithms.pagerank(graph.matrix(s), damping=.6, tolerance=.001, progress=progress)
+            self.assertEqual(got.to_text(), want)
+            self.assertLess(s.again, 300)
+
+    def test_a_long_chain(self):
+        """Two thousand jobs, each on the last: made again by a list and not by calls in calls."""
+        with blocks.Sessions(2) as s:
+            X = s.from_triples([(0, 0, 1), (3, 1, 5)], 4, 2)
+            for _ in range(2000):
+                X = X.apply('plus', right=1)
+            X.wait()
+            self.kill(s)
+            self.assertEqual(X.to_dict(), {(0, 0): 2001, (3, 1): 2005})
+
+    def test_a_program_that_is_stopped(self):
+        """It is taken for lost after the patience that was asked for."""
+        with blocks.Sessions(2, patience=1.5) as s:
+            X = s.from_triples([(0, 0, 1), (3, 1, 5)], 4, 2).wait()
+            store = next(store for key, store in s.engine._stores.items() if key[1] == 1)
+            os.kill(store.session.connection.process, signal.SIGSTOP)
+            begun = time.monotonic()
+            self.assertEqual(X.apply('plus', right=1).to_dict(), {(0, 0): 2, (3, 1): 6})
+            self.assertLess(time.monotonic() - begun, 60)
+            self.assertGreater(s.again, 0)
+
+
+class Fronts(unittest.TestCase):
+    """A step of a front, pushed and pulled, by lists and by arrays: what one session's product of a row gives."""
+
+    RINGS = ('any_first', 'first_first', 'second_first', 'min_plus', 'max_first', 'plus_times')
+
+    def vectors(self, n, many, seed):
+        random_ = random.Random(seed)
+        at = sorted(random_.sample(range(n), many))
+        values = [random_.choice((1, -5, (1 << 62) + 3, -1 << 63, 9)) for _ in at]
+        yield Vector(at, values)
+        if importlib.util.find_spec('numpy'):
+            import numpy
+            yield Vector(numpy.array(at, numpy.int64), numpy.array(values, numpy.int64))
+
+    def test_as_a_product_of_a_row(self):
+        n = 60
+        triples = [(*at, x) for at, x in entries(1, n, n, 500).items()]
+        with spmat.Session() as one, blocks.Sessions(3) as many:
+            G, X = one.from_triples(triples, n, n), many.from_triples(triples, n, n)
+            for ring in map(spmat.semiring, *zip(*(name.split('_') for name in self.RINGS))):
+                turned = spmat.Semiring(ring.add, SWAPPED.get(ring.mul, ring.mul))
+                for number, size in enumerate((0, 1, 9, 50)):
+                    for front in self.vectors(n, size, number):
+                        at, values = list(map(int, front.at)), list(map(int, front.values))
+                        row = one.from_coo([0] * size, at, values, 1, n).mxm(G, ring)
+                        want = row.to_coo(arrays=False)[1:]
+                        found = fronts.push(X, front, ring), fronts.pull(X.T, front, turned)
+                        for way, got in zip(('push', 'pull'), found):
+                            with self.subTest(ring=ring, size=size, way=way, kind=type(front.at).__name__):
+                                self.assertEqual((list(map(int, got.at)), list(map(int, got.values))), tuple(map(list, want)))
+
+    def test_only_blocks_that_have_the_front_are_asked(self):
+        with blocks.Sessions(4) as s:
+            X = s.identity(40)
+            X.wait()
+            asked, submit = [], s.engine.submit
+            s.engine.submit = lambda settings, place, *more: asked.append(place) or submit(settings, place, *more)
+            self.assertEqual(fronts.push(X, Vector([11, 12], [1, 1]), spmat.semiring('any', 'first')), Vector([11, 12], [1, 1]))
+            self.assertEqual(asked, [1])
 
 
 class Steps(unittest.TestCase):
@@ -357,4 +447,5 @@ class Steps(unittest.TestCase):
 
 
 if __name__ == '__main__':
+    support.program()
     unittest.main()

@@ -11,14 +11,17 @@ import stat
 import subprocess
 import sys
 import tempfile
+import time
 import unittest
+from unittest import mock
 
 import graphs
 import support
 import test_blocks
 import spmat
 from spmat import algorithms, blocks
-from spmat.blocks import place, tasks
+from spmat.algorithms.lines import Vector
+from spmat.blocks import fronts, loading, place, tasks
 
 WORKERS = 3
 SECONDS = 200                                      # for workers that are started anew, on a busy machine
@@ -157,6 +160,41 @@ class Dask(unittest.TestCase):
     def uploads(self, sessions):
         return sum(sessions.engine.everywhere(sessions.settings, uploads_of).values())
 
+    def test_small_fronts_go_past_the_scheduler(self):
+        """A search on a path asks workers directly; where a piece isn't where it was, or a call isn't answered, tasks find it."""
+        n = 40
+        path = [(i, i + 1, 1) for i in range(n - 1)] + [(i + 1, i, 1) for i in range(n - 1)]
+        asked = []
+
+        class Noting(blocks.Dask):
+            def submit(self, settings, place, label, function, *args):
+                asked.append(function)
+                return super().submit(settings, place, label, function, *args)
+        want = algorithms.bfs_levels(self.one.from_triples(path, n, n), 3).to_text()
+        with self.sessions(Noting(self.client)) as s:
+            G, engine = s.from_triples(path, n, n), s.engine
+            for wrong in ({}, {G.futures[0].key: engine._addresses[1]}, {G.futures[0].key: 'tcp://127.0.0.1:9'}):
+                engine._direct._where.update(wrong)
+                asked.clear()
+                self.assertEqual(algorithms.bfs_levels(G, 3, G, check=False).to_text(), want)
+                self.assertEqual(asked.count(tasks.pushed), 1 if wrong else 0)
+            front = Vector([0, 1], [1, 1])
+            with self.assertRaisesRegex(spmat.OperatorRefused, 'V14.*block 0 of 3') as caught:
+                fronts.push(G, front, spmat.Semiring('min', spmat.asm('binary', 'ldx64 r0, r1, 0\nexit')))
+            self.assertEqual(caught.exception.rule, 'V14')
+
+    def test_a_file_that_workers_read(self):
+        """By ranges, from worker to worker or through a folder; the caller's process reads no line."""
+        text = GRAPH.matrix(self.one).to_text()
+        for given in (False, True):
+            with tempfile.TemporaryDirectory() as folder, mock.patch.multiple(loading, LEAST=1, MOST=100):
+                path = os.path.join(folder, 'graph.mtx')
+                with open(path, 'wb') as file:
+                    file.write(text)
+                with self.sessions(folder=folder if given else None) as s, mock.patch.object(blocks.pieces, 'spool_of', side_effect=AssertionError):
+                    self.assertEqual(s.mmread(path).to_text(), text)
+                self.assertEqual(os.listdir(folder), ['graph.mtx'])
+
     # -- a worker is killed
 
     def test_killed_amid_bfs(self):
@@ -172,7 +210,7 @@ class Dask(unittest.TestCase):
             got = algorithms.bfs_levels(GRAPH.matrix(s), 0, progress=progress).to_text()
             self.assertEqual(got, want)
             self.assertGreater(max(levels), 2)
-            self.assert_again(again, 'spmat_source', 'spmat_job')
+            self.assert_again(again, 'spmat_source')
 
     def test_killed_amid_triangle_count(self):
         """When the lower triangles are there and the products are asked for."""
@@ -269,6 +307,19 @@ class Dask(unittest.TestCase):
             with self.assertRaisesRegex(blocks.BlockFailed, 'block 0 of 1, rows 0 to 2: KilledWorker'):
                 s.from_triples([(0, 0, 1)], 3, 3)
 
+    def test_all_workers_are_lost_for_good(self):
+        """Where no worker comes again, work ends, and says so."""
+        from distributed import Client, LocalCluster
+        with tempfile.TemporaryDirectory() as folder, mock.patch.object(blocks.dask, 'WITHOUT', 2), LocalCluster(
+                n_workers=1, threads_per_worker=1, dashboard_address=None, local_directory=folder, silence_logs=logging.CRITICAL) as cluster, \
+                Client(cluster) as client, blocks.Sessions(blocks.Dask(client), patience=.5) as s:
+            X = s.identity(3).wait()
+            cluster.scale(0)
+            while client.scheduler_info()['workers']:
+                time.sleep(.1)
+            with self.assertRaisesRegex(blocks.BlockFailed, 'the cluster has no worker, and none came for . seconds'):
+                X.to_text()
+
     # -- limits and versions
 
     def test_little_memory(self):
@@ -280,15 +331,16 @@ class Dask(unittest.TestCase):
             self.assertEqual(A.select('rowle', 1999).nvals, 1)         # the others go on
 
     def test_budget(self):
+        """It is one for all workers, and a job is refused before any is charged, by a bound or by the prices."""
         with self.sessions(steps=1000) as s:
             X = s.from_triples([(i, 0, 1) for i in range(4)] + [(9, j, 1) for j in range(300)], 10, 300)
             Y = X.apply('identity')
-            self.assertEqual((Y.steps, s.budget()), (608, spmat.Budget(2392, 0, 608)))
-            with self.assertRaisesRegex(spmat.BudgetExceeded, 'block 1 of 3, rows 9 to 9; all sessions have spent') as caught:
-                Y.apply('identity').nvals
-            self.assertEqual((caught.exception.price, caught.exception.left), (600, 400))
-            self.assertEqual(caught.exception.block, 'block 1 of 3, rows 9 to 9')
-            self.assertIn(caught.exception.spent_in_all, (608, 616))
+            self.assertEqual((Y.steps, s.budget()), (608, spmat.Budget(392, 0, 608)))
+            with self.assertRaisesRegex(spmat.BudgetExceeded, 'the price is 608, and 392 are left') as caught:
+                Y.apply('identity')
+            self.assertEqual((caught.exception.price, caught.exception.left, caught.exception.spent_in_all), (608, 392, 608))
+            few = s.from_triples([(9, j, 1) for j in range(100)], 10, 300)
+            self.assertEqual((Y.apply('identity', mask=few.S).steps, s.budget()), (200, spmat.Budget(192, 0, 808)))
 
     def test_versions(self):
         """A worker whose program is another file is refused at the start, by name, and at its first task where it comes later."""

@@ -1,7 +1,9 @@
 """Cores, forests, communities, hops and betweenness, beside plain Python, and beside networkx where it is there."""
 import collections
+import heapq
 import unittest
 from fractions import Fraction
+from unittest import mock
 
 import graphs
 import support
@@ -55,6 +57,34 @@ def betweenness(near):
             if j != source:
                 out[j] += share[j]
     return out
+
+
+def betweenness_by_values(graph):
+    """Brandes' algorithm over Dijkstra's, by fractions, a list for each source: each ordered pair counts."""
+    near = collections.defaultdict(dict)
+    for (i, j), value in graph.edges.items():
+        near[i][j] = value
+    found = []
+    for source in range(graph.count):
+        far, heap, order = {source: 0}, [(0, source)], []
+        while heap:
+            length, i = heapq.heappop(heap)
+            if length == far[i] and i not in order:
+                order.append(i)
+                for j, value in near[i].items():
+                    if length + value < far.get(j, length + value + 1):
+                        far[j] = length + value
+                        heapq.heappush(heap, (far[j], j))
+        paths, share = collections.Counter({source: 1}), [Fraction(0)] * graph.count
+        behind = {i: [j for j, value in near[i].items() if far[i] + value == far[j]] for i in order}
+        for i in order:
+            for j in behind[i]:
+                paths[j] += paths[i]
+        for i in reversed(order):
+            share[i] = sum((Fraction(paths[i], paths[j]) * (1 + share[j]) for j in behind[i]), Fraction(0))
+        share[source] = Fraction(0)
+        found.append(share)
+    return found
 
 
 def lightest(edges, count):
@@ -132,12 +162,56 @@ class Parts(graphs.OnGraphs):
             with self.assertRaises(ValueError):
                 call()
 
+    def near_to(self, got, exact, sources):
+        """Whether each number is the exact one, rounded down by less than the tolerance for each source."""
+        for i, (value, wanted) in enumerate(zip(got.to_list(), exact)):
+            self.assertTrue(0 <= wanted - Fraction(value, 1 << 20) < Fraction(sources, 1000), (i, value, wanted))
+
+    def test_betweenness_by_values(self):
+        """Beside Dijkstra's and Brandes' algorithms: many values, and few, so that paths of several numbers of edges are as long."""
+        def look(graph, near, G):
+            for most in (23, 3):
+                made = graph._replace(edges={place: value % most + 1 for place, value in graph.edges.items()})
+                by_source = betweenness_by_values(made)
+                ways = 1 if graph.directed else 2
+                W = made.matrix(self.session)
+                self.near_to(algorithms.betweenness(W, weighted=True), [sum(many) / ways for many in zip(*by_source)], graph.count)
+                some = [graph.count - 1, 0] if graph.count > 1 else []
+                self.near_to(algorithms.betweenness(W, some, weighted=True), [sum(by_source[i][j] for i in some) for j in range(graph.count)], 2)
+        self.each([graphs.UNDIRECTED[k] for k in (0, 1, 2, 3, 5)] + [graphs.DIRECTED[k] for k in (0, 1, 3)], look)
+
+    def test_betweenness_in_batches(self):
+        graph = graphs.DIRECTED[2]
+        with mock.patch('spmat.algorithms.through.MOST_AT_ONCE', 7 * len(graph.edges)):
+            told = []
+            got = algorithms.betweenness(graph.matrix(self.session), progress=lambda *words: told.append(words), weighted=True)
+        self.near_to(got, map(sum, zip(*betweenness_by_values(graph))), graph.count)
+        self.assertEqual(told, [('source', min(k, 40), 40) for k in range(7, 47, 7)])
+
+    def test_values_of_betweenness(self):
+        """Names; lengths that differ by direction; and values that are no lengths."""
+        G = self.session.from_edgelist([('a', 'b', 4), ('a', 'c', 1), ('c', 'd', 2), ('d', 'b', 1), ('b', 'e', 1)])
+        half = 1 << 19                                     # a to b, and a to e, by b itself and by c and d
+        self.assertEqual(algorithms.betweenness(G, weighted=True).by_node(), {'a': 0, 'b': 6 * half, 'c': 4 * half, 'd': 6 * half, 'e': 0})
+        self.assertEqual(algorithms.betweenness(G, ['c'], weighted=True).by_node(), {'a': 0, 'b': 2 * half, 'c': 0, 'd': 4 * half, 'e': 0})
+        edges = {(0, 1): 1, (1, 0): 1, (1, 2): 1, (2, 1): 1, (0, 2): 1, (2, 0): 5}
+        self.assertEqual(algorithms.betweenness(graphs.Graph('uneven', 3, edges, True).matrix(self.session), weighted=True).to_list(), [0, 1 << 20, 0])
+        loop = self.session.from_triples([(0, 0, 1), (0, 1, 2), (1, 2, 2)], 3, 3)
+        self.assertEqual(algorithms.betweenness(loop, weighted=True).to_list(), [0, 1 << 20, 0])
+        self.assertEqual(algorithms.betweenness(loop.select('valuegt', 9), weighted=True).to_list(), [0, 0, 0])
+        for value, words in ((0, 'lengths of 1 or more, and here is one of 0'), (-3, 'one of -3'), (1 << 60, 'scale the weights')):
+            with self.assertRaisesRegex(ValueError, words):
+                algorithms.betweenness(self.session.from_triples([(0, 1, 1), (1, 2, value)], 3, 3), weighted=True)
+
     def test_too_many_paths(self):
         """A chain of 63 diamonds has 2^63 shortest paths from end to end."""
         pairs = [pair for k in range(63) for pair in ((3 * k, 3 * k + 1), (3 * k, 3 * k + 2), (3 * k + 1, 3 * k + 3), (3 * k + 2, 3 * k + 3))]
         chain = graphs.directed('diamonds', 190, pairs).matrix(self.session)
-        with self.assertRaisesRegex(ValueError, 'shortest paths'):
-            algorithms.betweenness(chain, [0])
+        for weighted in (False, True):
+            with self.assertRaisesRegex(ValueError, r'more than 2\^62 shortest paths'):
+                algorithms.betweenness(chain.apply('one'), [0], weighted=weighted)
+            with self.assertRaisesRegex(ValueError, 'from one vertex: shares'):
+                algorithms.betweenness(chain.apply('one'), [3 * 18], weighted=weighted)
 
     def test_ranks_by_weights(self):
         """Weights, what is given anew, and what vertices without edges give, beside the same in plain Python."""

@@ -9,9 +9,11 @@ With `blocks.Sessions(blocks.Dask(client))` the sessions are those of the worker
 `BlockMatrix`; docs/scaling.md says what it costs, and from which size it pays.
 """
 from .cuts import Cut
-from .engines import Dask, Engine, Threads
+from .dask import Dask
+from .engines import Engine
 from .errors import BlockFailed, VersionMismatch
 from .matrix import BlockMatrix
 from .sessions import Sessions
+from .threads import Threads
 
 __all__ = ['BlockFailed', 'BlockMatrix', 'Cut', 'Dask', 'Engine', 'Sessions', 'Threads', 'VersionMismatch']

@@ -52,6 +52,7 @@ def without_frames(fault: Exception) -> Exception:
 def worded(fault: Refused, block: str) -> Refused:
     """A refusal that names a block."""
     out = type(fault)(fault.rule, fault.numbers, fault.command, fault.line, _joined(fault.detail, block))
+    out = out.of_file(fault.file, fault.said).on_line(fault.text_line)
     out.block = block  # type: ignore[attr-defined]
     return out
 

@@ -4,23 +4,28 @@ from __future__ import annotations
 # a mask may be turned, and a file may be a path
 # pylint: disable=invalid-unary-operand-type,inconsistent-return-statements,abstract-method
 
-from typing import TYPE_CHECKING, Any, Dict, Iterable, List, Optional, Sequence, Tuple, Union
+from typing import TYPE_CHECKING, Any, Dict, Iterable, List, Optional, Sequence, Tuple, Type, Union
 
 from .. import convert, notes
-from ..errors import refusal
+from ..errors import SpmatError, refusal
 from ..indexing import Signs, picked
 from ..mask import Mask, as_mask
 from ..matrix import Op, Ring, _of_kind, applied
-from ..operators import binary, find_semiring, indexunary
-from . import cuts, moves, products, showing, tasks
+from ..operators import Semiring, binary, find_semiring, indexunary
+from . import absent, cuts, fronts, moves, products, showing, singly, tasks
+from .budgets import Work
 from .cuts import Cut
 from .place import Counts
 
 if TYPE_CHECKING:
+    from ..algorithms.lines import Vector
     from .sessions import Sessions
 
 HELD = 16                                          # whole matrices that a result holds, so that it is soon made again
 
+
+FORMS = {'apply': 'apply', 'select': 'select', 'ewise_add': 'union', 'ewise_mult': 'both', 'reduce_rowwise': 'reduce', 'dup': 'apply',
+         'update': 'union'}                        # by methods, as the protocol names them
 
 MaskLike = Union['BlockMatrix', Mask, None]
 
@@ -43,12 +48,19 @@ class BlockMatrix(Signs):
                  holds: Iterable[Any] = ()) -> None:
         self.sessions, self.futures, self.cut = sessions, list(futures), cut
         self.nrows, self.ncols, self.name, self.notes = cut.nrows, ncols, name or 'in blocks', notes.NOTHING
-        self.holds: Tuple[Any, ...] = tuple(dict.fromkeys(holds))[-HELD:] if sessions.engine.recovers else ()
+        self.holds: Tuple[Any, ...] = tuple(dict.fromkeys(holds))[-HELD:] if sessions.engine.forgets else ()
         self._counts: Optional[List[Counts]] = None
         self._whole: Any = None
         self._transposed: Optional['BlockMatrix'] = None
         self.kept: Dict[str, Any] = {}
+        self.form = ''                             # of a job's result, as the protocol names it
 
+    @property
+    def in_sessions(self) -> Type['BlockMatrix']:
+        """The class of matrices that lie in sessions, and not with the client."""
+        return BlockMatrix
+
+    of_client = False                              # whether the client has its entries, and sessions only where a job wants them
     in_one_place = False                           # a row of it lies in one block
 
     def __reduce__(self) -> Any:
@@ -72,6 +84,9 @@ class BlockMatrix(Signs):
         """The mask of the positions whose value isn't 0; see `Matrix.V`."""
         return Mask(self, value=True)
 
+    def __getattr__(self, name: str) -> Any:
+        raise AttributeError(absent.words('Matrix', name, self))
+
     def __getitem__(self, at: Any) -> Any:
         """`G[i, j]`, `G[i, :]`, `G[rows, columns]`; see `Matrix`."""
         return picked(self, at)  # type: ignore[arg-type]
@@ -86,7 +101,11 @@ class BlockMatrix(Signs):
         if self._counts is None:
             labels = [self.cut.label(k) for k in range(self.cut.blocks)]
             told = [self.sessions.submit(k, label, tasks.told, future) for k, (label, future) in enumerate(zip(labels, self.futures))]
-            self._counts = self.sessions.results(told, labels)
+            try:
+                self._counts = self.sessions.results(told, labels)
+            except SpmatError:
+                self.sessions.forget(self)         # so that `run` doesn't tell a failure that was told
+                raise
         return self._counts
 
     @property
@@ -95,14 +114,14 @@ class BlockMatrix(Signs):
         return sum(counts.nvals for counts in self.counts())
 
     @property
-    def price(self) -> int:
-        """Of a job's result the most steps that the job could take, at all blocks together; 0 of what is no job's result."""
-        return sum(counts.price for counts in self.counts())
+    def price(self) -> Optional[int]:
+        """Of a job's result the most steps that the job could take, at all blocks together; None of what is no job's result."""
+        return sum(counts.price for counts in self.counts()) if self.form else None
 
     @property
-    def steps(self) -> int:
+    def steps(self) -> Optional[int]:
         """Of a job's result the steps that the job took, at all blocks together."""
-        return sum(counts.steps for counts in self.counts())
+        return sum(counts.steps for counts in self.counts()) if self.form else None
 
     def wait(self) -> 'BlockMatrix':
         """This matrix, once all its blocks are made."""
@@ -110,6 +129,12 @@ class BlockMatrix(Signs):
         return self
 
     new = wait
+
+    def of_job(self, form: str) -> 'BlockMatrix':
+        """This matrix, noted as the result of a job."""
+        self.form = form
+        self.sessions.begun(self)
+        return self
 
     @property
     def waits(self) -> bool:
@@ -154,13 +179,13 @@ class BlockMatrix(Signs):
 
     def dup(self, *, mask: MaskLike = None, name: Optional[str] = None) -> 'BlockMatrix':
         """A copy; under a mask what of it lies there. Price and steps are those of the last of its jobs, as `Matrix` has it."""
-        return self.job('dup', [], [], told=self.notes, mask=mask, name=name)
+        return self.job('dup', [], [], told=notes.of_copy(self.notes), mask=mask, name=name)
 
     def without(self, mask: Union['BlockMatrix', Mask], *, name: Optional[str] = None) -> 'BlockMatrix':
         """The entries outside a mask; see `Matrix.without`."""
         where = self._mask(mask, self.shape)
         if where is None:
-            raise TypeError('a mask is wanted')
+            raise TypeError('expected a mask')
         return self.dup(mask=~where, name=name)
 
     def update(self, other: 'BlockMatrix', accum: Optional[Op] = None, mask: MaskLike = None, replace: bool = False, *,
@@ -168,7 +193,11 @@ class BlockMatrix(Signs):
         """What the GraphBLAS writes C<M, accum> = other; see `Matrix.update`."""
         self.check_shape('union', other, self.shape)
         op = None if accum is None else _of_kind('binary', accum, 'union')
-        return self.job('update', [other], [op], told=notes.of_pair(self.notes, other.notes), mask=mask, name=name, replace=replace)
+        made = self.job('update', [other], [op], told=notes.NOTHING, mask=mask, name=name, replace=replace)
+        where = as_mask(mask)
+        made.notes = notes.of_update(self.notes, other.notes, op is not None) if where is None else notes.of_update(
+            self.notes, other.notes, op is not None, where.matrix.notes, value=where.value, complement=where.complement, replace=replace)
+        return made
 
     def isequal(self, other: 'BlockMatrix') -> bool:
         """Whether both have the same sizes, positions and values. No job where sizes or numbers of entries differ; else 2 jobs at
@@ -184,13 +213,30 @@ class BlockMatrix(Signs):
         """A method of Matrix at each block. The result has this matrix's rows and cut, and `told` is known of it without a mask."""
         width = self.ncols if ncols is None else ncols
         where = self._mask(mask, (self.nrows, width))
+        if not singly.is_single(method, where) and self.sessions.is_metered:
+            return self._singly(method, others, args, ncols, told, where, name, options)
         there = [self, *(moves.recut(other, self.cut) for other in others)]
         held = self.masked(where)
-        futures = [self.sessions.submit(k, self.cut.label(k), tasks.job, method, [matrix.futures[k] for matrix in there], held[k],
-                                        list(args), options) for k in range(self.cut.blocks)]
+        futures = self.sessions.batch([
+            Work(k, self.cut.label(k), tasks.job, (method, [matrix.futures[k] for matrix in there], held[k], list(args), options))
+            for k in range(self.cut.blocks)])
         holds = [future for matrix in (*there, *([where.matrix] if where else [])) for future in matrix.holds]
-        made = BlockMatrix(self.sessions, futures, self.cut, width, name, holds)
-        made.notes = told if where is None or where.complement else notes.masked(told, where.matrix.notes)
+        made = BlockMatrix(self.sessions, futures, self.cut, width, name, holds).of_job(FORMS[method])
+        made.notes = noted(told, where)
+        return made
+
+    def _singly(self, method: str, others: Sequence['BlockMatrix'], args: Sequence[Any], ncols: Optional[int], told: notes.Notes,
+                where: Optional[Mask], name: Optional[str], options: Dict[str, Any]) -> 'BlockMatrix':
+        """The same by single jobs, under a mask."""
+        assert where is not None
+        if method == 'update':
+            inside = others[0] if args[0] is None else self.ewise_add(others[0], args[0])
+            return singly.updated(self, inside, where, options['replace'], name)
+        if method == 'dup':
+            made = singly.copied(self, where, name)
+        else:
+            made = singly.under(lambda cut, called: self.job(method, others, args, ncols, told=told, mask=cut, name=called), where, name)
+        made.notes = noted(told, where)
         return made
 
     def masked(self, where: Optional[Mask]) -> List[Optional[tasks.MaskPiece]]:
@@ -217,7 +263,7 @@ class BlockMatrix(Signs):
 
     def _check_sessions(self, other: Any) -> None:
         if not isinstance(other, BlockMatrix):
-            raise TypeError('a matrix in blocks is wanted, not %r' % (other,))
+            raise TypeError('expected a matrix in blocks, got %r' % (other,))
         if other.sessions.settings.token != self.sessions.settings.token:
             raise ValueError('a matrix of other sessions')
 
@@ -238,7 +284,7 @@ class BlockMatrix(Signs):
 
         It waits until the blocks are made, so that TooLarge is raised here: each block may make 16,777,216 multiplications (with
         `associative`, of each block of `other`). By `Threads` it doesn't wait where `other` is a column, whose product isn't too
-        large; by an engine that loses workers it does, so that the caller holds what a lost block is made of again."""
+        large; by Dask it does, so that the caller holds what a lost block is made of again."""
         self.check_shape('product', other, (self.ncols, None))
         ring = find_semiring(op)
         for part in (ring.add, ring.mul):
@@ -246,11 +292,10 @@ class BlockMatrix(Signs):
         where = self._mask(mask, (self.nrows, other.ncols))
         if associative is None:
             associative = other.ncols > 1 and ring.add in self.sessions.associative
-        form = products.by_blocks if associative else products.with_whole
-        made = form(self, other, products.Way(ring, where, parts), name)
+        made = products.made(self, other, products.Way(ring, where, parts), bool(associative), name)
         told = notes.of_product(self.notes, other.notes, ring.mul, self is other)
-        made.notes = told if where is None or where.complement else notes.masked(told, where.matrix.notes)
-        waits = other.ncols != 1 or associative or self.sessions.engine.recovers
+        made.notes = noted(told, where)
+        waits = other.ncols != 1 or associative or self.sessions.engine.forgets
         return made.wait() if waits else made
 
     def mxv(self, vector: 'BlockMatrix', op: Ring = 'plus_times', *, mask: MaskLike = None,
@@ -277,6 +322,11 @@ class BlockMatrix(Signs):
         """The fold of all entries as a number, or None where there are none; the operator has to be associative. Each session
         folds its own rows, and a number a block goes on."""
         return products.fold_all(self, _of_kind('binary', op, 'reduce'))[0]
+
+    def reach(self, transpose: Optional['BlockMatrix'], front: 'Vector', ring: Tuple[Semiring, Semiring], large: bool) -> 'Vector':
+        """A step of a search whose front the client has, for the algorithms: pushed along the rows that the front has, or where it is large
+        pulled along those of the transpose."""
+        return fronts.step(self, transpose, front, ring, large)
 
     @property
     def T(self) -> 'BlockMatrix':
@@ -316,7 +366,7 @@ class BlockMatrix(Signs):
 
     def to_text(self) -> bytes:
         """The canonical Matrix Market text of the whole; TooLarge where a session wouldn't take it. `mmwrite` has no such limit."""
-        return cuts.text_of(*self.shape, list(moves.lines(self)))
+        return cuts.text_of(*self.shape, moves.all_lines(self))
 
     def mmwrite(self, target: Any) -> None:
         """Writes the text block by block to a path, or to a file opened in binary; one block's text is held at a time."""
@@ -326,3 +376,8 @@ class BlockMatrix(Signs):
         target.write(cuts.head(*self.shape, self.nvals))
         for lines in self.texts():
             target.write(lines)
+
+
+def noted(told: notes.Notes, where: Optional[Mask]) -> notes.Notes:
+    """What is known of a job's result under a mask, as in one session."""
+    return told if where is None else notes.under(told, where.matrix.notes, where.value, where.complement)

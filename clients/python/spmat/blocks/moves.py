@@ -31,11 +31,23 @@ def lines(matrix: 'BlockMatrix') -> Iterator[tasks.Lines]:
         yield matrix.sessions.results([_lines(matrix, block, first, end)], [matrix.cut.label(block)])[0]
 
 
+def all_lines(matrix: 'BlockMatrix') -> List[tasks.Lines]:
+    """The lines of each block, in order, all asked for at a time."""
+    futures = [_lines(matrix, block, first, end) for block, (first, end) in enumerate(matrix.cut.ranges())]
+    return matrix.sessions.results(futures, _labels(matrix.cut))
+
+
 def whole(matrix: 'BlockMatrix') -> Any:
     """The future of the whole matrix as one piece. It is joined at one worker, in turn, and goes from there to those that want it, each
     of which has a copy then. It is kept while the matrix is held."""
+    if matrix.of_client:
+        held: Any = matrix
+        return held.whole()
     if matrix._whole is None:
-        if matrix.cut.blocks == 1:
+        if matrix.ncols == 1 and matrix.cut.blocks > 1:
+            matrix._whole = matrix.sessions.submit(next(matrix.sessions.turns), 'the whole of a %dx%d matrix' % matrix.shape,
+                                                   tasks.joined_vector, matrix.futures)
+        elif matrix.cut.blocks == 1:
             matrix._whole = matrix.futures[0]
         else:
             parts = [_lines(matrix, block, first, end) for block, (first, end) in enumerate(matrix.cut.ranges())]
@@ -48,6 +60,9 @@ def recut(matrix: 'BlockMatrix', cut: Cut) -> 'BlockMatrix':
     """The same matrix, cut at other rows. Each new block gets the lines of those that it meets, in order."""
     if cut == matrix.cut:
         return matrix
+    if matrix.of_client:
+        held: Any = matrix
+        return held.at_rows(cut)  # type: ignore[no-any-return]
     futures = []
     for block, (first, end) in enumerate(cut.ranges()):
         parts = [_lines(matrix, old, max(first, matrix.cut.bounds[old]), min(end, matrix.cut.bounds[old + 1]))
@@ -83,7 +98,7 @@ def checkpoint(matrix: 'BlockMatrix') -> 'BlockMatrix':
     """The same matrix on texts that stand by themselves, one block at a time."""
     sessions, futures = matrix.sessions, []
     for block, label in enumerate(_labels(matrix.cut)):
-        if sessions.folder is None:
+        if sessions.spool() is None:
             text = cuts.text_of(*matrix.shape, sessions.results([_lines(matrix, block, *matrix.cut.rows(block))], [label]))
             futures.append(sessions.submit(block, label, tasks.source, text))
         else:
@@ -97,6 +112,6 @@ def checkpoint(matrix: 'BlockMatrix') -> 'BlockMatrix':
 
 def _like(matrix: 'BlockMatrix', futures: List[Any], cut: Cut, ncols: int) -> 'BlockMatrix':
     """A matrix of the same sessions that stands on another one."""
-    out = type(matrix)(matrix.sessions, futures, cut, ncols, matrix.name, matrix.holds)
+    out = matrix.in_sessions(matrix.sessions, futures, cut, ncols, matrix.name, matrix.holds)
     out.notes = matrix.notes
     return out

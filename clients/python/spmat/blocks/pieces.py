@@ -11,15 +11,17 @@ import array
 import bisect
 import hashlib
 import itertools
+import os
 import tempfile
-from typing import Any, BinaryIO, Iterable, Iterator, List, Optional, Tuple
+from typing import Any, BinaryIO, Callable, Iterable, Iterator, List, NamedTuple, Optional, Tuple
 
-from .. import convert, files, market
+from .. import convert, files, market, packed
 from ..errors import Refused, refusal
 from ..market import Triples
 from ..notes import NOTHING, Notes
 from ..reading import name_of
 from .cuts import Cut
+from .engines import Progress
 
 PIECE = 1 << 23                                    # bytes of a file that are read at a time
 CHUNK = 1 << 16                                    # edges of a generator that are taken at a time
@@ -48,6 +50,7 @@ class Spooled(abc.ABC):
     nrows: int
     ncols: int
     notes: Notes = NOTHING
+    symmetry = 'general'                           # of a file whose other triangle isn't here yet
 
     @property
     @abc.abstractmethod
@@ -67,9 +70,11 @@ class Spooled(abc.ABC):
     def blocks(self, cut: Cut) -> Iterator[Triples]:
         """The entries of each block, in order."""
 
-    def texts(self, cut: Cut) -> Iterator[bytes]:
-        """The text of each block, in order: TooLarge where one is longer, or has more entries, than a session takes."""
+    def texts(self, cut: Cut, fold: Optional[Callable[[Triples], Triples]] = None) -> Iterator[bytes]:
+        """The text of each block, in order, folded where its positions may repeat: TooLarge where one is longer, or has more entries,
+        than a session takes."""
         for block, triples in enumerate(self.blocks(cut)):
+            triples = triples if fold is None else fold(triples)
             if len(triples.rows) > market.MOST_SIDE:
                 raise refusal('M4', detail='%d entries in %s' % (len(triples.rows), cut.label(block)))
             text = market.write(triples)
@@ -218,31 +223,60 @@ def _total(counts: Any) -> int:
 
 # -- Matrix Market files
 
-def spool_of(source: Any, values: files.Values = files.Values()) -> Spooled:
-    """The entries of a file, which is read by pieces; an `array` file at once. What is refused names the file."""
+def spool_of(source: Any, values: files.Values = files.Values(), progress: Progress = None, whole: bool = True) -> Spooled:
+    """The entries of a file, which is read by pieces; an `array` file at once. What is refused names the file. Unless the `whole` is
+    wanted, the other triangle of a symmetric one is left out."""
     try:
         if hasattr(source, 'read'):
-            return _File(source, values).spool()
-        opener = files.opener_of(source)
-        with opener(source, 'rb') as file:
-            return _File(file, values).spool()
+            return _File(source, values, whole, Told(progress, 0)).spool()
+        with packed.opened(source) as file:
+            return _File(file, values, whole, Told(progress, os.path.getsize(source))).spool()
     except Refused as fault:
         raise fault.of_file(name_of(source)) from None
+
+
+class Told(NamedTuple):
+    """Who is told of a file's bytes as they are read, and how many there are; 0 where that isn't known."""
+    progress: Progress
+    size: int
+
+    def tell(self, done: int) -> None:
+        """So many have been read."""
+        if self.progress is not None:
+            self.progress('read', done, self.size)
+
+
+class Head(NamedTuple):
+    """What the first lines of a Matrix Market file say, and where the lines behind them begin; of an `array` file the first line alone."""
+    kind: files.Kind
+    nrows: int = 0
+    ncols: int = 0
+    entries: int = 0
+    start: int = 0
+
+
+def head_of(file: BinaryIO, values: files.Values) -> Head:
+    """The head of a file, which is read up to there."""
+    return _File(file, values, True, Told(None, 0)).head(file)
 
 
 class _File:
     """A Matrix Market file that is read by pieces."""
 
-    def __init__(self, file: Any, values: files.Values) -> None:
-        self._file, self._number, self._values = file, 0, values
+    def __init__(self, file: Any, values: files.Values, whole: bool, told: Told) -> None:
+        self._file, self._number, self._values, self._whole, self._told = file, 0, values, whole, told
         first = self._line()
         self._first = first[3:] if first[:3] == b'\xef\xbb\xbf' else first
         self._kind = files.kind_of(self._first, values)
 
+    def head(self, file: BinaryIO) -> Head:
+        """What the first lines say."""
+        return Head(self._kind) if self._kind.array else Head(self._kind, *self._sizes(), file.tell())
+
     def spool(self) -> Spooled:
         if self._kind.array:
             triples, symmetry = files.parse(self._first + self._file.read(), self._values)
-            return self._noted(Held(files.mirrored(triples, symmetry)))
+            return self._noted(Held(files.mirrored(triples, symmetry if self._whole else 'general')))
         self.nrows, self.ncols, self._count = self._sizes()     # pylint: disable=attribute-defined-outside-init
         spool = Spool(self.nrows, self.ncols)
         try:
@@ -255,6 +289,7 @@ class _File:
     def _noted(self, spool: Spooled) -> Spooled:
         """The same entries, with what the file's first line says of them."""
         spool.notes = self._kind.notes
+        spool.symmetry = 'general' if self._whole else self._kind.symmetry
         return spool
 
     def _line(self) -> bytes:
@@ -283,7 +318,7 @@ class _File:
         return nrows, ncols, count
 
     def _fill(self, spool: Spool) -> None:
-        had = 0
+        had = done = 0
         while True:
             piece = self._file.read(PIECE)
             if not piece:
@@ -297,7 +332,9 @@ class _File:
                 triples = self._slowly(piece, self._count - had)
             had += len(triples.rows)
             self._number += lines
-            spool.add(files.mirrored(triples, self._kind.symmetry))
+            spool.add(files.mirrored(triples, self._kind.symmetry if self._whole else 'general'))
+            done += len(piece)
+            self._told.tell(done)
         if had < self._count:
             raise self._refused('M9', self._number + 1, b'')
 

@@ -5,7 +5,8 @@ from typing import TYPE_CHECKING, Any, Iterable, List, NamedTuple, Optional
 
 from ..mask import Mask
 from ..operators import Operator, Semiring
-from . import moves, tasks
+from . import moves, singly, tasks
+from .budgets import Work
 
 if TYPE_CHECKING:
     from .matrix import BlockMatrix
@@ -18,45 +19,53 @@ class Way(NamedTuple):
     parts: bool
 
 
+def made(a: 'BlockMatrix', b: 'BlockMatrix', way: Way, associative: bool, name: Optional[str]) -> 'BlockMatrix':
+    """A product, of a small budget by single jobs of all blocks."""
+    form = by_blocks if associative else with_whole
+    if a.sessions.is_metered:
+        if way.parts:
+            return singly.in_parts(a, lambda rows: made(rows, b, way._replace(parts=False), associative, name))
+        if way.where is not None and not singly.is_single('mxm', way.where):
+            return singly.under(lambda cut, called: form(a, b, way._replace(where=cut), called), way.where, name)
+    return form(a, b, way, name)
+
+
 def with_whole(a: 'BlockMatrix', b: 'BlockMatrix', way: Way, name: Optional[str]) -> 'BlockMatrix':
     """Each block of A times the whole of B. The result holds that whole, from which a block that is lost is made again: so what
     came before B is not."""
     whole, held, none = moves.whole(b), a.masked(way.where), None
-    futures = []
-    for block, (first, end) in enumerate(a.cut.ranges()):
-        if first == end and none is None:
-            none = a.sessions.submit(block, a.cut.label(block), tasks.assembled, (a.nrows, b.ncols), [])
-        futures.append(none if first == end else a.sessions.submit(
-            block, a.cut.label(block), tasks.job, 'mxm', [a.futures[block], whole], held[block], [way.ring],
-            {'parts': way.parts}))
-    return _made(a, b, futures, way.where, name, [whole])
+    works = [Work(block, a.cut.label(block), tasks.job, ('mxm', [a.futures[block], whole], held[block], [way.ring], {'parts': way.parts}))
+             for block, (first, end) in enumerate(a.cut.ranges()) if first < end]
+    futures = iter(a.sessions.batch(works))
+    if len(works) < a.cut.blocks:
+        none = a.sessions.submit(0, 'blocks without rows', tasks.assembled, (a.nrows, b.ncols), [])
+    return _made(a, b, [none if first == end else next(futures) for first, end in a.cut.ranges()], way.where, name, [whole])
 
 
 def by_blocks(a: 'BlockMatrix', b: 'BlockMatrix', way: Way, name: Optional[str]) -> 'BlockMatrix':
     """Each block of A times one block of B after the other, joined by union with ADD in the order of k: right where ADD is
     associative."""
-    held, futures = a.masked(way.where), []
-    for block in range(a.cut.blocks):
-        sofar = None
-        for part in b.futures:
-            sofar = a.sessions.submit(block, a.cut.label(block), tasks.product_onto, sofar, a.futures[block], part,
-                                      (way.ring, way.parts), held[block])
-        futures.append(sofar)
-    return _made(a, b, futures, way.where, name, b.holds)
+    held, blocks = a.masked(way.where), range(a.cut.blocks)
+    sofar: List[Any] = [None] * a.cut.blocks
+    for part in b.futures:
+        works = [Work(k, a.cut.label(k), tasks.job, ('mxm', [a.futures[k], part], held[k], [way.ring], {'parts': way.parts})) for k in blocks]
+        terms = a.sessions.batch(works)
+        sofar = terms if sofar[0] is None else a.sessions.batch([
+            Work(k, a.cut.label(k), tasks.sum_of, (sofar[k], terms[k], way.ring.add)) for k in blocks])
+    return _made(a, b, sofar, way.where, name, b.holds)
 
 
 def _made(a: 'BlockMatrix', b: 'BlockMatrix', futures: List[Any], where: Optional[Mask], name: Optional[str],
           more: Iterable[Any]) -> 'BlockMatrix':
     holds = [*a.holds, *(where.matrix.holds if where else ()), *more]
-    return type(a)(a.sessions, futures, a.cut, b.ncols, name, holds)
+    return a.in_sessions(a.sessions, futures, a.cut, b.ncols, name, holds).of_job('product')
 
 
 def fold_all(matrix: 'BlockMatrix', op: Operator) -> tasks.Folded:
     """The fold of all entries with its price and its steps: each block's rows by themselves, then a number a block."""
     rows = matrix if matrix.ncols == 1 else matrix.reduce_rowwise(op)
-    before = (0, 0) if matrix.ncols == 1 else (rows.price, rows.steps)
-    labels = [rows.cut.label(k) for k in range(rows.cut.blocks)]
-    folds = [rows.sessions.submit(k, label, tasks.scalar, future, op) for k, (label, future) in enumerate(zip(labels, rows.futures))]
-    last = rows.sessions.submit(0, 'the fold of all blocks', tasks.scalars, folds, op)
-    value, price, steps = rows.sessions.results([last], ['the fold of all blocks'])[0]
+    before = (0, 0) if matrix.ncols == 1 else (rows.price or 0, rows.steps or 0)
+    folds = rows.sessions.batch([Work(k, rows.cut.label(k), tasks.scalar, (future, op)) for k, future in enumerate(rows.futures)])
+    last = rows.sessions.batch([Work(0, 'the fold of all blocks', tasks.scalars, (folds, op))])
+    value, price, steps = rows.sessions.results(last, ['the fold of all blocks'])[0]
     return value, before[0] + price, before[1] + steps

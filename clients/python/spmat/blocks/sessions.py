@@ -4,57 +4,68 @@ from __future__ import annotations
 import contextlib
 import copy
 import dataclasses
-import io
 import itertools
 import os
-import uuid
+import tempfile
+import weakref
 from typing import Any, Callable, Dict, Iterable, List, Optional, Sequence, Tuple, Union
 
-from .. import convert, files, market
-from ..errors import BudgetExceeded, Refused
-from ..market import Triples
-from ..operators import Operator, find
+from .. import convert, pricing
+from ..errors import BudgetExceeded, SpmatError
+from ..jobs import JobResult, Run
+from ..operators import Op, Operator, find, telling
 from ..program import Program
-from ..reading import Request
 from ..session import Budget
-from ..sources import Sources
 from ..wire import MOST_STEPS, MOST_WORKERS
-from . import cuts, pieces, tasks
+from . import absent, tasks
+from .budgets import Ledger, Work
 from .cuts import Cut
-from .engines import Engine, Threads
+from .direct import Call
+from .engines import Engine, Progress
 from .errors import AtBlock, VersionMismatch, in_all, named
+from .inputs import Inputs
 from .matrix import BlockMatrix
 from .place import Settings, agree
+from .threads import Threads
 
-Op = Union[str, Operator]
+MOST_WAITING = 1024                                # results that are noted until those are passed over that are there
 
 
-class Sessions(Sources[BlockMatrix]):
+class Sessions(Inputs):
     """Several sessions that hold matrices in row blocks. Use it in a `with`, or close it.
 
-    `engine` is a number of sessions of this machine, or an engine: `Threads(n)`, `Dask(client)`. `steps` is the budget of each
-    session, `workers` the threads of each, `program` as for `Session`. `blocks` is how many blocks a matrix has, without it one a
+    `engine` is a number of sessions of this machine, or an engine: `Threads(n)`, `Dask(client)`. `steps` is the budget, one for all
+    sessions together; of less than 2^56 steps each job waits for its end, and is refused for all blocks as one, before any is charged.
+    `workers` are the threads of each session, `program` is as for `Session`. `blocks` is how many blocks a matrix has, without it one a
     session. `folder` is one that this process and all workers see: texts of blocks that come from here are put there, so that no
     scheduler holds them. `associative` names operators of which the caller says that they are: products over them go by blocks of
     B (`BlockMatrix.mxm`). `texts=True` takes each result out as text as soon as it is made (docs/scaling.md has what that costs).
+
+    `progress(word, done, of)` is called in long work: 'blocks' of a job, 'read' bytes of a file, and 'again' with the number of tasks
+    that were done again, because a worker or its program was lost (`again` is that number, too). `patience` is how many seconds a
+    worker may say nothing, or its program stand still, until it is taken for lost; None: for ever.
 
     All workers have to have one version of this package and of the program, told by the SHA-256 of its file: VersionMismatch
     otherwise, at once, and for a worker that comes later at its first task."""
 
     def __init__(self, engine: Union[Engine, int, None] = None, *, steps: int = MOST_STEPS, workers: int = 1,
                  program: Optional[Program] = None, blocks: Optional[int] = None, folder: Optional[str] = None,
-                 associative: Iterable[Op] = (), texts: bool = False) -> None:
-        _check_settings(steps, workers)
+                 associative: Iterable[Op] = (), texts: bool = False, progress: Progress = None,
+                 patience: Optional[float] = 10) -> None:
+        _check_settings(steps, workers, patience)
         self.engine = engine if isinstance(engine, Engine) else Threads() if engine is None else Threads(engine)
         self.blocks = self.engine.places if blocks is None else convert.whole(blocks, 'number of blocks')
         if self.blocks < 1:
             raise ValueError('1 block at least, not %d' % self.blocks)
-        self.folder = folder
+        self.folder, self.progress = folder, progress
+        self._spool: Optional['tempfile.TemporaryDirectory[str]'] = None
+        self._waiting: List['weakref.ref[BlockMatrix]'] = []
         self.files: List[str] = []                 # what was written there
         self.associative = frozenset(find('binary', op) for op in associative)
         self.turns = itertools.count()             # which place is the next to join a whole
         self.cut: Optional[Cut] = None
-        settings = Settings(steps, workers, program, texts)
+        self.ledger = Ledger(int(steps))
+        settings = Settings(int(steps), workers, program, texts, patience)
         self.settings = dataclasses.replace(settings, version=self._version(settings))
 
     def _version(self, settings: Settings) -> Tuple[str, str]:
@@ -79,6 +90,18 @@ class Sessions(Sources[BlockMatrix]):
         while self.files:
             with contextlib.suppress(FileNotFoundError):
                 os.remove(self.files.pop())
+        if self._spool is not None:
+            self._spool.cleanup()
+
+    def __getattr__(self, name: str) -> Any:
+        raise AttributeError(absent.words('Session', name, self))
+
+    def spool(self) -> Optional[str]:
+        """Where texts of blocks lie that come from here: in `folder`, or where all sessions are on this machine in one that `close`
+        removes; None where the engine keeps them."""
+        if self.folder is None and self._spool is None and isinstance(self.engine, Threads):
+            self._spool = tempfile.TemporaryDirectory(prefix='spmat-')  # pylint: disable=consider-using-with
+        return self.folder if self._spool is None else self._spool.name
 
     def cut_as(self, cut: Cut) -> 'Sessions':
         """The same sessions, which cut new matrices of as many rows at these rows."""
@@ -91,21 +114,126 @@ class Sessions(Sources[BlockMatrix]):
     # -- what is told
 
     def budgets(self) -> Dict[str, Budget]:
-        """What the budget of each session holds, by the name of its worker; of workers in one process, which share one, the first."""
-        found: Dict[str, Tuple[str, Budget]] = {}
+        """What each session has reserved and spent, by the name of its worker, and what all sessions have left; of workers in one process,
+        which share a session, the first."""
+        workers = self._ask()
+        left = self.ledger.budget.left
+        return {worker: Budget(left, budget.reserved, budget.spent) for worker, (_, budget) in workers.items()}
+
+    def budget(self) -> Budget:
+        """What all sessions together have left, reserved and spent, as one budget. What a worker spent that was lost since is in it as far
+        as it was told: by the last time that was asked."""
+        self._ask()
+        return self.ledger.budget
+
+    def _ask(self) -> Dict[str, Tuple[str, Budget]]:
+        """The name and the budget of each session, by the first of its workers."""
+        found: Dict[str, Tuple[str, Tuple[str, Budget]]] = {}
         try:
             told = self.engine.everywhere(self.settings, tasks.budget)
         except AtBlock as at:
             raise named(at.label, at.fault) from None
         for worker, (session, budget) in told.items():
-            found.setdefault(session, (worker, budget))
+            found.setdefault(session, (worker, (session, budget)))
+        self.ledger.note(dict(both for _, both in found.values()))
         return dict(found.values())
 
-    def budget(self) -> Budget:
-        """What the budgets of all sessions hold together. What a lost worker had spent isn't in it."""
-        return Budget(*(sum(parts) for parts in zip(*self.budgets().values())))
+    @property
+    def again(self) -> int:
+        """How many tasks were done again, because a worker or its program was lost."""
+        return self.engine.again(self.settings)
+
+    def check(self, op: Operator) -> telling.Check:
+        """What the verifier says of an operator; see `Session.check`. One of the sessions is asked."""
+        return self._one('', tasks.check, op)  # type: ignore[no-any-return]
+
+    def dis(self, op: Operator) -> str:
+        """An operator as assembly text; see `Session.dis`."""
+        return str(self._one('', tasks.dis, op))
+
+    def types(self, op: Operator) -> List[str]:
+        """What the verifier knows before each instruction; see `Session.types`."""
+        return list(self._one('', tasks.types, op))
 
     # -- tasks
+
+    def run(self) -> Run:
+        """Waits for all jobs that were asked for, which run as soon as they are: each with its price and steps at all blocks
+        together. Of a result that nobody holds any more nothing is told."""
+        waiting, self._waiting[:] = list(self._waiting), []
+        held = [matrix for matrix in (one() for one in waiting) if matrix is not None]
+        return Run([JobResult(matrix.wait(), matrix.form, matrix.price, matrix.steps) for matrix in held])  # type: ignore[arg-type]
+
+    def begun(self, matrix: BlockMatrix) -> None:
+        """Notes the result of a job, for `run`."""
+        if len(self._waiting) > MOST_WAITING:
+            self._waiting[:] = [one for one in self._waiting if (held := one()) is not None and held.waits]
+        self._waiting.append(weakref.ref(matrix))
+
+    def forget(self, matrix: BlockMatrix) -> None:
+        """Takes a result from those that `run` waits for."""
+        self._waiting[:] = [one for one in self._waiting if one() is not matrix]
+
+    def _one(self, label: str, function: Callable[..., Any], *args: Any) -> Any:
+        """What a task gives at one of the sessions, whichever."""
+        return self.results([self.submit(0, label, function, *args)], [label])[0]
+
+    def batch(self, works: Sequence[Work]) -> List[Any]:
+        """The futures of tasks, each of which makes one job at its block. Where the budget is small, BudgetExceeded with the price of all of
+        them before any is charged, and else they are done."""
+        if not self.is_metered:
+            self.ledger.grant(len(works))
+            return [self.submit(*work[:3], *work.args) for work in works]
+        labels = [work.label for work in works]
+        price = self._price(works, False)
+        if price > self.ledger.budget.left:
+            price = self._price(works, True)
+        self._check(price)
+        futures = [self.submit(*work[:3], *work.args) for work in works]
+        try:
+            self.results([self.submit(work.block, work.label, tasks.done, future) for work, future in zip(works, futures)], labels)
+        finally:
+            with contextlib.suppress(SpmatError):  # what came first is raised
+                self.budget()
+        return futures
+
+    def asked(self, works: Sequence[Work]) -> List[Any]:
+        """What tasks give whose first argument is a piece and whose others are short, as `batch` and `results` have it, and by a shorter way
+        where there is one: nothing of it stays at the workers."""
+        labels = [work.label for work in works]
+        if works and not self.is_metered:
+            calls = [Call(work.args[0], work.label, work.args[1:]) for work in works]
+            try:
+                found = self.engine.ask(self.settings, works[0].function, calls)
+            except AtBlock as at:
+                raise named(at.label, at.fault) from None
+            if found is not None:
+                self.ledger.grant(len(works))
+                return found
+        return self.results(self.batch(works), labels)
+
+    def _check(self, price: int) -> None:
+        """BudgetExceeded where jobs of this price together are above what is left, with what the algorithm wanted that asks for them."""
+        try:
+            with pricing.told():
+                self.ledger.check(price)
+        except BudgetExceeded as fault:
+            fault.block, fault.spent_in_all = '', self.ledger.budget.spent  # type: ignore[attr-defined]
+            raise
+
+    @property
+    def is_metered(self) -> bool:
+        """Whether so little is left that each job is looked at."""
+        if not self.ledger.is_ample:
+            if self.ledger.is_granted:
+                self.budget()
+            return not self.ledger.is_ample
+        return False
+
+    def _price(self, works: Sequence[Work], exact: bool) -> int:
+        """The price of jobs together, or a bound of it."""
+        return sum(self.results([self.submit(work.block, work.label, tasks.priced, work.function, list(work.args), exact) for work in works],
+                                [work.label for work in works]))
 
     def submit(self, block: int, label: str, function: Callable[..., Any], *args: Any) -> Any:
         """The future of a task at a block's place."""
@@ -115,7 +243,7 @@ class Sessions(Sources[BlockMatrix]):
         """What futures give. What failed in one of them is raised with its block's name; a lack of steps also with what was spent
         in all."""
         try:
-            return self.engine.results(futures, labels)
+            return self.engine.results(self.settings, futures, labels, self.progress)
         except AtBlock as at:
             fault, cause = named(at.label, at.fault), at.fault
         if isinstance(fault, BudgetExceeded):
@@ -126,101 +254,10 @@ class Sessions(Sources[BlockMatrix]):
         finally:
             del fault, cause                       # no circle of exception and frame, which would keep futures
 
-    # -- matrices in
 
-    def from_edges(self, edges: Iterable[Any], nrows: int, ncols: int, *, cut: Optional[Sequence[int]] = None,
-                   name: Optional[str] = None) -> BlockMatrix:
-        """A matrix from a generator of (row, column, value), or of chunks of them: arrays of numpy with these as columns. They come
-        in any order, and lie in files while they come: no more than a block of them is held. TextRefused (M8) for a position that
-        repeats."""
-        with pieces.Spool(convert.side(nrows, 0, 'nrows'), convert.side(ncols, 0, 'ncols')) as spool:
-            spool.take(edges)
-            return self._spooled(spool, cut, name)
-
-    def mmread(self, source: Any, *, values: bool = True, scale: Optional[float] = None, cut: Optional[Sequence[int]] = None,
-               name: Optional[str] = None) -> BlockMatrix:
-        """A matrix from a Matrix Market file: a path (also .gz and .bz2), or a file opened in binary. It is read by pieces, and no more
-        than a block is held; it may be larger than one session takes. `array` files, which are small, are read at once. `values` and
-        `scale` are as for `Session.mmread`. What is refused names the file and the line, but for positions that repeat. In
-        python-graphblas `io.mmread`."""
-        with pieces.spool_of(source, files.Values(values, scale)) as spool:
-            return self._spooled(spool, cut, name)
-
-    def _market(self, file: str, text: bytes, request: Request, dup_op: Optional[Op], name: Optional[str]) -> BlockMatrix:
-        if dup_op is not None:
-            raise ValueError('a Matrix Market file whose positions repeat is read by one session, not by blocks: dup_op=None')
-        try:
-            return self.mmread(io.BytesIO(text), values=request.layout.values, scale=request.layout.scale, name=name)
-        except Refused as fault:
-            raise fault.of_file(file) from None
-
-    def _folded(self, triples: Triples, dup_op: Optional[Op]) -> Triples:
-        if dup_op is None:
-            return triples
-        op = find('binary', dup_op)
-        return convert.unrepeated(triples, lambda many: self._fold(many, op))
-
-    def full(self, nrows: int, ncols: int, value: int = 1, *, name: Optional[str] = None) -> BlockMatrix:
-        """A matrix with one value everywhere, made at the workers."""
-        shape = convert.side(nrows, 0, 'nrows'), convert.side(ncols, 0, 'ncols')
-        cut, value = self._cut(shape[0], None), convert.word(value, 'value')
-        return self._each(cut, shape[1], name, lambda first, end: (tasks.full, first, end, shape, value))
-
-    def identity(self, n: int, value: int = 1, *, name: Optional[str] = None) -> BlockMatrix:
-        """A square matrix with one value on its diagonal, made at the workers."""
-        n, value = convert.side(n, 0, 'n'), convert.word(value, 'value')
-        return self._each(self._cut(n, None), n, name, lambda first, end: (tasks.identity, first, end, n, value))
-
-    def _each(self, cut: Cut, ncols: int, name: Optional[str], task: Callable[[int, int], Tuple[Any, ...]]) -> BlockMatrix:
-        futures = [self.submit(k, cut.label(k), *task(first, end)) for k, (first, end) in enumerate(cut.ranges())]
-        return BlockMatrix(self, futures, cut, ncols, name)
-
-    def _cut(self, nrows: int, spool: Optional['pieces.Spooled'], given: Union[Cut, Sequence[int], None] = None) -> Cut:
-        """Where a new matrix is cut: as the caller says, as the matrix that these sessions cut after, or by entries."""
-        if given is not None:
-            return cuts.checked(given.bounds if isinstance(given, Cut) else given, nrows)
-        if self.cut is not None and self.cut.nrows == nrows:
-            return self.cut
-        return cuts.evenly(nrows, self.blocks) if spool is None else cuts.by_entries(spool.counts, self.blocks)
-
-    def _from(self, triples: Triples, dup_op: Optional[Op] = None, name: Optional[str] = None) -> BlockMatrix:
-        with pieces.Held(self._folded(triples, dup_op)) as held:
-            return self._spooled(held, None, name)
-
-    def keep(self, entries: Triples) -> BlockMatrix:
-        """A matrix of entries by ascending row and column, which aren't looked at."""
-        return self._from(entries)
-
-    def _fold(self, many: Triples, op: Operator) -> Any:
-        label = 'values that share a position'
-        folds = self.results([self.submit(0, label, tasks.folded, many, op)], [label])[0]
-        return market.find_numpy().array(folds) if market.is_array(many.rows) else folds
-
-    def _spooled(self, spool: 'pieces.Spooled', given: Optional[Sequence[int]], name: Optional[str]) -> BlockMatrix:
-        """A matrix of what lies in a spool, block by block."""
-        cut = self._cut(spool.nrows, spool, given)
-        futures = []
-        for block, text in enumerate(spool.texts(cut)):
-            futures.append(self._put(block, cut.label(block), text))
-        made = BlockMatrix(self, futures, cut, spool.ncols, name).wait()
-        made.notes = spool.notes
-        return made
-
-    def _put(self, block: int, label: str, text: bytes) -> Any:
-        if self.folder is None:
-            return self.submit(block, label, tasks.source, text)
-        path = self.new_file()
-        return self.submit(block, label, tasks.read, path, pieces.put(path, text))
-
-    def new_file(self) -> str:
-        """The path of a file in `folder` that isn't there yet, and that `close` removes."""
-        assert self.folder is not None
-        path = os.path.join(self.folder, uuid.uuid4().hex + '.mtx')
-        self.files.append(path)
-        return path
-
-
-def _check_settings(steps: int, workers: int) -> None:
+def _check_settings(steps: int, workers: int, patience: Optional[float]) -> None:
     """A ValueError here where each session would raise one."""
     if not 0 <= steps <= MOST_STEPS or not 1 <= workers <= MOST_WORKERS:
         raise ValueError('steps are 0 to %d (2^62), workers 1 to %d' % (MOST_STEPS, MOST_WORKERS))
+    if patience is not None and not 0 < patience:
+        raise ValueError('patience is a number of seconds above 0, or None, not %r' % (patience,))

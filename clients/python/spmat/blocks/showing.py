@@ -6,6 +6,7 @@ from typing import TYPE_CHECKING, Any, List
 from .. import html
 from ..errors import SpmatError
 from . import tasks
+from .budgets import Work
 
 if TYPE_CHECKING:
     from .matrix import BlockMatrix
@@ -42,6 +43,6 @@ def listed(shown: 'BlockMatrix') -> str:
 def first_cells(shown: 'BlockMatrix') -> html.Cells:
     """The entries of the corner, of each block that has some of its rows."""
     which = shown.cut.meeting(0, html.CORNER)
-    labels = [shown.cut.label(k) for k in which]
-    asked = [shown.sessions.submit(k, label, tasks.first_cells, shown.futures[k]) for k, label in zip(which, labels)]
-    return {(i, j): value for cells in shown.sessions.results(asked, labels) for i, j, value in cells}
+    works = [Work(k, shown.cut.label(k), tasks.first_cells, (shown.futures[k],)) for k in which]
+    found = shown.sessions.results(shown.sessions.batch(works), [work.label for work in works])
+    return {(i, j): value for cells in found for i, j, value in cells}

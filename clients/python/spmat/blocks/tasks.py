@@ -10,15 +10,18 @@ from __future__ import annotations
 import bisect
 from typing import Any, Callable, Dict, List, Optional, Sequence, Tuple
 
-from .. import convert, html, market
-from ..errors import NotMade
+from .. import convert, digits, html, market
+from ..algorithms.lines import Vector, read as vector_of, zeros_like
+from ..errors import NotMade, TextRefused
 from ..market import Triples
 from ..mask import Mask
-from ..operators import Operator, Semiring, binary
+from ..operators import Operator, Semiring, binary, telling
 from ..session import Budget
-from . import cuts, pieces
+from . import cuts, edge_parts, pieces, ranges
+from .budgets import bound_of, price_of
 from .errors import AtBlock
 from .place import Counts, Piece, Store
+from .repeats import first_repeated
 
 Lines = Tuple[bytes, int]
 """Lines of entries, and their number."""
@@ -32,7 +35,8 @@ MaskPiece = Tuple[Piece, bool, bool]
 def perform(find: Callable[[], Store], label: str, function: Callable[..., Any], args: Sequence[Any]) -> Any:
     """A task with the store that `find` gives; what comes in it names the block."""
     try:
-        return function(find(), *args)
+        with find().in_use() as store:
+            return function(store, *args)
     except AtBlock:
         raise
     except NotMade as fault:
@@ -51,6 +55,66 @@ def source(store: Store, text: bytes) -> Piece:
 def read(store: Store, path: str, digest: bytes) -> Piece:
     """A block from a file that holds its text. ValueError where the file has changed since it was written."""
     return source(store, pieces.got(path, digest))
+
+
+def stamp(store: Store, path: str) -> Optional[ranges.Stamp]:
+    """What tells a file apart that this worker sees."""
+    return ranges.stamp_of(path)
+
+
+def split_range(store: Store, part: ranges.Range, about: ranges.About, cut: cuts.Cut, path: str) -> List[Any]:
+    """The lines of a range of a file by blocks, in another file where a path is given; and last how many lines of the file they are."""
+    parts, lines = ranges.split(part, about, cut)
+    return [*(ranges.laid_out(parts, path) if path else parts), lines]
+
+
+def of_parts(store: Store, banner: bytes, shape: Tuple[int, int], parts: Sequence[ranges.Part]) -> Piece:
+    """A block from its lines in several ranges."""
+    text = cuts.text_of(*shape, [(part.text(), part.entries) for part in parts])
+    return source(store, banner + text[len(market.BANNER):])
+
+
+def read_edges(store: Store, source: Sequence[Any], kind: Any, bipartite: bool) -> Optional[edge_parts.EdgePart]:
+    """The edges of a part of a list."""
+    return edge_parts.read(kind(*source), bipartite)
+
+
+def names_of(store: Store, part: Optional[edge_parts.EdgePart]) -> Any:
+    """The names that stand in a part, whether its edges have values, and what was taken of it."""
+    return None if part is None else (part.names, part.values is not None, part.told)
+
+
+def edge_counts(store: Store, part: edge_parts.EdgePart, to: edge_parts.To, edges: Sequence[int]) -> Any:
+    """How many entries of a part lie in the rows from each edge to below the next."""
+    return edge_parts.row_counts(part, to, edges)
+
+
+def split_edges(store: Store, part: edge_parts.EdgePart, to: edge_parts.To, cut: cuts.Cut, path: str) -> List[ranges.Part]:
+    """The lines of each block out of a part, in a file where a path is given."""
+    parts = edge_parts.split(part, to, cut)
+    return ranges.laid_out(parts, path) if path else parts
+
+
+def of_edges(store: Store, bare: bool, shape: Tuple[int, int], parts: Sequence[ranges.Part], op: Optional[Operator], weighted: bool) -> Piece:
+    """A block from its lines in several parts. Edges that repeat are folded, or count once where they have no values."""
+    banner = market.PATTERN if bare else market.BANNER
+    try:
+        return of_parts(store, banner, shape, parts)
+    except TextRefused as fault:
+        if fault.rule != 'M8':
+            raise
+    columns = digits.fields(b''.join(part.text() for part in parts), range(2 if bare else 3), 2 if bare else 3)
+    rows, at, values = columns[0] - 1, columns[1] - 1, columns[2] if not bare else columns[0] * 0 + 1
+    triples = Triples(rows, at, values, *shape)
+    if op is not None:
+        return store.piece(store.session._from(triples, op))   # pylint: disable=protected-access  # which folds as one session does
+    if weighted:
+        again = first_repeated(triples)
+        assert again is not None
+        raise edge_parts.Repeated(int(rows[again]), int(at[again]))
+    import numpy
+    kept = numpy.unique(rows * max(shape[1], 1) + at, return_index=True)[1]
+    return source(store, market.write(Triples(rows[kept], at[kept], values[kept], *shape), ones=True))
 
 
 def write(store: Store, piece: Piece, path: str) -> bytes:
@@ -88,14 +152,26 @@ def job(store: Store, method: str, pieces: Sequence[Piece], mask: Optional[MaskP
     return store.piece(getattr(first, method)(*others, *args, **options))
 
 
-def product_onto(store: Store, sofar: Optional[Piece], a: Piece, b: Piece, way: Tuple[Semiring, bool], mask: Optional[MaskPiece]) -> Piece:
-    """The product of a block with one block of B, joined by ADD to what the blocks of B before it gave. Prices and steps are those
-    of all of them."""
-    ring, parts = way
-    terms = job(store, 'mxm', [a, b], mask, [ring], {'parts': parts})
-    if sofar is None:
-        return terms
-    joined = job(store, 'ewise_add', [sofar, terms], None, [ring.add], {})
+def given(store: Store, piece: Piece) -> Piece:
+    """A piece that has its text, for all who want it."""
+    return piece
+
+
+def pushed(store: Store, block: Piece, front: Vector, ring: Semiring) -> Vector:
+    """What comes to each vertex along the edges of a block that leave some vertices: the vertices, and a value for each."""
+    row = store.session.keep(Triples(zeros_like(front.at), front.at, front.values, 1, block.counts.nrows))
+    return vector_of(row.mxm(store.matrix(block), ring).to_text(), 1)
+
+
+def pulled(store: Store, block: Piece, front: Piece, ring: Semiring) -> Vector:
+    """What comes to the vertices whose rows of a transpose a block has: the vertices, and a value for each."""
+    return vector_of(store.matrix(block).mxm(store.matrix(front), ring).to_text(), 0)
+
+
+def sum_of(store: Store, sofar: Piece, terms: Piece, add: Operator) -> Piece:
+    """The terms of a product by one block of B, joined by ADD to what the blocks of B before it gave. Prices and steps are those of all of
+    them."""
+    joined = job(store, 'ewise_add', [sofar, terms], None, [add], {})
     three = (sofar.counts, terms.counts, joined.counts)
     joined.counts = joined.counts._replace(price=sum(c.price for c in three), steps=sum(c.steps for c in three))
     return joined
@@ -110,6 +186,13 @@ def assembled(store: Store, shape: Tuple[int, int], parts: Sequence[Lines]) -> P
     """A piece of lines, in their order. It has its text, and no session holds it before its first use."""
     text = cuts.text_of(*shape, parts)
     return Piece(Counts(*shape, sum(part[1] for part in parts)), text=text)
+
+
+def joined_vector(store: Store, blocks: Sequence[Piece]) -> Piece:
+    """The whole of a vector from its blocks."""
+    texts = [block.text() for block in blocks]
+    parts = [(text[market.head_of(text)[2]:], block.counts.nvals) for text, block in zip(texts, blocks)]
+    return assembled(store, blocks[0].counts[:2], parts).marked()
 
 
 def joined(store: Store, shape: Tuple[int, int], parts: Sequence[Lines]) -> Piece:
@@ -151,6 +234,10 @@ def pick(store: Store, many: Sequence[Any], at: int) -> Any:
 
 
 # -- what is told
+
+def done(store: Store, made: Any) -> None:
+    """Nothing, once a task is done."""
+
 
 def told(store: Store, piece: Piece) -> Counts:
     """The sizes, entries, price and steps of a piece."""
@@ -195,6 +282,26 @@ def scalars(store: Store, many: Sequence[Folded], op: Operator) -> Folded:
     return one.to_coo(arrays=False)[2][0], price + (one.price or 0), steps + (one.steps or 0)
 
 
+def check(store: Store, op: Operator) -> telling.Check:
+    """What the verifier says of an operator."""
+    return store.session.check(op)
+
+
+def dis(store: Store, op: Operator) -> str:
+    """An operator as assembly text."""
+    return store.session.dis(op)
+
+
+def types(store: Store, op: Operator) -> List[str]:
+    """What the verifier knows before each instruction of an operator."""
+    return store.session.types(op)
+
+
 def budget(store: Store) -> Tuple[str, Budget]:
     """This session's name, and what it has left, reserved and spent."""
-    return store.name, store.session.budget()
+    return store.name, store.budget()
+
+
+def priced(store: Store, function: Callable[..., Any], args: Sequence[Any], exact: bool) -> int:
+    """The price of the job that a task makes, or the most steps that it could take: the job isn't queued."""
+    return (price_of if exact else bound_of)(function, store, args)
