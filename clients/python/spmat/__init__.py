@@ -4,8 +4,8 @@
         A = s.from_triples([(0, 1, 5), (1, 2, 7)], 3, 3)
         print(A.mxm(A).to_triples())
 
-See `Session` and `Matrix`; `asm`, `code` and `c` make operators, `unary`, `binary`, `indexunary` and `semiring` hold the ready
-ones; `algorithms` has those of LAGraph, `draw` pictures; `errors` says what is raised.
+See `Session` and `Matrix`; `unary`, `binary` and `indexunary` make operators of functions and hold the ready ones, as `semiring`
+does; `asm`, `code` and `c` make operators of assembly text, code and C; `algorithms` has those of LAGraph, `draw` pictures; `errors` says what is raised.
 """
 from __future__ import annotations
 
@@ -15,13 +15,18 @@ from typing import TYPE_CHECKING, Any, Dict, List
 
 if TYPE_CHECKING:
     from . import algorithms, draw
-    from .compile import CompileError, c
-    from .errors import (BudgetExceeded, Busy, Closed, DimensionMismatch, DomainMismatch, NoThread, NotMade, OperatorRefused,
+    from .compile import c
+    from .errors import (BudgetExceeded, Busy, Closed, CompileError, DimensionMismatch, DomainMismatch, NoThread, NotMade, NotSettled,
+                         OperatorRefused,
                          OutOfMemory, ReadError, Refused, SpmatError, TextRefused, TooLarge)
     from .jobs import JobResult
+    from .looping import Loop, empty, loop, steady
     from .mask import Mask
     from .matrix import Matrix, bipartite
     from .operators import Operator, Semiring, asm, binary, code, indexunary, select, semiring, unary
+    from .operators.functions.operands import cdiv, cmod, rsh, udiv, ult, umod, where
+    from .operators.showing import code_of, explain
+    from .pricing import price
     from .rounds import fixpoint
     from .session import Budget, Session
 
@@ -33,21 +38,26 @@ def _version() -> str:
 
 
 __version__ = _version()
-__all__ = ['Budget', 'BudgetExceeded', 'Busy', 'Closed', 'CompileError', 'DimensionMismatch', 'DomainMismatch', 'JobResult', 'Mask',
-           'Matrix', 'NoThread', 'NotMade', 'Operator', 'OperatorRefused', 'OutOfMemory', 'ReadError', 'Refused', 'Semiring', 'Session',
-           'SpmatError', 'TextRefused', 'TooLarge', 'algorithms', 'asm', 'binary', 'bipartite', 'c', 'code', 'draw', 'fixpoint',
-           'indexunary', 'select', 'semiring', 'unary']
+__all__ = ['Budget', 'BudgetExceeded', 'Busy', 'Closed', 'CompileError', 'DimensionMismatch', 'DomainMismatch', 'JobResult', 'Loop',
+           'Mask', 'Matrix', 'NoThread', 'NotMade', 'NotSettled', 'Operator', 'OperatorRefused', 'OutOfMemory', 'ReadError',
+           'Refused', 'Semiring', 'Session', 'SpmatError', 'TextRefused', 'TooLarge', 'algorithms', 'asm', 'binary', 'bipartite',
+           'c', 'cdiv', 'cmod', 'code', 'code_of', 'draw', 'empty', 'explain', 'fixpoint', 'indexunary', 'loop', 'price', 'rsh',
+           'select', 'semiring', 'steady', 'udiv', 'ult', 'umod', 'unary', 'where']
 
 # Each name is imported when it is first asked for: networkx imports this package to ask for its backend's names, and a program
 # that makes a session doesn't wait for pictures.
 _PLACES: Dict[str, str] = {name: module for module, names in {
-    'compile': 'CompileError c',
-    'errors': 'BudgetExceeded Busy Closed DimensionMismatch DomainMismatch NoThread NotMade OperatorRefused OutOfMemory ReadError '
-              'Refused SpmatError TextRefused TooLarge',
+    'compile': 'c',
+    'errors': 'BudgetExceeded Busy Closed CompileError DimensionMismatch DomainMismatch NoThread NotMade NotSettled OperatorRefused '
+              'OutOfMemory ReadError Refused SpmatError TextRefused TooLarge',
     'jobs': 'JobResult',
+    'looping': 'Loop empty loop steady',
     'mask': 'Mask',
     'matrix': 'Matrix bipartite',
     'operators': 'Operator Semiring asm binary code indexunary select semiring unary',
+    'operators.functions.operands': 'cdiv cmod rsh udiv ult umod where',
+    'operators.showing': 'code_of explain',
+    'pricing': 'price',
     'rounds': 'fixpoint',
     'session': 'Budget Session'}.items() for name in names.split()}
 

@@ -3,23 +3,30 @@ from __future__ import annotations
 
 import itertools
 import operator
-from typing import Any, Dict, Iterator, List, NamedTuple, NoReturn, Optional, Sequence, Tuple
+from typing import Any, Callable, Dict, Iterator, List, NamedTuple, NoReturn, Optional, Sequence, Tuple
 
 from .convert import LEAST, MOST, checked, whole
 from .errors import refusal
 from .market import FEW, MOST_SIDE, Triples, find_numpy
 from .notes import Nodes, Notes
+from .values import Rounding, check_scale, scaled_one
 
 Neighbours = Dict[Any, Any]
 
 
-def triples_of(graph: Any, weight: Optional[str], nodelist: Optional[Sequence[Any]], folds: bool) -> Tuple[Triples, Notes]:
+class Asked(NamedTuple):
+    """What a caller asks beside: whether it folds parallel edges, and what weights are multiplied by before they are rounded."""
+    folds: bool = False
+    scale: Optional[float] = None
+
+
+def triples_of(graph: Any, weight: Optional[str], nodelist: Optional[Sequence[Any]], asked: Asked = Asked()) -> Tuple[Triples, Notes]:
     """The triples of a graph, and its nodes. Entry (i, j) is the edge from node i to node j; an undirected edge stands both ways, a
     loop once. Edges that leave `nodelist` are left out. Parallel edges are entries of one position where the caller folds them.
     TypeError where it is no graph, or the weight no attribute; ValueError names the edge with parallel ones, or with a weight that
     isn't whole."""
     if not hasattr(graph, 'adjacency') or not hasattr(graph, 'is_multigraph'):
-        raise TypeError('a graph of networkx is wanted, not %s' % type(graph).__name__)
+        raise TypeError('expected a graph of networkx, got %s' % type(graph).__name__)
     if callable(weight):
         raise TypeError('weight is the name of an edge attribute, or None for ones; what a function gives for each edge has to be put '
                         'into an attribute first: networkx.set_edge_attributes(G, values, "w"), and weight="w"')
@@ -27,10 +34,11 @@ def triples_of(graph: Any, weight: Optional[str], nodelist: Optional[Sequence[An
     nodes = Nodes(near if nodelist is None else nodelist)
     _check_nodes(nodes, near)
     blocks = _blocks(near, nodes, nodelist is not None)
-    rows = _one_by_one(blocks, nodes, folds) if graph.is_multigraph() else _each_once(blocks, weight is not None)
-    triples = _triples(rows, nodes, weight)
+    rows = _one_by_one(blocks, nodes, asked.folds) if graph.is_multigraph() else _each_once(blocks, weight is not None)
+    rounding = Rounding(asked.scale)
+    triples = _triples(rows, nodes, weight, rounding)
     weighted = weight is not None and any(weight in held for held in rows.held)
-    return triples, Notes(nodes, nodes, bool(graph.is_directed()), weighted)
+    return triples, Notes(nodes, nodes, bool(graph.is_directed()), weighted, str(rounding))
 
 
 class _Rows(NamedTuple):
@@ -82,11 +90,11 @@ def _one_by_one(blocks: List[Neighbours], nodes: Nodes, folds: bool) -> _Rows:
     return _Rows(counts, ends, held)
 
 
-def _triples(rows: _Rows, nodes: Nodes, weight: Optional[str]) -> Triples:
+def _triples(rows: _Rows, nodes: Nodes, weight: Optional[str], rounding: Rounding) -> Triples:
     numpy = find_numpy() if len(rows.ends) > FEW // 16 else None
     plain = all(type(node) is int for node in nodes) and nodes == list(range(len(nodes)))
     ends = rows.ends if plain else list(map(nodes.places.__getitem__, rows.ends))
-    values: Any = 1 if weight is None else _weights(rows, nodes, weight)
+    values: Any = 1 if weight is None else _weights(rows, nodes, weight, rounding)
     if numpy is None:
         firsts = [row for row, count in enumerate(rows.counts) for _ in range(count)]
         return checked(firsts, ends, values, len(nodes), len(nodes))
@@ -95,24 +103,26 @@ def _triples(rows: _Rows, nodes: Nodes, weight: Optional[str]) -> Triples:
     return checked(firsts, numpy.fromiter(ends, numpy.int64, len(ends)), values, len(nodes), len(nodes))
 
 
-def _weights(rows: _Rows, nodes: Nodes, weight: str) -> List[int]:
+def _weights(rows: _Rows, nodes: Nodes, weight: str, rounding: Rounding) -> List[int]:
     """The weights in whole numbers of 64 bits; an edge without one has 1."""
     found = [held.get(weight, 1) for held in rows.held]
+    if rounding.scale is not None:
+        return _each(found, rows, nodes, lambda value: scaled_one(value, check_scale(rounding.scale), rounding, 'weight'))
     try:
         values = list(map(operator.index, found))
     except TypeError:
-        values = _each(found, rows, nodes)
+        values = _each(found, rows, nodes, lambda value: whole(value, 'weight'))
     if values and not (LEAST <= min(values) and max(values) <= MOST):
         at = next(at for at, value in enumerate(values) if not LEAST <= value <= MOST)
         _wrong(ValueError('%d is not in -2^63 to 2^63 - 1' % values[at]), at, rows, nodes)
     return values
 
 
-def _each(found: List[Any], rows: _Rows, nodes: Nodes) -> List[int]:
+def _each(found: List[Any], rows: _Rows, nodes: Nodes, one: Callable[[Any], int]) -> List[int]:
     out = []
     for at, value in enumerate(found):
         try:
-            out.append(whole(value, 'weight'))
+            out.append(one(value))
         except (TypeError, ValueError) as fault:
             _wrong(fault, at, rows, nodes)
     return out

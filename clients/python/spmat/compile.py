@@ -1,7 +1,7 @@
 """Operators from C: clang compiles a function for BPF, and its code is cut out of the object file.
 
-clang 18 or above is wanted, for its `-mcpu=v4`: signed division and sign extension. What an operator can't be is refused here, in
-words, before a server sees it: see `c`.
+clang 14 or above is wanted. From 18 on its `-mcpu=v4` has signed division; before that `lowering` makes it of what `-mcpu=v3` has. What an
+operator can't be is refused here, in words, before a server sees it: see `c`.
 """
 from __future__ import annotations
 
@@ -14,11 +14,14 @@ import tempfile
 from dataclasses import dataclass, field
 from typing import List, NamedTuple, Optional, Tuple
 
-from .errors import SpmatError
+from . import lowering
+from .errors import CompileError as CompileError  # pylint: disable=useless-import-alias
 from .objects import Function, Malformed, ObjectFile, Types, lines
 from .operators import Operator
 
-OLDEST, NEWEST = 18, 29
+OLDEST, NEWEST = 14, 29
+SIGNED = 18                                        # from this clang on its code divides with signs
+ROUNDS = 3                                         # so often an older one's text is made to do without
 PREFACE = ('typedef signed char int8_t; typedef short int16_t; typedef int int32_t; typedef long int64_t; '
            'typedef unsigned char uint8_t; typedef unsigned short uint16_t; typedef unsigned uint32_t; '
            'typedef unsigned long uint64_t;\n'
@@ -27,29 +30,24 @@ PREFACE = ('typedef signed char int8_t; typedef short int16_t; typedef int int32
 # What C leaves undefined and clang would compile into something is an error; so is a function that nobody declared.
 ERRORS = ('return-type', 'uninitialized', 'sometimes-uninitialized', 'division-by-zero', 'shift-count-overflow',
           'shift-count-negative', 'array-bounds', 'implicit-function-declaration')
-FLAGS = (['--target=bpfel', '-O2', '-mcpu=v4', '-g', '-ffreestanding', '-fno-jump-tables', '-fwrapv', '-fno-crash-diagnostics',
+FLAGS = (['--target=bpfel', '-O2', '-g', '-ffreestanding', '-fno-jump-tables', '-fwrapv', '-fno-crash-diagnostics',
           '-fno-color-diagnostics', '-Wno-everything'] + ['-Werror=' + name for name in ERRORS])
 KINDS = {1: 'unary', 2: 'binary', 4: 'index'}
 GET = 'On Debian: apt-get install clang-19. The variable SPMAT_CLANG names one that is not on the PATH.'
 HINTS = (
     ("built-in function '__(mul|div|mod|udiv|umod)ti", '128-bit numbers have no code here: split the words, or use 64 bits. '
      'clang makes one of a loop that it adds up by a formula: give the loop a constant count'),
-    ('unable to allocate function return|only small returns|aggregate returns', 'the result has to be one number of 64 bits'),
+    ('unable to allocate function return|only small returns|aggregate returns|StructRet', 'the result has to be one number of 64 bits'),
     ("built-in function '__", 'floating point has no code here: scale to whole numbers (fixed point)'),
     ('stack arguments are not supported|too many arg', 'an operator has 1, 2 or 4 parameters'),
-    ('stack limit is exceeded', 'an operator has 512 bytes of stack: no larger arrays'),
+    ('stack limit( of [0-9]+ bytes)? is exceeded', 'an operator has 512 bytes of stack: no larger arrays'),
     ('file not found', 'there is no C library for operators, so no <stdlib.h> and the like: <stdint.h>, <stddef.h>, <stdbool.h> and '
      '<limits.h> are there'),
     ('dynamic stack allocation', 'the size of an array has to be a constant'),
     ('implicit-function-declaration', 'an operator calls nothing outside itself: define the function above it, `static inline`'),
     ('-Wreturn-type', 'end each way through the function with `return`'),
     ('No available targets|[Uu]nknown target|unable to create target', 'this clang has no BPF target. ' + GET),
-    ('-mcpu|unknown target CPU', 'a clang of %d or above knows -mcpu=v4. %s' % (OLDEST, GET)),
 )
-
-
-class CompileError(SpmatError):
-    """An operator from C that no server was asked about: clang refused it, or it can't be an operator; the words say what to do."""
 
 
 class Compiler(NamedTuple):
@@ -60,7 +58,7 @@ class Compiler(NamedTuple):
 def find(path: Optional[str] = None) -> Compiler:
     """The clang that is used: `path`, or the variable SPMAT_CLANG, or the newest `clang-NN` on the PATH, or `clang`.
 
-    Raises CompileError where there is none, or one older than 18.
+    Raises CompileError where there is none, or one older than 14.
     """
     given = path or os.environ.get('SPMAT_CLANG')
     for name in [given] if given else ['clang-%d' % number for number in range(NEWEST, OLDEST - 1, -1)] + ['clang']:
@@ -68,7 +66,7 @@ def find(path: Optional[str] = None) -> Compiler:
         if found:
             version = _version(found)
             if version < OLDEST:
-                raise CompileError('%s is clang %d: operators from C want clang %d or above (signed division). %s'
+                raise CompileError('%s is clang %d: operators from C want clang %d or above. %s'
                                    % (found, version, OLDEST, GET))
             return Compiler(found, version)
     raise CompileError('%s: operators from C want clang %d or above. %s'
@@ -89,15 +87,46 @@ def _version(path: str) -> int:
 def compiled(source: str, compiler: Compiler) -> bytes:
     """The object file of a source. Raises CompileError with clang's own words, and a hint where one is known."""
     with tempfile.TemporaryDirectory(prefix='spmat-c-') as folder:
-        written, made = os.path.join(folder, 'operator.c'), os.path.join(folder, 'operator.o')
+        written = os.path.join(folder, 'operator.c')
         with open(written, 'w', encoding='utf-8') as file:
-            file.write(PREFACE + '#line 1 "operator.c"\n' + source + '\n')
-        done = subprocess.run([compiler.path] + FLAGS + ['-c', written, '-o', made], stdout=subprocess.PIPE, stderr=subprocess.PIPE,
-                              universal_newlines=True, errors='replace', check=False)
-        if done.returncode:
-            raise CompileError(_words(done.stderr))
+            file.write((PREFACE if compiler.version >= SIGNED else PREFACE + lowering.HELPERS) + '#line 1 "operator.c"\n' + source + '\n')
+        if compiler.version >= SIGNED:
+            made = _run(compiler, ['-mcpu=v4', '-c', written], folder, 'operator.o')
+        else:
+            made = _without_signs(compiler, written, folder)
         with open(made, 'rb') as object_file:
             return object_file.read()
+
+
+def _run(compiler: Compiler, words: List[str], folder: str, name: str) -> str:
+    """Runs clang, which makes a file of this name in the folder; its path."""
+    made = os.path.join(folder, name)
+    done = subprocess.run([compiler.path] + FLAGS + words + ['-o', made], stdout=subprocess.PIPE, stderr=subprocess.PIPE,
+                          universal_newlines=True, errors='replace', check=False)
+    if done.returncode:
+        raise CompileError(_words(done.stderr))
+    return made
+
+
+def _without_signs(compiler: Compiler, source: str, folder: str) -> str:
+    """The object file that an older clang makes: its optimised text is lowered until all of it has code."""
+    path = source
+    for turn in range(ROUNDS):
+        path = _run(compiler, ['-mcpu=v3', '-S', '-emit-llvm', path], folder, 'operator.%d.ll' % turn)
+        with open(path, encoding='utf-8') as file:
+            text = file.read()
+        if not lowering.wanted(text):
+            break
+        with open(path, 'w', encoding='utf-8') as file:
+            file.write(lowering.lowered(text))
+    try:
+        lowering.check(text)
+    except lowering.Unmade as left:
+        raise CompileError('clang %d has no code for %s%s: write it otherwise, or take clang %d or above. %s' % (
+            compiler.version, left.what, ' (line %d)' % left.line if left.line else '', SIGNED, GET)) from None
+    with open(path, 'w', encoding='utf-8') as file:
+        file.write(lowering.finished(text))
+    return _run(compiler, ['-mcpu=v3', '-Xclang', '-disable-llvm-passes', '-c', path], folder, 'operator.o')
 
 
 def _words(said: str) -> str:
@@ -129,6 +158,9 @@ class FromC(Operator):
 
     def line_at(self, rule: str, at: int) -> str:
         return (self.line_of(at) if rule.startswith('V') else '') or super().line_at(rule, at)
+
+    def origin(self) -> Tuple[str, str]:
+        return 'C', '\n'.join(self.source)
 
     def where(self, slot: int) -> str:
         return ' (%s)' % self.line_of(slot) if self.line_of(slot) else ''
@@ -190,7 +222,7 @@ def _look(operator: FromC, outside: List[Tuple[int, str]]) -> None:
 
 
 def c(source: str, name: Optional[str] = None, *, clang: Optional[str] = None) -> Operator:
-    """An operator from C, compiled by clang 18 or above: `spmat.c("int64_t gap(int64_t x, int64_t y) { return x > y ? x - y : 0;
+    """An operator from C, compiled by clang 14 or above: `spmat.c("int64_t gap(int64_t x, int64_t y) { return x > y ? x - y : 0;
     }")`.
 
     The function's operands and result are `int64_t` or `uint64_t` (both are there without an `#include`). One of one parameter is
@@ -203,8 +235,16 @@ def c(source: str, name: Optional[str] = None, *, clang: Optional[str] = None) -
     or a table; a loop that was left. A server may refuse the rest, as OperatorRefused: an array that is indexed by a variable
     (V13), a stack byte that isn't set (V16).
     """
+    if not isinstance(source, str):
+        raise TypeError('expected the text of a function in C, got %s%s' % (type(source).__name__, ' (spmat.unary, binary and indexunary '
+                        'take operators written in Python)' if callable(source) else ''))
+    return operator_of(compiled(source, find(clang)), source, name)
+
+
+def operator_of(made: bytes, source: str, name: Optional[str] = None) -> Operator:
+    """The operator of a function in the object file that clang made of a source. CompileError where it can't be one."""
     try:
-        object_file = ObjectFile(compiled(source, find(clang)))
+        object_file = ObjectFile(made)
         types = Types(object_file.section('.BTF'))
         function = _chosen(object_file, name)
         kind = _kind(function.name, types)

@@ -67,9 +67,16 @@ def whole(number: Any, what: str = 'value') -> int:
     return int(number)
 
 
+def whole_of_word(word: str) -> int:
+    """A whole number as a word, also 1e9. ValueError for anything else."""
+    return int(word) if word.strip().lstrip('+-').isdigit() else whole(float(word), 'number')
+
+
 def _mend(what: str) -> str:
     """What to do about numbers that aren't whole: of indices nothing."""
-    return ': scale it first' if what in ('value', 'weight', 'thunk', 'fill') else ''
+    if what in ('value', 'weight'):
+        return ': scale=1000 takes thousandths'
+    return ': scale it first' if what in ('thunk', 'fill') else ''
 
 
 def word(number: Any, what: str) -> int:
@@ -132,7 +139,7 @@ def whole_array(many: Any, what: str) -> Any:
             many = numpy.array(whole_list(many, what), object)
     array = numpy.asarray(many)
     if array.ndim != 1:
-        raise ValueError('one dimension of %ss is wanted, not %d' % (what, array.ndim))
+        raise ValueError('expected one dimension of %ss, got %d' % (what, array.ndim))
     if array.dtype.kind == 'O' or not len(array):
         return numpy.array([word(number, what) for number in array.tolist()], numpy.int64)
     if array.dtype.kind not in 'biuf':
@@ -156,7 +163,7 @@ def from_dense(rows: Any, missing: Any = None) -> Triples:
         import numpy
         table = rows.reshape(-1, 1) if rows.ndim == 1 else rows
         if table.ndim != 2:
-            raise ValueError('one or two dimensions are wanted, not %d' % table.ndim)
+            raise ValueError('expected one or two dimensions, got %d' % table.ndim)
         at = numpy.nonzero(numpy.ones(table.shape, bool) if missing is None else table != missing)
         return checked(at[0], at[1], table[at], *table.shape)
     table = [list(row) if _is_many(row) else [row] for row in rows]
@@ -182,21 +189,22 @@ def full(nrows: int, ncols: int, value: int) -> Triples:
     return checked([k // ncols for k in at], [k % ncols for k in at], value, nrows, ncols)
 
 
-def from_scipy(matrix: Any) -> Triples:
-    """The triples of a scipy.sparse matrix or array; entries of one position are added up, as scipy has it."""
+def from_scipy(matrix: Any) -> Tuple[Any, Any, Any, Tuple[int, int]]:
+    """Rows, columns, values and shape of a scipy.sparse matrix or array; entries of one position are added up, as scipy has it."""
     if not hasattr(matrix, 'tocoo'):
-        raise TypeError('a matrix of scipy.sparse is wanted, not %s: from_dense takes tables' % type(matrix).__name__)
+        raise TypeError('expected a matrix of scipy.sparse, got %s: from_dense takes tables' % type(matrix).__name__)
     if len(matrix.shape) != 2:
-        raise ValueError('two dimensions are wanted, not %d' % len(matrix.shape))
+        raise ValueError('expected two dimensions, got %d' % len(matrix.shape))
     coo = matrix.tocoo(copy=True)
     coo.sum_duplicates()
-    return checked(coo.row, coo.col, coo.data, *coo.shape)
+    return coo.row, coo.col, coo.data, coo.shape
 
 
-def repeated(triples: Triples, at: int) -> Refused:
-    """The refusal (M8) of entry `at` of triples, whose position an earlier one has."""
+def repeated(triples: Triples, at: int, symmetric: bool = False) -> Refused:
+    """The refusal (M8) of entry `at` of triples, whose position an earlier one has; or, where they are `symmetric`, its mirror."""
     i, j = int(triples.rows[at]), int(triples.columns[at])
-    first = next(k for k, place in enumerate(zip(triples.rows, triples.columns)) if place == (i, j))
+    places = ((i, j), (j, i)) if symmetric else ((i, j),)
+    first = next(k for k, place in enumerate(zip(triples.rows, triples.columns)) if place in places)
     return refusal('M8', detail='row %d, column %d is given as entry %d and as entry %d; %s' % (i, j, first, at, DUP_OP))
 
 
@@ -223,20 +231,23 @@ def unrepeated(triples: Triples, fold: Fold) -> Triples:
 
 
 def _unrepeated_arrays(triples: Triples, fold: Fold) -> Triples:
+    """The same of arrays: those that stand alone as they come, and behind them those that are folded."""
     import numpy
     key = triples.rows * max(triples.ncols, 1) + triples.columns
-    order = numpy.argsort(key, kind='stable')
-    rows, columns, values, key = triples.rows[order], triples.columns[order], triples.values[order], key[order]
-    first = numpy.ones(len(key), bool)
-    first[1:] = key[1:] != key[:-1]
-    starts = numpy.flatnonzero(first)
-    if len(starts) == len(key):
+    ordered = numpy.sort(key)
+    again = numpy.unique(ordered[1:][ordered[1:] == ordered[:-1]])
+    if not len(again):
         return triples
-    lengths = numpy.diff(numpy.append(starts, len(key)))
-    many = numpy.flatnonzero(lengths > 1)
-    repeated = numpy.repeat(lengths > 1, lengths)
-    row = numpy.repeat(numpy.arange(len(many)), lengths[many])
-    column = (numpy.arange(len(key)) - numpy.repeat(starts, lengths))[repeated]
-    kept = values[starts]
-    kept[many] = fold(Triples(row, column, values[repeated], len(many), int(lengths.max())))
-    return Triples(rows[starts], columns[starts], kept, triples.nrows, triples.ncols)
+    place = numpy.minimum(numpy.searchsorted(again, key), len(again) - 1)
+    alone = again[place] != key
+    at = numpy.flatnonzero(~alone)
+    at = at[numpy.argsort(place[at], kind='stable')]
+    row = place[at]
+    starts = numpy.flatnonzero(numpy.append(True, row[1:] != row[:-1]))
+    lengths = numpy.diff(numpy.append(starts, len(row)))
+    column = numpy.arange(len(row)) - numpy.repeat(starts, lengths)
+    folded = fold(Triples(row, column, triples.values[at], len(again), int(lengths.max())))
+    first = at[starts]
+    rows, columns, values = (numpy.concatenate(both) for both in (
+        (triples.rows[alone], triples.rows[first]), (triples.columns[alone], triples.columns[first]), (triples.values[alone], folded)))
+    return Triples(rows, columns, values, triples.nrows, triples.ncols)

@@ -9,8 +9,8 @@
             TextRefused          mend the matrix text (M1 to M12)
             TooLarge             cut the work into parts (M4, S7, J7, J8)
             DimensionMismatch    shapes don't fit (J5, J9)
-            DomainMismatch       an operator of another kind is wanted (J4)
-            BudgetExceeded       more steps are wanted than are left (S8)
+            DomainMismatch       the operator is of another kind than expected (J4)
+            BudgetExceeded       the job needs more steps than are left (S8)
             OutOfMemory          the server has too little memory
             NoThread             the server could start too few threads; fewer workers may do
             Busy                 the server has as many sessions as it serves; try later
@@ -24,20 +24,19 @@ from typing import Any, Callable, Dict, Optional, Sequence, Tuple, Type
 
 SENTENCES: Dict[str, str] = {
     'S1': "unknown command: the first word is no command's, whatever follows it",
-    'S2': 'a wrong number of words, a KIND, LEN or THUNK that is malformed or out of range, or another word where mask has to '
-          'stand',
+    'S2': 'a wrong number of words, a malformed or out-of-range KIND, LEN or THUNK, or another word where mask was expected',
     'S3': 'a name that is not 1 to 32 letters, digits or underscores',
-    'S4': 'the name of an operand, of an operator or of the mask stands for nothing',
-    'S5': 'the input ends in a body',
+    'S4': 'the name of an operand, an operator or the mask is not bound',
+    'S5': 'the input ends within a body',
     'S6': 'a line too long',
     'S7': 'LEN above 268,435,456 for matrix, above 262,144 for asm and op',
     'S8': 'fewer steps are left than the price',
     'S9': 'a body of op that is not an even number of hexadecimal digits',
     'A1': 'a line of over 1,024 bytes, comment included, LF and CR not counted',
     'A2': 'unknown mnemonic',
-    'A3': 'too few or too many operands, or one that is no register or no number where that is wanted',
+    'A3': 'too few or too many operands, or one of the wrong form: expected a register, or a number',
     'A4': 'r with digits that is none of r0 to r10',
-    'A5': 'a number outside its field',
+    'A5': 'a number out of range for its field',
     'A6': 'more than 4,096 slots, at the line that passes them; no instruction at all, at the number of lines plus 1',
     'V1': 'the length is 0, no multiple of 8, or over 4,096 slots (looked at first)',
     'V2': 'unknown opcode',
@@ -51,8 +50,8 @@ SENTENCES: Dict[str, str] = {
     'V10': 'the last instruction is no EXIT',
     'V11': 'a register is read that some path leaves unset',
     'V12': 'a register is read that two paths set differently: to a number and a place in the stack, or to two places',
-    'V13': 'a place in the stack where a number is wanted',
-    'V14': 'a number where a place in the stack is wanted',
+    'V13': 'expected a number, found a place in the stack',
+    'V14': 'expected a place in the stack, found a number',
     'V15': 'an access, or a moved place, outside the stack',
     'V16': "a load of a byte that some path hasn't stored",
     'M1': "line 1 is missing, doesn't have five words, or its first isn't %%MatrixMarket in this case",
@@ -79,6 +78,7 @@ SENTENCES: Dict[str, str] = {
     'busy': 'the server has as many sessions as it serves',
 }
 
+MORE_STEPS = 'open a session with more steps, and other.adopt(G) takes a matrix there'
 MENDS: Dict[str, str] = {
     'V7': 'jump forward, and write a loop out',
     'V8': 'count from the slot after the jump, two slots for a wide',
@@ -125,10 +125,21 @@ class NotMade(SpmatError):
     """This matrix is the result of a job whose run was refused, so it never came to be. The refusal is the cause."""
 
 
+class CompileError(SpmatError):
+    """An operator from Python or C that no server was asked about: it can't be an operator, or clang refused it; the words say what to
+    do."""
+
+
+class NotSettled(RuntimeError):
+    """More rounds than there can be, or than were allowed."""
+
+
 class Refused(SpmatError):
     """A refusal: `.rule` as the documents name it ('J5'; 'memory', 'thread', 'busy'), `.sentence` in words, `.at` the line (M and
     A rules) or slot (V rules) or None, `.line` what stands there, `.command` the command's line, `.numbers` all numbers of the
-    reply."""
+    reply; of a loop `.round` the round that it came in."""
+
+    round: Optional[int] = None
 
     def __init__(self, rule: str, numbers: Sequence[int] = (), command: str = '', line: str = '', detail: str = '') -> None:
         self.rule, self.numbers, self.command, self.line, self.detail = rule, tuple(numbers), command, line, detail
@@ -141,6 +152,8 @@ class Refused(SpmatError):
 
     def _message(self) -> str:
         text = '%s: %s' % (self.rule, self.said or self.sentence)
+        if self.rule in ('memory', 'thread') and self.numbers:
+            text = text.replace('so many steps', '%d steps' % self.numbers[0])
         if self.at is not None:
             text += ', %s %d' % ('slot' if self.rule.startswith('V') else 'line', self.at)
             text += ' of ' + self.file if self.file else ''
@@ -201,6 +214,10 @@ class DomainMismatch(Refused, TypeError):
 
 
 class _Spent(Refused):
+    def __init__(self, rule: str, numbers: Sequence[int] = (), command: str = '', line: str = '', detail: str = '') -> None:
+        spent = '%s steps were spent' % format(numbers[0], ',') if numbers else ''
+        super().__init__(rule, numbers, command, line, detail or spent)
+
     @property
     def spent(self) -> Optional[int]:
         """The steps that a refused run took, or None where another command was refused."""
@@ -220,15 +237,46 @@ class Busy(Refused):
 
 
 class BudgetExceeded(Refused):
-    """A job's price is above what is left, also after the queue was run."""
+    """A job's price is above what is left, also after the queue was run. `algorithm` is the function of `spmat.algorithms` that wants it, or
+    empty."""
+
+    algorithm = ''
 
     def __init__(self, rule: str, numbers: Sequence[int] = (), command: str = '', line: str = '', detail: str = '') -> None:
         detail = detail or ('the price is %d, and %d are left' % tuple(numbers[:2]) if len(numbers) >= 2 else '')
         super().__init__(rule, numbers, command, line, detail)
 
+    def of_algorithm(self, name: str) -> 'BudgetExceeded':
+        """This refusal, of a job of an algorithm, with what can be done."""
+        wanted = ('%s wants a job of up to %s steps' % (name, format(self.price, ',')) if name else 'the price is %d' % self.price)
+        out = type(self)(self.rule, self.numbers, self.command, self.line, '%s, and %d are left: %s; spmat.price(lambda: ..) tells '
+                         'beforehand what a call takes' % (wanted, self.left, MORE_STEPS))
+        out.algorithm = name
+        return out
+
+    def of_call(self, name: str) -> 'BudgetExceeded':
+        """This refusal, of a whole call of an algorithm before any of its jobs, with what can be done."""
+        out = type(self)(self.rule, self.numbers, self.command, self.line, '%s needs at least %s steps, and %s are left; none of its jobs was '
+                         'sent: %s' % (name, format(self.needed, ','), format(self.left, ','), MORE_STEPS))
+        out.algorithm, out.said = name, 'fewer steps are left than the call needs'
+        out.args = (out._message(),)               # pylint: disable=protected-access  # of the same class
+        return out
+
+    def by(self, way: str) -> 'BudgetExceeded':
+        """This refusal, with another way to more steps."""
+        out = type(self)(self.rule, self.numbers, self.command, self.line, self.detail.replace(MORE_STEPS, way))
+        out.algorithm, out.said = self.algorithm, self.said
+        out.args = (out._message(),)               # pylint: disable=protected-access  # of the same class
+        return out
+
     @property
     def price(self) -> int:
-        """The most steps that the job can take."""
+        """The most steps that the job can take; of a call that was refused before its first job, those that it takes at the least."""
+        return self.numbers[0]
+
+    @property
+    def needed(self) -> int:
+        """The steps that have to be left, at the least: `price`."""
         return self.numbers[0]
 
     @property

@@ -6,12 +6,10 @@ the server would (TextRefused, which is a ValueError), with the line of the file
 """
 from __future__ import annotations
 
-import bz2
 import decimal
-import gzip
-import os
-from typing import Any, Callable, Dict, Iterator, List, NamedTuple, Optional, Tuple
+from typing import Any, Dict, Iterator, List, NamedTuple, Optional, Tuple
 
+from . import packed
 from .convert import LEAST
 from .errors import Refused, refusal
 from .market import FEW, MOST_SIDE, Triples, find_numpy, is_array, line_at
@@ -21,10 +19,9 @@ from .values import NOT_WHOLE, check_scale, scaled_array, whole_of
 FIELDS = {'integer': 'integer', 'unsigned-integer': 'integer', 'pattern': 'pattern', 'real': 'real', 'double': 'real',
           'complex': 'complex'}
 SYMMETRIES = ('general', 'symmetric', 'skew-symmetric')
-_OPENERS: Dict[str, Callable[..., Any]] = {'.gz': gzip.open, '.bz2': bz2.open}
-ENDINGS = tuple(_OPENERS)
 _DIGITS = b'+-0123456789 \t\r\n'
 NO_MARKET = 'this is no Matrix Market file, which begins with %%MatrixMarket: read_graph reads edge lists, CSV, TSV and DIMACS too'
+ENDINGS, load = packed.ENDINGS, packed.load         # a file, also packed
 COMMAND = 'mmread'                                 # what refusals of a file name as their command
 
 
@@ -51,23 +48,6 @@ class Kind(NamedTuple):
     def notes(self) -> Notes:
         """What is known of the matrix."""
         return Notes(directed=False if self.symmetry == 'symmetric' else None, weighted=self.field != 'pattern' and self.values.read)
-
-
-def load(source: Any) -> bytes:
-    """The bytes of a path (also .gz and .bz2) or of a file opened in binary, without a byte-order mark."""
-    if hasattr(source, 'read'):
-        text = source.read()
-        if isinstance(text, str):
-            raise TypeError('open the file in binary: open(path, "rb")')
-    else:
-        with opener_of(source)(source, 'rb') as file:
-            text = file.read()
-    return bytes(text[3:] if text[:3] == b'\xef\xbb\xbf' else text)
-
-
-def opener_of(path: Any) -> Callable[..., Any]:
-    """What opens a path by its ending, as `open` does."""
-    return _OPENERS.get(os.path.splitext(os.fspath(path))[1], open)
 
 
 def is_plain(text: bytes) -> bool:

@@ -1,7 +1,8 @@
 """What a notebook shows of matrices, operators, budgets and runs: HTML without scripts, which `_repr_html_` gives.
 
-A matrix that waits is not run for it. Up to 50,000 entries come to the client; of more the server is asked for the corner and counts the
-raster (3 jobs, 2 runs), and where the budget refuses that, the sizes alone are shown. Matrices in row blocks are in `blocks.showing`.
+A matrix that waits is run for it, at the price that its job has reserved. Up to 50,000 entries come to the client; of more the server is asked
+for the corner and counts the raster (3 jobs, 2 runs), and where the budget refuses that, the sizes alone are shown. Matrices in row blocks
+are in `blocks.showing`.
 """
 from __future__ import annotations
 
@@ -13,8 +14,10 @@ from .errors import SpmatError
 
 if TYPE_CHECKING:
     from .jobs import Budget, JobResult
+    from .mask import Mask
     from .matrix import Matrix
-    from .operators import Operator
+    from .operators import Operator, Semiring
+    from .operators.showing import Listing
     from .operators.telling import Check
     from .results import Held
 
@@ -47,8 +50,6 @@ def table(heads: Sequence[Any], rows: Sequence[Sequence[Any]]) -> str:
 def matrix(shown: 'Matrix') -> str:
     """A matrix: its sizes and entries, what is known of it, a corner with values, and where its entries are."""
     about = [sizes(shown)]
-    if shown.waits:
-        return headed('Matrix', about + ['queued: what needs it runs it'], '')
     try:
         about.append('%s entries' % format(shown.nvals, ','))
     except SpmatError as fault:
@@ -59,6 +60,39 @@ def matrix(shown: 'Matrix') -> str:
     except SpmatError as fault:
         return headed('Matrix', about, '<div>%s</div>' % text_of(fault))
     return headed('Matrix', about, beside(corner(shown, found.corner), raster(shown.shape, found.raster)))
+
+
+def mask(shown: 'Mask') -> str:
+    """A mask: of which matrix, where a result may have entries, and that in the corner."""
+    of = shown.matrix
+    told = 'no entry' if shown.complement else 'an entry'
+    if shown.value:
+        told = 'no entry, or 0' if shown.complement else 'an entry that isn\'t 0'
+    about = [sizes(of), 'where %s has %s' % (text_of(of.name) if of.in_one_place else 'the matrix', told)]
+    if not of.in_one_place:
+        return headed('Mask', about, '')
+    try:
+        found = few(of) if of.nvals <= FEW else many(of)
+    except SpmatError as fault:
+        return headed('Mask', about, '<div>%s</div>' % text_of(fault))
+    cells = [(i, j) for i in range(min(CORNER, of.nrows)) for j in range(min(CORNER, of.ncols))]
+    open_ = {at: 1 for at in cells if (at in found.corner and not (shown.value and found.corner[at] == 0)) != shown.complement}
+    # the raster is that of the matrix, so beside a complement it would show the contrary
+    parts = [corner(of, open_)] + ([] if shown.complement else [raster(of.shape, found.raster)])
+    return headed('Mask', about, beside(*parts))
+
+
+def semiring(shown: 'Semiring') -> str:
+    """A semiring: its two operators, with their instructions."""
+    rows = [[part, op.name or 'of its own', ' ; '.join(line for _, line in op.slots()) if op.text is not None else '%d slots of code'
+             % (len(op.code or b'') // 8)] for part, op in (('add', shown.add), ('mul', shown.mul))]
+    return '<div><b>Semiring</b> %s%s</div>' % (text_of('%s_%s' % (shown.add.name or '?', shown.mul.name or '?')),
+                                                table(['', 'operator', 'instructions'], rows))
+
+
+def semirings(uses: Dict[str, str]) -> str:
+    """What semirings there are, and some of them with what they are for."""
+    return '<div><b>Semirings</b> of any two binary operators, joined by _%s</div>' % table(['', 'what a product tells'], list(uses.items()))
 
 
 def sizes(shown: 'Held') -> str:
@@ -139,10 +173,27 @@ def raster(shape: Tuple[int, int], counts: Cells) -> str:
 
 
 def operator(op: 'Operator') -> str:
-    """An operator that no server was asked about: its kind, name and text."""
-    text = op.text if op.text is not None else (op.code or b'').hex(' ', 8)
-    return '<div><b>%s operator</b> %s<pre style="margin:4px 0">%s</pre></div>' % (text_of(op.kind), text_of(op.name or ''),
-                                                                                text_of(text.strip('\n')))
+    """An operator that no server was asked about: its source beside its instructions."""
+    from .operators import showing
+    shown = showing.shown(op)
+    if shown is not None:
+        return listing(shown)
+    return '<div><b>%s operator</b> %s%s</div>' % (text_of(op.kind), text_of(op.name or ''), code(op.origin()[1]))
+
+
+def code(text: str) -> str:
+    """Lines of a program."""
+    return '<pre style="margin:4px 0;text-align:left">%s</pre>' % text_of(text.strip('\n'))
+
+
+def listing(shown: 'Listing') -> str:
+    """An operator's source beside its instructions, with what is known of the registers before each."""
+    from .operators import showing
+    heads, *rows = shown.columns()
+    known = '<div>%s%s</div>' % (table(heads, rows), '<small>%s</small>' % text_of(showing.KNOWN))
+    about = '%s<div style="color:#1f4e79">%s</div>' % (beside(code(shown.source), known), text_of(showing.steps(shown.operator)))
+    return '<div><b>%s operator</b> %s <small>from %s</small>%s</div>' % (
+        text_of(shown.operator.kind), text_of(shown.operator.name or ''), text_of(shown.language), about)
 
 
 def check(found: 'Check') -> str:

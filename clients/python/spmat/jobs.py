@@ -98,7 +98,7 @@ class Job:
 
 class Queue:
     """Jobs that wait to be run, sent or not, and runs that wait to be sent. `left` is what the budget has for sure: all of it where
-    nobody shares it."""
+    nobody shares it. `ceiling` is what it can have at most, were all prices settled with nothing."""
 
     def __init__(self, outbox: Outbox, names: Names, shared: bool) -> None:
         self._outbox, self._names, self._shared = outbox, names, shared
@@ -106,11 +106,15 @@ class Queue:
         self._running: Deque[List[Job]] = collections.deque()      # in the order in which they will be answered
         self._results = Run()
         self._unknown = 0                          # entries, at most, of results that aren't known yet
-        self.left = 0
+        self.left = self.ceiling = 0
         self.runs = 0
 
     def __len__(self) -> int:
         return len(self._waiting)
+
+    def note_budget(self, left: int, reserved: int) -> None:
+        """What the server says of the budget, whoever reserved it. What is spent doesn't come back."""
+        self.left, self.ceiling = left, left + reserved
 
     @property
     def running(self) -> int:
@@ -200,6 +204,7 @@ class Queue:
             nrows, _, entries, steps = map(int, line.split()[1:5])
             assert job.price is not None
             self.left += job.price - steps
+            self.ceiling -= steps
             self._names.bound(job.name, nrows, entries)
             matrix = job.matrix()
             if matrix is not None and job.cause is None:

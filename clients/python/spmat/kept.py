@@ -13,25 +13,10 @@ if TYPE_CHECKING:
     from .session import Session
 
 
-class Kept(Matrix):
-    """A matrix whose entries the client has, by ascending row and column. It has all of `Matrix`. Reading it asks nothing of the
-    server, and it is sent at its first use in a job, once."""
+class Entries:
+    """What a matrix answers whose entries the client has."""
 
-    def __init__(self, session: 'Session', entries: Triples) -> None:
-        self._entries, self._sent = entries, ''
-        super().__init__(session, '', entries.nrows, entries.ncols, len(entries.rows), name='of the client')
-
-    @property
-    def _key(self) -> str:
-        """The name that the server has it under: it is sent where it wasn't."""
-        if not self._sent:
-            self._sent = self.session._send(self, self._entries)
-            self.session._hold(self)
-        return self._sent
-
-    @_key.setter
-    def _key(self, key: str) -> None:
-        self._sent = key
+    _entries: Triples
 
     def to_text(self) -> bytes:
         """The canonical Matrix Market text, by the client."""
@@ -62,3 +47,26 @@ class Kept(Matrix):
         """{(row, column): value}."""
         rows, columns, values = self._lists()[:3]
         return dict(zip(zip(rows, columns), values))
+
+
+class Kept(Entries, Matrix):
+    """A matrix whose entries the client has, by ascending row and column. It has all of `Matrix`. Reading it asks nothing of the
+    server, and it is sent at its first use in a job, once."""
+
+    is_named = False                               # its name says what it is
+
+    def __init__(self, session: 'Session', entries: Triples) -> None:
+        self._entries, self._sent = entries, ''
+        super().__init__(session, '', entries.nrows, entries.ncols, len(entries.rows), name='of the client')
+
+    @property
+    def _key(self) -> str:
+        """The name that the server has it under: it is sent where it wasn't."""
+        if not self._sent:
+            self._sent = self.session._send(self, self._entries)
+            self.session._hold(self)
+        return self._sent
+
+    @_key.setter
+    def _key(self, key: str) -> None:
+        self._sent = key

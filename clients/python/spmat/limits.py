@@ -68,25 +68,20 @@ def in_parts(first: 'Matrix', job: Half) -> 'Matrix':
     except TooLarge as fault:
         if fault.rule not in ('J7', 'J8') or first.nrows < 2:
             raise
-    return _joined(_halves(first, job, 0, first.nrows))
+    return _halves(first, job, 0, first.nrows)
 
 
-def _halves(first: 'Matrix', job: Half, start: int, end: int) -> List['Matrix']:
+def _halves(first: 'Matrix', job: Half, start: int, end: int) -> 'Matrix':
+    """Both halves, each by its halves where it is too large. They are joined at once: each part has 8 bytes for every row of the whole,
+    and so no more parts are held at a time than halvings lead to one."""
     middle = (start + end) // 2
     parts: List['Matrix'] = []
-    for rows, low, high in ((first.select('rowle', middle - 1), start, middle), (first.select('rowgt', middle - 1), middle, end)):
+    for op, low, high in (('rowle', start, middle), ('rowgt', middle, end)):
+        rows = first.select(op, middle - 1)
         try:
             parts.append(job(rows))
         except TooLarge as fault:
             if fault.rule not in ('J7', 'J8') or high - low <= 1:
                 raise
-            parts.extend(_halves(rows, job, low, high))
-    return parts
-
-
-def _joined(parts: List['Matrix']) -> 'Matrix':
-    """Results of different rows as one, by pairs, so that each entry is copied as seldom as may be."""
-    while len(parts) > 1:
-        pairs = [parts[at].ewise_add(parts[at + 1], 'first') for at in range(0, len(parts) - 1, 2)]
-        parts = pairs + (parts[-1:] if len(parts) % 2 else [])
-    return parts[0]
+            parts.append(_halves(rows, job, low, high))
+    return parts[0].ewise_add(parts[1], 'first')

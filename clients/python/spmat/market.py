@@ -9,8 +9,11 @@ import functools
 import sys
 from typing import Any, Iterator, List, NamedTuple, Optional, Tuple
 
+from . import digits
+
 BANNER = b'%%MatrixMarket matrix coordinate integer general\n'
 HEAD_LINES = 2                                     # lines before the first entry in a text of ours
+PATTERN = b'%%MatrixMarket matrix coordinate pattern general\n'
 EMPTY = BANNER + b'0 0 0\n'
 MOST_SIDE = 16_777_216
 MOST_TEXT = 268_435_456
@@ -42,30 +45,37 @@ def find_numpy() -> Any:
     return numpy
 
 
-def write(triples: Triples) -> bytes:
-    """The text of triples, in their order. Arrays have to be of int64."""
+def write(triples: Triples, ones: bool = False, symmetric: bool = False) -> bytes:
+    """The text of triples, in their order. Arrays have to be of int64. With `ones` a text without values, each of which is 1, is written
+    as `pattern`: a third shorter, and sooner read. With `symmetric` an entry off the diagonal stands for its mirror, too."""
     rows, columns, values, nrows, ncols = triples
-    head = BANNER + b'%d %d %d\n' % (nrows, ncols, len(rows))
+    bare = ones and len(values) > 0 and (bool((values == 1).all()) if is_array(values) else values.count(1) == len(values))
+    head = (PATTERN if bare else BANNER) + b'%d %d %d\n' % (nrows, ncols, len(rows))
+    head = head.replace(b'general', b'symmetric') if symmetric else head
     if is_array(rows):
-        return head + _written(rows, columns, values, MOST_TEXT - len(head))
+        return head + _written(rows, columns, None if bare else values, MOST_TEXT - len(head))
+    if bare:
+        line = b'%d %d\n'
+        return head + b''.join([line % (i + 1, j + 1) for i, j in zip(rows, columns)])
     line = b'%d %d %d\n'
     return head + b''.join([line % (i + 1, j + 1, value) for i, j, value in zip(rows, columns, values)])
 
 
 def _written(rows: Any, columns: Any, values: Any, room: int) -> bytes:
     """All lines at one width, numbers with leading zeros, which the format allows: a table of bytes that is filled by columns.
-    Where that is too long for a body, the zeros are taken out again."""
+    Where that is too long for a body, the zeros are taken out again. Values of None are left out."""
     if len(rows) == 0:
         return b''
     import numpy
-    least, most = int(values.min()), int(values.max())
-    widths = [_width(int(rows.max()) + 1), _width(int(columns.max()) + 1), _width(max(most, -least))]
+    least, most = (int(values.min()), int(values.max())) if values is not None else (0, 0)
+    widths = [_width(int(rows.max()) + 1), _width(int(columns.max()) + 1)]
+    widths += [_width(max(most, -least))] if values is not None else []
     table = _Table(numpy, widths, signed=least < 0)
     bare = len(rows) * table.line > room
     pieces = []
     for at in range(0, len(rows), _LINES):
         part = slice(at, at + _LINES)
-        pieces.append(table.fill(rows[part] + 1, columns[part] + 1, values[part], bare))
+        pieces.append(table.fill(rows[part] + 1, columns[part] + 1, None if values is None else values[part], bare))
     return b''.join(pieces)
 
 
@@ -82,12 +92,12 @@ def _four_digits() -> Any:
 
 
 class _Table:
-    """Lines of one width: three numbers of so many digits, the last with a sign where one is wanted, blanks between them, LF."""
+    """Lines of one width: two or three numbers of so many digits, the last with a sign where one is wanted, blanks between them, LF."""
 
     def __init__(self, numpy: Any, widths: List[int], signed: bool) -> None:
         self._numpy, self._widths, self._signed = numpy, widths, signed
         self._four = _four_digits()
-        self.line = sum(widths) + 3 + signed
+        self.line = sum(widths) + len(widths) + signed
 
     def fill(self, rows: Any, columns: Any, values: Any, bare: bool) -> bytes:
         """So many lines; `bare` takes the leading zeros out."""
@@ -95,12 +105,12 @@ class _Table:
         out = numpy.full((len(rows), self.line), 32, numpy.uint8)
         keep = numpy.ones(out.shape, bool) if bare else None
         at = self._digits(rows, self._widths[0], out, 0, keep) + 1
-        at = self._digits(columns, self._widths[1], out, at, keep) + 1
+        at = self._digits(columns, self._widths[1], out, at, keep)
         if self._signed:
-            out[:, at] = numpy.where(values < 0, 45, 43)
-            at += 1
+            out[:, at + 1] = numpy.where(values < 0, 45, 43)
             values = numpy.where(values < 0, 0 - values.astype(numpy.uint64), values.astype(numpy.uint64))
-        at = self._digits(values, self._widths[2], out, at, keep)
+        if values is not None:
+            at = self._digits(values, self._widths[2], out, at + 1 + self._signed, keep)
         out[:, at] = 10
         text: bytes = (out if keep is None else out[keep]).tobytes()
         return text
@@ -109,10 +119,10 @@ class _Table:
         """Writes numbers that aren't negative into columns of the table, four digits at a time; the place behind them."""
         numpy = self._numpy
         end = at + width
-        for part, digits in self._eights(numbers, width):
-            for step in range(digits // 4):
+        for part, left in self._eights(numbers, width):
+            for step in range(left // 4):
                 end -= 4
-                above = part // numpy.uint32(10000) if step + 1 < digits // 4 else numpy.uint32(0)
+                above = part // numpy.uint32(10000) if step + 1 < left // 4 else numpy.uint32(0)
                 place = numpy.ndarray((len(out),), numpy.uint32, buffer=out.data, offset=end, strides=(self.line,))
                 place[:] = self._four.take((part - above * numpy.uint32(10000)).astype(numpy.intp))
                 part = above
@@ -136,8 +146,10 @@ def read(text: bytes, arrays: Optional[bool] = None) -> Triples:
     """The triples of a text as the server writes it. `arrays` says whether as arrays of numpy or as lists; without it lists."""
     nrows, ncols, start = head_of(text)
     if arrays:
-        numbers = numbers_of(text[start:])
-        return Triples(numbers[0::3] - 1, numbers[1::3] - 1, numbers[2::3].copy(), nrows, ncols)
+        rows, columns, values = digits.fields(text[start:], (0, 1, 2))
+        rows -= 1
+        columns -= 1
+        return Triples(rows, columns, values, nrows, ncols)
     if len(text) > FEW and find_numpy() is not None:
         rows, columns, values, nrows, ncols = read(text, True)
         return Triples(rows.tolist(), columns.tolist(), values.tolist(), nrows, ncols)
@@ -151,12 +163,6 @@ def head_of(text: bytes) -> Tuple[int, int, int]:
     second = text.index(b'\n', first) + 1
     nrows, ncols, _ = map(int, text[first:second].split())
     return nrows, ncols, second
-
-
-def numbers_of(text: bytes) -> Any:
-    """All numbers of a text, as an array of int64."""
-    import numpy
-    return numpy.fromstring(text, numpy.int64, sep=' ') if text.strip() else numpy.zeros(0, numpy.int64)
 
 
 def swapped(text: bytes) -> bytes:

@@ -21,6 +21,10 @@ class Mask(NamedTuple):
     def __repr__(self) -> str:
         return '%s%r.%s' % ('~' if self.complement else '', self.matrix, 'V' if self.value else 'S')
 
+    def _repr_html_(self) -> str:
+        from . import html
+        return html.mask(self)
+
 
 def as_mask(mask: Union['Held', Mask, None]) -> Optional[Mask]:
     """A mask that is given as itself, or as a matrix, which is its structure. TypeError for anything else."""

@@ -11,12 +11,11 @@ from . import convert, html, limits, market, notes
 from .errors import NotMade, TooLarge, refusal
 from .indexing import Signs, picked
 from .mask import Mask, as_mask
-from .operators import READY, Operator, Semiring, binary, find, find_semiring, indexunary, unary
+from .operators import READY, Op as Op, Operator, Semiring, binary, find, find_semiring, indexunary, unary
 
 if TYPE_CHECKING:
     from .session import Session
 
-Op = Union[str, Operator]
 Ring = Union[str, Semiring, Tuple[Op, Op]]
 MaskLike = Union['Matrix', Mask, None]
 
@@ -30,7 +29,7 @@ class Matrix(Signs):
     Each method that takes an operator queues one job, unless it says otherwise, and answers at once with the matrix that it will
     be; it costs no run. Where an operand or the mask is itself a job's result that waits, the queue runs first; so it does where
     a result's entries, their number, or a mask other than A.S are asked for. Every `mask=` takes A.S, A.V, ~A.S, ~A.V or a matrix
-    (its structure); those but A.S cost more jobs, as `S`, `V` and `without` say. Operators are Operators or ready names.
+    (its structure); those but A.S cost more jobs, as `S`, `V` and `without` say. Operators are Operators, ready names, or functions.
 
     Refusals are raised where the method is called: DimensionMismatch (J5, J9), DomainMismatch (J4), OperatorRefused,
     BudgetExceeded, TooLarge (J7, J8), OutOfMemory. Wrong shapes and kinds are found here, before anything is sent."""
@@ -53,8 +52,9 @@ class Matrix(Signs):
         raise TypeError('a matrix belongs to its session, and can not be pickled: pickle to_text() or to_coo()')
 
     def __repr__(self) -> str:
-        state = 'never made' if self._lost is not None else 'queued' if self._nvals is None else '%d entries' % self._nvals
-        return '<Matrix %s %dx%d, %s>' % (self.name, self.nrows, self.ncols, state)
+        state = 'never made' if self._lost is not None else 'queued: .wait() runs it' if self._nvals is None else '%d entries' % self._nvals
+        source = '; ' + self.notes.source if self.notes.source else ''
+        return '<Matrix %s %dx%d, %s%s>' % (self.name, self.nrows, self.ncols, state, source)
 
     def _repr_html_(self) -> str:
         return html.matrix(self)
@@ -62,6 +62,7 @@ class Matrix(Signs):
     # -- what it is
 
     in_one_place = True                            # one session has it whole
+    is_traced = False                              # it stands for what a loop's rounds will make
 
     @property
     def waits(self) -> bool:
@@ -219,7 +220,7 @@ class Matrix(Signs):
 
     def _check_shape(self, form: str, other: 'Matrix', shape: Tuple[int, Optional[int]]) -> None:
         if not isinstance(other, Matrix):
-            raise TypeError('a matrix is wanted, not %r' % (other,))
+            raise TypeError('expected a matrix, got %r' % (other,))
         if any(want is not None and want != got for want, got in zip(shape, other.shape)):
             raise refusal('J5', command=form, detail='%dx%d and %dx%d' % (*self.shape, *other.shape))
 
@@ -251,6 +252,9 @@ class Matrix(Signs):
         costs as much as reading and writing it. While the transpose is held, asking again costs nothing."""
         held = self._transposed() if self._transposed is not None else None
         if held is None:
+            from . import certain, pricing         # which want matrices
+            if pricing.stays_here():
+                return certain.turned(self)
             held = self.session.from_text(market.swapped(self.to_text()))
             held.notes = notes.turned(self.notes)
             held._transposed, self._transposed = weakref.ref(self), weakref.ref(held)
@@ -280,7 +284,7 @@ class Matrix(Signs):
         this matrix is alone; a copy under those. Of ~A.S or ~A.V it is a copy under A.S or A.V, 1 job."""
         where = as_mask(mask)
         if where is None:
-            raise TypeError('a mask is wanted')
+            raise TypeError('expected a mask')
         if where.complement:
             return self.dup(mask=~where, name=name)
         _check_mask(where, self.shape)
@@ -314,7 +318,7 @@ class Matrix(Signs):
         """Whether both have the same sizes, positions and values. No job where sizes or numbers of entries differ; else 2 jobs
         and 2 runs."""
         if not isinstance(other, Matrix):
-            raise TypeError('a matrix is wanted, not %r' % (other,))
+            raise TypeError('expected a matrix, got %r' % (other,))
         if self.shape != other.shape or self.nvals != other.nvals:
             return False
         differ = self.ewise_mult(other, binary.ne)
@@ -351,7 +355,7 @@ def _check_mask(mask: Mask, shape: Tuple[int, int]) -> None:
 def _of_kind(kind: str, op: Op, form: str) -> Operator:
     found = find(kind, op)
     if found.kind != kind:
-        raise refusal('J4', command=form, detail='%s is wanted, and this is %r' % (kind, found))
+        raise refusal('J4', command=form, detail='expected %s, got %r' % (kind, found))
     return found
 
 
@@ -361,7 +365,7 @@ def applied(op: Op, right: Optional[int], left: Optional[int]) -> Applied:
         raise TypeError('right= or left=, not both')
     bound = right is not None or left is not None
     kinds = ('binary', 'index') if bound else ('unary', 'index')
-    found = find(kinds[1] if op not in READY[kinds[0]] and op in READY[kinds[1]] else kinds[0], op)
+    found = find(_kind_of(op, kinds, bound), op)
     thunk = convert.word(left if left is not None else right if right is not None else 0, 'thunk')
     if found.kind == 'index' and left is None:
         return Applied(found, thunk, False)
@@ -370,8 +374,16 @@ def applied(op: Op, right: Optional[int], left: Optional[int]) -> Applied:
     if found.kind == 'unary' and not bound:
         return Applied(found, None, True)
     how = ' with %s=' % ('right' if right is not None else 'left') if bound else ''
-    raise refusal('J4', command='apply', detail='a unary or index operator, or a binary one with right= or left=, is wanted, '
-                  'and this is %r%s' % (found, how))
+    raise refusal('J4', command='apply', detail='expected a unary or index operator, or a binary one with right= or left=, '
+                  'got %r%s' % (found, how))
+
+
+def _kind_of(op: Op, kinds: Tuple[str, str], bound: bool) -> str:
+    """As which kind `apply` looks for an operator that is given by name or as a function."""
+    if callable(op) and not isinstance(op, Operator):
+        from .operators.functions import kind_of
+        return kind_of(op, bound)
+    return kinds[1] if op not in READY[kinds[0]] and op in READY[kinds[1]] else kinds[0]
 
 
 def bipartite(B: Matrix) -> Matrix:

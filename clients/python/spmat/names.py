@@ -48,6 +48,15 @@ class Names:
         reference = weakref.ref(matrix, self._collected)
         self._held[id(reference)] = reference, name
 
+    def named(self) -> Dict[str, Any]:
+        """The matrices that callers gave a name, by it; of two with one name the later."""
+        found = {}
+        for reference, key in list(self._held.values()):
+            matrix = reference()
+            if matrix is not None and matrix.is_named and (matrix.name != key or not key.startswith('_')):
+                found[matrix.name] = matrix
+        return found
+
     def _collected(self, reference: 'weakref.ref[Any]') -> None:
         self.dropped.append(self._held.pop(id(reference))[1])
 

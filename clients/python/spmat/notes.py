@@ -5,8 +5,9 @@ knows numbers.
 """
 from __future__ import annotations
 
+import functools
 import numbers
-from typing import Any, Dict, FrozenSet, Iterable, List, NamedTuple, Optional
+from typing import Any, Dict, FrozenSet, Iterable, List, NamedTuple, Optional, Set
 
 from .operators import READY, Operator
 
@@ -49,13 +50,31 @@ class Nodes(List[Any]):
             raise KeyError(name) from None
 
 
+def check_names(names: Nodes) -> None:
+    """ValueError where a name stands twice, or has an end of line in it, so that it couldn't be written into a list."""
+    if len(names.places) != len(names):
+        seen: Set[Any] = set()
+        name = next(name for name in names if name in seen or seen.add(name))                # type: ignore[func-returns-value]
+        raise ValueError('the name %r stands twice, at %d and at %d: names of vertices differ'
+                         % (name, names.index(name), names.index(name, names.index(name) + 1)))
+    wrong = next((name for name in names if isinstance(name, str) and ('\n' in name or '\r' in name)), None)
+    if wrong is not None:
+        raise ValueError('the name %r has an end of line in it, and lists have a line for each vertex' % wrong)
+
+
 class Notes(NamedTuple):
     """The names of the rows and of the columns, where they have any; whether an entry (i, j) may stand without one of (j, i), or
-    with one of another value; and whether the values are weights that the caller gave. None: not known."""
+    with one of another value; and whether the values are weights that the caller gave. None: not known. `source` says what was
+    taken of the file or table that the matrix was read from, and is empty for results."""
     rows: Optional[Nodes] = None
     columns: Optional[Nodes] = None
     directed: Optional[bool] = None
     weighted: Optional[bool] = None
+    source: str = ''
+
+    def __repr__(self) -> str:
+        sides = ['None' if names is None else '<%d names>' % len(names) for names in (self.rows, self.columns)]
+        return 'Notes(rows=%s, columns=%s, directed=%r, weighted=%r, source=%r)' % (*sides, self.directed, self.weighted, self.source)
 
     def names(self, axis: int) -> Optional[Nodes]:
         """The names of the rows, with an axis of 1 those of the columns."""
@@ -82,7 +101,7 @@ def of_applied(first: Notes, op: Operator, even: bool) -> Notes:
     if first is NOTHING:
         return NOTHING
     same = _is_ready(op, frozenset(('identity',)))
-    return first._replace(directed=_even(first) if even else None, weighted=first.weighted if same else None)
+    return first._replace(directed=_even(first) if even else None, weighted=first.weighted if same else None, source='')
 
 
 def of_selected(first: Notes, op: Operator, thunk: int) -> Notes:
@@ -90,7 +109,7 @@ def of_selected(first: Notes, op: Operator, thunk: int) -> Notes:
     if first is NOTHING:
         return NOTHING
     even = _is_ready(op, BY_VALUE) or (thunk == 0 and _is_ready(op, BY_DIAGONAL))
-    return first._replace(directed=_even(first) if even else None)
+    return first._replace(directed=_even(first) if even else None, source='')
 
 
 def of_pair(first: Notes, second: Notes) -> Notes:
@@ -120,9 +139,45 @@ def masked(result: Notes, mask: Notes) -> Notes:
                  _even(result, mask), result.weighted)
 
 
+def of_structure(mask: Notes, value: bool) -> Notes:
+    """What is known of the positions that a mask means; `value` says that entries of 0 don't count."""
+    return mask._replace(directed=_even(mask)) if value and mask is not NOTHING else mask
+
+
+def outside(result: Notes, mask: Notes) -> Notes:
+    """What is known of the entries of a result that lie outside of a mask: undirected only where both are."""
+    if result is NOTHING and mask is NOTHING:
+        return NOTHING
+    alone = of_pair(result, mask)
+    return masked(of_copy(result), alone)
+
+
+def of_copy(first: Notes) -> Notes:
+    """What is known of a copy, which is a job."""
+    return NOTHING if first is NOTHING else first._replace(directed=_even(first))
+
+
+def under(result: Notes, mask: Optional[Notes], value: bool, complement: bool) -> Notes:
+    """What is known of a result under a mask of any kind, or under none."""
+    if mask is None:
+        return result
+    there = of_structure(mask, value)
+    return outside(result, there) if complement else masked(result, there)
+
+
+def of_update(first: Notes, second: Notes, accum: bool, mask: Optional[Notes] = None, *, value: bool = False,
+              complement: bool = False, replace: bool = False) -> Notes:
+    """What is known of C<M, accum> = second, where `first` is of C."""
+    inside = of_pair(first, second) if accum else second
+    if mask is None:
+        return inside if accum else of_copy(second)
+    there = under(of_copy(inside), mask, value, complement)
+    return there if replace else of_pair(under(of_copy(first), mask, value, not complement), there)
+
+
 def turned(first: Notes) -> Notes:
     """What is known of the transpose."""
-    return first._replace(rows=first.columns, columns=first.rows)
+    return first._replace(rows=first.columns, columns=first.rows, source='')
 
 
 def of_both_sides(first: Notes, nrows: int, ncols: int) -> Notes:
@@ -142,5 +197,11 @@ def on_diagonal(first: Notes) -> Notes:
 
 
 def _is_ready(op: Operator, names: FrozenSet[str]) -> bool:
-    """Whether this is the ready operator of one of the names, whatever it is called."""
-    return op.name in names and op.name in READY[op.kind] and READY[op.kind][op.name] == op
+    """Whether this is the ready operator of one of the names, whatever it is called, as one from a function is."""
+    return op in _ready(op.kind, names)
+
+
+@functools.lru_cache(maxsize=None)
+def _ready(kind: str, names: FrozenSet[str]) -> FrozenSet[Operator]:
+    """The ready operators of a kind by these names, as far as there are any."""
+    return frozenset(READY[kind][name] for name in names if name in READY[kind])

@@ -52,7 +52,7 @@ class ObjectFile:
     def __init__(self, data: bytes) -> None:
         self.data = data
         if data[:6] != b'\x7fELF\x02\x01' or len(data) < 64:
-            raise Malformed('no object file of 64 bits, least byte first')
+            raise Malformed('not a little-endian ELF64 object')
         try:
             self.sections = self._sections()
             self.functions = {function.name: function for function in self._functions()}

@@ -45,6 +45,19 @@ class Incoming:
             return self._taken(first, self._bytes_until(first.end + size, size))
         return self._taken(first, self._lines_until(first.end, size))
 
+    def through(self, mark: bytes) -> bytes:
+        """All that comes up to the end of the line with a mark, which stands in no other reply, once it is there."""
+        while True:
+            at = self._bytes.find(mark, self._looked)
+            end = self._bytes.find(b'\n', at) if at >= 0 else -1
+            if end >= 0:
+                out = bytes(memoryview(self._bytes)[:end + 1])
+                del self._bytes[:end + 1]
+                self._looked = 0
+                return out
+            self._looked = max(0, len(self._bytes) - len(mark)) if at < 0 else at
+            self._more()
+
     def _first_line(self) -> '_First':
         while True:
             end = self._bytes.find(b'\n', 0, LONGEST_LINE)

@@ -5,9 +5,10 @@ import difflib
 import heapq
 from typing import TYPE_CHECKING, Any, Dict, Iterable, List, Optional, Sequence, Tuple
 
-from . import convert, market
-from .errors import refusal
-from .notes import NOTHING, Nodes, Notes
+from . import convert, market, ranking
+from .errors import BudgetExceeded, refusal
+from .notes import NOTHING, Nodes, Notes, check_names
+from .writing import Written
 
 if TYPE_CHECKING:
     from .session import Session
@@ -16,13 +17,14 @@ FEW_NAMES = 6                                      # so many names are told wher
 FEW_NEAR, LIKE = 2, .7                              # so many names that are so much alike
 
 
-class Held:
+class Held(Written):
     """What every matrix is: two sizes, entries, and what is known of them beside."""
 
     session: 'Session'
     nrows: int
     ncols: int
     notes: Notes = NOTHING
+    is_named = True                                # whether its name may be one that a caller gave
 
     # -- what it is
 
@@ -35,7 +37,8 @@ class Held:
     def nodes(self) -> Optional[List[Any]]:
         """The names of the vertices: of the rows of a column, of the columns of a row, and of the rows of a square matrix whose
         columns have the same. None where there are none, or rows and columns have different ones (`row_nodes`, `column_nodes`).
-        Results carry the names of what they are made of. They can be set: `G.nodes = names`."""
+        Results carry the names of what they are made of. They can be set: `G.nodes = names`; ValueError where one stands twice, or has
+        an end of line in it."""
         rows, columns = self.notes.rows, self.notes.columns
         if 1 in self.shape and self.shape != (1, 1):
             return rows if self.ncols == 1 else columns
@@ -46,6 +49,8 @@ class Held:
         if self.nrows != self.ncols and 1 not in self.shape:
             raise ValueError('rows and columns of a matrix of %dx%d have names of their own: row_nodes and column_nodes' % self.shape)
         found = None if names is None else names if isinstance(names, Nodes) else Nodes(names)
+        if found is not None and found is not names:
+            check_names(found)
         count = max(self.shape) if 0 not in self.shape else 0 if 1 in self.shape else self.nrows
         if found is not None and len(found) != count:
             raise ValueError('%d names for %d vertices' % (len(found), count))
@@ -127,14 +132,22 @@ class Held:
 
     def top(self, k: int = 10) -> List[Tuple[Any, ...]]:
         """The k entries of the greatest values, the greatest first, of equals the first: (name, value) of a column or a row, (name,
-        name, value) of another matrix; numbers where there are no names. All entries come to the client. In pandas `nlargest`."""
-        found: Iterable[Tuple[Any, ...]] = self.by_node().items() if 1 in self.shape else self.to_edgelist()
+        name, value) of another matrix; numbers where there are no names. Of many entries the session finds those from a threshold on, by some
+        50 small jobs, and these come to the client; all come where the budget has too little left. In pandas `nlargest`."""
+        few: Any = self
+        try:
+            few = ranking.greatest(few, k)
+        except BudgetExceeded:
+            pass                                   # entries can be read all the same
+        if few is not self:
+            few.notes = self.notes
+        found: Iterable[Tuple[Any, ...]] = few.by_node().items() if 1 in self.shape else few.to_edgelist()
         return heapq.nlargest(k, found, key=lambda entry: int(entry[-1]))
 
     def _length(self, wanted: str) -> int:
         """The length of a column or a row."""
         if 1 not in self.shape:
-            raise refusal('J5', detail='%s is wanted, and this is %dx%d' % (wanted, *self.shape))
+            raise refusal('J5', detail='expected %s, got %dx%d' % (wanted, *self.shape))
         return self.nrows if self.ncols == 1 else self.ncols
 
     def to_dense(self, fill: int = 0) -> Any:
@@ -159,7 +172,7 @@ class Held:
         graph without weights. In python-graphblas `io.to_networkx`."""
         import networkx
         if self.nrows != self.ncols:
-            raise refusal('J5', detail='a graph is square, and this is %dx%d: `spmat.bipartite` makes one of it' % self.shape)
+            raise refusal('J5', detail='expected a square matrix, got %dx%d: `spmat.bipartite` makes one of it' % self.shape)
         given = nodes if nodes is not None else self.nodes
         labels = list(range(self.nrows) if given is None else given)
         if len(labels) != self.nrows:

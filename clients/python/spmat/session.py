@@ -7,7 +7,7 @@ import itertools
 import re
 from typing import TYPE_CHECKING, Any, Callable, Dict, List, NamedTuple, Optional, Sequence, Tuple, Union
 
-from . import convert, files, market
+from . import convert, files, market, pricing
 from .errors import OperatorRefused, Refused, TextRefused, refusal
 from .jobs import QUEUE, Budget as Budget, Job, JobResult as JobResult, Most, Queue, Run, most_of  # pylint: disable=unused-import
 from .kept import Kept
@@ -42,8 +42,8 @@ class Session(Sources[Matrix]):
 
     `steps` is the budget, 0 to 2^62 (also 1e9), `workers` 1 to 64 threads, `program` the words that start the program (without
     them the variable SPMAT, then the program that the package carries, then `spmat` on the PATH). `progress(what, done, of)` is
-    called in long work: what is 'sent' or 'received' (bytes of one matrix text) or 'jobs' (0 of n as a run begins, n of n as it
-    ends); what it raises amid a command ends the session.
+    called in long work: what is 'reading' (bytes of a file), 'names' (its edges), 'sent' or 'received' (bytes of one matrix text) or
+    'jobs' (0 of n as a run begins, n of n as it ends); what it raises amid a command ends the session.
 
     Methods of matrices queue jobs; what needs a result runs the queue first. Threads take turns: while one thread waits for a
     reply, others wait for it. Ctrl-C while a reply is awaited leaves the session as it is: the command goes on, and what comes
@@ -106,7 +106,7 @@ class Session(Sources[Matrix]):
         """What the budget holds. No run."""
         with self._turn():
             told = Budget(*map(int, self._command('budget').words[1:4]))
-            self._queue.left = told.left
+            self._queue.note_budget(told.left, told.reserved)
             return told
 
     # -- one command
@@ -147,6 +147,7 @@ class Session(Sources[Matrix]):
     def from_text(self, text: Union[bytes, str], name: Optional[str] = None) -> Matrix:
         """A matrix from a Matrix Market text that the server reads as it is: coordinate, integer or pattern, general or symmetric.
         TextRefused names the line; `mmread` reads other texts too."""
+        pricing.check_read()
         text = text.encode() if isinstance(text, str) else bytes(text)
         if len(text) > market.MOST_TEXT:
             raise refusal('S7', detail='the text has %d bytes' % len(text))
@@ -170,7 +171,7 @@ class Session(Sources[Matrix]):
     def _send(self, kept: Kept, entries: Triples) -> str:
         """Sends the entries of a matrix that is kept, with the next command; its name."""
         with self._turn():
-            key, text = self._names.take(), market.write(entries)
+            key, text = self._names.take(), market.write(entries, ones=True)
             self._outbox.put(Later(Sent('matrix ' + key, text), lambda _: None, kept._lose))
             self._names.bound(key, entries.nrows, len(entries.rows))
             if self._outbox.is_full:
@@ -178,13 +179,18 @@ class Session(Sources[Matrix]):
             return key
 
     def _from(self, triples: Triples, dup_op: DupOp = None, name: Optional[str] = None) -> Matrix:
-        folded = self._folded(triples, dup_op)
+        return self._of_triples(self._folded(triples, dup_op), False, name)
+
+    def _both_ways(self, triples: Triples, name: Optional[str] = None) -> Matrix:
+        return self._of_triples(triples, True, name)
+
+    def _of_triples(self, triples: Triples, symmetric: bool, name: Optional[str]) -> Matrix:
         try:
-            return self.from_text(market.write(folded), name)
+            return pricing.stood(self, triples[3:], len(triples.rows)) or self.from_text(market.write(triples, ones=True, symmetric=symmetric), name)
         except TextRefused as refused:
             if refused.rule != 'M8' or refused.at is None:
                 raise
-            raise convert.repeated(folded, refused.at - market.HEAD_LINES - 1) from None
+            raise convert.repeated(triples, refused.at - market.HEAD_LINES - 1, symmetric) from None
 
     def _folded(self, triples: Triples, dup_op: DupOp) -> Triples:
         """Each position once: values that share one are folded by the server, in a matrix with a row for each such position."""
@@ -233,18 +239,18 @@ class Session(Sources[Matrix]):
         nrows, ncols = convert.side(nrows, 0, 'nrows'), convert.side(ncols, 0, 'ncols')
         if nrows * ncols > market.MOST_SIDE:
             raise refusal('M4', detail='%d entries' % (nrows * ncols))
-        return self._from(convert.full(nrows, ncols, value), name=name)
+        return pricing.stood(self, (nrows, ncols), nrows * ncols) or self._from(convert.full(nrows, ncols, value), name=name)
 
     def identity(self, n: int, value: int = 1, *, name: Optional[str] = None) -> Matrix:
         """A square matrix with one value on its diagonal."""
         at = convert.indices(convert.side(n, 0, 'n'))
-        return self._from(convert.checked(at, at, value, n, n), name=name)
+        return pricing.stood(self, (n, n), n) or self._from(convert.checked(at, at, value, n, n), name=name)
 
     def ones(self, ncols: int) -> Matrix:
         """A row of ones, which folds columns. The session keeps those of the last few lengths, but for very long ones."""
         with self._turn():
             row = self._ones.pop(ncols, None) or self.full(1, ncols)
-            if ncols <= LONG:
+            if ncols <= LONG and not isinstance(row, pricing.Stand):
                 self._ones[ncols] = row
             while len(self._ones) > KEPT_ONES:
                 del self._ones[next(iter(self._ones))]
@@ -252,10 +258,17 @@ class Session(Sources[Matrix]):
 
     # -- matrices out
 
+    def _named(self) -> Dict[str, Matrix]:
+        return self._names.named()
+
+    def _tell(self, what: str, done: int, of: int) -> None:
+        self.connection.tell(what, done, of)
+
     def _text_of(self, matrix: Matrix) -> bytes:
-        """The canonical text of a matrix; see `Matrix.to_text`."""
+        """The canonical text of a matrix."""
         with self._turn():
             matrix._check_usable()
+            pricing.check_read()
             if matrix.waits:
                 self._queue.run_later()
             try:
@@ -275,7 +288,7 @@ class Session(Sources[Matrix]):
     def _upload(self, op: Operator) -> str:
         """The name of an operator in this session. It is uploaded at its first use; what the server refuses is OperatorRefused."""
         if not isinstance(op, Operator):
-            raise TypeError('an operator is wanted, such as spmat.binary.plus, not %r' % (op,))
+            raise TypeError('expected an operator, such as spmat.binary.plus, got %r' % (op,))
         with self._turn():
             return self._uploaded(op).name
 
@@ -329,6 +342,7 @@ class Session(Sources[Matrix]):
     def run(self) -> Run:
         """Runs the jobs that wait. Matrix methods do it where they need a result. Where the run is refused (OutOfMemory,
         NoThread) the queue is empty all the same, and each result of it raises NotMade from then on."""
+        pricing.check_read()
         with self._turn():
             self.connection.settle()
             if not len(self._queue) and not self._queue.running:
@@ -353,17 +367,21 @@ class Session(Sources[Matrix]):
             needed = [*operands] + ([mask] if mask is not None else [])
             for matrix in needed:
                 if matrix.session is not self:
+                    if matrix.is_traced:           # a step of a loop asks
+                        return matrix.session._submit(form, ops, operands, shape, thunk, mask, name)
                     raise ValueError('a matrix of another session')
                 matrix._check_made()
+            asked = pricing.asked()
+            if asked is not None:
+                return asked.foresee(self, form, ops, operands, mask, shape)
             sent = [self._operators.get(op) or self._uploaded(op) for op in ops]
             words = [op.name for op in sent] + [matrix._key for matrix in operands] + ([str(thunk)] if thunk is not None else [])
             words += ['mask', mask._key] if mask is not None else []
             if len(self._queue) >= QUEUE or self._queue.has(needed):
                 self._queue.run_later()
-            most = most_of(form, sum(op.instructions for op in sent), operands, mask, shape)
-            job = self._handed_in(form, words, most, name)
+            job = self._handed_in(form, words, most_of(form, sum(op.instructions for op in sent), operands, mask, shape), name)
             result = Matrix(self, job.name, shape[0], shape[1], None, name=name, price=job.price)
-            result._most = most.entries
+            result._most = job.most.entries
             job.bind(result)
             self.jobs += 1
             return result
@@ -379,7 +397,8 @@ class Session(Sources[Matrix]):
                 self._sweep()                      # so that a loop of jobs uses the names of what nobody holds again
             return job
         try:
-            self._queue.add_now(job, line, self._exchange)
+            with pricing.told():
+                self._queue.add_now(job, line, self._exchange)
         except BaseException:
             if not self.connection.owes:
                 self._names.give_back(job.name)

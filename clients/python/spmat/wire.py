@@ -8,13 +8,15 @@ cancels a batch.
 """
 from __future__ import annotations
 
+import collections
 import os
 import socket
 import sys
 import threading
 import weakref
-from typing import Any, Callable, List, NamedTuple, Optional, Sequence, Tuple, Type, Union
+from typing import Any, Callable, Deque, List, NamedTuple, Optional, Sequence, Tuple, Type, Union
 
+from .ahead import Ahead
 from .channels import Address, Child, Socket
 from .convert import whole
 from .errors import Closed, Near, Refused, SpmatError, refusal_of
@@ -22,7 +24,7 @@ from .interrupts import Guard
 from .program import Program, program_words
 from .replies import PIECE, Incoming, Reply
 
-__all__ = ['Address', 'Answer', 'Connection', 'MOST_STEPS', 'MOST_WORKERS', 'Progress', 'Reply', 'Sent', 'WORDS_WITH_BODY']
+__all__ = ['Address', 'Ahead', 'Answer', 'Connection', 'MOST_STEPS', 'MOST_WORKERS', 'Progress', 'Reply', 'Sent', 'WORDS_WITH_BODY']
 MOST_STEPS = 1 << 62
 MOST_WORKERS = 64
 WORDS_WITH_BODY = {'matrix': 2, 'asm': 3, 'op': 3}
@@ -61,8 +63,8 @@ class Connection:
         self.commands, self.sent = 0, 0
         self.guard = Guard()
         self._channel = channel
-        self._incoming = Incoming(self._fill, self._fault, lambda done, of: self.tell('received', done, of))
-        self._owed: Optional[_Owed] = None
+        self.incoming = Incoming(self._fill, self._fault, lambda done, of: self.tell('received', done, of))
+        self._owed: Deque[Union[_Owed, Ahead]] = collections.deque()
         self._owner = os.getpid()
         self._ended: Optional[str] = None
         self._amid = False
@@ -84,6 +86,16 @@ class Connection:
     def ended(self) -> Optional[str]:
         """Why the session has ended, or None while it goes on."""
         return self._ended
+
+    @property
+    def process(self) -> Optional[int]:
+        """The number of the process that was started for this session, and of its group; None of a server's session."""
+        return self._channel.process.pid if isinstance(self._channel, Child) else None
+
+    @property
+    def awaits(self) -> bool:
+        """Whether a command was begun whose reply isn't there yet."""
+        return self._amid
 
     def usable(self) -> bool:
         """Whether a command can be sent, as far as can be seen without sending one: the session goes on, in this process, and the
@@ -116,63 +128,110 @@ class Connection:
         for command in commands:
             _check_form(command)
         with self.lock, self.guard:
-            self.check_open()
-            if self._amid:
-                raise SpmatError('a session can not be used from within its own command, such as by a progress callback')
+            self._enter()
             try:
-                self._amid = True
                 self._settle()
                 self.commands += len(commands)
                 self._send(commands)
-                return self._awaited(_Owed(commands, [], late)) if self._ended is None else []
+                if self._ended is not None:
+                    return []
+                owed = _Owed(commands, [], late)
+                self._owed.append(owed)
+                self._read()
+                return owed.answers
             except BaseException as fault:
-                if self._owed is None:
+                if not self._owed:
                     self.end(_words_of(fault), kill=True)
                 raise
             finally:
                 self._amid = False
 
+    def post(self, ahead: Ahead) -> None:
+        """Sends commands whose replies nobody waits for: `collect` takes them, or whoever sends next. Replies of any length may come;
+        two such at a time, of half a pipe's bytes each, never make both sides wait."""
+        with self.lock, self.guard:
+            self._enter()
+            try:
+                self.commands += ahead.commands
+                self._send_text(ahead.text)
+                self._owed.append(ahead)
+            except BaseException as fault:
+                self.end(_words_of(fault), kill=True)
+                raise
+            finally:
+                self._amid = False
+
+    def collect(self, ahead: Ahead) -> bytes:
+        """The replies to commands that were posted. KeyboardInterrupt leaves them owed. Closed where they never come."""
+        with self.lock, self.guard:
+            while ahead.replies is None:
+                self._enter()
+                try:
+                    owed = self._owed[0]
+                    self._read()
+                    owed.hear()
+                except BaseException as fault:
+                    if not self._owed:
+                        self.end(_words_of(fault), kill=True)
+                    raise
+                finally:
+                    self._amid = False
+            return ahead.replies
+
+    def _enter(self) -> None:
+        """A command begins. Raises Closed where the session has ended, and SpmatError amid another command."""
+        self.check_open()
+        if self._amid:
+            raise SpmatError('a session can not be used from within its own command, such as by a progress callback')
+        self._amid = True
+
     @property
     def owes(self) -> bool:
-        """Whether replies are still to come, of commands that were interrupted."""
-        return self._owed is not None
+        """Whether replies are still to come, of commands that were interrupted or posted."""
+        return bool(self._owed)
 
     @property
     def received(self) -> int:
         """How many bytes have come."""
-        return self._incoming.received
+        return self.incoming.received
 
     def settle(self) -> None:
-        """Waits for the replies of commands that were interrupted, where any are owed."""
+        """Waits for the replies of commands that were interrupted or posted, where any are owed."""
         self.exchange([])
 
-    def _awaited(self, owed: '_Owed') -> List[Answer]:
-        """The answers to commands that were sent. KeyboardInterrupt leaves them owed."""
-        self._owed = owed
+    def _read(self) -> None:
+        """Reads the replies that are owed first. KeyboardInterrupt leaves them owed; what else comes makes all that is owed lost."""
+        owed = self._owed[0]
         try:
-            while self._ended is None and len(owed.answers) < len(owed.commands):
-                owed.answers.append(self._answer(owed.commands[len(owed.answers)]))
+            owed.read(self)
         except KeyboardInterrupt:
             raise
         except BaseException:
-            self._owed = None
+            self._drop(owed)
+            while self._owed:
+                self._owed.popleft().hear()
             raise
-        self._owed = None
-        return owed.answers
+        self._drop(owed)
+
+    def _drop(self, owed: Union['_Owed', Ahead]) -> None:
+        """These aren't owed any more; where the session ended by their answer they weren't already."""
+        if self._owed and self._owed[0] is owed:
+            self._owed.popleft()
 
     def _settle(self) -> None:
         """Reads the replies that are owed, and hands them to whom they concern."""
-        owed = self._owed
-        if owed is not None:
+        while self._owed:
+            owed = self._owed[0]
             try:
-                self._awaited(owed)
+                self._read()
             finally:
-                if self._owed is None and owed.late is not None:
-                    owed.late(owed.answers)
+                if not self._owed or self._owed[0] is not owed:
+                    owed.hear()
             self.check_open()
 
-    def _answer(self, command: Sent) -> Answer:
-        raw = self._incoming.next()
+    def answer(self, command: Sent) -> Answer:
+        """The answer that comes next, to this command."""
+        raw = self.incoming.next()
         return raw.reply() or self._refused(raw.first, command.line, command.near)
 
     def _fill(self, into: bytearray) -> bool:
@@ -189,7 +248,7 @@ class Connection:
         return bool(piece)
 
     def _fault(self) -> str:
-        return self._channel.fault(self._incoming.received > 0)
+        return self._channel.fault(self.incoming.received > 0)
 
     def end(self, why: str, kill: bool = False) -> None:
         """Marks the session as ended, and closes its channel."""
@@ -198,14 +257,13 @@ class Connection:
                 self._ended = why
                 self._last.detach()
                 self._channel.close(kill)
-                owed, self._owed = self._owed, None
-                if owed is not None and owed.late is not None:
-                    owed.late(owed.answers)
+                while self._owed:
+                    self._owed.popleft().hear()
 
     def quit(self) -> None:
         """Ends the session in good order, or at once where a reply is owed; nothing where it has ended already."""
         with self.lock:
-            if self._owed is not None:
+            if self._owed:
                 self.end('it was closed while a reply was awaited', kill=True)
             if self._ended is None and os.getpid() == self._owner:
                 try:
@@ -231,6 +289,14 @@ class Connection:
             raise
         except OSError:
             pass                                   # the server has ended the session: its last reply says why
+
+    def _send_text(self, text: bytes) -> None:
+        try:
+            self._write(text)
+        except socket.timeout:
+            raise
+        except OSError:
+            pass
 
     def _send_body(self, body: bytes) -> None:
         view = memoryview(body)
@@ -296,6 +362,16 @@ class _Owed(NamedTuple):
     commands: Sequence[Sent]
     answers: List[Answer]
     late: Optional[Late]
+
+    def read(self, connection: Connection) -> None:
+        """Takes the answers that haven't come yet."""
+        while connection.ended is None and len(self.answers) < len(self.commands):
+            self.answers.append(connection.answer(self.commands[len(self.answers)]))
+
+    def hear(self) -> None:
+        """The answers are there, or no more come."""
+        if self.late is not None:
+            self.late(self.answers)
 
 
 def _check_form(command: Sent) -> None:

@@ -20,6 +20,8 @@ What a graph has to be is looked at where it is first asked, by a job or two, an
 | `connected_components(G)` | the least vertex of each one's component | `LAGr_ConnectedComponents` |
 | `sssp(W, source)`, `all_pairs(W)` | lengths of shortest paths | `LAGr_SingleSourceShortestPath` |
 | `path_lengths(W, sources)` | lengths from some vertices to all | |
+| `shortest_path(G, source, target)`, `k_shortest_paths(G, source, target, k)` | the vertices of a shortest path, or of the k shortest | |
+| `shortest_paths(G, source)`, `has_path(G, source, target)` | a tree of shortest paths; whether there is one | |
 | `transitive_closure(G)` | what can be reached | |
 | `strongly_connected_components(G)` | the least vertex of each one's strong component | |
 | `topological_levels(G)`, `longest_paths(W)` | an order of a graph without cycles, or its cycle | |
@@ -32,12 +34,18 @@ What a graph has to be is looked at where it is first asked, by a job or two, an
 | `k_truss(G, k)`, `k_core(G, k)`, `core_numbers(G)` | dense parts | `LAGraph_KTruss`, `LAGraph_KCore` |
 | `k_hop(G, k, sources)` | what lies within k edges of each source | |
 | `betweenness(G)` | shortest paths through each vertex, in fixed point | `LAGr_Betweenness` |
+| `closeness(G)`, `eigenvector(G)`, `katz(G)`, `hits(G)` | which vertices matter, in fixed point, with how far off it may be | |
 | `minimum_spanning_forest(W)` | by Boruvka's algorithm | `LAGraph_msf` |
 | `label_propagation(G)` | communities | `LAGraph_cdlp` |
+| `louvain(G)`, `modularity(G, labels)` | communities of great modularity; that of any | |
 | `pagerank(G)` | ranks in fixed point | `LAGr_PageRank` |
 | `maximal_independent_set(G)` | by Luby's algorithm | `LAGraph_MaximalIndependentSet` |
 """
-from .batches import betweenness, k_hop
+import inspect
+
+from ..certain import guarded
+from .batches import k_hop
+from .centralities import Centrality, closeness, eigenvector, hits, katz
 from .common import Progress, undirected
 from .communities import label_propagation
 from .components import connected_components, maximal_independent_set
@@ -46,19 +54,33 @@ from .counts import clustering, degrees, triangle_count, triangles
 from .distances import Bounds, diameter, distance_counts, eccentricity
 from .orders import CycleError, longest_paths, topological_levels
 from .pairs import all_pairs, path_lengths, transitive_closure
+from .louvain import Communities, louvain, modularity
 from .paths import sssp
 from .graph import GraphMatrix
 from .ranks import pagerank
+from .routes import NoPath, Path, PathTree, has_path, k_shortest_paths, shortest_path, shortest_paths
 from .sides import bipartite_sides
 from .similarity import common_neighbours, jaccard, shared_neighbours, squares
 from .strong import strongly_connected_components
+from .through import betweenness
 from .traversal import bfs_levels, bfs_parents
 from .trees import minimum_spanning_forest
 from .trusses import k_truss
 
-__all__ = ['all_pairs', 'betweenness', 'bfs_levels', 'bfs_parents', 'bipartite_sides', 'Bounds', 'clustering', 'common_neighbours',
-           'connected_components', 'core_numbers', 'CycleError', 'degrees', 'diameter', 'distance_counts', 'eccentricity',
-           'GraphMatrix', 'jaccard', 'k_core', 'k_hop', 'k_truss', 'label_propagation', 'longest_paths',
-           'maximal_independent_set', 'minimum_spanning_forest', 'pagerank', 'path_lengths', 'Progress', 'shared_neighbours',
-           'squares', 'sssp', 'strongly_connected_components', 'topological_levels', 'transitive_closure', 'triangle_count',
-           'triangles', 'undirected']
+__all__ = ['all_pairs', 'betweenness', 'bfs_levels', 'bfs_parents', 'bipartite_sides', 'Bounds', 'Centrality', 'closeness',
+           'clustering', 'common_neighbours', 'Communities', 'connected_components', 'core_numbers', 'CycleError', 'degrees',
+           'diameter', 'distance_counts', 'eccentricity', 'eigenvector', 'GraphMatrix', 'has_path', 'hits', 'jaccard', 'k_core',
+           'k_hop', 'k_shortest_paths', 'k_truss', 'katz', 'label_propagation', 'longest_paths', 'louvain',
+           'maximal_independent_set', 'minimum_spanning_forest', 'modularity', 'NoPath', 'pagerank', 'Path', 'path_lengths',
+           'PathTree', 'Progress', 'shared_neighbours', 'shortest_path', 'shortest_paths', 'squares', 'sssp',
+           'strongly_connected_components', 'topological_levels', 'transitive_closure', 'triangle_count', 'triangles', 'undirected']
+
+
+for _name in __all__:                              # so that each looks at the budget before its first job
+    if inspect.isfunction(globals()[_name]):
+        globals()[_name] = guarded(globals()[_name])
+
+
+def __dir__() -> list[str]:
+    """What is offered after a dot: the algorithms, and not the modules that they stand in."""
+    return sorted(__all__)

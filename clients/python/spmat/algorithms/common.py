@@ -3,9 +3,10 @@ from __future__ import annotations
 
 from typing import Any, Callable, List, Optional
 
-from ..errors import TooLarge
+from ..errors import NotSettled
 from ..market import Triples
 from ..operators import asm
+from ..pricing import asked
 from .facts import found
 from .graph import GraphMatrix, M, Ring
 
@@ -26,13 +27,6 @@ def order(graph: GraphMatrix, transpose: Optional[GraphMatrix] = None) -> int:
         raise ValueError('GT has to be the transpose: it has %d rows and %d columns, and the graph %d vertices'
                          % (transpose.nrows, transpose.ncols, graph.nrows))
     return graph.nrows
-
-
-def vertex(number: Any, count: int) -> int:
-    """A vertex. Raises ValueError where it is none of 0 to count - 1."""
-    if isinstance(number, bool) or not hasattr(number, '__index__') or not 0 <= number < count:
-        raise ValueError('no vertex %r: they are 0 to %d' % (number, count - 1) if count else 'the graph has no vertex')
-    return int(number)
 
 
 def places(graph: GraphMatrix, named: Any) -> List[int]:
@@ -73,7 +67,7 @@ def loops(like: M, value: int) -> M:
 
 
 def tell(progress: Progress, word: str, number: int, of: int = 0) -> None:
-    if progress is not None:
+    if progress is not None and asked() is None:
         progress(word, number, of)
 
 
@@ -93,29 +87,9 @@ def until_as_many(first: M, step: Callable[[M], M], progress: Progress) -> M:
 
 def product(a: M, b: M, semiring: Ring, mask: Optional[M] = None) -> M:
     """`a.mxm(b, semiring, mask=mask.S)`; where that is refused as too large (over 16,777,216 multiplications), by halves of the
-    rows of `a`, their halves, and so on, joined afterwards. Runs: those that the operands want, and 2 for each halving. Raises
-    TooLarge where a single row is too dear (its price above 2^32)."""
-    try:
-        return a.mxm(b, semiring) if mask is None else a.mxm(b, semiring, mask=mask.S)
-    except TooLarge:
-        return _by_halves(a, b, semiring, mask, 0, a.nrows)
-
-
-def _by_halves(a: M, b: M, semiring: Ring, mask: Optional[M], first: int, end: int) -> M:
-    middle = (first + end) // 2
-    parts = []
-    for rows, start, stop in ((a.select('rowle', middle - 1), first, middle), (a.select('rowgt', middle - 1), middle, end)):
-        try:
-            parts.append(rows.mxm(b, semiring) if mask is None else rows.mxm(b, semiring, mask=mask.S))
-        except TooLarge:
-            if stop - start <= 1:
-                raise
-            parts.append(_by_halves(rows, b, semiring, mask, start, stop))
-    return parts[0].ewise_add(parts[1], 'first')
-
-
-class NotSettled(RuntimeError):
-    """More rounds than there can be."""
+    rows of `a`, their halves, and so on, joined as they come; in blocks each block does so by itself. Runs: those that the operands
+    want, and up to 3 for each halving. Raises TooLarge where a single row is too dear (its price above 2^32)."""
+    return a.mxm(b, semiring, mask=None if mask is None else mask.S, parts=True)
 
 
 def settle(step: Callable[[M], M], start: M, progress: Progress = None, most: Optional[int] = None) -> M:
@@ -138,7 +112,7 @@ def settle(step: Callable[[M], M], start: M, progress: Progress = None, most: Op
         if changed is not None and older is not None and changed.nvals == 0 and older.nvals == oldest_count:
             return older
         if most is not None and number > most + 2:
-            raise NotSettled('%d rounds, and it goes on' % number)
+            raise NotSettled('did not converge after %d rounds' % number)
         oldest_count = older.nvals if older is not None else -1
         older, last = last, new
 

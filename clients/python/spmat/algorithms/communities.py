@@ -27,7 +27,7 @@ def label_propagation(G: M, rounds: int = ROUNDS, progress: Progress = None, *, 
     """
     count, rounds = order(G), whole(rounds, 'number of rounds')
     if rounds < 1:
-        raise ValueError('1 round or more are wanted')
+        raise ValueError('expected 1 round or more')
     check_undirected(G, check, loops=True)
     graph, numpy = G.select('offdiag', 0), find_numpy() if count >= FEW else None
     # how many have a label, and of those with as many the least label, in one number

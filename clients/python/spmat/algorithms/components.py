@@ -1,17 +1,17 @@
 """Connected components, and maximal independent sets."""
 from __future__ import annotations
 
-import random
-from typing import Callable, Generic, List, Optional
+import collections
+from typing import Any, Generic, List, Optional
 
 from .. import market
 from ..market import Triples
 from ..operators import Semiring, binary
+from .chance import drawn
 from .common import Progress, beside, order, tell
 from .facts import check_undirected, found, is_both_ways, transpose_of
 from .graph import M, Numbers
-from .lines import FEW, Columns, Lines, Rows, Vector, read
-from .paths import LESS, NOT_LESS
+from .lines import FEW, Columns, Lines, Rows, Vector, ones_like
 from .traversal import lines_of
 
 THERE = Semiring(binary.first, binary.zero)      # "one of them is a neighbour", marked 0
@@ -20,95 +20,154 @@ LEAST = Semiring(binary.min, binary.first)
 
 
 class Labels:
-    """The label of each vertex, kept by the client: the least vertex that it is known to be joined with. A label that isn't its own
-    label has been joined with a lower one; `settle` follows these to their ends."""
+    """The label of each vertex, kept by the client: the least vertex that it is known to be joined with."""
 
     def __init__(self, count: int) -> None:
         self.numpy = market.find_numpy() if count >= FEW else None
         self.of: Numbers = list(range(count)) if self.numpy is None else self.numpy.arange(count)
 
-    def join(self, at: Numbers, lower: Numbers) -> None:
-        """Joins the labels of some vertices with lower ones, where these are lower."""
-        if self.numpy is not None:
-            self.numpy.minimum.at(self.of, self.of[self.numpy.asarray(at, self.numpy.int64)], self.numpy.asarray(lower, self.numpy.int64))
-            return
-        labels = self.of
-        for root, low in zip([labels[i] for i in at], lower):
-            if low < labels[root]:
-                labels[root] = low
+    def join(self, first: Numbers, second: Numbers) -> bool:
+        """Joins the components of each two vertices; whether any two were apart. Labels that aren't their own label any more are
+        followed to their ends, which are lower ones."""
+        if self.numpy is None:
+            return self._join_lists(first, second)
+        numpy = self.numpy
+        a, b = (self.of[numpy.asarray(at, numpy.int64)] for at in (first, second))
+        some = False
+        while True:
+            apart = a != b
+            if not apart.any():
+                return some
+            some, a, b = True, a[apart], b[apart]
+            self.of[numpy.maximum(a, b)] = numpy.minimum(a, b)         # of several the last counts; the others come again
+            self._settle()
+            a, b = self.of[a], self.of[b]
 
-    def settle(self) -> None:
+    def _settle(self) -> None:
         """Each vertex gets the label at the end of its chain. Labels only go down, so there is an end; a chain is halved each time."""
         while True:
-            ends = [self.of[label] for label in self.of] if self.numpy is None else self.of[self.of]
-            if ends == self.of if self.numpy is None else bool((ends == self.of).all()):
+            ends = self.of[self.of]
+            if self.numpy.array_equal(ends, self.of):
                 return
             self.of = ends
 
-    def roots(self) -> Vector:
-        """The vertices that are their own labels."""
-        if self.numpy is not None:
-            at = self.numpy.flatnonzero(self.of == self.numpy.arange(len(self.of)))
-            return Vector(at, at)
-        places = [i for i, label in enumerate(self.of) if i == label]
-        return Vector(places, places)
+    def _join_lists(self, first: Numbers, second: Numbers) -> bool:
+        labels, some = self.of, False
 
-    def entries(self, square: bool) -> Triples:
-        """A column with the labels; or, where `square` is set, a one in each row at the column of the label."""
+        def root(at: int) -> int:
+            while labels[at] != at:
+                labels[at] = labels[labels[at]]
+                at = labels[at]
+            return at
+        for i, j in zip(first, second):
+            a, b = root(i), root(j)
+            if a != b:
+                labels[max(a, b)], some = min(a, b), True
+        for i, label in enumerate(labels):         # ascending: the label of a label is settled before
+            labels[i] = labels[label]
+        return some
+
+    def at(self, vertices: Numbers) -> Numbers:
+        """The labels of some vertices, of the same kind."""
+        if market.is_array(vertices):
+            return self.of[vertices]
+        return [int(self.of[i]) for i in vertices]
+
+    def others(self, done: 'Alone') -> Numbers:
+        """The vertices outside the greatest component, but for those that have no neighbour."""
+        if self.numpy is not None:
+            sizes = self.numpy.bincount(self.of, minlength=1)
+            return self.numpy.flatnonzero((self.of != self.numpy.argmax(sizes)) & done.near)
+        most = max(collections.Counter(self.of).items(), key=lambda item: item[1], default=(0, 0))[0]
+        return [i for i, label in enumerate(self.of) if label != most and done.near[i]]
+
+    def column(self) -> Triples:
+        """A column with the labels."""
         count = len(self.of)
         if self.numpy is not None:
             at = self.numpy.arange(count)
-            return Triples(at, self.of, at * 0 + 1, count, count) if square else Triples(at, at * 0, self.of, count, 1)
-        ones = [1] * count
-        return Triples(list(range(count)), self.of, ones, count, count) if square else Triples(
-            list(range(count)), [0] * count, self.of, count, 1)
+            return Triples(at, at * 0, self.of, count, 1)
+        return Triples(list(range(count)), [0] * count, self.of, count, 1)
+
+
+class Alone:
+    """Which vertices have a neighbour: `near` is set there."""
+
+    def __init__(self, count: int, numpy: Any) -> None:
+        self.near: Any = bytearray(count) if numpy is None else numpy.zeros(count, bool)
+
+    def note(self, at: Numbers) -> None:
+        """These have one."""
+        if isinstance(self.near, bytearray):
+            for i in at:
+                self.near[i] = 1
+        else:
+            import numpy
+            self.near[numpy.asarray(at, numpy.int64)] = True
 
 
 class Neighbours(Generic[M]):
-    """The least label among each vertex' neighbours, along edges of both directions."""
+    """The least and the greatest neighbour of each vertex, or of some, along edges of both directions. Each answer is vertices, and a
+    vertex that each is to be joined with."""
 
     def __init__(self, graph: M, transpose: Optional[M], check: bool) -> None:
         self.graph, self.count = graph, graph.nrows
         self.columns = Columns(graph, graph)
-        self.back: Optional[Callable[[Vector, Optional[M]], Vector]] = None
+        self.back: Optional[Lines[M]] = None       # what pushes along the edges, where these lead one way alone
         if transpose is graph:
             check_undirected(graph, check, loops=True)
         elif not is_both_ways(graph):
-            self.back = self._by_row if graph.in_one_place else self._by_transpose(transpose_of(graph, transpose, check))
+            back = transpose_of(graph, transpose, check) if transpose is not None or not graph.in_one_place else None
+            self.back = Rows(graph) if graph.in_one_place or back is None else Columns(graph, back)
+        self.push: Lines[M] = Rows(graph) if graph.in_one_place else self.columns
 
-    def _by_row(self, labels: Vector, _: Optional[M]) -> Vector:
-        rows = Rows(self.graph)
-        return rows.get(rows.step(rows.put(labels), LEAST))
-
-    def _by_transpose(self, transpose: M) -> Callable[[Vector, Optional[M]], Vector]:
-        def back(_: Vector, labels: Optional[M]) -> Vector:
-            assert labels is not None
-            return read(transpose.mxv(labels, 'min_second').to_text(), 0)
-        return back
-
-    def first(self) -> List[Vector]:
-        """The least neighbours."""
+    def all(self) -> List[Vector]:
+        """Those of all vertices."""
         numbers: M = found(self.graph, 'numbers', lambda: self.columns.number(self.columns.ones()))
-        own = Labels(self.count).of
-        out = [self.columns.get(self.graph.mxv(numbers, 'min_second'))]
-        return out if self.back is None else out + [self.back(Vector(own, own), numbers)]
+        made = [self.graph.mxv(numbers, ring) for ring in ('min_second', 'max_second')]
+        if self.back is None:
+            return [self.columns.get(one) for one in made]
+        back = self.back
+        row: M = numbers if not isinstance(back, Rows) else found(self.graph, 'numbers in a row', lambda: back.number(back.ones()))
+        more = [back.step(row, ring) for ring in (LEAST, GREATEST)]
+        return [self.columns.get(one) for one in made] + [back.get(one) for one in more]
 
-    def lower(self, labels: M, told: Numbers) -> List[Vector]:
-        """Labels among the neighbours that are lower than a vertex' own."""
-        near = self.graph.mxv(labels, 'min_second')
-        out = [self.columns.get(near.ewise_mult(labels, LESS).select('valuene', NOT_LESS))]
+    def joined(self, some: Numbers, labels: Labels) -> bool:
+        """Joins some vertices with what has another label among their neighbours; whether there was any. In a component that has such
+        a neighbour one vertex at least is joined with one."""
         if self.back is not None:
-            out.append(_below(self.back(Vector(Labels(self.count).of, told), labels), told))
-        return out
+            return self._joined_both_ways(some, labels)
+        front = self.push.put(Vector(some, labels.at(some)))
+        least, greatest = (self.push.step(front, ring) for ring in (LEAST, GREATEST))
+        near, most = self.push.get(least), self.push.get(greatest).values
+        first, second = labels.join(near.at, near.values), labels.join(near.at, most)
+        if not (first or second):
+            return False
+        around = self.columns.put(Vector(near.at, labels.at(near.at)))
+        self._join(self._pulled(around, some), labels)
+        return True
 
+    def _joined_both_ways(self, some: Numbers, labels: Labels) -> bool:
+        """As `joined`, where edges lead one way alone: along those that leave some vertices, and those that lead to them."""
+        assert self.back is not None
+        every = Labels(self.count).of
+        got = self._pulled(self.columns.put(Vector(every, labels.of)), some)
+        row, mask = self.back.put(Vector(every, labels.of)), self.back.put(Vector(some, ones_like(some)))
+        made = [self.back.step(row, ring, mask) for ring in (LEAST, GREATEST)]
+        return self._join(got + [self.back.get(one) for one in made], labels)
 
-def _below(got: Vector, told: Numbers) -> Vector:
-    """Those whose value is below what is told of the vertex."""
-    if market.is_array(got.at):
-        keep = got.values < told[got.at]
-        return Vector(got.at[keep], got.values[keep])
-    kept = [(i, x) for i, x in zip(got.at, got.values) if x < told[i]]
-    return Vector([i for i, _ in kept], [x for _, x in kept])
+    def _pulled(self, labels: M, some: Numbers) -> List[Vector]:
+        """The least and the greatest label among the neighbours of some vertices."""
+        mask = self.columns.put(Vector(some, ones_like(some)))
+        made = [self.graph.mxv(labels, ring, mask=mask) for ring in ('min_second', 'max_second')]
+        return [self.columns.get(one) for one in made]
+
+    @staticmethod
+    def _join(found_labels: List[Vector], labels: Labels) -> bool:
+        some = False
+        for got in found_labels:
+            some = labels.join(got.at, got.values) or some
+        return some
 
 
 def connected_components(G: M, GT: Optional[M] = None, progress: Progress = None, *, check: bool = True) -> M:
@@ -117,35 +176,30 @@ def connected_components(G: M, GT: Optional[M] = None, progress: Progress = None
     Of an undirected graph hand in G itself as `GT`, which is checked; without it that is found out. Another `GT` serves blocks alone.
     `progress('round', k, 0)` is called after each round.
 
-    In each round every vertex finds the least label among its neighbours, and the client joins labels that met and follows them to
-    their ends. A component that has a neighbour is joined with a lower one, or is the lowest of its neighbours: so each round leaves
-    at most half of them, and there are no more rounds than the logarithm of the number of vertices, however long the paths are.
+    Each vertex is joined with its least and its greatest neighbour, which the client follows to their ends. Then those outside the
+    greatest component alone look for neighbours with other labels. A component that has one is joined with another: so each round
+    leaves at most half of them, and there are no more rounds than the logarithm of the number of vertices, however long the paths are.
 
-    Runs: 4 a round; 1 more a round for a directed graph. Steps: up to 6 an edge and 13 a vertex, a round; twice as many an edge
-    for a directed graph. Whether each edge leads both ways is found out once, by 2 jobs (13 steps an edge and 5 a vertex), and
-    kept with the matrix. GraphBLAS: `mxv` over min and second. LAGraph: `LAGr_ConnectedComponents` (FastSV), where the
-    gathering of labels is a product with a matrix that has a one at each vertex' label. networkx: `connected_components`,
-    `weakly_connected_components`. Raises ValueError where G is handed in as GT, and an edge leads one way alone (`check=False`:
-    then neighbours are those that edges lead to).
+    Runs: 2 a round, and 3; 1 more for a directed graph. Steps: up to 10 an edge and 2 a vertex; in later rounds 20 an edge of the vertices
+    outside the greatest component, and for a directed graph 10 an edge. Whether each edge leads both ways is found out once, by 2 jobs (13
+    steps an edge and 5 a vertex), and kept with the matrix. GraphBLAS: `mxv` over min and second, max and second. LAGraph:
+    `LAGr_ConnectedComponents` (FastSV). networkx: `connected_components`, `weakly_connected_components`. Raises ValueError where G is
+    handed in as GT, and an edge leads one way alone (`check=False`: then neighbours are those that edges lead to).
     """
     count = order(G, GT)
     near, labels = Neighbours(G, GT, check), Labels(count)
-    for got in near.first():
+    alone, number, goes_on = Alone(count, labels.numpy), 1, True
+    for got in near.all():
         labels.join(got.at, got.values)
-    labels.settle()
+        alone.note(got.at)
     tell(progress, 'round', 1)
-    stars = G.session.keep(labels.entries(square=True))
-    roots, number = labels.roots(), 1
-    while True:
-        now = near.columns.put(Vector(roots.at, labels.of[roots.at] if market.is_array(roots.at) else [labels.of[i] for i in roots.at]))
-        lower = near.lower(stars.mxv(now, 'any_second'), labels.of)
-        if not any(len(got.at) for got in lower):
-            return beside(G, G.session.keep(labels.entries(square=False)))
-        for got in lower:
-            labels.join(got.at, got.values)
-        labels.settle()
-        number += 1
-        tell(progress, 'round', number)
+    while goes_on:
+        others = labels.others(alone)
+        goes_on = len(others) > 0 and near.joined(others, labels)
+        if goes_on:
+            number += 1
+            tell(progress, 'round', number)
+    return beside(G, G.session.keep(labels.column()))
 
 
 def maximal_independent_set(G: M, seed: int = 0, progress: Progress = None, *, check: bool = True) -> M:
@@ -155,17 +209,15 @@ def maximal_independent_set(G: M, seed: int = 0, progress: Progress = None, *, c
     `progress('round', k, 0)` is called after each round.
 
     Runs: 7 a round, and 3. Rounds: about the logarithm of the number of vertices. Steps: up to 10 an edge and 16 a vertex, a
-    round; 5 an edge, 2 a vertex. Luby's algorithm: who has the greatest score among its neighbours is chosen. LAGraph:
+    round; 5 an edge, 22 a vertex. Luby's algorithm: who has the greatest score among its neighbours is chosen. LAGraph:
     `LAGraph_MaximalIndependentSet`. Raises ValueError where an edge leads one way alone (2 jobs, 3 runs, 13 steps an edge and 5
     a vertex, once; `check=False` leaves it out).
     """
-    count = order(G)
+    order(G)
     check_undirected(G, check, loops=True)
-    scores = list(range(1, count + 1))
-    random.Random(seed).shuffle(scores)
     graph = G.select('offdiag', 0)
     lines: Lines[M] = lines_of(graph, graph, False)
-    left = lines.put(Vector(list(range(count)), scores))
+    left = drawn(lines.all(1), seed)
     chosen, number = lines.put(Vector([], [])), 0
     while left.nvals:
         best = lines.step(left, GREATEST, mask=left)
@@ -177,4 +229,4 @@ def maximal_independent_set(G: M, seed: int = 0, progress: Progress = None, *, c
         number += 1
         tell(progress, 'round', number)
     at = lines.get(chosen).at
-    return beside(G, Columns(G, G).put(Vector(at, at * 0 + 1 if market.is_array(at) else [1] * len(at))))
+    return beside(G, Columns(G, G).put(Vector(at, ones_like(at))))

@@ -1,20 +1,25 @@
 """Cores: parts of a graph in which each vertex has so many neighbours."""
 from __future__ import annotations
 
-from typing import Generic, List, Optional
+from typing import Any, Dict, Generic, List, Optional
 
 from .. import market
 from ..convert import whole
+from ..looping import Loop, State, empty
+from ..looping.trips import Round
+from ..market import Triples
 from ..operators import Semiring, binary
-from .common import Progress, beside, order, tell
+from .common import Progress, beside, order, product, tell
 from .counts import degrees
 from .facts import check_undirected
 from .graph import M, Numbers
-from .lines import Columns, Tally, Vector
-from .traversal import Unseen, is_large, lines_of
+from .lines import Columns, Tally, Vector, ones_like, zeros_like
+from .long import is_ample
+from .traversal import Unseen, fronts_of, is_large
 
 COUNTS = Semiring(binary.plus, binary.first)
 GONE = -1
+HANDED_OVER = 1 << 12                              # vertices that are left where a loop at the server does the rest
 
 
 class Peeling(Generic[M]):
@@ -22,7 +27,7 @@ class Peeling(Generic[M]):
     edges: their neighbours lose so much, and nobody else is looked at."""
 
     def __init__(self, G: M, progress: Progress) -> None:
-        self.lines, self.progress = lines_of(G, G, False), progress
+        self.lines, self.progress = fronts_of(G, G, False), progress
         self.left = Tally(G.nrows, 0)
         had = Columns(G, G).get(degrees(G))
         self.left.put(had.at, had.values)
@@ -61,8 +66,9 @@ class Peeling(Generic[M]):
             self.left.set(fallen, GONE)
             masked = is_large(len(fallen), self.lines)
             self.gone.note(fallen, None)
-            ones = Vector(fallen, fallen * 0 + 1 if market.is_array(fallen) else [1] * len(fallen))
-            came = self.lines.get(self.lines.step(self.lines.put(ones), COUNTS, self.gone.mask() if masked else None))
+            ones = Vector(fallen, ones_like(fallen))
+            came = self.lines.get(self.lines.step(self.lines.put(ones), COUNTS, self.gone.mask())) if masked else \
+                self.lines.pushed(ones, COUNTS)
             fallen = self._lose(came, k)
             self.number += 1
             tell(self.progress, 'round', self.number)
@@ -114,10 +120,11 @@ def core_numbers(G: M, progress: Progress = None, *, check: bool = True) -> M:
     without neighbours.
 
     `progress('round', i, 0)` is called after each round. The graph is peeled once, for all k, and each vertex pushes once, when it
-    falls.
+    falls. Once 4,096 vertices are left, and on a budget of more than 2^56 steps, the rest is a loop that stays at the server.
 
-    Runs: 1 a round, and 2; 2 more a round in which many fall. Steps: up to 10 an edge; 4 a vertex and round in which many fall. LAGraph:
-    `LAGraph_KCore` for all k. networkx: `core_number`. igraph: `coreness`. Raises ValueError as `k_core` does.
+    Runs: 1 a round, and 2; 2 more a round in which many fall; in the loop 4 a round, and 4. Steps: up to 10 an edge; 4 a vertex and round in
+    which many fall; in the loop 20 for each vertex that is left, a round, and 20 an edge among them. LAGraph: `LAGraph_KCore` for all k.
+    networkx: `core_number`. igraph: `coreness`. Raises ValueError as `k_core` does.
     """
     order(G)
     check_undirected(G, check)
@@ -126,5 +133,55 @@ def core_numbers(G: M, progress: Progress = None, *, check: bool = True) -> M:
         k = peeling.least()
         if k is None:
             return beside(G, cores.column(G, None))
+        if len(peeling.alive) <= HANDED_OVER and is_ample(G):
+            _on_the_loop(peeling, k, cores)
+            return beside(G, cores.column(G, None))
         for fallen in peeling.peel(k + 1):
             cores.set(fallen, k)
+
+
+def _own(at: Numbers) -> Numbers:
+    """Numbers from 0 on, one for each."""
+    if market.is_array(at):
+        import numpy
+        return numpy.arange(len(at))
+    return list(range(len(at)))
+
+
+def _among(graph: M, at: Numbers) -> M:
+    """The graph of some vertices alone, which have the numbers from 0 on."""
+    many, own = len(at), _own(at)
+    if many == graph.nrows:
+        return graph
+    wide = graph.session.keep(Triples(own, at, ones_like(at), many, graph.nrows))
+    tall = graph.session.keep(Triples(at, own, ones_like(at), graph.nrows, many))
+    return product(product(wide, graph, 'any_pair'), tall, 'any_pair')
+
+
+def _on_the_loop(peeling: Peeling[M], k: int, cores: Tally) -> None:
+    """Peels what is left, from k on. A vertex has its degree less the level as its value; where each is above 0, the level rises by the least of
+    them, a matrix of one entry."""
+    at = peeling.alive if market.is_array(peeling.alive) else sorted(peeling.alive)
+    graph, degrees_now = _among(peeling.lines.graph, at), peeling.left.of(at)
+    session, many, begun = graph.session, len(at), peeling.number
+    gaps: Numbers = degrees_now - k if market.is_array(degrees_now) else [degree - k for degree in degrees_now]
+    row = Triples(zeros_like(at), _own(at), gaps, 1, many)
+    start = State({'gap': session.keep(row), 'level': session.full(1, 1, k)})
+
+    def step(s: State) -> Dict[str, Any]:
+        rise = s.gap.reduce_rowwise('min').apply('max', right=0)
+        gap = s.gap.ewise_mult(rise.mxm(s.gap, 'any_first'), 'minus')
+        fallen, alive = gap.select('valuele', 0), gap.select('valuegt', 0)
+        lost = fallen.mxm(graph, 'plus_pair', mask=alive.S)
+        return {'gap': alive.ewise_add(lost, 'minus'), 'level': s.level.ewise_add(rise, 'plus'), 'fallen': fallen}
+    loop = Loop(step, start, ['fallen', 'level'])
+
+    def heard(first: int, rounds: List[Round]) -> None:
+        fallen, levels = loop.shown['fallen'].drain(values=False), loop.shown['level'].drain(rounds=False).values
+        if market.is_array(at):
+            cores.put(at[fallen.places], levels[fallen.rounds - first])
+        else:
+            cores.put([at[place] for place in fallen.places], [levels[number - first] for number in fallen.rounds])
+        for number in range(first, first + len(rounds)):
+            tell(peeling.progress, 'round', begun + number)
+    loop.rounds(empty('gap'), 1 << 40, heard)

@@ -4,6 +4,7 @@ from __future__ import annotations
 import random
 from typing import Any, Callable, Optional, Tuple
 
+from .. import pricing
 from ..operators import asm
 from .graph import GraphMatrix, M
 
@@ -43,6 +44,9 @@ UNDIRECTED = 'algorithms.undirected(G) is the graph without directions, weights 
 def found(graph: GraphMatrix, name: str, find: Callable[[], Any]) -> Any:
     """A fact of a graph: as it was found before, or as it is found now."""
     if name not in graph.kept:
+        asked = pricing.asked()
+        if asked is not None:
+            return asked.fact(graph, name, find)
         graph.kept[name] = find()
     return graph.kept[name]
 
@@ -76,10 +80,11 @@ def check_undirected(graph: GraphMatrix, check: bool, loops: bool = False) -> No
     """A ValueError where an edge leads one way alone, or, unless they are allowed, from a vertex to itself."""
     if not check:
         return
-    if not is_both_ways(graph):
-        raise ValueError('an undirected graph is wanted, and here an edge leads one way alone: ' + UNDIRECTED)
-    if not loops and has_loops(graph):
-        raise ValueError('a graph without loops is wanted, and here is an edge from a vertex to itself: ' + UNDIRECTED)
+    with pricing.granted({'both ways': True, 'loops': False}):
+        if not is_both_ways(graph):
+            raise ValueError('expected an undirected graph, but an edge leads one way alone: ' + UNDIRECTED)
+        if not loops and has_loops(graph):
+            raise ValueError('expected a graph without loops, but there is an edge from a vertex to itself: ' + UNDIRECTED)
 
 
 def is_transpose(graph: M, other: M, values: bool = False) -> bool:

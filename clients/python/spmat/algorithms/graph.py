@@ -4,9 +4,8 @@ from __future__ import annotations
 from typing import Any, Dict, Iterable, List, Optional, Protocol, Tuple, TypeVar, Union
 
 from ..market import Triples
-from ..operators import Operator, Semiring
+from ..operators import Op, Semiring
 
-Op = Union[str, Operator]
 Ring = Union[str, Semiring, Tuple[Op, Op]]
 M = TypeVar('M', bound='GraphMatrix')
 S = TypeVar('S', covariant=True)
@@ -94,7 +93,7 @@ class GraphMatrix(Protocol):
     def ewise_mult(self: M, other: M, op: Op = ..., *, mask: Any = ...) -> M:
         """An operator where both have an entry."""
 
-    def mxm(self: M, other: M, op: Ring = ..., *, mask: Any = ...) -> M:
+    def mxm(self: M, other: M, op: Ring = ..., *, mask: Any = ..., parts: bool = ...) -> M:
         """The product."""
 
     def mxv(self: M, vector: M, op: Ring = ..., *, mask: Any = ...) -> M:

@@ -13,11 +13,15 @@ from __future__ import annotations
 
 import abc
 from array import array
-from typing import Any, Generic, List, NamedTuple, Optional
+from typing import Any, Dict, Generic, List, NamedTuple, Optional, cast
 
-from .. import market
+from .. import digits, market
+from ..looping.prepared import Push
 from ..market import Triples
+from ..matrix import Matrix
 from ..operators import Semiring, binary
+from ..pricing import asked
+from .facts import found
 from .graph import M, Numbers
 
 FEW = 1024                                         # vectors of fewer entries are lists, which are quicker then
@@ -32,6 +36,8 @@ class Vector(NamedTuple):
 
 class Lines(abc.ABC, Generic[M]):
     """Vectors beside a graph."""
+
+    by_client = False                              # whether the client has all vectors, so that no job keeps one
 
     def __init__(self, graph: M) -> None:
         self.graph, self.count = graph, graph.nrows
@@ -49,6 +55,10 @@ class Lines(abc.ABC, Generic[M]):
         """What comes to each vertex j along the edges (i, j) from the front's vertices i: the terms `mul(front(i), edge)`, folded by
         `add`. `mul` is `first`, `second`, or commutative."""
 
+    def pushed(self, front: Vector, ring: Semiring) -> Vector:
+        """`step`, from entries to entries."""
+        return self.get(self.step(self.put(front), ring))
+
     @abc.abstractmethod
     def number(self, vector: M, more: int = 0) -> M:
         """A vector with each vertex' own number, and so many more, as its value."""
@@ -59,15 +69,25 @@ class Lines(abc.ABC, Generic[M]):
 
     def ones(self) -> M:
         """A vector of ones, kept with the graph."""
-        name = type(self).__name__ + ' of ones'
-        if name not in self.graph.kept:
-            self.graph.kept[name] = self.all(1)
-        held: M = self.graph.kept[name]
+        held: M = found(self.graph, type(self).__name__ + ' of ones', lambda: self.all(1))
         return held
 
 
 class Rows(Lines[M]):
     """Vectors as rows, which push."""
+
+    def __init__(self, graph: M) -> None:
+        super().__init__(graph)
+        self._pushes: Dict[Semiring, Push] = {}
+
+    def pushed(self, front: Vector, ring: Semiring) -> Vector:
+        """By one trip. Where it is refused, so that who asks hears why, as any job."""
+        if asked() is not None:
+            return super().pushed(front, ring)
+        if ring not in self._pushes:
+            self._pushes[ring] = Push(cast(Matrix, self.graph), ring)
+        got = self._pushes[ring](Triples(zeros_like(front.at), front.at, front.values, 1, self.count))
+        return super().pushed(front, ring) if got is None else Vector(got.places, got.values)
 
     def put(self, vector: Vector) -> M:
         return self.graph.session.keep(Triples(zeros_like(vector.at), vector.at, vector.values, 1, self.count))
@@ -108,17 +128,69 @@ class Columns(Lines[M]):
         return read(matrix.to_text(), 0)
 
 
+class Front:
+    """A vector that the client has, in blocks."""
+
+    def __init__(self, vector: Vector) -> None:
+        self.vector = vector
+
+    def reduce_scalar(self, op: str) -> Optional[int]:
+        """The greatest value ('max'), None where there is none."""
+        assert op == 'max'
+        return int(max(self.vector.values)) if len(self.vector.at) else None
+
+
+class Fronts(Lines[M]):
+    """Vectors that the client has, beside a graph in blocks: each step is one trip to those blocks that have to do with it. Without a
+    transpose all fronts are pushed."""
+
+    by_client = True
+
+    def __init__(self, graph: M, transpose: Optional[M]) -> None:
+        super().__init__(graph)
+        self.transpose = transpose
+
+    def put(self, vector: Vector) -> Any:
+        return Front(vector)
+
+    def all(self, value: int) -> Any:
+        return Front(Vector(list(range(self.count)), [value] * self.count))
+
+    def pushed(self, front: Vector, ring: Semiring) -> Vector:
+        graph: Any = self.graph
+        large = 4 * len(front.at) * graph.nvals >= self.count * self.count
+        found: Vector = graph.reach(self.transpose, front, (ring, Semiring(ring.add, SWAPPED.get(ring.mul, ring.mul))), large)
+        return found
+
+    def step(self, front: Any, ring: Semiring, mask: Optional[M] = None) -> Any:
+        return Front(self.pushed(front.vector, ring))
+
+    def number(self, vector: Any, more: int = 0) -> Any:
+        at = vector.vector.at
+        return Front(Vector(at, at + more if market.is_array(at) else [i + more for i in at]))
+
+    def get(self, matrix: Any) -> Vector:
+        vector: Vector = matrix.vector
+        return vector
+
+
 def zeros_like(at: Numbers) -> Numbers:
     """As many zeros, of the same kind."""
     return at * 0 if market.is_array(at) else [0] * len(at)
+
+
+def ones_like(at: Numbers) -> Numbers:
+    """As many ones, of the same kind."""
+    return at * 0 + 1 if market.is_array(at) else [1] * len(at)
 
 
 def read(text: bytes, field: int) -> Vector:
     """The vector of a text as the server writes it; `field` 1 of a row, 0 of a column."""
     start = market.head_of(text)[2]
     if len(text) - start > 12 * FEW and market.find_numpy() is not None:
-        numbers = market.numbers_of(text[start:])
-        return Vector(numbers[field::3] - 1, numbers[2::3].copy())
+        at, values = digits.fields(text[start:], (field, 2))
+        at -= 1
+        return Vector(at, values)
     words = text[start:].split()
     return Vector([int(word) - 1 for word in words[field::3]], list(map(int, words[2::3])))
 

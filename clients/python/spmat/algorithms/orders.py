@@ -1,13 +1,19 @@
 """What must come before what: levels of a directed graph without cycles, or the cycle that it has."""
 from __future__ import annotations
 
-from typing import List, Optional, Tuple
+from typing import Dict, List, Tuple
 
+from .. import market
+from ..looping import Loop, State, empty
+from ..looping.trips import Round
 from ..matrix import Matrix
 from ..operators import Semiring, asm, binary
 from .common import Progress, nothing, order, tell
 from .facts import extremes
+from .graph import Numbers
+from .lines import Tally
 from .paths import MOST, WRAPS
+from .traversal import NONE
 
 # An edge takes one from what the vertex that it leads to still waits for.
 TAKEN = Semiring(binary.plus, asm('binary', 'mov64 r0, -1\nexit\n', 'minus_one'))
@@ -28,58 +34,68 @@ class CycleError(ValueError):
         self.cycle = cycle
 
 
-class Pile:
-    """Matrices of one shape with no position in two of them, joined by pairs of like size as they come: the work is that of a
-    merge sort, however small they are."""
+class Order:
+    """Vertices in the order in which no edge leads to them any more from one that isn't taken yet. `front` is the row of those that are to
+    be taken first, `waiting` that of the others that an edge leads to from the front. A step's cost follows the edges that leave the
+    front, and the vertices that wait for more of theirs."""
 
-    def __init__(self) -> None:
-        self._parts: List[Tuple[int, Matrix]] = []
-
-    def add(self, part: Matrix) -> None:
-        size = part.nvals
-        while self._parts and self._parts[-1][0] <= 2 * size:
-            last, other = self._parts.pop()
-            part, size = other.ewise_add(part, 'first'), size + last
-        self._parts.append((size, part))
-
-    def joined(self) -> Optional[Matrix]:
-        """All of them as one; None where there were none."""
-        found: Optional[Matrix] = None
-        while self._parts:
-            part = self._parts.pop()[1]
-            found = part if found is None else found.ewise_add(part, 'first')
-        return found
-
-
-class Peeling:
-    """Vertices in the order in which no edge leads to them any more from one that isn't taken yet. `front` is the row of those that
-    are to be taken next. `incoming` is the row of how many edges come in, where any do. A step's cost follows the edges that leave
-    the front, and the vertices that wait for more of theirs."""
-
-    def __init__(self, G: Matrix, incoming: Matrix) -> None:
-        self.graph, self._waits_for = G, incoming.diag()
+    def __init__(self, G: Matrix) -> None:
+        self.graph = G
+        incoming = G.session.ones(G.nrows).mxm(G, 'plus_pair')
+        self.waits_for = incoming.diag()
         self.front = G.session.ones(G.nrows).apply('zero').ewise_add(incoming, 'second').select('valueeq', 0)
-        self._waiting = self.front.select('nonzero')
 
-    def step(self) -> Matrix:
-        """Takes the front away. Those that have edges left, as a row: of the vertices that an edge led to."""
-        taken = self._waiting.ewise_add(self.front.mxm(self.graph, TAKEN), 'plus')
-        left = taken.mxm(self._waits_for, LEFT)
-        self.front, still = left.select('valueeq', 0), left.select('nonzero')
-        self._waiting = taken.ewise_mult(still, 'first')
-        return still
+    def begin(self) -> Dict[str, Matrix]:
+        """The state of a loop."""
+        return {'front': self.front, 'waiting': self.front.select('nonzero')}
+
+    def taken(self, s: State) -> Tuple[Matrix, Matrix, Matrix]:
+        """Takes the front away: the next one, those that have edges left, of the vertices that an edge led to, and how many."""
+        taken = s.waiting.ewise_add(s.front.mxm(self.graph, TAKEN), 'plus')
+        left = taken.mxm(self.waits_for, LEFT)
+        still = left.select('nonzero')
+        return left.select('valueeq', 0), still, taken.ewise_mult(still, 'first')
 
 
-def peeled(G: Matrix, incoming: Matrix, progress: Progress = None) -> Pile:
-    """The vertices that no cycle leads to, as rows whose values are levels: those without an edge that comes in, those that have
-    one from these alone, and so on."""
-    found, peeling, level = Pile(), Peeling(G, incoming), 0
-    while peeling.front.nvals:
-        found.add(peeling.front.apply('second', right=level))
-        peeling.step()
-        level += 1
-        tell(progress, 'level', level)
-    return found
+class Levels:
+    """The number that each vertex got, and how many got one, as a loop tells of them."""
+
+    def __init__(self, order: Order, progress: Progress) -> None:
+        self.tally, self.number, self.progress = Tally(order.graph.nrows, NONE), 0, progress
+        first = order.front.to_coo()[1]
+        self.count = len(first)
+        self.tally.set(first, 0)
+
+    def hear(self, loop: Loop, name: str, first: int, rounds: List[Round]) -> None:
+        """Those that some rounds took: with the round, or with the value that is shown."""
+        new = loop.shown[name].drain(values=name != 'front')
+        self.tally.put(new.places, new.rounds if name == 'front' else new.values)
+        self.count += len(new.places)
+        for number in range(first, first + len(rounds)):
+            tell(self.progress, 'level', number)
+
+    def found(self) -> Numbers:
+        """The vertices that have a number."""
+        numbers = self.tally.numbers
+        if market.find_numpy() is not None:
+            import numpy
+            return numpy.flatnonzero(self.tally.view() != NONE)
+        return [i for i, number in enumerate(numbers) if number != NONE]
+
+
+def levelled(G: Matrix, progress: Progress = None) -> Levels:
+    """The vertices that no cycle leads to, and their levels: those without an edge that comes in, those that have one from these alone, and
+    so on."""
+    order_ = Order(G)
+    levels = Levels(order_, progress)
+
+    def step(s: State) -> Dict[str, Matrix]:
+        front, _, waiting = order_.taken(s)
+        return {'front': front, 'waiting': waiting}
+    if levels.count:
+        loop = Loop(step, order_.begin(), ['front'])
+        loop.rounds(empty('front'), G.nrows + 1, lambda first, rounds: levels.hear(loop, 'front', first, rounds))
+    return levels
 
 
 def topological_levels(G: Matrix, progress: Progress = None) -> Matrix:
@@ -88,24 +104,24 @@ def topological_levels(G: Matrix, progress: Progress = None) -> Matrix:
 
     `progress('level', k, 0)` is called after each level.
 
-    Runs: 7 a level, and 5. A level's cost follows the edges that leave it, and their ends; all levels together take up to 12 steps
-    an edge, and 30 a vertex and the logarithm of the number of vertices. GraphBLAS: rows of counts by `vxm` over plus.
+    Runs: 6 a level, and 5; levels are a loop that stays at the server. A level's cost follows the edges that leave it, and their ends; all
+    levels together take up to 12 steps an edge, and 30 a vertex. Of a short graph up to 12 levels in vain are among them. GraphBLAS: rows of counts by `vxm` over plus.
     networkx: `topological_generations`. Raises CycleError, a ValueError, where there is a cycle, and shows one in `cycle`.
     """
     count = order(G)
     if count == 0:
         return nothing(G)
-    found = peeled(G, G.session.ones(count).mxm(G, 'plus_pair'), progress).joined()
-    if found is None or found.nvals < count:
-        raise CycleError(_cycle(G, found))
-    return G.session.from_coo(range(count), [0] * count, found.to_coo()[2], count, 1)
+    levels = levelled(G, progress)
+    if levels.count < count:
+        raise CycleError(_cycle(G, levels.found()))
+    return levels.tally.column(G, None)
 
 
 def longest_paths(W: Matrix, progress: Progress = None, *, check: bool = True) -> Matrix:
     """The length of the longest path that ends at each vertex of a directed graph without cycles, as a column. An entry's value is the
     length of its edge; a path may begin anywhere, so no length is below 0.
 
-    `progress('level', k, 0)` is called after each level. Runs: 9 a level, and 9; 2 more a level where so many edges of the greatest
+    `progress('level', k, 0)` is called after each level. Runs: 8 a level, and 9; 2 more a level where so many edges of the greatest
     length would be longer than 2^63 - 1. Costs as for `topological_levels`, twice, and 8 steps an edge. networkx:
     `dag_longest_path_length` is the greatest of them. Raises CycleError where there is a cycle, and ValueError where a length
     would wrap (`check=False` takes lengths as they come).
@@ -113,31 +129,35 @@ def longest_paths(W: Matrix, progress: Progress = None, *, check: bool = True) -
     count = order(W)
     if count == 0:
         return nothing(W)
-    found, level = Pile(), 0
-    heaviest = extremes(W)[1] if check else 0
-    peeling = Peeling(W, W.session.ones(count).mxm(W, 'plus_pair'))
-    lengths = best = peeling.front.apply('zero')
-    while peeling.front.nvals:
-        found.add(lengths)
-        if (level + 1) * heaviest > MOST and lengths.mxm(W, WRAPPED).reduce_scalar('max'):
+    may_wrap = check and count * extremes(W)[1] > MOST
+    order_ = Order(W)
+    levels = Levels(order_, progress)
+
+    def step(s: State) -> Dict[str, Matrix]:
+        best = s.best.ewise_add(s.lengths.mxm(W, 'max_plus'), 'max')
+        front, still, waiting = order_.taken(s)
+        out = {'front': front, 'waiting': waiting, 'lengths': best.ewise_mult(front, 'first').apply('max', right=0),
+               'best': best.ewise_mult(still, 'first')}
+        return {**out, 'wrapped': s.lengths.mxm(W, WRAPPED).select('nonzero')} if may_wrap else out
+
+    def heard(first: int, rounds: List[Round]) -> None:
+        if may_wrap and any(one.counts['wrapped'] for one in rounds):
             raise ValueError(WRAPS)
-        best = lengths.mxm(W, 'max_plus') if level == 0 else best.ewise_add(lengths.mxm(W, 'max_plus'), 'max')
-        still = peeling.step()
-        lengths = best.ewise_mult(peeling.front, 'first').apply('max', right=0)
-        best = best.ewise_mult(still, 'first')
-        level += 1
-        tell(progress, 'level', level)
-    whole = found.joined()
-    if whole is None or whole.nvals < count:
-        raise CycleError(_cycle(W, whole))
-    return W.session.from_coo(range(count), [0] * count, whole.to_coo()[2], count, 1)
+        levels.hear(loop, 'lengths', first, rounds)
+    if levels.count:
+        lengths = order_.front.apply('zero')
+        loop = Loop(step, {**order_.begin(), 'lengths': lengths, 'best': lengths.select('nonzero')}, ['lengths'])
+        loop.rounds(empty('front'), count + 1, heard)
+    if levels.count < count:
+        raise CycleError(_cycle(W, levels.found()))
+    return levels.tally.column(W, None)
 
 
-def _cycle(G: Matrix, levelled: Optional[Matrix]) -> List[int]:
+def _cycle(G: Matrix, levelled_: Numbers) -> List[int]:
     """A cycle among the vertices that have no level. Each of them has an edge from another one: walked back by the least of these
     they meet one twice."""
     count = G.nrows
-    rest = sorted(set(range(count)) - set(levelled.to_coo(arrays=False)[1] if levelled is not None else ()))
+    rest = sorted(set(range(count)).difference(levelled_.tolist() if market.is_array(levelled_) else levelled_))
     left = G.session.from_coo(rest, rest, rest, count, count)
     sources = G.session.ones(count).apply('zero').mxm(left, 'any_second').mxm(G, 'min_first')
     _, columns, values = sources.to_coo(arrays=False)

@@ -2,18 +2,20 @@
 from __future__ import annotations
 
 from collections import Counter
-from typing import NamedTuple, Sequence, Tuple
+from typing import Any, NamedTuple, Sequence, Tuple
 
 from ..errors import refusal
 from ..market import MOST_SIDE
 from ..matrix import Matrix
 from ..operators import Operator, Semiring, asm, binary
-from .common import Progress, loops, order, product, tell, vertex
+from .common import Progress, loops, order, places, product, tell
 from .facts import extremes
+from .graph import M
 from .paths import CYCLE
 
 SHORT = 16              # entries a row up to which the graph is squared, so that one push covers more edges
 GROWTH = 3              # and only where a square has no more than so many times the entries
+MANY, DEAR = 1 << 16, 64  # of a graph with more entries than MANY it is asked first whether a square has more than DEAR multiplications for each
 MOST_HALF = (1 << 62) - 1
 MARKED_BOUND = 1 << 61  # what lengths stay below for that a bit of each may be a mark
 # 1 on the diagonal where the value is below 0, else 0
@@ -40,10 +42,18 @@ BY_REACH = Way(REACHED, 'first', asm('index', 'mov64 r0, r1\nexit\n', 'marked_re
                asm('unary', 'mov64 r0, 0\nexit\n', 'unmark_reach'))
 
 
-def _squared(near: Matrix, way: Way) -> Tuple[Matrix, int]:
+def _is_dear(near: M) -> bool:
+    """Whether a square has so many multiplications that it would hardly be sparse: of large graphs in which a few rows are long."""
+    if near.nvals <= MANY:
+        return False
+    terms = near.mxv(near.apply('one').reduce_rowwise('plus'), 'plus_second').reduce_scalar('plus') or 0
+    return terms > DEAR * near.nvals
+
+
+def _squared(near: M, way: Way) -> Tuple[M, int]:
     """What lies within so many edges: `near`, squared while its rows are short, and that number. A push by it spares rounds."""
     edges = 1
-    while near.nvals <= SHORT * near.nrows and edges < near.nrows:
+    while near.nvals <= SHORT * near.nrows and edges < near.nrows and not _is_dear(near):
         further = near.ewise_add(product(near, near, way.terms), way.join)
         fresh, joined = further.select(way.is_new), further.apply(way.unmark)
         if fresh.nvals == 0 or joined.nvals > GROWTH * near.nvals:
@@ -52,8 +62,8 @@ def _squared(near: Matrix, way: Way) -> Tuple[Matrix, int]:
     return near, edges
 
 
-def _spread(start: Matrix, fresh: Matrix, reach: Matrix, way: Way, progress: Progress, most: int = 1 << 62,
-            signed: bool = False) -> Matrix:
+def _spread(start: M, fresh: M, reach: M, way: Way, progress: Progress, most: int = 1 << 62,
+            signed: bool = False) -> M:
     """What is known from the start on, when nothing new is added: each round what is new is pushed by `reach`, so an entry is
     multiplied again only where it changed. Raises ValueError for a cycle of negative length."""
     known, number = start, 0
@@ -86,7 +96,8 @@ def all_pairs(W: Matrix, progress: Progress = None) -> Matrix:
 
     `progress('round', k, 0)` is called after each round.
 
-    Runs: 3 a round, 3 for each squaring, and 8; more where the product is made by parts (16,777,216 multiplications). There is a round for each edge of
+    Runs: 3 a round, 3 for each squaring, 6 of a graph of more than 65,536 entries, and 8; more where the product is made by parts (16,777,216 multiplications). There
+    is a round for each edge of
     the longest of the shortest paths, or for every 2, 4, .. of them where rows are short: the graph is squared first while a row
     has 16 entries or fewer and a square three times as many at most. What changed in a round is multiplied in the next, and nothing else: where all edges have one length
     that is each pair of vertices once for each edge (`networkx` does the same by n searches). The result has up to 16,777,216
@@ -126,22 +137,32 @@ def _by_squaring(W: Matrix, progress: Progress) -> Matrix:
     return lengths
 
 
-def path_lengths(W: Matrix, sources: Sequence[int], progress: Progress = None) -> Matrix:
+def path_lengths(W: Matrix, sources: Sequence[Any], progress: Progress = None) -> Matrix:
     """The length of the shortest path from each of some vertices, a row for each in their order, to each vertex (the column); no
     entry where no path leads. Sources and the vertices that they reach make up to 16,777,216 entries; lengths along a path stay
     below 2^60 in size. `progress('round', k, 0)` is called after each round.
 
-    Runs: 3 a round, 3 for each squaring, and 8; more where the product is made by parts. Rounds as for `all_pairs`. Raises ValueError where a source is
+    Runs: 3 a round, 3 for each squaring, 6 of a graph of more than 65,536 entries, and 8; more where the product is made by parts. Rounds as for `all_pairs`. Raises
+    ValueError where a source is
     no vertex, lengths could be too large, or a source reaches a cycle of negative length.
     """
-    count = order(W)
-    rows = [vertex(source, count) for source in sources]
+    order(W)
+    rows = places(W, sources)
+    return lengths_from(W.session.from_coo(range(len(rows)), rows, 0, len(rows), W.nrows), reach_of(W), progress)
+
+
+def reach_of(W: M) -> Tuple[M, int]:
+    """How far what lies within so many edges is, and that number. ValueError where lengths of paths could be too large."""
     least, most = extremes(W)
-    if max(most, -least) * max(1, count) >= MARKED_BOUND:
+    if max(most, -least) * max(1, W.nrows) >= MARKED_BOUND:
         raise ValueError('lengths of paths beyond 2^60: scale the weights')
-    reach, edges = _squared(W.apply('times', right=2).ewise_add(loops(W, 0), 'min'), BY_LENGTH)
-    start = W.session.from_coo(range(len(rows)), rows, 0, len(rows), count)
-    return _spread(start, start, reach, BY_LENGTH, progress, count // edges + 2).apply('arsh', right=1)
+    return _squared(W.apply('times', right=2).ewise_add(loops(W, 0), 'min'), BY_LENGTH)
+
+
+def lengths_from(start: M, reach: Tuple[M, int], progress: Progress = None) -> M:
+    """As `path_lengths`, of a matrix with a 0 at the source of each row."""
+    near, edges = reach
+    return _spread(start, start, near, BY_LENGTH, progress, start.ncols // edges + 2).apply('arsh', right=1)
 
 
 def transitive_closure(G: Matrix, progress: Progress = None) -> Matrix:

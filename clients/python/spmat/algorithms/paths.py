@@ -1,15 +1,16 @@
 """Shortest paths from one vertex."""
 from __future__ import annotations
 
-from typing import Any, Generic, List, NamedTuple, Optional, Tuple, cast
+from typing import Any, Callable, Generic, List, NamedTuple, Optional, Tuple, cast
 
 from .. import market
 from ..operators import Semiring, asm, binary
+from . import long
 from .common import Progress, beside, order, tell
 from .facts import extremes
 from .graph import GraphMatrix, M, Numbers
 from .lines import Lines, Tally, Vector
-from .traversal import joined, lines_of
+from .traversal import fronts_of, joined
 
 CYCLE = 'a cycle of negative length: paths along it have no least length'
 WRAPS = 'a path is longer than 2^63 - 1, and its length would wrap: divide the values (check=False takes them as they come)'
@@ -76,9 +77,8 @@ class Lengths(Generic[M]):
 
     def round_by_client(self, told: 'Told') -> None:
         """Lengthens the front by an edge, and keeps those that are shorter than what was known."""
-        front = self.lines.put(self.front)
-        told.round(self.longest, self.lines, front)
-        got = self.lines.get(self.lines.step(front, SHORTEST))
+        told.round(self.longest, self.lines, lambda: self.lines.put(self.front))
+        got = self.lines.pushed(self.front, SHORTEST)
         changed = _shorter(self.known, got, self.limit())
         self.known.put(changed.at, changed.values)
         self.front, later = _parted(changed, self.end) if self.bounds.width else (changed, [])
@@ -87,6 +87,17 @@ class Lengths(Generic[M]):
         if not len(self.front.at) and self.far:
             self.take(self.waiting())
         self.longest = _longest(self.front.values)
+
+    def open(self, heaviest: int) -> long.Waiting:
+        """The vertices that wait, and those whose lengths could be looked at again, in an undirected graph."""
+        waiting = joined([self.front.at, *([self.waiting().at] if self.far else [])]).at
+        lengths = self.known.of(waiting)
+        least = int(lengths.min()) if market.is_array(lengths) else min(lengths)
+        reached = _kept(_reached(self.known), least - heaviest, MOST - 1).at
+        if market.is_array(reached):
+            import numpy
+            return long.Waiting(numpy.asarray(waiting, numpy.int64), numpy.setdiff1d(reached, waiting, assume_unique=True))
+        return long.Waiting(waiting, sorted(set(reached).difference(waiting)))
 
     def waiting(self) -> Vector:
         """The vertices that wait behind the band, with their lengths. Those that came into it since were taken in it."""
@@ -108,7 +119,7 @@ class Lengths(Generic[M]):
         known, front = lines.put(_reached(self.known)), lines.put(self.front)
         far = lines.put(self.waiting() if self.far else Vector([], []))
         while front.nvals and small < BACK:
-            told.round(self.longest, lines, front)
+            told.round(self.longest, lines, lambda now=front: now)  # type: ignore[misc]
             reached = lines.step(front, SHORTEST)
             front = reached.ewise_add(known, LESS, mask=reached).select('valuene', NOT_LESS)
             if self.bounds.ascending and self.bounds.cutoff is not None:
@@ -149,9 +160,9 @@ class Told:
     def __init__(self, progress: Progress, most: int, heaviest: int) -> None:
         self.progress, self.most, self.heaviest, self.number = progress, most, heaviest, 0
 
-    def round(self, longest: int, lines: Lines[M], front: M) -> None:
+    def round(self, longest: int, lines: Lines[M], front: Callable[[], M]) -> None:
         """A round begins, with lengths of up to so much. Where an edge could make one wrap, it is looked whether any does."""
-        if longest + self.heaviest >= MOST and (lines.step(front, TOO_LONG).reduce_scalar('max') or 0):
+        if longest + self.heaviest >= MOST and (lines.step(front(), TOO_LONG).reduce_scalar('max') or 0):
             raise ValueError(WRAPS)
         if self.number > self.most:
             raise ValueError(CYCLE)
@@ -162,7 +173,7 @@ class Told:
 
 def is_large(front: int, lines: Lines[M]) -> bool:
     """Whether so many vertices have edges enough that it pays to walk along all vertices, by the mean degree."""
-    return BY_JOBS * front * lines.graph.nvals >= lines.count * lines.count
+    return not lines.by_client and BY_JOBS * front * lines.graph.nvals >= lines.count * lines.count
 
 
 def _longest(values: Numbers) -> int:
@@ -231,7 +242,9 @@ def sssp(W: M, source: Any, WT: Optional[M] = None, progress: Progress = None, *
     made without it. `progress('round', k, 0)` is called after each round.
 
     Each round lengthens the paths to vertices whose length changed, by one edge; where no edge is negative the nearest first, a band of
-    lengths at a time (delta-stepping). The lengths are kept by the client; while many vertices change at a time, by jobs.
+    lengths at a time (delta-stepping). The lengths are kept by the client; while many vertices change at a time, by jobs. On a budget of more
+    than 2^56 steps the rounds behind the 32nd of an undirected graph are a loop that stays at the server, where no edge is negative and there
+    is neither cutoff nor target: it takes less time, and more steps, up to 300 an edge.
 
     Runs: 1 a round, and 4; 4 more a round with a large front, 11 where a band ends with it. There are as many rounds as edges in the
     longest of the shortest paths, and 1; with bands some more, but no more than vertices. Steps: up to 7 an edge that leaves a vertex
@@ -239,19 +252,26 @@ def sssp(W: M, source: Any, WT: Optional[M] = None, progress: Progress = None, *
     the greatest value, which are kept with the matrix. GraphBLAS: `vxm` over min and plus (Bellman and Ford; Meyer and Sanders).
     LAGraph: `LAGr_SingleSourceShortestPath`. networkx: `single_source_bellman_ford_path_length`. Raises ValueError
     where the source is no vertex, or reaches a cycle of negative length, and where lengths could wrap (with `check=False` they are
-    taken to stay below 2^63), and in blocks where WT isn't the transpose.
+    taken to stay below 2^63), and where WT isn't the transpose.
     """
     count = order(W, WT)
     source, target = W.index(source), None if target is None else W.index(target)
     least, most = extremes(W) if check or cutoff is not None or target is not None else (-1, 0)
     bounds = Bounds(cutoff, target, least >= 0, _width(W, least, most))
-    lengths = Lengths(lines_of(W, WT, check, values=True), source, bounds)
+    lengths = Lengths(fronts_of(W, WT, check, values=True), source, bounds)
     told = Told(progress, count, max(abs(least), abs(most)) if check else 0)
+    may_stay = cutoff is None and target is None and long.are_close(least, most, count)
     while len(lengths.front.at):
         if is_large(len(lengths.front.at), lengths.lines):
             lengths.rounds_by_jobs(told)
+        elif may_stay and told.number >= long.LONG and long.stays(lengths.lines, target):
+            if told.number:
+                tell(progress, 'round', told.number)
+            long.lengths_on(W, lengths.known, lengths.open(most), most, progress, told.number)
+            break
         else:
             lengths.round_by_client(told)
-    tell(progress, 'round', told.number)
+    else:
+        tell(progress, 'round', told.number)
     found = lengths.known.column(W, UNREACHED)
     return beside(W, found if cutoff is None or least >= 0 else found.select('valuele', cutoff))

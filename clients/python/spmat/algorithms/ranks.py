@@ -14,7 +14,8 @@ from .graph import GraphMatrix, M, Numbers
 from .lines import FEW, Columns, Lines, Vector
 from .traversal import lines_of
 
-ONE = 1 << 40
+ONE = 1 << 40                                      # the units of a rank of 1, unless there are too many vertices for it
+MOST_SCALE = 52                                    # bits
 SPARE = 8                                          # bits below a unit that shares have
 PARTS = 1000                                       # parts that a damping has at least
 DIGITS = (3, 4, 5, 6)                              # decimals that a damping may have
@@ -201,13 +202,22 @@ def out_weights(lines: Lines[M], weighted: bool) -> M:
     return made
 
 
+def scale_for(count: int, tolerance: float) -> int:
+    """The units of a rank of 1 in which so many ranks can be told within a tolerance: 2^40, or as many more bits as they want, up to
+    52."""
+    wanted = math.ceil(math.log2(2 * max(1, count) / tolerance))
+    return 1 << max(ONE.bit_length() - 1, min(MOST_SCALE, wanted))
+
+
 def kept_tolerance(count: int, weight: int, point: Point, tolerance: float, scale: int) -> float:
     """What rounding leaves of the tolerance. ValueError where that is less than half of it."""
     flows = 2 * (weight / 2.0 ** SPARE + 3 * count) / 2.0 ** point.bits / (1 - point.damping)
     result = count / (2.0 * scale)
     if flows > tolerance / 4:
-        raise ValueError('a tolerance of %g can not be kept: rounding takes up to %.2g, by %d vertices and weights that add up to %d. A '
-                         'damping of three decimals, or smaller weights, take less' % (tolerance, flows, count, weight))
+        finer = '' if point.whole == 10 ** DIGITS[0] else ', or a damping of three decimals'
+        raise ValueError('a tolerance of %g can not be kept: rounding takes up to %.2g, by %d vertices and weights that add up to %d, and a quarter '
+                         'of the tolerance is for it: give a tolerance of %.2g or more, or smaller weights%s'
+                         % (tolerance, flows, count, weight, 4.1 * flows, finer))
     if result > tolerance / 4:
         least = math.ceil(math.log2(2 * count / tolerance))
         raise ValueError('a tolerance of %g wants ranks in smaller units: scale=2**%d, or more%s'
@@ -215,11 +225,12 @@ def kept_tolerance(count: int, weight: int, point: Point, tolerance: float, scal
     return tolerance - flows - result
 
 
-def pagerank(G: M, GT: Optional[M] = None, damping: float = 0.85, tolerance: float = 1e-6, scale: int = ONE,
+def pagerank(G: M, GT: Optional[M] = None, damping: float = 0.85, tolerance: float = 1e-6, scale: Optional[int] = None,
              progress: Progress = None, *, weighted: bool = False, personalization: Optional[Weights] = None,
              dangling: Optional[Weights] = None, check: bool = True) -> M:
-    """The PageRank of each vertex in units of 1/scale (2^-40), as a column. The ranks' distances from the true ones add up to at most
-    `tolerance`, all rounding included, or the call is refused.
+    """The PageRank of each vertex in units of 1/scale, as a column. The ranks' distances from the true ones add up to at most
+    `tolerance`, all rounding included, or the call is refused. Without `scale` a rank of 1 is 2^40 units; with more vertices than
+    549,755 (at the usual tolerance) the least power of two above that keeps the tolerance: all ranks add up to it.
 
     Values of edges count with `weighted=True` alone: a vertex divides its rank among its edges in proportion to them.
     `personalization` has a weight for each vertex (0 where it says nothing): the share of what is given anew in each round; else all
@@ -234,11 +245,12 @@ def pagerank(G: M, GT: Optional[M] = None, damping: float = 0.85, tolerance: flo
     that is asked; 8 more; all of it twice where `dangling` differs. Steps: up to 5 an edge and 10 a vertex, a round (6 an edge with
     weights; 15 a vertex); 5 an edge, and 10 a vertex each time that is asked. GraphBLAS: `vxm` over plus and first, damped. LAGraph:
     `LAGr_PageRank`. networkx: `pagerank`. Raises ValueError where damping, tolerance, scale (1 to 2^52) or weights are out of range, and
-    where values are negative (4 jobs, once), and in blocks where GT isn't the transpose (`check=False` leaves these out).
+    where values are negative (4 jobs, once), and where GT isn't the transpose (`check=False` leaves these out).
     """
     count = order(G, GT)
-    if not 0 < tolerance < 1 or not 1 <= scale <= 1 << 52:
+    if not 0 < tolerance < 1 or not (scale is None or 1 <= scale <= 1 << MOST_SCALE):
         raise ValueError('damping and tolerance lie between 0 and 1, and scale is 1 to 2^52')
+    scale = scale_for(count, tolerance) if scale is None else scale
     point = point_of(damping)
     if count == 0:
         return Columns(G, G).put(Vector([], []))

@@ -5,10 +5,11 @@ from typing import Any, Generic, List, NamedTuple, Optional, Tuple
 
 from .. import market
 from ..operators import Semiring, asm, binary
+from . import long
 from .common import Progress, beside, order, places, tell
-from .facts import transpose_of
+from .facts import is_both_ways, transpose_of
 from .graph import M, Numbers
-from .lines import FEW, Columns, Lines, Rows, Tally, Vector
+from .lines import FEW, Columns, Fronts, Lines, Rows, Tally, Vector, ones_like
 
 REACHED = Semiring(binary.any, binary.first)
 LEAST = Semiring(binary.min, binary.first)
@@ -74,8 +75,21 @@ def search_of(G: M, source: Sources, depth: Optional[int], target: Any, progress
 
 
 def lines_of(G: M, GT: Optional[M], check: bool, values: bool = False) -> Lines[M]:
-    """Rows where one session has the graph, else columns, which want the transpose, if it matters with its values."""
-    return Rows(G) if G.in_one_place else Columns(G, transpose_of(G, GT, check, values))
+    """Rows where one session has the graph, else columns, which want the transpose, if it matters with its values. A transpose that
+    is given is looked at by either."""
+    if GT is not None or not G.in_one_place:
+        GT = transpose_of(G, GT, check, values)
+    return Rows(G) if G.in_one_place or GT is None else Columns(G, GT)
+
+
+def fronts_of(G: M, GT: Optional[M], check: bool, values: bool = False) -> Lines[M]:
+    """Rows where one session has the graph; in blocks fronts that the client has, with the transpose where it is known."""
+    if G.in_one_place:
+        return lines_of(G, GT, check, values)
+    if GT is not None:
+        return Fronts(G, transpose_of(G, GT, check, values))
+    both = is_both_ways(G) if not values else G.directed is False
+    return Fronts(G, G if both else None)
 
 
 def run_search(lines: Lines[M], search: Search, parents: bool) -> Tally:
@@ -84,14 +98,13 @@ def run_search(lines: Lines[M], search: Search, parents: bool) -> Tally:
     front: Numbers = search.sources
     matrix: Optional[M] = None
     told.put(front, front if parents else [0] * len(front))
-    level = 0
+    level, before = 0, front[:0]  # type: int, Numbers
     while level != search.depth and (search.target is None or told.numbers[search.target] == NONE):
-        if matrix is None:
-            matrix = lines.put(Vector(front, front if parents else _ones(front)))
-        masked = is_large(len(front), lines)
-        reached = lines.step(matrix, LEAST if parents else REACHED, unseen.mask() if masked else None)
-        got = lines.get(reached)
-        new = got if masked else _fresh(told, got)
+        if level >= long.LONG and long.stays(lines, search.target):
+            go_on = long.parents_on if parents else long.search_on
+            go_on(lines.graph, told, long.Fronts(level, front, before), search.depth, search.progress)
+            break
+        new, reached = _next_front(lines, told, front, matrix, unseen, parents)
         if not len(new.at):
             break
         level += 1
@@ -99,21 +112,28 @@ def run_search(lines: Lines[M], search: Search, parents: bool) -> Tally:
             told.put(new.at, new.values)
         else:
             told.set(new.at, level)
-        whole = reached if len(new.at) == len(got.at) else None
-        unseen.note(new.at, whole)
-        matrix = None if whole is None or len(new.at) < FEW else lines.number(whole) if parents else whole
-        front = new.at
+        unseen.note(new.at, reached)
+        matrix = None if reached is None or len(new.at) < FEW else lines.number(reached) if parents else reached
+        front, before = new.at, front
         tell(search.progress, 'level', level)
     return told
 
 
+def _next_front(lines: Lines[M], told: Tally, front: Numbers, matrix: Optional[M], unseen: Unseen[M],
+                parents: bool) -> Tuple[Vector, Optional[M]]:
+    """Those that an edge leads to and that weren't seen, and a matrix of just these where there is one. Where the front is large, and it
+    is a matrix already, under a mask."""
+    ring = LEAST if parents else REACHED
+    start = Vector(front, front if parents else ones_like(front))
+    if not is_large(len(front), lines):
+        return _fresh(told, lines.pushed(start, ring)), None
+    reached = lines.step(lines.put(start) if matrix is None else matrix, ring, unseen.mask())
+    return lines.get(reached), reached
+
+
 def is_large(front: int, lines: Lines[M]) -> bool:
     """Whether so many vertices have edges enough that it pays to walk along all vertices: a quarter as many, by the mean degree."""
-    return 4 * front * lines.graph.nvals >= lines.count * lines.count
-
-
-def _ones(at: Numbers) -> Numbers:
-    return at * 0 + 1 if market.is_array(at) else [1] * len(at)
+    return not lines.by_client and 4 * front * lines.graph.nvals >= lines.count * lines.count
 
 
 def _fresh(told: Tally, got: Vector) -> Vector:
@@ -136,16 +156,18 @@ def bfs_levels(G: M, source: Sources, GT: Optional[M] = None, progress: Progress
 
     Each level pushes its front along the edges that leave it, and what was seen is kept by the client: so the whole costs what the
     edges cost that leave the vertices which are reached, and a round trip a level. Where a front's edges are many beside the vertices,
-    the product is made under a mask of those that weren't seen, which is kept by jobs. In blocks each level pulls.
+    the product is made under a mask of those that weren't seen, which is kept by jobs. In blocks each level pulls. On a budget of more than
+    2^56 steps the levels of an undirected graph behind the 32nd are a loop that stays at the server, which takes less time, and more steps.
 
-    Runs: 1 a level, and 1; 2 more a level with a large front. Steps: up to 4 an edge; 4 a vertex and level with a large front.
-    GraphBLAS: `vxm` over any and first. LAGraph: `LAGr_BreadthFirstSearch`. networkx: `single_source_shortest_path_length`. Raises
-    ValueError where a source is no vertex, and in blocks where GT isn't the transpose (`check=False` leaves that check out, which
+    Runs: 1 a level, and 1; 2 more a level with a large front. Steps: up to 4 an edge; 4 a vertex and level with a large front. In a loop 4 runs
+    a level, and up to 30 steps an edge, with 15 to see once that each leads both ways. GraphBLAS: `vxm` over any and first. LAGraph:
+    `LAGr_BreadthFirstSearch`. networkx: `single_source_shortest_path_length`. Raises
+    ValueError where a source is no vertex, and where GT isn't the transpose (`check=False` leaves that check out, which
     takes 4 jobs, once).
     """
     order(G, GT)
     search = search_of(G, source, depth, target, progress)
-    return beside(G, run_search(lines_of(G, GT, check), search, False).column(G, NONE))
+    return beside(G, run_search(fronts_of(G, GT, check), search, False).column(G, NONE))
 
 
 def bfs_parents(G: M, source: Sources, GT: Optional[M] = None, progress: Progress = None, *, depth: Optional[int] = None,
@@ -155,10 +177,10 @@ def bfs_parents(G: M, source: Sources, GT: Optional[M] = None, progress: Progres
 
     The arguments are those of `bfs_levels`, and so is the way it goes.
 
-    Runs: 1 a level, and 1; 3 more a level with a large front. Steps: up to 6 an edge; 7 a vertex and level with a large front.
-    GraphBLAS: `vxm` over min and first. LAGraph: `LAGr_BreadthFirstSearch`. networkx: `bfs_predecessors`. Raises ValueError as
+    Runs: 1 a level, and 1; 3 more a level with a large front. Steps: up to 6 an edge; 7 a vertex and level with a large front. In a loop 5 runs
+    a level, and up to 40 steps an edge. GraphBLAS: `vxm` over min and first. LAGraph: `LAGr_BreadthFirstSearch`. networkx: `bfs_predecessors`. Raises ValueError as
     `bfs_levels` does.
     """
     order(G, GT)
     search = search_of(G, source, depth, target, progress)
-    return beside(G, run_search(lines_of(G, GT, check), search, True).column(G, NONE))
+    return beside(G, run_search(fronts_of(G, GT, check), search, True).column(G, NONE))
