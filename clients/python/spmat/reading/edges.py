@@ -11,17 +11,19 @@ from .. import convert, files
 from ..errors import refusal
 from ..market import FEW, MOST_SIDE, Triples, find_numpy, is_array
 from ..notes import Nodes, Notes
+from .labels import Coded, ascending, factorized
 
 FOLDS = 'dup_op= folds them: "plus", "min", "max", "first", ..'
 
 
 class Edges(NamedTuple):
     """Edges in order: from where, to where, and their values, or None where they have none. `where(k)` says in words where edge k
-    stands."""
+    stands, `told` what was taken of a file."""
     sources: Any
     targets: Any
     values: Any
     where: Callable[[int], str]
+    told: str = ''
 
 
 class How(NamedTuple):
@@ -58,7 +60,7 @@ def graph_of(edges: Edges, how: How) -> Graph:
         triples = files.lowered(triples, 'symmetric')
     if not how.folds:
         triples = _once(triples, edges, first, second)
-    notes = Notes(_named(first), _named(second), how.directed, edges.values is not None)
+    notes = Notes(_named(first), _named(second), how.directed, edges.values is not None, edges.told)
     return Graph(triples, notes._replace(columns=notes.rows) if second is first else notes)
 
 
@@ -67,11 +69,11 @@ def _among(edges: Edges, kept: Any) -> Edges:
     sources, targets = _plain(edges.sources), _plain(edges.targets)
     inside = [at for at, (u, v) in enumerate(zip(sources, targets)) if u in kept and v in kept]
     values = edges.values if edges.values is None else [edges.values[at] for at in inside]
-    return Edges([sources[at] for at in inside], [targets[at] for at in inside], values, lambda k: edges.where(inside[k]))
+    return Edges([sources[at] for at in inside], [targets[at] for at in inside], values, lambda k: edges.where(inside[k]), edges.told)
 
 
 def _plain(column: Any) -> List[Any]:
-    plain: List[Any] = column.tolist() if is_array(column) else list(column)
+    plain: List[Any] = column.tolist() if is_array(column) or isinstance(column, Coded) else list(column)
     return plain
 
 
@@ -83,7 +85,10 @@ def _numbered(columns: Sequence[Any], nodelist: Optional[Sequence[Any]]) -> Tupl
             raise ValueError('a node stands twice in nodelist')
         found: List[Any] = [list(map(names.places.__getitem__, _plain(column))) for column in columns]
     elif all(is_array(column) for column in columns):
-        found, names = _numbered_arrays(columns)
+        found, ascend = ascending(list(columns))
+        names = Nodes(ascend.tolist())
+    elif all(isinstance(column, Coded) for column in columns):
+        found, names = _numbered_codes(columns)
     else:
         found, names = _numbered_lists([_plain(column) for column in columns])
     if len(names) > MOST_SIDE:
@@ -91,11 +96,11 @@ def _numbered(columns: Sequence[Any], nodelist: Optional[Sequence[Any]]) -> Tupl
     return found, names
 
 
-def _numbered_arrays(columns: Sequence[Any]) -> Tuple[List[Any], Nodes]:
-    import numpy
-    names, at = numpy.unique(numpy.concatenate(columns), return_inverse=True)
-    ends = numpy.cumsum([len(column) for column in columns])[:-1]
-    return list(numpy.split(at.astype(numpy.int64), ends)), Nodes(names.tolist())
+def _numbered_codes(columns: Sequence[Coded]) -> Tuple[List[Any], Nodes]:
+    if len(columns) > 1:                           # of both kinds of ends, so that each name is in use
+        return [column.codes for column in columns], Nodes(columns[0].names)
+    codes, first = factorized(columns[0].codes)
+    return [codes], Nodes(map(columns[0].names.__getitem__, columns[0].codes[first].tolist()))
 
 
 def _numbered_lists(columns: Sequence[List[Any]]) -> Tuple[List[Any], Nodes]:
@@ -126,7 +131,7 @@ def _triples(places: Sequence[Any], values: Any, nrows: int, ncols: int) -> Trip
 def _once(triples: Triples, edges: Edges, first: Nodes, second: Nodes) -> Triples:
     """Each entry once."""
     kept = _first_of_each(triples)
-    if len(kept) == len(triples.rows):
+    if kept is None:
         return triples
     if edges.values is not None:
         _refuse_second(triples, edges, first, second)
@@ -137,14 +142,18 @@ def _once(triples: Triples, edges: Edges, first: Nodes, second: Nodes) -> Triple
 
 
 def _first_of_each(triples: Triples) -> Any:
-    """Where each position first stands, ascending."""
+    """Where each position first stands, ascending; None where none repeats."""
     if is_array(triples.rows):
         import numpy
-        return numpy.sort(numpy.unique(triples.rows * max(triples.ncols, 1) + triples.columns, return_index=True)[1])
+        keys = triples.rows * max(triples.ncols, 1) + triples.columns
+        ordered = numpy.sort(keys)
+        if not (ordered[1:] == ordered[:-1]).any():
+            return None
+        return numpy.sort(numpy.unique(keys, return_index=True)[1])
     seen: Dict[Tuple[int, int], int] = {}
     for at, place in enumerate(zip(triples.rows, triples.columns)):
         seen.setdefault(place, at)
-    return list(seen.values())
+    return list(seen.values()) if len(seen) < len(triples.rows) else None
 
 
 def _refuse_second(triples: Triples, edges: Edges, first: Nodes, second: Nodes) -> NoReturn:

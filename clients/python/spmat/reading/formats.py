@@ -1,18 +1,21 @@
 """Which format a file has, and reading it as a matrix."""
 from __future__ import annotations
 
-import os
-from typing import Any, Iterable, NamedTuple, Optional, Sequence
+from typing import Any, Callable, Iterable, NamedTuple, Optional, Sequence, Tuple
 
 from ..errors import ReadError
 from ..market import line_at
 from ..notes import Nodes
-from . import dimacs, tables
+from ..values import scaled
+from . import dimacs, kinds, others, tables
 from .edges import Edges, Graph, How, graph_of
-from .tables import Layout
+from .headers import Layout
 
-FORMATS = ('mtx', 'edges', 'csv', 'tsv', 'dimacs')
+FORMATS = ('mtx', 'edges', 'csv', 'tsv', 'dimacs', 'graphml', 'gexf', 'gml', 'parquet')
 PARTED = {'csv': ',', 'tsv': '\t'}
+
+
+Progress = Callable[[str, int, int], object]
 
 
 class Request(NamedTuple):
@@ -25,19 +28,14 @@ class Request(NamedTuple):
     bipartite: bool = False
 
 
-def name_of(source: Any) -> str:
-    """What errors call a path or an open file."""
-    if isinstance(source, (str, os.PathLike)):
-        return os.fspath(source)
-    name = getattr(source, 'name', None)
-    return name if isinstance(name, str) else 'the text'
-
-
 def format_of(text: bytes) -> str:
-    """Which format a text has: `mtx` where its first line says Matrix Market, `dimacs` where a line `p` comes first, else `edges`."""
+    """Which format a text has: `mtx` where its first line says Matrix Market, `parquet`, `graphml`, `gexf` and `gml` by their beginnings,
+    `dimacs` where a line `p` comes first, else `edges`."""
     if text[:14].lower() == b'%%matrixmarket':
         return 'mtx'
-    return 'dimacs' if dimacs.is_dimacs(text) else 'edges'
+    if text[:4] == b'PAR1':
+        return 'parquet'
+    return kinds.by_networkx(text) or ('dimacs' if dimacs.is_dimacs(text) else 'edges')
 
 
 def check_format(file: str, text: bytes, format: Optional[str]) -> str:
@@ -50,8 +48,11 @@ def check_format(file: str, text: bytes, format: Optional[str]) -> str:
         raise not_market(file, text)
     if format not in (None, 'mtx') and found == 'mtx':
         raise ReadError(file, 1, 'this is a Matrix Market file, and %s was asked for' % format, line_at(text, 1))
-    if format is None and found == 'edges' and b'\0' in text[:4096]:
-        raise ReadError(file, None, 'this is no text: an edge list, CSV, TSV, DIMACS or a Matrix Market file is wanted')
+    if format in others.BY_NETWORKX + ('parquet',) and found != format:
+        raise ReadError(file, 1, 'this is no file of the format %s' % format, line_at(text, 1))
+    other = kinds.other_kind(text) if found == 'edges' else None
+    if other is not None:
+        raise ReadError(file, None, other)
     return found if format is None else format
 
 
@@ -61,21 +62,51 @@ def not_market(file: str, text: bytes) -> ReadError:
                      '--format mtx, read edge lists, CSV, TSV and DIMACS', line_at(text, 1))
 
 
-def read(file: str, text: bytes, request: Request, folds: bool) -> Graph:
-    """The matrix of a file of another format than Matrix Market; of an undirected graph the lower triangle alone."""
-    format = check_format(file, text, request.format)
+def read(file: str, text: bytes, request: Request, folds: bool, tell: Optional[Progress] = None) -> Graph:
+    """The matrix of a file of another format than Matrix Market; of an undirected graph the lower triangle alone. `tell` is told of the
+    phases: 'reading' of the bytes, 'names' of the edges."""
+    tell = tell if tell is not None else lambda what, done, of: None
+    tell('reading', 0, len(text))
+    edges, how = _edges_of(file, text, request, folds)
+    tell('reading', len(text), len(text))
+    count = len(edges.sources)
+    tell('names', 0, count)
+    graph = graph_of(edges, how)
+    tell('names', count, count)
+    return graph
+
+
+def _edges_of(file: str, text: bytes, request: Request, folds: bool) -> Tuple[Edges, How]:
+    """The edges of a file, and what becomes of them."""
+    format, layout = check_format(file, text, request.format), request.layout
     how = How(request.directed is not False, request.nodelist, request.bipartite, folds)
-    if format != 'dimacs':
-        delimiter = request.layout.delimiter if request.layout.delimiter is not None else PARTED.get(format)
-        return graph_of(tables.read(file, text, request.layout._replace(delimiter=delimiter)), how)
-    edges, problem = dimacs.read(file, text, request.layout.values, request.layout.scale)
-    if how.bipartite:
-        raise ValueError('DIMACS has one kind of vertices: bipartite=True is for lists')
-    nodes = Nodes(range(1, problem.vertices + 1)) if how.nodelist is None else how.nodelist
-    return graph_of(edges, how._replace(directed=problem.directed if request.directed is None else request.directed, nodelist=nodes))
+    if format in others.BY_NETWORKX or format == 'dimacs':
+        if how.bipartite:
+            raise ValueError('%s has one kind of vertices: bipartite=True is for lists' % format)
+        edges, nodes, directed = _of_networkx(file, text, format, layout) if format != 'dimacs' else _of_dimacs(file, text, layout)
+        return edges, how._replace(directed=directed if request.directed is None else request.directed,
+                                   nodelist=nodes if how.nodelist is None else how.nodelist)
+    if format == 'parquet':
+        return others.table(file, text, layout), how
+    if layout.columns is None and others.has_dictionaries(text):
+        return others.with_dictionaries(file, text, layout), how
+    delimiter = layout.delimiter if layout.delimiter is not None else PARTED.get(format)
+    return tables.read(file, text, layout._replace(delimiter=delimiter)), how
 
 
-def from_edges(edges: Iterable[Any], how: How, values: bool) -> Graph:
+def _of_networkx(file: str, text: bytes, format: str, layout: Layout) -> Tuple[Edges, Sequence[Any], bool]:
+    """The edges of a file that networkx reads, its vertices, and whether edges lead one way."""
+    drawn = others.graph(file, text, format, layout)
+    return drawn.edges, drawn.nodes, drawn.directed
+
+
+def _of_dimacs(file: str, text: bytes, layout: Layout) -> Tuple[Edges, Sequence[Any], bool]:
+    """The same of a graph of DIMACS."""
+    edges, problem = dimacs.read(file, text, layout.values, layout.scale)
+    return edges, Nodes(range(1, problem.vertices + 1)), problem.directed
+
+
+def from_edges(edges: Iterable[Any], how: How, values: bool, scale: Optional[float] = None) -> Graph:
     """The matrix of (from, to), (from, to, value) or (from, to, {'weight': value}), as networkx gives and takes them."""
     many = edges.tolist() if hasattr(edges, 'tolist') else list(edges)
     lengths = {len(edge) for edge in many}
@@ -83,7 +114,9 @@ def from_edges(edges: Iterable[Any], how: How, values: bool) -> Graph:
         at = next(at for at, edge in enumerate(many) if len(edge) not in (2, 3))
         raise ValueError('an edge is (from, to) or (from, to, value), not %r (edge %d)' % (many[at], at))
     found: Any = [_value(edge) for edge in many] if 3 in lengths and values else None
-    return graph_of(Edges([edge[0] for edge in many], [edge[1] for edge in many], found, lambda at: 'edge %d' % at), how)
+    found, rounding = (found, '') if found is None else scaled(found, scale)
+    edges = Edges([edge[0] for edge in many], [edge[1] for edge in many], found, lambda at: 'edge %d' % at, str(rounding))
+    return graph_of(edges, how)
 
 
 def _value(edge: Sequence[Any]) -> Any:

@@ -1,11 +1,12 @@
 """Edges in a table of pandas."""
 from __future__ import annotations
 
-from typing import Any, List, Optional, Tuple
+from typing import Any, Optional, Sequence, Tuple
 
 from ..convert import whole
-from ..values import SCALE, check_scale
+from ..values import Rounding, check_scale, scaled_array, scaled_one
 from .edges import Edges, graph_of
+from .labels import Coded
 
 __all__ = ['edges_of', 'graph_of']
 
@@ -20,18 +21,38 @@ def edges_of(frame: Any, ends: Tuple[Any, Any], attribute: Any, scale: Optional[
     for column in names:
         if column.isna().any():
             raise ValueError('row %r: a name is missing' % frame.index[int(column.isna().to_numpy().argmax())])
-    values = None if attribute is None else _values(frame, attribute, scale)
-    whole = all(column.dtype.kind in 'iu' for column in names)
-    sources, targets = (column.to_numpy('int64') if whole else column.tolist() for column in names)
-    return Edges(sources, targets, values, lambda at: 'row %r' % frame.index[at])
+    rounding = Rounding(scale)
+    values = None if attribute is None else _values(frame, attribute, rounding)
+    sources, targets = _names(names)
+    return Edges(sources, targets, values, lambda at: 'row %r' % frame.index[at], str(rounding) if attribute is not None else '')
 
 
-def _values(frame: Any, attribute: Any, scale: Optional[float]) -> List[int]:
-    exact, out = check_scale(scale), []
-    for at, value in enumerate(frame[attribute].tolist()):
+def _names(columns: Sequence[Any]) -> Tuple[Any, Any]:
+    """Two columns of names: as numbers, where both are whole numbers, else as codes of those that there are."""
+    import pandas
+    if all(column.dtype.kind in 'iu' for column in columns):
+        return columns[0].to_numpy('int64'), columns[1].to_numpy('int64')
+    import numpy
+    both = numpy.empty(2 * len(columns[0]), object)
+    for at, column in enumerate(columns):
+        both[at::2] = column.astype(object).to_numpy()
+    codes, unique = pandas.factorize(both)
+    names = list(unique)
+    return Coded(codes[0::2], names), Coded(codes[1::2], names)
+
+
+def _values(frame: Any, attribute: Any, rounding: Rounding) -> Any:
+    column = frame[attribute]
+    if rounding.scale is None and column.dtype.kind == 'i':
+        return column.to_numpy('int64')
+    exact, out = check_scale(rounding.scale), []
+    if exact is not None and column.dtype.kind == 'f':
+        found = scaled_array(column.to_numpy('float64'), rounding.scale, rounding)
+        if found is not None:
+            return found
+    for at, value in enumerate(column.tolist()):
         try:
-            out.append(whole(value if exact is None else round(value * scale), 'value'))
+            out.append(whole(value, 'value') if exact is None else scaled_one(value, exact, rounding, 'value'))
         except (TypeError, ValueError) as fault:
-            mend = '' if exact is not None else '; ' + SCALE.partition(',')[0]
-            raise type(fault)('row %r: %s%s' % (frame.index[at], fault, mend)) from None
+            raise type(fault)('row %r: %s' % (frame.index[at], fault)) from None
     return out
