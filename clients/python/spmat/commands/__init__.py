@@ -1,67 +1,97 @@
-"""The command line: `python3 -m spmat COMMAND ..`.
+"""The command line `spmat-graph COMMAND ..`, which is `python3 -m spmat COMMAND ..`, too.
 
-A command for each algorithm of `spmat.algorithms` (`algorithms`), `spy` (`pictures`), `types` (`operators`) and `run` (`script`).
-Results go to standard output, progress to standard error where that is a terminal, and a fault is one line there. The status is 0
-where all went well, 1 where something was refused or failed, and 2 where the words are wrong.
+A command for each algorithm of `spmat.algorithms` (`table`, `algorithms`), `spy` (`pictures`), `types` (`operators`), `script`
+and `completion`. Results go to standard output, progress to standard error where that is a terminal, and a fault is one line there.
+`ends` has the exit statuses.
 """
 from __future__ import annotations
 
 import argparse
-import os
+import difflib
+import re
+import signal
 import sys
-from typing import List, Optional
+from typing import Any, List, NoReturn, Optional
 
 from .. import __version__
-from ..errors import SpmatError
 from ..files import ENDINGS
-from . import algorithms, operators, pictures, script
+from . import algorithms, completion, operators, pictures, script
+from .ends import MEANINGS, PROGRAM, Status, finish
 
 DESCRIPTION = 'Graph algorithms, pictures, operators and sessions of spmat, the job server for sparse integer matrices.'
 EPILOG = """examples:
-  python3 -m spmat triangle-count graph.mtx --undirected
-  python3 -m spmat bfs-levels people.csv --source Anna
-  python3 -m spmat bfs-levels graph.mtx --source 1 --plot levels.png
-  python3 -m spmat pagerank graph.mtx --mtx > ranks.mtx
-  python3 -m spmat spy graph.mtx --plot spy.png
-  python3 -m spmat types my_operator.asm --kind binary
-  python3 -m spmat run session.txt
+  %%(prog)s triangle-count graph.mtx --undirected
+  %%(prog)s bfs-levels people.csv --source Anna
+  %%(prog)s bfs-levels graph.mtx --source 1 --plot levels.png
+  %%(prog)s pagerank graph.mtx --mtx > ranks.mtx
+  %%(prog)s spy graph.mtx --plot spy.png
+  %%(prog)s types my_operator.asm --kind binary
+  %%(prog)s script session.txt
 
 A graph is a file in Matrix Market format, an edge list, CSV, TSV or DIMACS (also %s), which is seen from what stands in it. An entry
 at row i and column j, or a line `i j`, is an edge from i to j. Vertices have their names in the file; those of a Matrix Market file count
-from 1. `python3 -m spmat COMMAND --help` tells more of each command.
-""" % ', '.join(ENDINGS)
+from 1. `%%(prog)s COMMAND --help` tells more of each command. The server itself is another program: see `spmat --help`.
+
+exit status:
+%s
+"""
+SERVERS = ('run', 'serve')                         # words of the program spmat
+FORMER = 'run'                                     # what `script` is called where the program is `python3 -m spmat`
 
 
-def parser() -> argparse.ArgumentParser:
-    """The grammar of the words."""
-    made = argparse.ArgumentParser(prog='python3 -m spmat', description=DESCRIPTION, epilog=EPILOG,
-                                   formatter_class=argparse.RawDescriptionHelpFormatter)
+class Parser(argparse.ArgumentParser):
+    """A grammar of words. What is wrong with them is told in one line; a word that is the server's as such."""
+
+    def error(self, message: str) -> NoReturn:
+        found = re.match(r"argument COMMAND: invalid choice: '([^']*)'", message)
+        if found:
+            message = self.no_command(found.group(1))
+        self.exit(Status.WORDS, '%s: %s (%s --help)\n' % (PROGRAM, message, self.prog))
+
+    def no_command(self, word: str) -> str:
+        """What is said of a word that is no command."""
+        if word in SERVERS:
+            return '`%s` is a command of the server, `spmat %s`; here `%s script FILE` runs a file of commands' % (word, word, self.prog)
+        names = next(tuple(action.choices or ()) for action in self._actions if action.dest == 'command')
+        near = difflib.get_close_matches(word.replace('_', '-'), names, 2)
+        return 'no command %s%s' % (word, ': did you mean %s?' % ' or '.join(near) if near else '')
+
+
+def epilog() -> str:
+    """Examples, and the exit statuses."""
+    return EPILOG % (', '.join(ENDINGS), '\n'.join('  %3d  %s' % pair for pair in MEANINGS.items()))
+
+
+def parser(program: str = PROGRAM) -> argparse.ArgumentParser:
+    """The grammar of the words, of a program of this name."""
+    made = Parser(prog=program, description=DESCRIPTION, epilog=epilog(), formatter_class=argparse.RawDescriptionHelpFormatter)
     made.add_argument('--version', action='version', version='spmat %s, the client' % __version__, help="tell the client's version")
     commands = made.add_subparsers(dest='command', metavar='COMMAND', required=True)
-    for module in (algorithms, pictures, operators, script):
+    for module in (algorithms, pictures, operators):
         module.add_commands(commands)
+    script.add_commands(commands, () if program == PROGRAM else (FORMER,))
+    completion.add_commands(commands)
     return made
 
 
-def main(words: Optional[List[str]] = None) -> int:
+def main(words: Optional[List[str]] = None, program: str = PROGRAM) -> int:
     """Runs a command, and gives its exit status."""
-    options, rest = parser().parse_known_args(words)
+    options, rest = parser(program).parse_known_args(words)
     if rest:
         options.parser.error('unrecognized arguments: ' + ' '.join(rest))
     try:
         status: int = options.run(options) or 0
         return status
-    except BrokenPipeError:
-        # whoever read standard output has gone, as `head` does: nothing more is to be written, also not at the end
-        os.dup2(os.open(os.devnull, os.O_WRONLY), sys.stdout.fileno())
-        return 1
-    except KeyboardInterrupt:
-        print('spmat: interrupted', file=sys.stderr)
-        return 1
-    except OSError as fault:
-        said = fault.strerror or str(fault)
-        print('spmat: ' + ('%s: %s' % (fault.filename, said) if fault.filename else said), file=sys.stderr)
-        return 1
-    except (SpmatError, ValueError, TypeError, ImportError) as fault:
-        print('spmat: %s' % ' '.join(str(fault).split()), file=sys.stderr)
-        return 1
+    except (Exception, KeyboardInterrupt) as fault:    # pylint: disable=broad-exception-caught  # each has its status
+        return finish(fault)
+
+
+def end(*_: Any) -> NoReturn:
+    """Ends as the shell's status has it, with the program that was started: it may be amid a batch, which nothing cancels."""
+    sys.exit(Status.TERMINATED)
+
+
+def run(program: str = PROGRAM) -> NoReturn:
+    """The command `spmat-graph`."""
+    signal.signal(signal.SIGTERM, end)
+    sys.exit(main(None, program))

@@ -1,35 +1,63 @@
-"""`spy`: where a matrix has its entries."""
+"""`spy`: where a matrix has its entries; `draw`: a graph."""
 from __future__ import annotations
 
 import argparse
-from typing import Any
+import functools
+from typing import Any, Callable
 
 from .. import draw
-from . import common
+from ..matrix import Matrix
+from . import common, output
+from .sessions import add_session_options, open_session
 
-EPILOG = """Up to 256 rows and columns each entry is a square. Above that it is the density in a raster, which the server counts.
-Rows and columns count from 1.
+SPY = """Up to 256 rows and columns each entry is a square. Above that it is the density in a raster, which the server counts.
+Rows and columns have their names; those of a Matrix Market file count from 1.
 
 example:
-  python3 -m spmat spy graph.mtx --plot spy.png"""
+  %(prog)s graph.mtx --plot spy.png"""
+DRAW = """Up to 1,000 vertices and 5,000 edges. Up to 60 vertices have their names, and with --weights up to 40 edges their values.
+
+example:
+  %(prog)s people.csv --plot people.png"""
 
 
 def add_commands(commands: Any) -> None:
-    command = commands.add_parser('spy', help='a picture of where a matrix has its entries', epilog=EPILOG,
-                                  description='Draws where a matrix has its entries.',
-                                  formatter_class=argparse.RawDescriptionHelpFormatter)
-    common.add_graph_options(command)
-    command.add_argument('--plot', metavar='FILE.png', required=True, help='where the picture goes; wants matplotlib')
-    common.add_session_options(command)
-    command.set_defaults(run=run, parser=command)
+    """Adds both."""
+    spy = commands.add_parser('spy', help='a picture of where a matrix has its entries', epilog=SPY,
+                              description='Draws where a matrix has its entries.', formatter_class=argparse.RawDescriptionHelpFormatter)
+    graph = commands.add_parser('draw', help='a picture of a graph', epilog=DRAW, description='Draws a graph: its vertices, and a line or '
+                                'an arrow for each edge.', formatter_class=argparse.RawDescriptionHelpFormatter)
+    for command, picture, needs in ((spy, spied, common.Needs(rectangular=True)), (graph, drawn, common.Needs())):
+        common.add_graph_options(command)
+        command.add_argument('--plot', metavar='FILE.png', required=True, help='where the picture goes; wants matplotlib')
+        if command is graph:
+            command.add_argument('--weights', action='store_true', help='read the values of the edges, and show them')
+        output.add_form_options(command)
+        add_session_options(command)
+        command.set_defaults(run=functools.partial(run, picture, needs), parser=command, output=None, mtx=False, top=None)
 
 
-def run(options: argparse.Namespace) -> int:
+def spied(matrix: Matrix, options: argparse.Namespace) -> None:
+    """Draws where the entries are."""
+    draw.spy(matrix, options.plot, first=1)
+
+
+def drawn(matrix: Matrix, options: argparse.Namespace) -> None:
+    """Draws the graph."""
+    draw.graph(matrix, options.plot)
+
+
+def run(picture: Callable[[Matrix, argparse.Namespace], None], needs: common.Needs, options: argparse.Namespace) -> int:
     """Draws the matrix, and says its size."""
     draw.check(options.plot)
-    with common.progress_of(options) as progress, common.open_session(options, progress) as session:
-        matrix = common.read_graph(session, options, common.Needs(rectangular=True))
-        draw.spy(matrix, options.plot, first=1)
+    common.check_output(options)
+    with common.progress_of(options) as progress, open_session(options, progress) as session:
+        matrix = common.read_graph(session, options, needs._replace(values=getattr(options, 'weights', False)))
+        with common.writing(options.plot):
+            picture(matrix, options)
         size = matrix.nrows, matrix.ncols, matrix.nvals
-    print('%d rows, %d columns, %d entries' % size)
+    if not (options.csv or options.json):
+        print('%d rows, %d columns, %d entries' % size)
+        return 0
+    common.write(options, output.lines(options, output.Result(('rows', 'columns', 'entries'), [size], single=True)))
     return 0
