@@ -56,7 +56,7 @@ def read_values(graph: Any, attribute: Any, default: Any, fold: str) -> Values:
     made = held(graph)
     if made is not None and made.edge_data is not None:
         return made.values(attribute, default, fold)
-    key = (attribute, default, fold if graph.is_multigraph() else None)
+    key = reading.key_of(attribute, default, fold if graph.is_multigraph() else None)
     waiting: Dict[Any, Values] = _cache(graph).setdefault(WAITING, {})
     if key not in waiting:
         waiting[key] = reading.values(reading.edge_data(graph), *key)

@@ -16,6 +16,7 @@ from .conversion import copied
 from .graphs import SpmatGraph
 from .serving import DIRECTED, Terms, serves
 from .sessions import session
+from .units import told
 
 UNFEASIBLE = 'Graph contains a cycle or graph changed during iteration'
 
@@ -108,4 +109,4 @@ def dag_longest_path_length(G: SpmatGraph, weight: Any = 'weight', default_weigh
         far = algorithms.longest_paths(G.matrix(weight, default_weight, 'max')).reduce_scalar('max') or 0
     except algorithms.CycleError:
         raise NetworkXUnfeasible(UNFEASIBLE) from None
-    return float(far) if weight is not None and G.values(weight, default_weight, 'max').floats else far
+    return far if weight is None else told(far, G.values(weight, default_weight, 'max').unit)

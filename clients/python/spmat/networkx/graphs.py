@@ -9,7 +9,7 @@ from .. import algorithms, market
 from ..matrix import Matrix
 from ..notes import Notes
 from . import reading
-from .reading import Positions, Values
+from .reading import Key, Positions, Values
 from .sessions import session
 
 FEW = 4096                                         # entries from which on text is written from arrays
@@ -31,7 +31,7 @@ class SpmatGraph:
         self.node_data: Optional[Dict[Any, Dict[Any, Any]]] = None
         self.edge_data: Optional[List[Any]] = None
         self._directed, self._multigraph = graph.is_directed(), graph.is_multigraph()
-        self._values: Dict[Tuple[Any, Any, Optional[str]], Values] = {}
+        self._values: Dict[Key, Values] = {}
         self._matrices: Dict[Any, Matrix] = {}
         self._answers: Dict[str, List[int]] = {}
 
@@ -89,6 +89,13 @@ class SpmatGraph:
         """What networkx' `nbunch_iter` asks: which are nodes, and in what order."""
         return self.index
 
+    def __getattr__(self, name: str) -> Any:
+        """Says where that is which networkx graphs have, and this one hasn't."""
+        if not name.startswith('_') and hasattr(nx.Graph, name):
+            raise AttributeError("%r is with the networkx graph that this one was made of: this one stays on the server, for networkx' functions, as "
+                                 'nx.triangles(H), and for H.matrix()' % name)
+        raise AttributeError('%r object has no attribute %r' % (type(self).__name__, name))
+
     def __getstate__(self) -> Dict[str, Any]:
         """networkx keeps this object in `G.__networkx_cache__`, and copies and pickles it with G."""
         return {**self.__dict__, '_matrices': {}}
@@ -106,14 +113,14 @@ class SpmatGraph:
         if of_graph:
             self.graph = dict(graph.graph)
 
-    def take(self, values: Dict[Tuple[Any, Any, Optional[str]], Values]) -> None:
+    def take(self, values: Dict[Key, Values]) -> None:
         """Values of edge attributes that were read already."""
         self._values.update(values)
 
     def values(self, name: Any, default: Any = 1, fold: str = 'min') -> Values:
         """An edge attribute at each position: of parallel edges the least ('min'), greatest or their sum. NotImplementedError where
-        one isn't whole, or the length of a path could pass 64 bits."""
-        key = (name, default, fold if self._multigraph else None)
+        one is no multiple of a unit (`units`), or the length of a path could pass 64 bits."""
+        key = reading.key_of(name, default, fold if self._multigraph else None)
         if key not in self._values:
             if self.edge_data is None:
                 raise NotImplementedError('the edge attribute %r was not converted' % (name,))
@@ -155,7 +162,7 @@ class SpmatGraph:
         back = back and self._directed
         if weight is None:
             return self.made((None, back), lambda: self._sent(1, back))
-        key = (weight, default, fold if self._multigraph else None, back)
+        key = (*reading.key_of(weight, default, fold if self._multigraph else None), back)
         return self.made(key, lambda: self._sent(self.values(weight, default, fold).many, back))
 
     @property

@@ -1,14 +1,15 @@
-"""What networkx asks when it is imported: which functions are served, and the settings with their defaults. Nothing else is
-imported here."""
+"""What networkx asks when it is imported: which functions are served, and the settings with their defaults. `settings` is imported
+here, and nothing else of spmat."""
 from __future__ import annotations
 
 from typing import Any, Dict, NamedTuple
 
-DEFAULTS: Dict[str, Any] = {'program': '', 'connect': '', 'steps': 0, 'workers': 0, 'least_edges': -1}
+DEFAULTS: Dict[str, Any] = {'program': '', 'connect': '', 'steps': 0, 'workers': 0, 'least_edges': -1, 'scale': 0}
 """`nx.config.backends.spmat`: the words that start the program (empty: the variable SPMAT, the one that this package carries, or
 `spmat` on the PATH), or
 `HOST:PORT` or the socket file of a server; the session's budget of steps (0: 2^62) and its threads (0: one for each processor, 8 at most); from how
-many edges on networkx hands work over by itself (-1: a number for each function)."""
+many edges on networkx hands work over by itself (-1: a number for each function); what weights that are no whole numbers are multiplied by
+before they are rounded (0: they have to be whole multiples of a power of ten or two, and then nothing is rounded)."""
 
 NEVER = 1 << 62
 
@@ -43,17 +44,20 @@ SERVED: Dict[str, Pays] = {name: pays for pays, names in ((MUCH, '''
     (WEIGHTS, '''
     average_neighbor_degree bellman_ford_path_length is_branching is_forest maximum_spanning_edges maximum_spanning_tree
     minimum_spanning_edges minimum_spanning_tree multi_source_dijkstra_path_length negative_edge_cycle
+    dijkstra_predecessor_and_distance multi_source_dijkstra multi_source_dijkstra_path single_source_bellman_ford
+    bellman_ford_predecessor_and_distance single_source_bellman_ford_path single_source_dijkstra single_source_dijkstra_path
     single_source_bellman_ford_path_length single_source_dijkstra_path_length'''), (ROUNDS, '''
     attracting_components core_number dag_longest_path_length is_semiconnected k_corona k_crust k_shell maximal_independent_set
     number_strongly_connected_components onion_layers strongly_connected_components'''), (WALK, '''
     ancestors bfs_layers connected_components descendants is_connected is_weakly_connected node_connected_component
     number_connected_components number_weakly_connected_components shortest_path_length single_source_shortest_path_length
     single_target_shortest_path_length weakly_connected_components'''), (KNOWN, '''
-    degree_centrality dijkstra_path_length in_degree_centrality is_arborescence is_tree isolates number_of_isolates
+    all_shortest_paths bellman_ford_path degree_centrality dijkstra_path dijkstra_path_length in_degree_centrality predecessor
+    single_source_shortest_path single_target_shortest_path is_arborescence is_tree isolates number_of_isolates
     number_of_selfloops out_degree_centrality'''), (LITTLE, '''
-    color common_neighbor_centrality descendants_at_distance efficiency ego_graph has_cycle has_path is_bipartite
+    bidirectional_dijkstra bidirectional_shortest_path color common_neighbor_centrality descendants_at_distance efficiency ego_graph has_cycle has_path is_bipartite
     is_directed_acyclic_graph is_dominating_set is_k_regular is_regular is_strongly_connected is_tournament jaccard_coefficient
-    node_boundary preferential_attachment''')) for name in names.split()}
+    node_boundary preferential_attachment shortest_path''')) for name in names.split()}
 """Each function, and when it pays."""
 
 
@@ -62,7 +66,12 @@ def info() -> Dict[str, Any]:
     return {'backend_name': 'spmat', 'project': 'spmat', 'package': 'spmat.networkx',
             'short_summary': 'Sparse matrices of 64-bit integers by verified operators, within a budget of steps.',
             'functions': {name: {'additional_docs': _told(pays)} for name, pays in SERVED.items()},
-            'default_config': dict(DEFAULTS)}
+            'default_config': _settings()}
+
+
+def _settings() -> Any:
+    from .settings import Settings
+    return Settings(**DEFAULTS)
 
 
 def _told(pays: Pays) -> str:

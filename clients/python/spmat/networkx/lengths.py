@@ -15,8 +15,9 @@ from ..market import MOST_SIDE
 from ..matrix import Matrix
 from .components import all_reached, connected
 from .graphs import SpmatGraph
-from .searches import NEGATIVE, Lengths, check_method, floats, from_one, lengths, need
+from .searches import NEGATIVE, Lengths, check_method, divided, from_one, lengths, need
 from .serving import SIGNED, SIMPLE_UNDIRECTED, Terms, UNDIRECTED, serves
+from .units import limit, told
 
 BLOCK = MOST_SIDE // 4                             # pairs of a block of sources
 Blocks = Iterator[Tuple[int, Matrix]]
@@ -53,21 +54,21 @@ def pairs(G: SpmatGraph, weight: Any = None, cutoff: Any = None, signed: bool = 
     """(node, {node: length}) for each node, nearest first. The first block is made at the call, so that it raises here."""
     parts = blocks(G, weight, signed)
     first = next(parts, None)
-    is_float = weight is not None and G.values(weight).floats
-    return _pairs(G, parts, first, _limit(cutoff, whole), is_float)
+    unit = None if weight is None else G.values(weight).unit
+    return _pairs(G, parts, first, _limit(limit(cutoff, unit), whole), unit)
 
 
 def _limit(cutoff: Any, whole: Callable[[float], int]) -> Optional[int]:
     return None if cutoff is None or math.isinf(cutoff) else whole(max(cutoff, 0))
 
 
-def _pairs(G: SpmatGraph, parts: Blocks, first: Optional[Tuple[int, Matrix]], limit: Optional[int],
-           is_float: bool) -> Iterator[Tuple[Any, Lengths]]:
+def _pairs(G: SpmatGraph, parts: Blocks, first: Optional[Tuple[int, Matrix]], most: Optional[int],
+           unit: Optional[int]) -> Iterator[Tuple[Any, Lengths]]:
     while first is not None:
         at, matrix = first
-        for node, row in G.rows_of(matrix if limit is None else matrix.select('valuele', limit), at):
+        for node, row in G.rows_of(matrix if most is None else matrix.select('valuele', most), at):
             ordered = dict(sorted(row.items(), key=lambda item: item[1]))
-            yield node, floats(ordered) if is_float else ordered
+            yield node, divided(ordered, unit)
         first = next(parts, None)
 
 
@@ -158,7 +159,9 @@ def average_shortest_path_length(G: SpmatGraph, weight: Any = None, method: Opti
         return 0
     if not all_reached(G):
         raise NetworkXError('Graph is not strongly connected.' if G.is_directed() else 'Graph is not connected.')
-    return sum(_totals(G, None if method == 'unweighted' else weight, method not in (None, 'dijkstra'))) / (n * (n - 1))
+    weight = None if method == 'unweighted' else weight
+    unit = (None if weight is None else G.values(weight).unit) or 1
+    return sum(_totals(G, weight, method not in (None, 'dijkstra'))) / (n * (n - 1) * unit)
 
 
 def _totals(G: SpmatGraph, weight: Any, signed: bool = False) -> List[int]:
@@ -171,10 +174,9 @@ def wiener_index(G: SpmatGraph, weight: Any = None) -> float:
         raise NetworkXPointlessConcept('Connectivity is undefined for the null graph.')
     if not all_reached(G):
         return float('inf')
-    total = sum(_totals(G, weight))
-    if G.is_directed():
-        return float(total) if weight is not None and G.values(weight).floats else total
-    return total / 2
+    total, unit = sum(_totals(G, weight)), None if weight is None else G.values(weight).unit
+    length: float = told(total, unit)
+    return length if G.is_directed() else total / (2 * (unit or 1))
 
 
 @serves()
@@ -233,7 +235,7 @@ def eccentricities(G: SpmatGraph, weight: Any) -> Lengths:
     found: List[int] = []
     for _, far in blocks(G, weight):
         found.extend(far.reduce_rowwise('max').to_list(0))
-    return floats(dict(zip(G, found))) if G.values(weight).floats else dict(zip(G, found))
+    return divided(dict(zip(G, found)), G.values(weight).unit)
 
 
 def _given(arguments: Mapping[str, Any]) -> Optional[str]:

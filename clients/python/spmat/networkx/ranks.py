@@ -63,8 +63,8 @@ DIGITS = 1e-7                                      # how near to networkx' a num
 def _other_paths(arguments: Mapping[str, Any]) -> Optional[str]:
     if arguments['k'] is not None:
         return 'some sources, which networkx weighs otherwise from version to version'
-    if arguments['weight'] is not None or arguments['endpoints']:
-        return 'paths by weights, and their ends'
+    if arguments['endpoints']:
+        return 'the ends of paths'
     if not arguments['normalized'] and len(arguments['G']) * (ROUNDING + 1 / PATHS) > DIGITS:
         return 'sums over so many nodes, which whole numbers keep to fewer digits'
     return None
@@ -74,11 +74,14 @@ def _other_paths(arguments: Mapping[str, Any]) -> Optional[str]:
 def betweenness_centrality(G: SpmatGraph, k: Any = None, normalized: bool = True, weight: Any = None, endpoints: bool = False,
                            seed: Any = None) -> Dict[Any, float]:
     count = len(G)
+    if weight is not None and G.entries and G.values(weight).least < 1:
+        raise NotImplementedError('weights below 1: along edges of length 0 networkx counts paths by the order in which it meets them')
     if count < 3:
         return dict.fromkeys(G, 0.0)
     unit = min(PATHS, (1 << 61) // count ** 2)
     try:
-        found = algorithms.betweenness(G.simple, range(count), ROUNDING * count if normalized else ROUNDING, unit)
+        found = algorithms.betweenness(G.simple if weight is None else G.matrix(weight), range(count),
+                                       ROUNDING * count if normalized else ROUNDING, unit, weighted=weight is not None)
     except ValueError as fault:                    # more shortest paths than whole numbers tell apart
         raise NotImplementedError(str(fault)) from fault
     ways = 1 if G.is_directed() else 2             # each two nodes were counted in both orders

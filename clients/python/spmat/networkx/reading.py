@@ -5,9 +5,10 @@ from __future__ import annotations
 # pylint: disable=protected-access,unused-argument
 
 import itertools
-from typing import Any, Dict, Iterable, List, NamedTuple, Optional
+from typing import Any, Dict, Iterable, List, NamedTuple, Optional, Tuple
 
 from .. import convert, market
+from . import sessions, units
 
 
 class Positions(NamedTuple):
@@ -23,13 +24,21 @@ class Positions(NamedTuple):
     loops: Dict[int, int]
 
 
+Key = Tuple[Any, Any, Optional[str], float]
+
+
+def key_of(name: Any, default: Any, fold: Optional[str]) -> Key:
+    """What values of an edge attribute are kept by: its name, the default, the fold of parallel edges, and the scale that is set."""
+    return name, default, fold, sessions.setting('scale')
+
+
 class Values(NamedTuple):
-    """An edge attribute at each entry: whole numbers as an array of numpy or a list, the least and the greatest of them, and
-    whether one of them was a float."""
+    """An edge attribute at each entry: whole numbers as an array of numpy or a list, the least and the greatest of them, and how many
+    of them are 1: None where all were whole numbers, 1 where one was a float."""
     many: Any
     least: int
     most: int
-    floats: bool
+    unit: Optional[int]
 
 
 def sequence(items: Iterable[int], count: int) -> Any:
@@ -79,17 +88,18 @@ def edge_data(graph: Any) -> List[Any]:
 FOLDS: Dict[str, Any] = {'min': min, 'max': max, 'plus': sum}
 
 
-def values(data: List[Any], name: str, default: Any, fold: Optional[str]) -> Values:
+def values(data: List[Any], name: str, default: Any, fold: Optional[str], scale: float = 0) -> Values:
     """The values of an edge attribute, `default` where an edge has none; those of parallel edges folded by 'min', 'max' or 'plus'.
-    `fold` is None of a graph without such. Raises NotImplementedError for one that is no whole number."""
-    if fold is None:
-        found = [had.get(name, default) for had in data]
-    else:
-        together = FOLDS[fold]
-        found = [together(had.get(name, default) for had in keys.values()) for keys in data]
+    `fold` is None of a graph without such. With a scale they are multiplied by it and rounded. Raises NotImplementedError for one that is
+    no whole multiple of a power of ten or two."""
+    held = data if fold is None else [had for keys in data for had in keys.values()]
+    found = [had.get(name, default) for had in held]
     kinds = set(map(type, found))
     try:
-        whole = found if kinds <= {int} else convert.whole_list(found, 'weight')
+        whole, unit = (found, None) if kinds <= {int} else _whole(found, name, scale, any(issubclass(kind, float) for kind in kinds))
+        if fold is not None:
+            each = iter(whole)
+            whole = [FOLDS[fold](itertools.islice(each, len(keys))) for keys in data]
         many = sequence(whole, len(whole))
         least, most = (int(many.min()), int(many.max())) if market.is_array(many) and len(many) else (
             min(whole, default=0), max(whole, default=0))
@@ -97,4 +107,12 @@ def values(data: List[Any], name: str, default: Any, fold: Optional[str]) -> Val
             raise ValueError('a weight beyond 64 bits')
     except (TypeError, ValueError, OverflowError) as fault:
         raise NotImplementedError('the edge attribute %r: %s' % (name, fault)) from None
-    return Values(many, least, most, any(issubclass(kind, float) for kind in kinds))
+    return Values(many, least, most, unit)
+
+
+def _whole(found: List[Any], name: str, scale: float, floats: bool) -> Tuple[List[int], Optional[int]]:
+    """Numbers of several kinds as whole ones, and how many of these are 1."""
+    try:
+        return convert.whole_list(found, 'weight'), 1 if floats else None
+    except ValueError:
+        return units.whole_multiples(found, name, scale)

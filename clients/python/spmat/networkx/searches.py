@@ -12,13 +12,15 @@ import networkx as nx
 from networkx import NetworkXNoPath, NodeNotFound
 
 from .. import algorithms, market
-from ..algorithms.common import NotSettled, loops, settle
+from ..algorithms.common import loops, settle
+from ..errors import NotSettled
 from ..matrix import Matrix
 from .components import labels
 from .conversion import copied
 from .degrees import need_node
 from .graphs import SpmatGraph
 from .serving import SIGNED, Terms, UNDIRECTED, serves
+from .units import limit, told
 
 NEGATIVE = 'Negative cycle detected.'
 Lengths = Dict[Any, Any]
@@ -56,20 +58,21 @@ def levels(G: SpmatGraph, sources: Sequence[Any], cutoff: Any = None, back: bool
     return nearest_first(G, level_column(G, sources, cutoff, back))
 
 
-def _check_weights(G: SpmatGraph, weight: Any, signed: bool) -> None:
+def check_weights(G: SpmatGraph, weight: Any, signed: bool) -> None:
+    """NotImplementedError for weights below 0, of which networkx says what it likes, unless these are meant."""
     if weight is not None and not signed and G.values(weight).least < 0:
         raise NotImplementedError('weights below 0, of which networkx says what it likes')
 
 
 def length_to(G: SpmatGraph, source: Any, target: Any, weight: Any, signed: bool = False) -> Optional[Any]:
     """The length of the shortest path between two nodes, None where no path leads."""
-    _check_weights(G, weight, signed)
-    column = level_column(G, [source], target=target) if weight is None else _shortest(G, [source], weight, False, target)
+    check_weights(G, weight, signed)
+    column = level_column(G, [source], target=target) if weight is None else shortest(G, [source], weight, False, target)
     rows, _, values = column.to_coo(arrays=False)
     at, place = G.index[target], bisect.bisect_left(rows, G.index[target])
     if place == len(rows) or rows[place] != at:
         return None
-    return float(values[place]) if weight is not None and G.values(weight).floats else values[place]
+    return values[place] if weight is None else told(values[place], G.values(weight).unit)
 
 
 def lengths(G: SpmatGraph, sources: Sequence[Any], weight: Any, back: bool = False, signed: bool = False,
@@ -78,23 +81,27 @@ def lengths(G: SpmatGraph, sources: Sequence[Any], weight: Any, back: bool = Fal
     if weight is None:
         whole = cutoff if cutoff is None or math.isinf(cutoff) else math.floor(cutoff)
         return levels(G, sources, whole, back)
-    _check_weights(G, weight, signed)
+    check_weights(G, weight, signed)
     values = G.values(weight)
-    found = nearest_first(G, _shortest(G, sources, weight, back))
+    found = nearest_first(G, shortest(G, sources, weight, back))
     if cutoff is not None:
-        found = {node: far for node, far in found.items() if far <= cutoff or node in sources}
-    return floats(found) if values.floats else found
+        most = limit(cutoff, values.unit)
+        found = {node: far for node, far in found.items() if far <= most or node in sources}
+    return divided(found, values.unit)
 
 
-def floats(found: Lengths) -> Lengths:
-    return dict(zip(found, map(float, found.values())))
+def divided(found: Lengths, unit: Optional[int]) -> Lengths:
+    """Lengths in whole units as networkx has them."""
+    return found if unit is None else {node: length / unit for node, length in found.items()}
 
 
-def _shortest(G: SpmatGraph, sources: Sequence[Any], weight: Any, back: bool, target: Any = None) -> Matrix:
+def shortest(G: SpmatGraph, sources: Sequence[Any], weight: Any, back: bool, target: Any = None) -> Matrix:
+    """The lengths of the shortest paths from some nodes, as a column. NetworkXUnbounded for a cycle of negative length."""
     try:
         if len(sources) == 1:
             until = None if target is None else G.index[target]
-            return algorithms.sssp(G.matrix(weight, back=back), G.index[sources[0]], G.both, target=until)
+            W = G.matrix(weight, back=back)
+            return algorithms.sssp(W, G.index[sources[0]], None if G.is_directed() else W, target=until)
         near = G.matrix(weight, back=not back).ewise_add(loops(G.A, 0), 'min')
         return settle(lambda far: near.mxv(far, 'min_plus'), G.spots(sources, 0), most=len(G))
     except (NotSettled, ValueError):

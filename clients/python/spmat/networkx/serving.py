@@ -6,6 +6,7 @@ from __future__ import annotations
 
 import functools
 import inspect
+import threading
 from typing import Any, Callable, Dict, Mapping, NamedTuple, Optional, TypeVar, Union
 
 import networkx as nx
@@ -15,9 +16,13 @@ from . import sessions
 from .conversion import convert_from_nx, convert_to_nx, fold_of, held, odd_graph, read_values
 from .graphs import BOUND, SpmatGraph
 from .info import NEVER, SERVED
+from .units import FRACTIONS
 
-FALLS_BACK = (errors.TooLarge, errors.OutOfMemory, errors.NoThread, errors.Busy)
+MORE_STEPS = 'a greater nx.config.backends.spmat.steps opens another session, and 0 gives the most that there are'
+FALLS_BACK = (errors.TooLarge, errors.OutOfMemory, errors.NoThread)
 WEIGHTS = ('weight', 'distance')                   # names of arguments that name an edge attribute
+
+_handed = threading.local()                        # whether networkx hands this thread's call over by itself
 
 Arguments = Mapping[str, Any]
 Refusal = Callable[[Arguments], Optional[str]]
@@ -52,6 +57,7 @@ class Backend:
     @staticmethod
     def can_run(name: str, args: Any, kwargs: Dict[str, Any]) -> Union[bool, str]:
         """True, or why this call is left to networkx: arguments, kinds of graphs and weights for which the answer would differ."""
+        _handed.over = False
         try:
             bound = _signature(name).bind(*args, **kwargs)
         except TypeError:
@@ -61,17 +67,13 @@ class Backend:
 
     @staticmethod
     def should_run(name: str, args: Any, kwargs: Dict[str, Any]) -> Union[bool, str]:
-        """True where the graph has so many edges that it pays, or is on the server; else the number of them, in words."""
+        """True where the graph has so many edges that it pays, or is on the server, and a session can be had; else why not, in words.
+        networkx asks this only of calls that it hands over by itself."""
         graph = args[0] if args else next(iter(kwargs.values()))
-        if isinstance(graph, SpmatGraph):
-            return True
-        least = int(sessions.setting('least_edges'))
-        if least < 0:
-            least = SERVED[name].first if held(graph) is None else SERVED[name].again
-        if least == NEVER:
-            return 'networkx has it at hand, or ends early'
-        many = _edges(graph, least)
-        return many >= least or 'only %d edges' % many
+        said = None if isinstance(graph, SpmatGraph) else _little(name, graph)
+        said = said or sessions.missing()
+        _handed.over = said is None
+        return said or True
 
     @staticmethod
     def on_start_tests(items: Any) -> None:
@@ -86,23 +88,52 @@ backend = Backend
 
 def serves(terms: Terms = ANY) -> Callable[[Function], Function]:
     """Makes a function one of the backend's. What the server has no room for is NotImplementedError, upon which networkx does the
-    work itself; a budget that is used up is BudgetExceeded."""
+    work itself; a budget that is used up is BudgetExceeded. Where there is no session it is NoSession, a RuntimeError, but for calls that
+    networkx hands over by itself: these it does."""
     def register(function: Function) -> Function:
         name = function.__name__
 
         @functools.wraps(function)
         def served(*args: Any, **kwargs: Any) -> Any:
-            try:
+            def call() -> Any:
                 return function(*args, **kwargs)
-            except FALLS_BACK as fault:
+            try:
+                return _answer(name, call)
+            except sessions.NoSession as fault:
+                if not getattr(_handed, 'over', False):
+                    raise
+                sessions.warn(str(fault))
                 raise NotImplementedError('%s: %s' % (name, fault)) from fault
-            except errors.Closed:
-                pass                               # the program died before this call, or in it: once more with another
-            return function(*args, **kwargs)
         setattr(Backend, name, staticmethod(served))
         _terms[name] = terms
         return function
     return register
+
+
+def _answer(name: str, call: Callable[[], Any]) -> Any:
+    """What a call gives. Where the program died before it, or in it, once more with another; NoSession where that one dies, too."""
+    for is_last in (False, True):
+        try:
+            return call()
+        except errors.BudgetExceeded as fault:
+            raise fault.by(MORE_STEPS) from None
+        except FALLS_BACK as fault:
+            raise NotImplementedError('%s: %s' % (name, fault)) from fault
+        except errors.Closed as fault:
+            if is_last:
+                raise sessions.NoSession('spmat has no session: %s' % fault) from fault
+    return None
+
+
+def _little(name: str, graph: Any) -> Optional[str]:
+    """Why it doesn't pay to hand a call over, in words; None where it does."""
+    least = sessions.setting('least_edges')
+    if least < 0:
+        least = SERVED[name].first if held(graph) is None else SERVED[name].again
+    if least == NEVER:
+        return 'networkx has it at hand, or ends early'
+    many = _edges(graph, least)
+    return None if many >= least else 'only %d edges' % many
 
 
 @functools.lru_cache(maxsize=None)
@@ -124,9 +155,6 @@ def _edges(graph: Any, enough: int) -> int:
 
 def _reason(name: str, arguments: Arguments) -> Optional[str]:
     """Why a call is left to networkx, in words; None where it is not."""
-    absent = sessions.missing()
-    if absent:
-        return absent
     terms, graph = _terms[name], next(iter(arguments.values()))
     odd = odd_graph(graph)
     if odd:
@@ -156,6 +184,8 @@ def _weights(name: str, graph: Any, arguments: Arguments, key: str, negative: bo
         found = read_values(graph, attribute, default, fold_of(name))
     except NotImplementedError as fault:
         return str(fault)
+    if found.unit not in (None, 1) and name not in FRACTIONS:
+        return 'the edge attribute %r has values that are not whole' % attribute
     if not negative and found.least < 0:
         return 'the edge attribute %r has values below 0' % attribute
     if max(found.most, -found.least) * (len(graph) + 1) >= BOUND:

@@ -2,27 +2,48 @@
 from __future__ import annotations
 
 import os
-import shutil
 import threading
+import time
+import warnings
 from typing import Any, Dict, NamedTuple, Optional, Tuple
 
 import networkx as nx
 
-from ..program import program_words
+from ..errors import SpmatError
+from ..program import Program
 from ..session import Session
 from ..wire import MOST_STEPS
 from .info import DEFAULTS
+from .settings import checked
 
 MOST_WORKERS = 8
+SECONDS = 30.0                                     # how long a session that couldn't be opened isn't tried again by priority
+
+
+class NoSession(RuntimeError):
+    """No session can be opened with the settings; the cause is what came of it."""
 
 
 class Settings(NamedTuple):
     """What a session is opened with. `connect` is `HOST:PORT` of `spmat serve` or the path of its socket file, or empty for a
     program of one's own."""
-    program: str
+    program: Program
     connect: str
     steps: int
     workers: int
+
+
+class Failure(NamedTuple):
+    """Settings with which no session could be opened, when that was tried, and what came of it."""
+    wanted: Settings
+    when: float
+    words: str
+
+
+class Warned:
+    """What calls by priority have met: the last failure, and whether this process was told of one."""
+    last: Optional[Failure] = None
+    is_told = False
 
 
 _lock = threading.RLock()
@@ -31,13 +52,13 @@ _open: Dict[Tuple[int, Settings], Session] = {}
 
 def setting(name: str) -> Any:
     """A value of `nx.config.backends.spmat`, or the default where networkx doesn't know the backend's settings."""
-    return getattr(getattr(nx.config.backends, 'spmat', None), name, DEFAULTS[name])
+    return checked(name, getattr(getattr(nx.config.backends, 'spmat', None), name, DEFAULTS[name]))
 
 
 def settings() -> Settings:
     """The settings as they are now; 0 steps are as many as a session can have, 0 workers one for each processor, 8 at most."""
-    workers = int(setting('workers')) or min(MOST_WORKERS, _processors())
-    return Settings(str(setting('program')), str(setting('connect')), int(setting('steps')) or MOST_STEPS, workers)
+    workers = setting('workers') or min(MOST_WORKERS, _processors())
+    return Settings(setting('program'), setting('connect'), setting('steps') or MOST_STEPS, workers)
 
 
 def _processors() -> int:
@@ -46,8 +67,8 @@ def _processors() -> int:
 
 def session() -> Session:
     """This process's session. A new one is opened at the first call, after a change of the settings, where the last one has ended
-    or its program died, and in a process that was forked off. Raises FileNotFoundError where there is no program, OSError where
-    nobody listens, ValueError for settings that the program would refuse."""
+    or its program died, and in a process that was forked off. Raises NoSession, a RuntimeError, where there is no program, or one
+    that isn't spmat, and where nobody listens, or a server has no seat left."""
     with _lock:
         key = (os.getpid(), settings())
         held = _open.get(key)
@@ -57,8 +78,22 @@ def session() -> Session:
             last = _open.pop(old)
             if old[0] == key[0]:
                 last.close()
-        _open[key] = _opened(key[1])
+        try:
+            _open[key] = _opened(key[1])
+        except (OSError, SpmatError) as fault:
+            raise NoSession('spmat has no session: %s' % _words(key[1], fault)) from fault
+        Warned.last = None
         return _open[key]
+
+
+def _words(wanted: Settings, fault: BaseException) -> str:
+    """What came of it, and which setting it comes from."""
+    said = str(fault)
+    if isinstance(fault, OSError) and fault.strerror:
+        said = fault.strerror + (': ' + str(fault.filename) if fault.filename else '')
+    if wanted.connect:
+        return '%s (nx.config.backends.spmat.connect is %r)' % (said, wanted.connect)
+    return '%s (nx.config.backends.spmat.program is %r)' % (said, wanted.program) if wanted.program else said
 
 
 def _opened(wanted: Settings) -> Session:
@@ -71,16 +106,26 @@ def _opened(wanted: Settings) -> Session:
 
 
 def missing() -> Optional[str]:
-    """Why no session can be had, in words, as far as can be seen without opening one."""
-    wanted = settings()
-    if wanted.connect:
-        return None
+    """Why no session can be had, in words, for a call that networkx hands over by itself: None where one is open, or can be opened.
+    The first such call of a process warns; after a failure some time passes before it is tried again, unless settings change."""
+    wanted, now, last = settings(), time.monotonic(), Warned.last
+    if last is not None and last.wanted == wanted and now - last.when < SECONDS:
+        return last.words
     try:
-        words = program_words(wanted.program or None)
-    except FileNotFoundError as fault:
+        session()
+    except NoSession as fault:
+        Warned.last = Failure(wanted, now, str(fault))
+        warn(str(fault))
         return str(fault)
-    found = shutil.which(words[0]) or (words[0] if os.path.exists(words[0]) else None)
-    return None if found else 'no program at %s' % words[0]
+    return None
+
+
+def warn(words: str) -> None:
+    """Tells a process once that networkx does the work, although spmat has priority."""
+    with _lock:
+        told, Warned.is_told = Warned.is_told, True
+    if not told:
+        warnings.warn('%s; networkx does the work itself. This is said once' % words, RuntimeWarning, stacklevel=2)
 
 
 def close() -> None:
