@@ -11,7 +11,7 @@ from spmat import algorithms
 class Algorithms(support.InSession):
     def each(self, some, look):
         """Looks at each graph, by its name: at its neighbours, its matrix, and itself as its transpose where it is undirected."""
-        for graph in some:
+        for graph in graphs.tried(some):
             with self.subTest(graph=graph.name):
                 G = graph.matrix(self.session)
                 look(graph, graph.near(), G, None if graph.directed else G)
@@ -162,7 +162,8 @@ class Algorithms(support.InSession):
         for name in algorithms.__all__:
             function = getattr(algorithms, name)
             more = {'bfs_levels': (0,), 'bfs_parents': (0,), 'sssp': (0,), 'k_truss': (3,), 'k_core': (2,), 'k_hop': (1,),
-                    'path_lengths': ([0],), 'shared_neighbours': ([0], [0])}.get(name, ())
+                    'path_lengths': ([0],), 'shared_neighbours': ([0], [0]), 'has_path': (0, 1), 'shortest_path': (0, 1),
+                    'shortest_paths': (0,), 'k_shortest_paths': (0, 1, 1), 'modularity': (G,)}.get(name, ())
             if name[0].islower():
                 with self.subTest(algorithm=name), self.assertRaisesRegex(ValueError, 'square'):
                     function(wide, *more)

@@ -1,7 +1,9 @@
-"""docs/api.md is made of the docstrings as they are now, and leaves nothing public out."""
+"""The reference of the client is made of its docstrings: it leaves nothing public out, and each entry has its sections in one order."""
 import os
+import re
 import subprocess
 import sys
+import tempfile
 import unittest
 
 import support
@@ -9,24 +11,61 @@ import spmat
 from spmat import algorithms
 
 TOOL = os.path.join(support.TOP, 'tools', 'api_page')
+SECTIONS = ('| Argument |', '**Returns**', '**Cost.**', '**Elsewhere.**', '**Raises.**')
+
+
+def made(*words):
+    """What tools/api_page prints and ends with."""
+    return subprocess.run([sys.executable, TOOL, *words], stdout=subprocess.PIPE, stderr=subprocess.STDOUT, text=True, timeout=60)
 
 
 class Page(unittest.TestCase):
-    def test_it_is_current(self):
-        done = subprocess.run([sys.executable, TOOL, '--check'], stdout=subprocess.PIPE, text=True, timeout=60)
-        self.assertEqual((done.returncode, done.stdout), (0, 'docs/api.md: as the docstrings are\n'))
+    @classmethod
+    def setUpClass(cls):
+        with tempfile.TemporaryDirectory() as room:
+            path = os.path.join(room, 'api.md')
+            done = made(path)
+            if done.returncode:
+                raise AssertionError(done.stdout)
+            with open(path, encoding='utf-8') as file:
+                cls.page = file.read()
+        cls.entries = {part.partition('`')[2].partition('`')[0]: part for part in re.split(r'^(?=#)', cls.page, flags=re.M)
+                       if part.startswith('#### ')}
+
+    def test_every_algorithm_says_its_cost(self):
+        done = made('--check')
+        self.assertEqual((done.returncode, done.stdout), (0, 'reference: every algorithm says its cost\n'))
 
     def test_nothing_is_left_out(self):
-        with open(os.path.join(support.TOP, 'docs', 'api.md'), encoding='utf-8') as file:
-            page = file.read()
-        for name in ('s.from_coo(', 's.read_graph(', 's.read_edgelist(', 's.from_edgelist(', 's.mmread(', 's.check(', 's.run(', 's.budget(',
-                     'A.mxm(', 'A.apply(', 'A.select(', 'A.top(', 'A.by_node(', 'A.to_networkx(', 'A.nodes', 'A[rows, columns]', 'spmat.asm(',
-                     'spmat.c(', 'draw.spy(', 'blocks.Sessions(', *('algorithms.%s(' % name for name in algorithms.__all__
-                                                                 if callable(getattr(algorithms, name)) and name != 'Progress')):
-            self.assertIn('### `' + name, page)
+        names = [re.match(r'[\w.]+(\[)?', heading).group(0) for heading in self.entries]
+        for name in ('s.from_coo', 's.read_graph', 's.read_edgelist', 's.from_edgelist', 's.mmread', 's.check', 's.run', 's.budget',
+                     'A.mxm', 'A.apply', 'A.select', 'A.top', 'A.by_node', 'A.to_networkx', 'A.nodes', 'A[', 'spmat.asm', 'spmat.loop',
+                     'spmat.c', 'draw.spy', 'blocks.Sessions', *('algorithms.%s' % name for name in algorithms.__all__
+                                                               if callable(getattr(algorithms, name)) and name != 'Progress')):
+            self.assertEqual(names.count(name), 1, name)
         for name in dir(spmat.errors):
             if isinstance(getattr(spmat.errors, name), type) and issubclass(getattr(spmat.errors, name), spmat.SpmatError) and name[0] != '_':
-                self.assertIn(name, page)
+                self.assertIn(name, self.page)
+
+    def test_sections(self):
+        """Their order is the same everywhere, and a product has what its docstring and its signature say."""
+        for heading, text in self.entries.items():
+            at = [text.index(section) for section in SECTIONS if section in text]
+            self.assertEqual(at, sorted(at), heading)
+        (product,) = (text for heading, text in self.entries.items() if heading.startswith('A.mxm('))
+        self.assertIn('| `other` | `Matrix` | required |', product)
+        self.assertIn("| `op` | `Ring` | `'plus_times'` |", product)
+        self.assertIn('**Returns** `Matrix`', product)
+        self.assertRegex(product, r'\*\*Elsewhere\.\*\* In the GraphBLAS GrB_mxm')
+        (search,) = (text for heading, text in self.entries.items() if heading.startswith('algorithms.bfs_levels('))
+        self.assertRegex(search, r'\*\*Cost\.\*\* Runs: .* Steps: ')
+        self.assertRegex(search, r'\*\*Raises\.\*\* ValueError ')
+        self.assertNotRegex(search.partition('**Cost.**')[0], r'Runs:|Raises')
+
+    def test_links_lead_somewhere(self):
+        headings = {re.sub('[^a-z0-9 _-]', '', title.lower()).replace(' ', '-') for title in re.findall(r'^#+ (.*)$', self.page, re.M)}
+        for link in re.findall(r'\]\(#([^)]+)\)', self.page):
+            self.assertIn(link, headings)
 
 
 if __name__ == '__main__':

@@ -96,7 +96,7 @@ def has_clang():
         return False
 
 
-wants_clang = unittest.skipUnless(has_clang(), 'no clang 18 or above')
+wants_clang = unittest.skipUnless(has_clang(), 'no clang of 14 or above')
 
 
 class Values(unittest.TestCase):
@@ -224,7 +224,6 @@ REFUSED = [
     ('static int64_t n;\nint64_t f(int64_t x) { return n += x; }', 'to a variable'),
     ('int64_t n;\nint64_t f(int64_t x) { return n += x; }', 'to `n`'),
     ('static const int64_t t[] = {3, 1, 4, 1, 5, 9, 2, 6};\nint64_t f(int64_t x) { return t[x & 7]; }', 'to a table'),
-    ('int64_t f(uint64_t x) { return x ? __builtin_ctzl(x) : 64; }', 'to a table'),
     ('int64_t f(int64_t x) { return x * 1.5; }', 'fixed point'),
     ('int64_t f(uint64_t x, uint64_t y) { return ((unsigned __int128)x * y) >> 64; }', '128-bit'),
     ('int64_t f(int64_t x) {\n    int64_t s = 0;\n    for (int64_t i = 0; i < x; i++) s += i * i;\n    return s;\n}',
@@ -265,11 +264,11 @@ class Refusals(unittest.TestCase):
     def test_compilers(self):
         """No clang, an old one, another program, and one without a BPF target."""
         source = 'int64_t f(int64_t x) { return x; }'
-        with self.assertRaisesRegex(spmat.CompileError, 'no program clang-of-nobody.*clang 18 or above'):
+        with self.assertRaisesRegex(spmat.CompileError, 'no program clang-of-nobody.*clang 14 or above'):
             spmat.c(source, clang='clang-of-nobody')
         with tempfile.TemporaryDirectory() as folder:
             new = 'test "$1" = --version && echo clang version 19.1.7 && exit; '
-            for said, words in (('echo Debian clang version 14.0.6', 'is clang 14: .*clang 18 or above'),
+            for said, words in (('echo Debian clang version 13.0.1', 'is clang 13: .*clang 14 or above'),
                                 ('echo gcc 12.2.0', 'does not say that it is clang'),
                                 ('echo Apple clang version 17.0.0', 'no BPF target'),
                                 (new + 'echo "error: unable to create target: No available targets are compatible" >&2; exit 1',

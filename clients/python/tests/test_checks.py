@@ -28,7 +28,9 @@ class Checks(support.InSession):
             function(one_way, *MORE.get(name, ()), check=False)
         both = algorithms.undirected(one_way)
         self.assertEqual(algorithms.triangle_count(both), 1)
-        self.assertEqual(algorithms.bfs_levels(one_way, 0, one_way).to_list(), [0, 1, 2, 3])
+        with self.assertRaisesRegex(ValueError, 'GT has to be the transpose'):
+            algorithms.bfs_levels(one_way, 0, one_way)
+        self.assertEqual(algorithms.bfs_levels(one_way, 0, one_way.T).to_list(), [0, 1, 2, 3])
         with self.assertRaisesRegex(ValueError, 'one way alone'):
             algorithms.connected_components(one_way, one_way)
         self.assertEqual(algorithms.connected_components(one_way).to_list(), [0, 0, 0, 0])

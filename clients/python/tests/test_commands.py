@@ -1,20 +1,18 @@
 """The command line: in this process, and as a process of its own where something is handed in by standard input."""
 import contextlib
-import io
 import os
 import pty
 import signal
 import subprocess
 import sys
-import tempfile
 import time
 import unittest
 
 import support
+from command_line import PACKAGE, CommandLine
 from test_ends import alive, gone
-from spmat.commands import main
+from spmat.commands.ends import Status
 
-PACKAGE = os.path.join(support.TOP, 'clients', 'python')
 DATA = os.path.join(PACKAGE, 'tests', 'data')
 KARATE = os.path.join(support.TOP, 'docs', 'karate.mtx')
 GRAPH = '%%MatrixMarket matrix coordinate pattern symmetric\n6 6 7\n2 1\n3 1\n3 2\n4 3\n5 4\n6 4\n6 5\n'
@@ -35,47 +33,10 @@ quit
 COLUMN = '%%MatrixMarket matrix coordinate integer general\n6 1 6\n1 1 2\n2 1 2\n3 1 3\n4 1 3\n5 1 2\n6 1 2\n'
 
 
-class Commands(unittest.TestCase):
+class Commands(CommandLine):
     def setUp(self):
-        folder = tempfile.TemporaryDirectory()
-        self.addCleanup(folder.cleanup)
-        self.folder = folder.name
+        super().setUp()
         self.write('graph.mtx', GRAPH)
-
-    def write(self, name, text):
-        with open(os.path.join(self.folder, name), 'w') as file:
-            file.write(text)
-
-    def read(self, name):
-        with open(os.path.join(self.folder, name)) as file:
-            return file.read()
-
-    def run_words(self, *words, text=None):
-        if text is not None:
-            return subprocess.run([sys.executable, '-m', 'spmat', *words], cwd=self.folder, input=text, stdout=subprocess.PIPE,
-                                  stderr=subprocess.PIPE, text=True, timeout=60, env=dict(os.environ, PYTHONPATH=PACKAGE))
-        here = os.getcwd()
-        os.chdir(self.folder)
-        try:
-            with contextlib.redirect_stdout(io.StringIO()) as stdout, contextlib.redirect_stderr(io.StringIO()) as stderr:
-                try:
-                    status = main(list(words))
-                except SystemExit as ended:
-                    status = ended.code or 0
-        finally:
-            os.chdir(here)
-        return subprocess.CompletedProcess(words, status, stdout.getvalue(), stderr.getvalue())
-
-    def printed(self, *words, text=None):
-        done = self.run_words(*words, text=text)
-        self.assertEqual((done.returncode, done.stderr), (0, ''))
-        return done.stdout
-
-    def refused(self, *words, text=None):
-        done = self.run_words(*words, text=text)
-        self.assertEqual(done.returncode, 1)
-        self.assertEqual(done.stderr.count('\n'), 1, done.stderr)
-        return done.stderr
 
     def test_numbers_columns_and_matrices(self):
         self.assertEqual(self.printed('triangle-count', 'graph.mtx'), '2\n')
@@ -87,7 +48,7 @@ class Commands(unittest.TestCase):
         self.assertEqual(self.printed('bfs-levels', 'graph.mtx', '--source', '6'), '1 3\n2 3\n3 2\n4 1\n5 1\n6 0\n')
         self.assertEqual(self.printed('bfs-parents', 'graph.mtx', '--undirected'), '1 1\n2 1\n3 1\n4 3\n5 4\n6 4\n')
         self.assertEqual(self.printed('connected-components', 'graph.mtx'), ''.join('%d 1\n' % row for row in range(1, 7)))
-        self.assertIn('no vertex 7: they are 1 to 6', self.refused('bfs-levels', 'graph.mtx', '--source', '7'))
+        self.assertIn('no vertex 7: they are 1 to 6', self.refused('bfs-levels', 'graph.mtx', '--source', '7', status=Status.WORDS))
 
     def test_graphs_of_another_kind(self):
         """What is for undirected graphs says so, in place of a number that means nothing."""
@@ -135,22 +96,37 @@ class Commands(unittest.TestCase):
         self.assertIn('bad.csv, line 2: 2 fields, and the first line has 3', self.refused('degrees', 'bad.csv'))
         self.assertIn('standard input, line 1: 0.5 is a number that is not whole', self.refused('sssp', '-', text='a b 0.5\n'))
         self.assertIn('this is no Matrix Market file', self.refused('degrees', 'bad.csv', '--format', 'mtx'))
-        self.assertIn("no vertex eve: they are 'ann', 'bob'", self.refused('bfs-levels', os.path.join(DATA, 'friends.tsv'), '--source', 'eve'))
+        self.assertIn("no vertex eve: they are 'ann', 'bob'", self.refused('bfs-levels', os.path.join(DATA, 'friends.tsv'), '--source', 'eve', status=Status.WORDS))
         self.assertIn('is empty', self.refused('degrees', '-', text='\n'))
         self.assertIn('--bipartite', self.refused('degrees', '-', text=COLUMN))
         self.assertIn('line 3 of standard input: ', self.refused('degrees', '-', text=GRAPH.replace('2 1\n', 'x 1\n')))
         done = self.run_words('pagerank', 'graph.mtx', '--plot', 'x.png')
         self.assertEqual(done.returncode, 2)
-        self.assertIn('usage: python3 -m spmat pagerank', done.stderr)
+        self.assertIn('unrecognized arguments: --plot x.png (spmat-graph pagerank --help)', done.stderr)
         self.assertEqual(self.printed('triangle-count', 'graph.mtx', '--steps', '1e6', '--workers', '1'), '2\n')
         self.assertIn("invalid whole number value: '1.5'", self.run_words('degrees', 'graph.mtx', '--steps', '1.5').stderr)
 
     def test_lists_in_scripts(self):
         self.write('edges.txt', 'b a\na c\n')
-        self.assertEqual(self.printed('run', '-', text='matrix G < edges.txt\nshow G\n').splitlines()[2:],
+        self.assertEqual(self.printed('script', '-', text='matrix G < edges.txt\nshow G\n').splitlines()[2:],
                          ['%%MatrixMarket matrix coordinate integer general', '3 3 2', '1 2 1', '2 3 1'])
         self.write('bad.mtx', '%%Matrix\n')
-        self.assertIn('M1', self.run_words('run', '-', text='matrix G < bad.mtx\n').stderr)
+        self.assertIn('M1', self.run_words('script', '-', text='matrix G < bad.mtx\n').stderr)
+
+    def test_paths(self):
+        """Vertices of a path with how far along it they are; a tree; the vertices of some paths; yes and no."""
+        self.write('roads.csv', 'from,to,km\nAnna,Bob,12\nBob,Cid,3\nCid,Anna,7\nCid,Dora Li,1\nAnna,Dora Li,90\n')
+        ends = ['--source', 'Anna', '--target', 'Dora Li']
+        for words, wanted in ((['shortest-path', *ends], 'Anna\t0\nDora Li\t1\n'),
+                              (['shortest-path', *ends, '--weighted'], 'Anna\t0\nBob\t12\nCid\t15\nDora Li\t16\n'),
+                              (['shortest-paths', '--source', 'Bob', '--weighted'],
+                               'Anna\t10\tCid\nBob\t0\tBob\nCid\t3\tBob\nDora Li\t4\tCid\n'),
+                              (['k-shortest-paths', *ends, '--k', '9', '--weighted'],
+                               '1\tAnna\t0\n1\tBob\t12\n1\tCid\t15\n1\tDora Li\t16\n2\tAnna\t0\n2\tDora Li\t90\n'),
+                              (['has-path', *ends], 'yes\n'), (['has-path', '--source', 'Dora Li', '--target', 'Anna'], 'no\n')):
+            self.assertEqual(self.printed(words[0], 'roads.csv', *words[1:]), wanted)
+        self.assertIn("no path leads from 'Dora Li' to 'Anna'",
+                      self.refused('shortest-path', 'roads.csv', '--source', 'Dora Li', '--target', 'Anna'))
 
     def test_fractions(self):
         shares = self.printed('clustering', 'graph.mtx').splitlines()
@@ -168,10 +144,10 @@ class Commands(unittest.TestCase):
     def test_faults_are_one_line(self):
         self.assertIn('nothere.mtx', self.refused('degrees', 'nothere.mtx'))
         self.assertIn('M6', self.refused('degrees', '-', text=GRAPH.replace('6 5\n', '9 5\n')))
-        self.assertIn('HOST:PORT', self.refused('degrees', 'graph.mtx', '--connect', 'here'))
+        self.assertIn('HOST:PORT', self.refused('degrees', 'graph.mtx', '--connect', 'here', status=Status.WORDS))
         self.assertIn('square', self.refused('degrees', '-', text=COLUMN))
-        self.assertIn('none: no such folder', self.refused('degrees', 'graph.mtx', '--output', 'none/d.txt'))
-        self.assertIn('S8', self.refused('triangle-count', 'graph.mtx', '--steps', '3'))
+        self.assertIn('none: no such folder', self.refused('degrees', 'graph.mtx', '--output', 'none/d.txt', status=Status.OTHER))
+        self.assertIn('S8', self.refused('triangle-count', 'graph.mtx', '--steps', '3', status=Status.BUDGET))
         self.assertEqual(self.run_words('nothing').returncode, 2)
         self.assertEqual(self.run_words('k-core', 'graph.mtx').returncode, 2)
 
@@ -180,8 +156,8 @@ class Commands(unittest.TestCase):
             self.assertEqual(self.printed('--version'), 'spmat %s, the client\n' % file.read().strip())
 
     def test_help_has_examples(self):
-        self.assertIn('python3 -m spmat triangle-count', self.printed('--help'))
-        for command in ('degrees', 'bfs-levels', 'k-truss', 'spy', 'types', 'run'):
+        self.assertIn('spmat-graph triangle-count', self.printed('--help'))
+        for command in ('degrees', 'bfs-levels', 'k-truss', 'spy', 'types', 'script'):
             told = self.printed(command, '--help')
             self.assertTrue('example' in told or 'matrix G < graph.mtx' in told, command)
             self.assertNotIn('progress(', told)
@@ -191,39 +167,39 @@ class Commands(unittest.TestCase):
         self.assertEqual(lines[0].split(), ['slot', 'instruction'] + ['R%d' % number for number in range(11)])
         self.assertEqual(lines[1].split(), ['0', 'mov64', 'r0,', 'r1', '-', 'n', 'n'] + ['-'] * 7 + ['p0'])
         self.write('bad.asm', 'mov64 r0, r1\nldx64 r0, r1, 0\nexit\n')
-        said = self.refused('types', 'bad.asm', '--kind', 'unary')
+        said = self.refused('types', 'bad.asm', '--kind', 'unary', status=Status.REFUSED)
         self.assertIn('V14', said)
         self.assertIn("slot 1, line 2: 'ldx64 r0, r1, 0'", said)
-        self.assertIn('--kind', self.refused('types', 'bad.asm'))
-        self.assertIn('plus', self.refused('types', 'binary.nothing'))
-        self.assertIn('the ready operator is binary.plus', self.refused('types', 'plus'))
-        self.assertIn('unary.nonzero or index.nonzero', self.refused('types', 'nonzero'))
+        self.assertIn('--kind', self.refused('types', 'bad.asm', status=Status.WORDS))
+        self.assertIn('plus', self.refused('types', 'binary.nothing', status=Status.WORDS))
+        self.assertIn('the ready operator is binary.plus', self.refused('types', 'plus', status=Status.WORDS))
+        self.assertIn('unary.nonzero or index.nonzero', self.refused('types', 'nonzero', status=Status.WORDS))
 
     def test_script(self):
         self.write('session.txt', SCRIPT)
-        printed = self.printed('run', 'session.txt')
+        printed = self.printed('script', 'session.txt')
         self.assertEqual(printed.splitlines()[:5], ['ok matrix 6 6 14', 'ok op 3 3', 'ok queued 1 24', 'ok run 1 24', 'D 6 1 6 24'])
         self.assertEqual(printed.splitlines()[-1], 'ok quit')
         self.assertEqual(self.read('degrees.mtx'), COLUMN)
 
     def test_script_stops_where_it_is_refused(self):
         self.write('session.txt', SCRIPT.replace('reduce D', 'foo\nreduce D'))
-        done = self.run_words('run', 'session.txt')
-        self.assertEqual((done.returncode, done.stdout), (1, 'ok matrix 6 6 14\nok op 3 3\n'))
+        done = self.run_words('script', 'session.txt')
+        self.assertEqual((done.returncode, done.stdout), (Status.REFUSED, 'ok matrix 6 6 14\nok op 3 3\n'))
         self.assertIn('line 9: `foo` is refused: S1', done.stderr)
         self.assertEqual(done.stderr.count('`foo`'), 1)
-        done = self.run_words('run', 'session.txt', '--keep-going')
-        self.assertEqual((done.returncode, done.stdout.splitlines()[-1]), (1, 'ok quit'))
+        done = self.run_words('script', 'session.txt', '--keep-going')
+        self.assertEqual((done.returncode, done.stdout.splitlines()[-1]), (Status.REFUSED, 'ok quit'))
 
     def test_script_faults_name_their_line(self):
         for text, words in (('budget\nmatrix G\n', 'line 2: `matrix` wants its body'), ('matrix G < nothere.mtx\n', 'line 1: '),
                             ('asm f unary <<END\nexit\n', 'no line END'), ('budget < graph.mtx\n', '`budget` has no body'),
                             ('budget > x\n', 'only the result of `show`')):
-            self.assertIn(words, self.refused('run', '-', text=text))
+            self.assertIn(words, self.refused('script', '-', text=text))
 
     @support.needs('matplotlib', 'numpy')
     def test_pictures(self):
-        for words in (['spy', 'graph.mtx'], ['degrees', 'graph.mtx'], ['bfs-levels', 'graph.mtx'], ['k-truss', 'graph.mtx', '--k', '3']):
+        for words in (['spy', 'graph.mtx'], ['draw', 'graph.mtx', '--weights'], ['degrees', 'graph.mtx'], ['bfs-levels', 'graph.mtx'], ['k-truss', 'graph.mtx', '--k', '3']):
             self.printed(*words, '--plot', 'picture.png')
             with open(os.path.join(self.folder, 'picture.png'), 'rb') as file:
                 self.assertEqual(file.read(8), b'\x89PNG\r\n\x1a\n')
@@ -267,7 +243,7 @@ class Commands(unittest.TestCase):
         self.write('long.mtx', GRAPH + ('%' + 1000 * '-' + '\n') * 1100)      # enough to be sent in pieces
         self.write('session.txt', 'matrix G < long.mtx\nfoo\n')
         for words, bar, first in ((['triangle-count', 'graph.mtx'], 'jobs', '2'),
-                                  (['run', 'session.txt'], 'sent', 'ok matrix 6 6 14')):
+                                  (['script', 'session.txt'], 'sent', 'ok matrix 6 6 14')):
             shown = self.shown(*words)
             self.assertIn(bar + '      [', shown)
             self.assertRegex(shown, '[\r\n]' + first + '\r\n', words)

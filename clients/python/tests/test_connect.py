@@ -10,6 +10,7 @@ import threading
 import unittest
 
 import support
+import test_loops
 import spmat
 from spmat import wire
 
@@ -17,8 +18,8 @@ from spmat import wire
 class FileRelay(support.Relay):
     """A connection to a socket file is a session of `spmat run`."""
 
-    def __init__(self, path, seats=16):
-        super().__init__(seats)
+    def __init__(self, path, seats=16, steps=1000):
+        super().__init__(seats, steps)
         self.path = path
 
     def __enter__(self):
@@ -44,6 +45,23 @@ class SecretScripted(support.Scripted):
             connection.close()
 
 
+def search_a_path(case, session):
+    """A loop along a path of 70 vertices, by trips."""
+    loop = test_loops.search(session, test_loops.PATH)
+    case.assertEqual(loop.run(spmat.empty('front')), 70)
+    case.assertEqual(list(map(int, loop.shown['front'].places)), list(range(1, 70)))
+    case.assertGreater(loop._trips.trips, 1)
+
+
+def served_by(child):
+    """What a session of its own answers to each command, as bytes."""
+    def answer(words, body):
+        reply = child.command(' '.join(words if body is None else words[:-1]), body)
+        lines = ''.join(line + '\n' for line in reply.lines)
+        return ('ok ' + ' '.join(reply.words) + '\n' + lines).encode() + reply.body
+    return answer
+
+
 class Files(unittest.TestCase):
     def setUp(self):
         folder = tempfile.TemporaryDirectory(prefix='spmat-')
@@ -53,6 +71,10 @@ class Files(unittest.TestCase):
     def test_session(self):
         with FileRelay(self.path), spmat.Session.connect(self.path) as s:
             self.assertEqual(s.from_triples([(0, 0, 41)]).apply('plus', right=1).to_list(), [42])
+
+    def test_loop(self):
+        with FileRelay(self.path, steps=1 << 62), spmat.Session.connect(self.path) as s:
+            search_a_path(self, s)
 
     def test_busy(self):
         with FileRelay(self.path, seats=1), spmat.Session.connect(self.path):
@@ -136,6 +158,13 @@ class Secrets(unittest.TestCase):
     def test_session(self):
         with self.server() as server, spmat.Session.connect('localhost', server.port, tls=self.client('anna'), timeout=10) as s:
             self.assertEqual(s.budget(), (100, 0, 0))
+
+    def test_loop(self):
+        child = wire.Connection.to_child()
+        self.addCleanup(child.quit)
+        with self.server(served_by(child)) as server:
+            with spmat.Session.connect('localhost', server.port, tls=self.client('anna'), timeout=100) as s:
+                search_a_path(self, s)
 
     def test_long_replies(self):
         text = b'%%MatrixMarket matrix coordinate integer general\n3000000 1 1\n1 1 7\n' + b'%' * 1000 + b'\n'

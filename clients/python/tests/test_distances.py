@@ -12,7 +12,7 @@ from spmat.algorithms import distances, pairs
 class Distances(support.InSession):
     def each(self, look):
         """Looks at each graph: at its distances, its matrix, and its transpose where it has one of its own."""
-        for graph in graphs.ALL:
+        for graph in graphs.tried(graphs.ALL):
             with self.subTest(graph=graph.name):
                 G, near = graph.matrix(self.session), graph.near()
                 look(graph, [graphs.levels(near, i) for i in range(graph.count)], G, G.T if graph.directed else G)

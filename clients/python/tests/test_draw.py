@@ -9,7 +9,7 @@ from unittest import mock
 import graphs
 import support
 import spmat
-from spmat import algorithms, draw
+from spmat import algorithms, draw, graph_picture, picture_parts
 
 
 def ink(path, colour):
@@ -46,6 +46,22 @@ class Pictures(unittest.TestCase):
             self.drawn(draw.degree_histogram, G)
             found = algorithms.bfs_levels(G, 0) if graph.count else self.session.from_coo([], [], [], 0, 1)
             self.drawn(draw.levels, G, found)
+
+    def test_route(self):
+        """A path's edges have a colour of their own, and longer paths more of it; above 150 vertices the path alone is drawn."""
+        G = graphs.UNDIRECTED[4].matrix(self.session)
+        short, long = (ink(self.drawn(draw.route, G, algorithms.shortest_path(G, 0, end)), draw.WARM) for end in (1, 41))
+        self.assertGreater(short, 0)
+        self.assertGreater(long, 3 * short)
+        many = self.session.from_coo(range(199), range(1, 200), range(199), 200, 200)
+        for vertices in ([0], [3, 4], range(30)):
+            self.drawn(draw.route, many, vertices)
+        with self.assertRaisesRegex(ValueError, 'no edge leads from 3 to 5'):
+            draw.route(many, [3, 5])
+        with self.assertRaisesRegex(ValueError, 'no vertex 200'):
+            draw.route(many, [3, 200])
+        with self.assertRaisesRegex(ValueError, 'a vertex or more'):
+            draw.route(many, [])
 
     def test_squares(self):
         """Twice the entries have twice the ink."""
@@ -93,6 +109,57 @@ class Pictures(unittest.TestCase):
         self.assertEqual(seen, [(-.5, 1.5, 2.5, -.5), (.5, 2.5, 3.5, .5)])
         self.assertGreater(ink(self.path, draw.INK), .2)
 
+    def texts(self, figure):
+        """The words of a picture's texts and ticks, once it is drawn."""
+        figure.savefig(self.path)
+        axes = figure.axes[0]
+        ticks = [tick.get_text() for axis in (axes.xaxis, axes.yaxis) for tick in axis.get_ticklabels()]
+        return [text.get_text() for text in axes.texts] + ticks + [axes.get_title()]
+
+    def test_names_on_axes(self):
+        """`spy` has the names of rows and columns, of a few each, of many at round places."""
+        G = self.session.from_edgelist([('Ann', 'Bob', 3), ('Bob', 'A name of more than twenty-four letters', 2)], directed=True)
+        told = self.texts(draw.spy(G))
+        for name in ('Ann', 'Bob', 'A name of more than tw..'):
+            self.assertEqual(told.count(name), 2)
+        self.assertEqual(told[-1], '3 rows, 3 columns, 2 entries')
+        many = self.session.from_edgelist([('n%d' % i, 'n%d' % (i + 1), 1) for i in range(399)], directed=True)
+        told = self.texts(draw.spy(many))
+        self.assertIn('n100', told)
+        self.assertNotIn('100', told)
+
+    def test_names_of_levels(self):
+        """All within their circles where all are short, else all above; edges end at the rim."""
+        from matplotlib.patches import FancyArrowPatch
+        for names, room, place in ((['a', 'b', 'c'], 8, (0, 0)), (['Ann', 'Bob', 'Dora'], 4, (0, 5))):
+            G = self.session.from_edgelist(list(zip(names, names[1:], [1, 1])), directed=True)
+            axes = draw.levels(G, algorithms.bfs_levels(G, names[0])).axes[0]
+            self.assertEqual({text.get_text() for text in axes.texts}, set(names))
+            self.assertEqual({tuple(text.xyann) for text in axes.texts if text.xyann != text.xy} or {(0, 0)}, {place})
+            self.assertEqual({patch.shrinkA for patch in axes.patches if isinstance(patch, FancyArrowPatch)}, {room})
+
+    def test_graph(self):
+        """The graph itself: names, values of few edges, loops told, neighbours near one another."""
+        G = self.session.from_edgelist([('Ann', 'Bob', 3), ('Bob', 'Dora', 77), ('Dora', 'Dora', 5)], directed=True)
+        told = self.texts(draw.graph(G))
+        self.assertEqual(sorted(told[:5]), ['3', '77', 'Ann', 'Bob', 'Dora'])
+        self.assertEqual(told[-1], '3 vertices, 2 edges, 1 loop not shown')
+        for graph in (graphs.UNDIRECTED[0], graphs.UNDIRECTED[1], graphs.UNDIRECTED[5], graphs.DIRECTED[3]):
+            self.drawn(draw.graph, graph.matrix(self.session))
+        sides = [(i, j) for part in (0, 10) for i in range(part, part + 10) for j in range(part, i)] + [(0, 10)]
+        at = graph_picture.places(20, set(sides))
+        self.assertEqual(at.tolist(), graph_picture.places(20, set(sides)).tolist())
+        self.assertLessEqual(abs(at).max(), 1)
+        within, across = (sum(abs(at[i] - at[j]).sum() for i, j in pairs) / len(pairs)
+                          for pairs in (sides[:-1], [(i, j) for i in range(10) for j in range(10, 20)]))
+        self.assertLess(2 * within, across)
+        many = self.session.from_coo(range(900), [i // 2 for i in range(900)], 1, 900, 900)
+        self.assertGreater(ink(self.drawn(draw.graph, many), draw.INK), 0)
+        with self.assertRaisesRegex(ValueError, 'up to 1,000 vertices and 5,000 edges, and this has 1,001 and 0'):
+            draw.graph(self.session.from_coo([], [], [], 1001, 1001))
+        with self.assertRaisesRegex(ValueError, 'expected a square matrix'):
+            draw.graph(self.session.full(2, 3))
+
     def test_check(self):
         draw.check(self.path)
         draw.check('picture')                          # matplotlib's own ending is added
@@ -124,7 +191,7 @@ class RoundNumbers(unittest.TestCase):
     def test_round_numbers(self):
         for least, most, want in ((1, 8, [1, 2, 5]), (3, 4, [3, 4]), (1, 1, [1]), (1, 300, [1, 2, 5, 10, 20, 50, 100, 200]),
                                   (2, 100000, [10, 100, 1000, 10000, 100000])):
-            self.assertEqual(draw.round_numbers(least, most), want)
+            self.assertEqual(picture_parts.round_numbers(least, most), want)
 
 
 class WithoutMatplotlib(unittest.TestCase):

@@ -84,7 +84,7 @@ class Words(unittest.TestCase):
             A = s.from_triples([(0, 0, 1)])
             op = spmat.asm('unary', 'wide r2, 9\nldx64 r0, r1, 0\nexit', 'f')
             fault = self.refused(spmat.OperatorRefused, 'V14', lambda: A.apply(op))
-            self.assertEqual(str(fault), "V14: a number where a place in the stack is wanted, slot 2, line 2: 'ldx64 r0, r1, 0' "
+            self.assertEqual(str(fault), "V14: expected a place in the stack, found a number, slot 2, line 2: 'ldx64 r0, r1, 0' "
                              '(in `asm f unary`); to mend it: load and store through R10, or a copy of it')
 
     def test_texts(self):

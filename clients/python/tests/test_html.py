@@ -1,12 +1,13 @@
 """What a notebook shows of matrices, operators, budgets and runs."""
 import html.parser
 import threading
+import time
 import unittest
 from unittest import mock
 
 import support
 import spmat
-from spmat import blocks, html as shown
+from spmat import blocks, html as shown, operators
 
 
 class Parser(html.parser.HTMLParser):
@@ -51,12 +52,42 @@ class Html(support.InSession):
         self.assertIn('-1', words)
         self.assertEqual(self.seen(self.s.from_coo([], [], [], 0, 0))[1].count('rect'), 0)
 
-    def test_nothing_is_run_for_it(self):
-        A = self.s.full(3, 3)
+    def test_what_waits_is_run(self):
+        """It shows its values; at a prompt it says what runs it."""
+        A = self.s.full(3, 3, 7)
         before = self.s.runs
-        words, _ = self.seen(A.apply('ainv'))
-        self.assertIn('queued', words)
+        waiting = A.apply('ainv')
+        self.assertIn('queued: .wait() runs it', repr(waiting))
         self.assertEqual(self.s.runs, before)
+        words, tags = self.seen(waiting)
+        self.assertIn('3 × 3, 9 entries', words)
+        self.assertEqual((words.split().count('-7'), tags.count('rect'), self.s.runs), (9, 9, before + 1))
+
+    def test_masks(self):
+        """The corner has a mark where a result may have an entry."""
+        A = self.s.from_triples([(0, 0, 5), (0, 1, 0), (1, 2, 3)], 2, 3)
+        for mask, said, marks in ((A.S, 'has an entry', 3), (~A.S, 'has no entry', 3), (A.V, "has an entry that isn't 0", 2),
+                                  (~A.V, 'has no entry, or 0', 4)):
+            words, tags = self.seen(mask)
+            self.assertIn('Mask  2 × 3, where %s %s' % (A.name, said), words)
+            self.assertEqual((words.split().count('1') - 2, tags.count('rect')), (marks, 0 if mask.complement else 3), words)       # a row and a column are 1
+
+    def test_semirings(self):
+        words, tags = self.seen(spmat.semiring.min_plus)
+        self.assertIn('min_plus', words)
+        self.assertIn('add64 r0, r2', words)
+        self.assertEqual(tags.count('tr'), 3)
+        words, _ = self.seen(spmat.semiring)
+        self.assertIn('the shortest path', words)
+        for name in operators.USES:
+            self.assertEqual(repr(spmat.semiring[name]), '<semiring %s>' % name)
+        self.assertIn('plus_times, ', repr(spmat.semiring))
+
+    def test_what_is_offered(self):
+        """After `spmat.algorithms.` come the algorithms alone."""
+        self.assertEqual(dir(spmat.algorithms), sorted(spmat.algorithms.__all__))
+        self.assertIn('pagerank', dir(spmat.algorithms))
+        self.assertNotIn('facts', dir(spmat.algorithms))
 
     def test_large_ones(self):
         """Of many entries the server counts the raster; what the client counts of few is the same."""
@@ -102,17 +133,27 @@ class Html(support.InSession):
             self.assertEqual([told.spent > 0 for told in s.budgets().values()], [True, False, False])
 
     def test_row_blocks_that_wait_or_fail(self):
-        with blocks.Sessions(2, steps=20) as s, mock.patch.object(shown, 'FEW', 10):
+        with blocks.Sessions(2) as s:
             A, go = s.full(9, 9).wait(), threading.Event()
             s.engine._pools[0].submit(go.wait, 60)
-            B = A.apply('ainv')
+            B = A.apply(spmat.asm('unary', 'exit'))
             try:
                 self.assertIn('being made', self.seen(B)[0])
             finally:
                 go.set()
-            with self.assertRaises(spmat.BudgetExceeded):
+            with self.assertRaises(spmat.OperatorRefused):
                 B.wait()
-            self.assertIn('S8', self.seen(B)[0])
+            end = time.monotonic() + 60
+            while not all(future.done() for future in B.futures) and time.monotonic() < end:
+                time.sleep(0.01)
+            self.assertIn('V11', self.seen(B)[0])
+            self.assertEqual(len(s.run()), 0)      # a failure that was told isn't told again
+
+    def test_row_blocks_on_too_few_steps(self):
+        with blocks.Sessions(2, steps=20) as s, mock.patch.object(shown, 'FEW', 10):
+            A = s.full(9, 9).wait()
+            with self.assertRaises(spmat.BudgetExceeded):
+                A.apply('ainv')
             words, tags = self.seen(A)
             self.assertIn('81 entries', words)
             self.assertIn('S8', words)
@@ -127,7 +168,7 @@ class Html(support.InSession):
         op = spmat.asm('unary', 'mov64 r0, r1 ; <x>\nexit')
         self.assertIn('unary operator', self.seen(op)[0])
         self.assertIn('mov64 r0, r1 ; <x>', self.seen(op)[0])
-        self.assertIn('bf10000000000000', self.seen(spmat.code('unary', 'bf10000000000000' '9500000000000000'))[0])
+        self.assertIn('mov64 r0, r1', self.seen(spmat.code('unary', 'bf10000000000000' '9500000000000000'))[0])
         words, tags = self.seen(self.s.check(op))
         self.assertIn('accepted', words)
         self.assertEqual(tags.count('tr'), 3)

@@ -305,7 +305,7 @@ class Progress(unittest.TestCase):
     def test_told(self):
         told = []
         with spmat.Session(progress=lambda *what: told.append(what)) as s:
-            A = s.full(1000, 130)
+            A = s.full(1000, 300)
             sizes = {of for what, _, of in told if what == 'sent'}
             self.assertEqual(len(sizes), 1)
             self.assertEqual(max(done for what, done, _ in told if what == 'sent'), sizes.pop())
@@ -322,7 +322,7 @@ class Progress(unittest.TestCase):
                 s.budget()
         with spmat.Session(progress=progress) as s:
             with self.assertRaises(spmat.SpmatError) as said:
-                s.full(1000, 130)
+                s.full(1000, 300)
             self.assertIn('from within', str(said.exception))
             self.assertIsNotNone(s.connection.ended)
 

@@ -163,9 +163,26 @@ class Conversion(Case):
                 self.assertEqual(list(got), list(want))
                 self.assertLess(max(abs(got[node] - want[node]) for node in want), 1e-7)
         many = networkx.path_graph(100)
-        for args in ({'normalized': False}, {'k': 3, 'seed': 1}, {'endpoints': True}, {'weight': 'weight'}):
+        for args in ({'normalized': False}, {'k': 3, 'seed': 1}, {'endpoints': True}):
             with self.assertRaises(NotImplementedError):
                 networkx.betweenness_centrality(many, backend='spmat', **args)
+
+    def test_betweenness_by_weights(self):
+        for kind in (networkx.Graph, networkx.DiGraph, networkx.MultiDiGraph):
+            made = kind(networkx.gnm_random_graph(40, 120, seed=3, directed=kind is not networkx.Graph))
+            for number, (_, _, data) in enumerate(made.edges(data=True)):
+                if number % 7:                             # where there is none it is 1
+                    data['far'] = (number * 5 % 4 + 1) * (1 if number % 2 else 1.0)
+            if made.is_multigraph():
+                made.add_edges_from([(u, v, {'far': 2}) for u, v in list(made.edges())[:40]])
+            for normalized in (True, False):
+                got, want = (networkx.betweenness_centrality(made, normalized=normalized, weight='far', backend=which)
+                             for which in ('spmat', 'networkx'))
+                self.assertEqual(list(got), list(want))
+                self.assertLess(max(abs(got[node] - want[node]) for node in want), 1e-7)
+        for length in (0, -1, .5):
+            with self.assertRaises(NotImplementedError):
+                networkx.betweenness_centrality(networkx.Graph([(0, 1), (1, 2, {'weight': length})]), weight='weight', backend='spmat')
 
     def test_once(self):
         """Ten calls convert a graph once, whatever attributes they ask for, until it is changed."""
@@ -215,12 +232,13 @@ class Left(Case):
     def test_reasons(self):
         path, digraph = networkx.path_graph(4), networkx.DiGraph([(0, 1)])
         half = networkx.Graph([(0, 1, {'weight': 1.5})])
+        uneven = networkx.Graph([(0, 1, {'weight': 1 / 3})])
         below = networkx.DiGraph([(0, 1, {'weight': -1})])
         hidden = networkx.Graph([(0, 1, {'weight': None})])
         large = networkx.Graph([(0, 1, {'weight': 1 << 60})])
         for words, name, args, kwargs in (
                 ('is a function', 'single_source_dijkstra_path_length', (path, 0), {'weight': lambda u, v, d: 1}),
-                ('1.5', 'single_source_dijkstra_path_length', (half, 0), {}),
+                ('power of ten or two', 'single_source_dijkstra_path_length', (uneven, 0), {}),
                 ('below 0', 'single_source_dijkstra_path_length', (below, 0), {}),
                 ('whole number', 'dijkstra_path_length', (hidden, 0, 1), {}),
                 ('64 bits', 'dijkstra_path_length', (large, 0, 1), {}),
@@ -236,17 +254,18 @@ class Left(Case):
             with self.subTest(name=name, words=words):
                 self.assertIn(words, str(self.reason(name, *args, **kwargs)))
         self.assertIs(self.reason('single_source_bellman_ford_path_length', below, 0), True)
-        self.assertIs(self.reason('single_source_dijkstra_path_length', half, 0, weight=None), True)
+        self.assertIs(self.reason('single_source_dijkstra_path_length', half, 0), True)
+        self.assertIs(self.reason('single_source_dijkstra_path_length', uneven, 0, weight=None), True)
         self.assertIs(self.reason('triangles', path), True)
         self.assertIs(self.reason('triangles'), True)          # networkx says better what is missing
 
     def test_networkx_does_it(self):
         """With a priority, a call that is left is done by networkx; with backend= it is refused."""
-        half = networkx.Graph([(0, 1, {'weight': 1.5})])
+        uneven = networkx.Graph([(0, 1, {'weight': 1 / 3})])
         with networkx.config(backend_priority=['spmat']), settings(least_edges=0):
-            self.assertEqual(networkx.single_source_dijkstra_path_length(half, 0), {0: 0, 1: 1.5})
+            self.assertEqual(networkx.single_source_dijkstra_path_length(uneven, 0), {0: 0, 1: 1 / 3})
         with self.assertRaisesRegex(NotImplementedError, 'spmat'):
-            networkx.single_source_dijkstra_path_length(half, 0, backend='spmat')
+            networkx.single_source_dijkstra_path_length(uneven, 0, backend='spmat')
 
     def test_floyd_warshall_of_a_negative_cycle(self):
         """networkx gives what its rounds leave; so it does it."""
@@ -275,12 +294,6 @@ class Left(Case):
         self.assertIs(Backend.should_run('triangles', (made,), {}), True)
         self.assertIn('1500 edges', str(Backend.should_run('is_tree', (made,), {})))
         self.assertIn('at hand', str(Backend.should_run('has_path', (made, 0, 1), {})))
-
-    def test_no_program(self):
-        path = networkx.path_graph(3)
-        with settings(program='/no/such/program'), networkx.config(backend_priority=['spmat']):
-            self.assertIn('no program', str(self.reason('triangles', path)))
-            self.assertEqual(networkx.triangles(path), {0: 0, 1: 0, 2: 0})
 
     def test_too_large(self):
         """What the server has no room for is networkx' work, and a budget's end is nobody's."""
@@ -322,8 +335,21 @@ class Sessions(Case):
     def test_budget(self):
         """A budget that is used up isn't networkx' work: a notebook that is not to hang doesn't."""
         many = networkx.complete_graph(12)
-        with settings(steps=40), self.assertRaises(spmat.BudgetExceeded):
+        with settings(steps=40), self.assertRaises(spmat.BudgetExceeded) as caught:
             networkx.triangles(many, backend='spmat')
+        self.assertEqual((caught.exception.algorithm, caught.exception.left), ('triangles', 40))
+        self.assertIn('a greater nx.config.backends.spmat.steps opens another session', str(caught.exception))
+        self.assertNotIn('adopt', str(caught.exception))
+
+    def test_missing_attributes(self):
+        """What networkx graphs have and one on the server hasn't is said to be with the former."""
+        held = graph(networkx.cycle_graph(5))
+        for name in ('edges', 'degree', 'subgraph'):
+            with self.assertRaisesRegex(AttributeError, "'%s' is with the networkx graph" % name):
+                getattr(held, name)
+        with self.assertRaisesRegex(AttributeError, "'SpmatGraph' object has no attribute 'edgs'"):
+            getattr(held, 'edgs')
+        self.assertEqual(networkx.triangles(copy.deepcopy(held)), networkx.triangles(held))
 
     def test_dead_child(self):
         """Where the program dies, between calls or amid one, another is started."""
@@ -369,7 +395,7 @@ class Imports(Case):
     def test_nothing_before_it_is_asked(self):
         """networkx' import brings what names the functions, and nothing else of spmat."""
         ran = self.run_python('import sys, networkx; print(sorted(name for name in sys.modules if name.startswith("spmat")))')
-        self.assertEqual(ran.stdout, "['spmat', 'spmat.networkx', 'spmat.networkx.info']\n", ran.stderr)
+        self.assertEqual(ran.stdout, "['spmat', 'spmat.networkx', 'spmat.networkx.info', 'spmat.networkx.settings']\n", ran.stderr)
 
     def test_quiet_end(self):
         """A process that ends with a session open says nothing."""

@@ -5,7 +5,6 @@ from unittest import mock
 import graphs
 import spmat
 from spmat import algorithms
-from spmat.algorithms.orders import Pile
 
 
 class Orders(graphs.OnGraphs):
@@ -85,14 +84,6 @@ class Orders(graphs.OnGraphs):
             self.assertEqual(algorithms.topological_levels(G).to_list(), list(range(count)))
             spent.append(self.session.budget().spent - before)
         self.assertLess(spent[1], 2.5 * spent[0])
-
-    def test_pile(self):
-        pile = Pile()
-        for k in range(37):
-            pile.add(self.session.from_coo([0], [k], k, 1, 37))
-        self.assertLessEqual(len(pile._parts), 7)
-        self.assertEqual(pile.joined().to_list(), list(range(37)))
-        self.assertIsNone(Pile().joined())
 
     def test_bipartite_sides(self):
         def look(graph, near, G):

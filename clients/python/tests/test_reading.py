@@ -12,8 +12,9 @@ import unittest
 import support
 import spmat
 from spmat import blocks, reading
-from spmat.reading import dimacs, edges, tables
+from spmat.reading import bulk, dimacs, edges, labels, tables
 
+PIECE = bulk.PIECE
 DATA = os.path.join(os.path.dirname(os.path.abspath(__file__)), 'data')
 
 
@@ -125,16 +126,17 @@ class Formats(Case):
                 self.assertEqual((other.to_text(), other.notes[:3]), (one.to_text(), one.notes[:3]))
             self.assertEqual(many.from_edgelist([(0, 1), (0, 1)], dup_op='plus').to_dict(), {(0, 1): 2})
             self.assertIn('line 4 of', self.said(many.mmread, data('weights.mtx')))
-            self.assertIn('dup_op=None', self.said(many.read_graph, data('weights.mtx'), dup_op='plus'))
+            self.assertIn('M5', self.said(many.read_graph, data('weights.mtx'), dup_op='plus'))
 
 
 class Lists(Case):
     def test_headers(self):
         for text, names in (('source,target\na,b\n', 'ab'), ('From Node;To Node\na;b\n', 'ab'), ('x,y,weight\na,b,3\n', 'ab'),
-                            ('p,q,r\na,b,3\n', 'ab'), ('u,v\n1,2\n', [1, 2]), ('a,b\nc,d\n', 'abcd'), ('a,b,1\nc,d,2\n', 'abcd'),
+                            ('u,v\n1,2\n', [1, 2]), ('a,b\nc,d\n', 'abcd'), ('a,b,1\nc,d,2\n', 'abcd'),
                             ('FROM TO\na b\n', 'ab'), ('from,to\n', '')):
             self.assertEqual(self.read(text).nodes, list(names) or None, text)
         self.assertEqual(self.read('a,b\nc,d\n', header=True).nodes, ['c', 'd'])
+        self.assertEqual(self.read('p,q,r\na,b,3\n', header=True).nodes, ['a', 'b'])
         self.assertEqual(self.read('Sender,Receiver\na,b\n').nodes, ['a', 'b'])
         self.assertEqual(self.read('source,target\na,b\n', header=False).nodes, ['source', 'target', 'a', 'b'])
 
@@ -144,13 +146,14 @@ class Lists(Case):
         self.assertEqual(self.edges(text, columns=('who', 'whom')), [('a', 'b', 1), ('b', 'c', 1)])
         self.assertEqual(self.edges(text, columns=(2, 1, 3), header=True), [('b', 'a', 5), ('c', 'b', 6)])
         said = self.said(self.read, text)
-        self.assertIn("5 columns: columns= says which have the two names and the value, as ('id', 'who', 'whom')", said)
+        self.assertIn("5 columns, and none of their names is known as that of a source or a target: columns=('who', 'whom', 'amount')", said)
         self.assertIn("no column 'sum': there are 'id', 'who'", self.said(self.read, text, columns=('who', 'whom', 'sum')))
         self.assertIn('no column 7: there are 0 to 4', self.said(self.read, text, columns=(0, 7)))
         self.assertIn('want a header', self.said(self.read, text, columns=('who', 'whom'), header=False))
         self.assertEqual(self.edges('from,to,kind,weight\na,b,x,4\n'), [('a', 'b', 4)])
-        self.assertEqual(self.edges('a b 1 2 3\n', values=False), [('a', 'b', 1)])
-        self.assertIn('the third column has no numbers', self.said(self.read, 'from,to,kind\na,b,friend\n'))
+        self.assertEqual(self.edges('a b 1 2 3\n', columns=(0, 1)), [('a', 'b', 1)])
+        self.assertIn('columns=(0, 1) says it', self.said(self.edges, 'a b 1 2 3\n', values=False))
+        self.assertIn('no number in the column of values, kind: values=False', self.said(self.read, 'from,to,kind\na,b,friend\n'))
         self.assertIn('columns are two', self.said(self.read, text, columns=(1,)))
 
     def test_names(self):
@@ -191,15 +194,15 @@ class Lists(Case):
     def test_faults_name_file_and_line(self):
         for text, at, words in (
                 ('a,b,5\nb,c\n', 2, "2 fields, and the first line has 3 (commas part them): 'b,c'"),
-                ('a b 5\n\n# c\nb c x\n', 4, "'x' is no number, and a value is wanted there: values=False reads none: 'b c x'"),
+                ('a b 5\n\n# c\nb c x\n', 4, "expected a number as the value, got 'x': values=False reads none: 'b c x'"),
                 ('a b 5\nb c 0.5\n', 2, '0.5 is a number that is not whole: scale=1000 takes thousandths (0.125 is 125 then), '
                  "values=False reads no values: 'b c 0.5'"),
-                ('a b 5\nb c 9223372036854775808\n', 2, '9223372036854775808 is beyond 64 bits'), ('a b nan\n', 1, 'nan is beyond 64 bits'),
-                ('a,b\n,c\n', 2, "a name is empty: ',c'"), ('a,b,5\nb,c,\n', 2, "'' is no number"), ('a b 1_0\n', 1, 'third column'),
-                ('a,b,1\nb,c,1_0\n', 2, "'1_0' is no number"), ('alone\n', 1, "an edge has two names, and this line one field"),
+                ('a b 5\nb c 9223372036854775808\n', 2, '9223372036854775808 is beyond 64 bits'), ('a b 1\nb c nan\n', 2, "the value is missing ('nan')"),
+                ('a,b\n,c\n', 2, "a name is empty: ',c'"), ('a,b,5\nb,c,\n', 2, "the value is missing ('')"), ('a b 1_0\n', 1, '3 columns, and no header'),
+                ('a,b,1\nb,c,1_0\n', 2, "expected a number as the value, got '1_0'"), ('alone\n', 1, "an edge has two names, and this line one field"),
                 ('a,b\n"c,d\n', 2, 'no list of fields'), (b'a,b\n\xe9,c\n', 2, 'no UTF-8 (byte e9)'), (b'a b\n\n\xe9 c\n', 3, 'no UTF-8'),
                 ('p sp 2 1\na 1 3 5\n', 2, 'a vertex is 1 to 2, not 3'), ('p sp 2 1\na 1 2\n', 2, 'an edge of this kind is `a FROM TO VALUE`'),
-                ('p sp 2 1\na 1 2 x\n', 2, "'x' is no number"), ('c\np sp 2 3\na 1 2 7\n', 2, '1 edges stand there, and this line says 3'),
+                ('p sp 2 1\na 1 2 x\n', 2, "expected a number as the value, got 'x'"), ('c\np sp 2 3\na 1 2 7\n', 2, '1 edges stand there, and this line says 3'),
                 ('c\np edge 2 1\na 1 2 7\n', 3, 'an edge of this kind is `e FROM TO`'), ('c\np sp 2 1\n\na 1 2 .5\n', 4, 'scale=')):
             with self.assertRaises(spmat.ReadError, msg=text) as said:
                 self.read(text)
@@ -209,7 +212,7 @@ class Lists(Case):
             self.assertIn(words, str(fault))
             again = pickle.loads(pickle.dumps(fault))
             self.assertEqual((str(again), again.at, again.file), (str(fault), fault.at, fault.file))
-        self.assertIn('no text', self.said(self.read, b'\x89PNG\0\0'))
+        self.assertIn('a picture (PNG)', self.said(self.read, b'\x89PNG\0\0'))
         self.assertEqual(self.s.budget().reserved, 0)
 
 
@@ -221,6 +224,7 @@ class Both(Case):
         modules = (tables, dimacs, edges)
         for few in (1 << 62, 0):
             before = [module.FEW for module in modules]
+            bulk.PIECE = 24                        # so that these texts are read by pieces
             for module in modules:
                 module.FEW = few
             try:
@@ -230,6 +234,7 @@ class Both(Case):
             except ValueError as fault:
                 got.append(str(fault))
             finally:
+                bulk.PIECE = PIECE
                 for module, value in zip(modules, before):
                     module.FEW = value
         self.assertEqual(got[0], got[1], text)
@@ -239,7 +244,7 @@ class Both(Case):
     def test_both_ways(self):
         r = random.Random(11)
         kept = collections.Counter()
-        for number in range(4000):
+        for number in range(1500):
             parted = r.choice((' ', ',', '\t', ';'))
             valued = r.random() < .7
             lines = []
@@ -254,7 +259,70 @@ class Both(Case):
             text = '\n'.join(lines) + r.choice(('', '\n', '\r\n'))
             layout = {'scale': r.choice((None, None, 10, .5)), 'values': r.random() < .9, 'header': r.choice((None, False))}
             kept[type(self.pair(text.encode(), **layout))] += 1
-        self.assertGreater(min(kept.values()), 500)
+        self.assertGreater(min(kept.values()), 200)
+
+    @support.needs('numpy')
+    def test_names_both_ways(self):
+        """Names of all kinds, quoted or not, between comments, blanks and lines that are no edges."""
+        r = random.Random(13)
+        kept = collections.Counter()
+        names = ('a', 'b', 'ab', 'Ünïcødé', 'x y', 'seventeen letters', 'eightlet', '7', '-7', '07', '12345678901234567', '123456789012345678901',
+                 '1.5', '日本', "it's", 'n' * 40, 'NA', 'a#b', '%', '-', '\u00a0a')
+        for number in range(600):
+            parted = r.choice((' ', ',', '\t', ';', '|'))
+            few = r.sample(names, r.randrange(2, 5))
+            lines = []
+            for _ in range(r.randrange(1, 7)):
+                fields = [r.choice(few), r.choice(few)] + [r.choice(('1', '-2', '2.0', '007', '+3'))] * (number % 2)
+                if r.random() < .3:
+                    fields[0] = '"%s"' % fields[0]
+                between = parted if r.random() < .9 else ' ' + parted + ' '
+                lines.append(between.join(fields) + r.choice(('', '', '', ' ')))
+            for _ in range(r.choice((0, 0, 0, 1))):
+                odd = r.choice(('', '  ', '# c', ' # c', '% "c', 'a', 'a"b,c,1', '"a' + parted + 'b"' + parted + 'c', '\x0ca,b', 'a\tb,c', '"a""b",c',
+                                '\rx,y,1', 'a,b,c,d', ',,'))
+                lines.insert(r.randrange(len(lines) + 1), odd)
+            text = r.choice(('\n', '\n', '\r\n')).join(lines) + r.choice(('', '\n'))
+            layout = {'header': r.choice((None, False)), 'delimiter': r.choice((None, parted))}
+            kept[type(self.pair(text.encode(), **layout))] += 1
+        self.assertGreater(min(kept.values()), 80)
+
+    @support.needs('numpy')
+    def test_folds_both_ways(self):
+        """Values that share a position are folded in their order, of arrays as of lists, by an operator for which it matters."""
+        import numpy
+        r = random.Random(15)
+        for _ in range(20):
+            many = [(r.randrange(5), r.randrange(4), r.randrange(-9, 9)) for _ in range(r.randrange(30))]
+            want = {}
+            for i, j, value in many:
+                want[i, j] = want[i, j] - value if (i, j) in want else value
+            columns = [[edge[at] for edge in many] for at in range(3)]
+            self.assertEqual(self.s.from_coo(*columns, 5, 4, dup_op='minus').to_dict(), want)
+            self.assertEqual(self.s.from_coo(*(numpy.array(column, numpy.int64) for column in columns), 5, 4, dup_op='minus').to_dict(), want)
+
+    @support.needs('numpy')
+    def test_numbering(self):
+        """Names are numbered alike by pandas, by numpy, and where two names share the word that mixes theirs."""
+        import numpy
+        r = random.Random(13)
+        for span in (5, 50, 1 << 50):
+            columns = [numpy.array([r.randrange(-span, span) for _ in range(40)]) for _ in 'ab']
+            codes, ascend = labels.ascending(columns)
+            self.assertEqual(ascend.tolist(), sorted({*columns[0].tolist(), *columns[1].tolist()}))
+            self.assertTrue(all((ascend[code] == column).all() for code, column in zip(codes, columns)))
+        rows = numpy.array([[r.randrange(3), r.randrange(3)] for _ in range(60)], numpy.uint64)
+        want = labels.first_seen(rows)
+        seen = list(dict.fromkeys(map(tuple, rows.tolist())))
+        self.assertEqual([seen[code] for code in want[0]], list(map(tuple, rows.tolist())))
+        for name, value in (('_pandas', lambda: None), ('MIX', (0, 0))):
+            before = getattr(labels, name)
+            setattr(labels, name, value)
+            try:
+                got = labels.first_seen(rows)
+            finally:
+                setattr(labels, name, before)
+            self.assertEqual([part.tolist() for part in got], [part.tolist() for part in want])
 
     @support.needs('numpy')
     def test_dimacs(self):
@@ -274,11 +342,12 @@ class Both(Case):
     @support.needs('numpy')
     def test_taken(self):
         """The quick way is taken for plain lists."""
-        for text in (b'0 1\n1 2\n', b'# c\n5\t7\t2.5\n', b'source,target,weight\n1,2,3\n4,5,6\n', b'1 2 3\r\n2 3 4\r\n'):
+        for text in (b'0 1\n1 2\n', b'# c\n5\t7\t2.5\n', b'source,target\r\n"a","b c"\r\n\r\n# c\r\nd , e\r\n', 'ä b 1.5\nö\tü  2\n'.encode(),
+                     b'a,12345678901234567,5\n"long names are words of eight bytes",b,-7\n', b'w;from;to\n1;a;b\n', b'source,target,weight\n1,2,3\n4,5,6\n', b'1 2 3\r\n2 3 4\r\n'):
             before, tables.FEW = tables.FEW, 0
             try:
                 table = tables.laid_out('f', text, reading.Layout())
-                self.assertIsNotNone(tables._quickly(table, 10), text)
+                self.assertIsNotNone(tables._in_bulk(table, 10), text)
             finally:
                 tables.FEW = before
         before, dimacs.FEW = dimacs.FEW, 0

@@ -1,4 +1,4 @@
-"""docs/recipes.md: each block prints what stands below it, and that is what plain Python gives."""
+"""The ten questions of docs/examples.md: each block prints what stands below it, and that is what plain Python gives."""
 import ast
 import collections
 import contextlib
@@ -20,9 +20,9 @@ for _i, _j in KARATE_PAIRS:
 
 def recipes():
     """The heading, the block and what it prints, of each recipe."""
-    with open(os.path.join(support.TOP, 'docs', 'recipes.md'), encoding='utf-8') as file:
-        page = file.read()
-    for part in page.split('\n## ')[1:]:
+    with open(os.path.join(support.TOP, 'docs', 'examples.md'), encoding='utf-8') as file:
+        page = file.read().split('\n## Ten questions\n')[1].split('\n## ')[0]
+    for part in page.split('\n### ')[1:]:
         blocks = [re.sub('^    ', '', block, flags=re.M) for block in re.findall(r'(?:^    .*\n)+', part, re.M)]
         yield part.split('\n', 1)[0], blocks
 
@@ -78,7 +78,7 @@ class Recipes(unittest.TestCase):
                 if want[u] + length < want.get(v, 1 << 60):
                     want[v] = want[u] + length
                     todo.append(v)
-        self.assertEqual(self.value('Shortest paths with an operator of one\'s own'), want)
+        self.assertEqual(self.value('Shortest paths with your own operator'), want)
 
     def test_within_two_steps(self):
         self.assertEqual(self.value('Who is within two steps'), sorted({16} | NEAR[16] | {k for j in NEAR[16] for k in NEAR[j]}))

@@ -219,7 +219,8 @@ class Scripts(unittest.TestCase):
         from spmat.commands import script
         import argparse
         said = io.StringIO()
-        options = argparse.Namespace(quiet=True, connect=None, steps=100, workers=1, program=None, keep_going=True)
+        options = argparse.Namespace(quiet=True, connect=None, steps=100, workers=1, program=None, keep_going=True,
+                                     csv=False, json=False, tls=False, cacert=None, cert=None, key=None)
         with contextlib.redirect_stderr(said), contextlib.redirect_stdout(io.StringIO()):
             script.run_lines(iter(['product P plus G G\n', 'reduce D\n', 'frobnicate\n']), '.', options)
         self.assertIn('it is written `product OUT ADD MUL A B [mask M]`', said.getvalue())

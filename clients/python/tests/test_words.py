@@ -53,10 +53,10 @@ class Words(unittest.TestCase):
     def test_things_of_other_packages(self):
         with spmat.Session() as s:
             self.assertIn('from_dense', self.said(TypeError, s.from_scipy_sparse, [[1]]))
-            self.assertIn('a graph of networkx is wanted, not int', self.said(TypeError, s.from_networkx, 5))
+            self.assertIn('expected a graph of networkx, got int', self.said(TypeError, s.from_networkx, 5))
             self.assertIn('a matrix of a session', self.said(TypeError, spmat.algorithms.bfs_levels, [[1]], 0))
             for call in (s.dis, s.types):
-                self.assertIn("an operator is wanted, such as spmat.binary.plus, not 'plus'", self.said(TypeError, call, 'plus'))
+                self.assertIn("expected an operator, such as spmat.binary.plus, got 'plus'", self.said(TypeError, call, 'plus'))
 
 
 if __name__ == '__main__':
