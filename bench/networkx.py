@@ -1,5 +1,5 @@
 #!/usr/bin/env python3
-"""networkx.py EDGES [--limit SECONDS] [--seconds SECONDS] [--processors] [--page FILE] [FUNCTION..]: the clock of networkx' functions with and
+"""networkx.py EDGES [--limit SECONDS] [--seconds SECONDS] [--processors] [--figures FILE] [FUNCTION..]: the clock of networkx' functions with and
 without the backend, of all that are served, or of those that are named.
 
 A random graph of EDGES edges between EDGES / 10 nodes with skewed degrees, whole weights from 1 to 9; of functions of directed graphs
@@ -8,7 +8,8 @@ backend with the conversion (first) and for a graph that is on the server (again
 is installed, and how often networkx' time the second is. The least of several calls counts. A call is ended after `--limit` seconds
 (5), and stands as `>5`; after `--seconds` in all (900) what is left isn't timed. Where both ended the answers are compared, and a
 difference is status 1. `--processors` counts what processors spend on client and server together, where the clock of a busy machine
-says nothing (Linux alone). With `--page` the times are written into that page's table, too, in the column of this size.
+says nothing (Linux alone). With `--figures` the times are also written into that file's table, in the column of this size; bench/ratios.py
+makes the table of docs/performance.md from bench/networkx.txt.
 """
 import argparse
 import contextlib
@@ -34,7 +35,7 @@ TIMED_AGAIN = 0.2                                   # seconds: what is faster is
 MOST_TIMES = 5
 MISSING = '-'
 MOST_PAIRED = 2000                                  # nodes up to which answers with a number for each pair are asked for
-HEAD = '| Seconds |'                                # of the table in a page
+HEAD = '| Seconds |'                                # of the table of figures
 
 
 class OutOfTime(Exception):
@@ -315,9 +316,9 @@ def public(name):
     return next(getattr(place, name) for place in (nx, nx.bipartite, nx.tournament, nx.algorithms.dag) if hasattr(place, name))
 
 
-def put(page, edges, cells):
-    """Writes the times of one size into the table of a page whose head has that number of edges."""
-    with open(page, encoding='utf-8') as file:
+def put(path, edges, cells):
+    """Writes the times of one size into the table of a file whose head has that number of edges."""
+    with open(path, encoding='utf-8') as file:
         lines = file.read().split('\n')
     start = next(at for at, line in enumerate(lines) if line.startswith(HEAD))
     end = next(at for at in range(start, len(lines)) if not lines[at].startswith('|'))
@@ -327,7 +328,7 @@ def put(page, edges, cells):
     for name, cell in cells.items():
         rows.setdefault(name, [name] + [MISSING] * (len(head) - 1))[column] = cell
     lines[start + 2:end] = ['| %s |' % ' | '.join(rows[name]) for name in sorted(rows)]
-    with open(page, 'w', encoding='utf-8') as file:
+    with open(path, 'w', encoding='utf-8') as file:
         file.write('\n'.join(lines))
 
 
@@ -338,7 +339,7 @@ def main():
     parser.add_argument('--limit', type=float, default=5.0)
     parser.add_argument('--seconds', type=float, default=900.0)
     parser.add_argument('--processors', action='store_true')
-    parser.add_argument('--page')
+    parser.add_argument('--figures')
     parser.add_argument('names', nargs='*', metavar='FUNCTION')
     given = parser.parse_intermixed_args()
     nx.config.cache_converted_graphs = False
@@ -346,8 +347,8 @@ def main():
         Clock.read = staticmethod(Clock.of_processors)
     table = Table(given.edges, given.limit, given.seconds)
     table.print(set(given.names))
-    if given.page:
-        put(given.page, given.edges, table.cells)
+    if given.figures:
+        put(given.figures, given.edges, table.cells)
     sys.exit(1 if table.wrong else 0)
 
 
