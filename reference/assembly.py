@@ -1,4 +1,4 @@
-"""Assembly text, both ways (docs/operators.md, "Assembly text")."""
+"""Assembly text, both ways (docs/bpf.md, "Assembly text")."""
 import re
 from typing import List
 from .instructions import BY_MNEMONIC, MOST_SLOTS, TOP, Instruction, Program, Spelling, instruction

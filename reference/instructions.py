@@ -1,4 +1,4 @@
-"""The opcode tables, and code in slots of eight bytes (RFC 9669, section 3; docs/operators.md, "Slots" to "Fields")."""
+"""The opcode tables, and code in slots of eight bytes (RFC 9669, section 3; docs/bpf.md, "Slots" to "Fields")."""
 import struct
 from typing import Dict, Iterator, List, NamedTuple, Optional, Tuple
 from .words import Refusal

@@ -1,4 +1,4 @@
-"""What an operator may be, and what is known before each of its instructions (docs/operators.md, "What the verifier checks").
+"""What an operator may be, and what is known before each of its instructions (docs/bpf.md, "What the verifier checks").
 
 All ways into a slot come from lower slots, since jumps go forward. So one pass in ascending order follows all paths: what is known
 at a slot is what all ways into it have in common.

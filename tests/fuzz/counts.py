@@ -9,7 +9,7 @@ from reference.session import WORDS
 from reference.session import Session as Served
 from .programs import Answer
 
-# All rules of docs/protocol.md and docs/operators.md. J7 is met by `product` alone: `union` wants 16,777,217 entries.
+# All rules of docs/protocol.md and docs/bpf.md. J7 is met by `product` alone: `union` wants 16,777,217 entries.
 RULES = ['S%d' % n for n in range(1, 10)] + ['A%d' % n for n in range(1, 7)] + ['V%d' % n for n in range(1, 17)]
 RULES += ['M%d' % n for n in range(1, 13)] + ['J%d' % n for n in range(4, 10)]
 

@@ -1,4 +1,4 @@
-"""The limits of the protocol and of the machine, each once. docs/protocol.md and docs/operators.md state them; the plain server has its own."""
+"""The limits of the protocol and of the machine, each once. docs/protocol.md and docs/bpf.md state them; the plain server has its own."""
 
 MEGABYTE = 1 << 20
 

@@ -16,7 +16,7 @@
             Busy                 the server has as many sessions as it serves; try later
 
 Each refusal has its rule, the place (a line or a slot), the line that stands there, and the rule's sentence. The sentences stand
-here once, in the words of docs/protocol.md and docs/operators.md.
+here once, in the words of docs/protocol.md and docs/bpf.md.
 """
 from __future__ import annotations
 

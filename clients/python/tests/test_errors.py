@@ -19,9 +19,9 @@ def rows_of(page):
 
 
 def documented():
-    """The sentence of each rule, and how to mend what breaks it, as docs/protocol.md and docs/operators.md have them."""
+    """The sentence of each rule, and how to mend what breaks it, as docs/protocol.md and docs/bpf.md have them."""
     sentences, mends = {}, {}
-    for page in ('protocol.md', 'operators.md'):
+    for page in ('protocol.md', 'bpf.md'):
         for cells in rows_of(page):
             if re.fullmatch(r'[AMV]\d+', cells[0]):
                 sentences[cells[0]] = cells[1]

@@ -92,7 +92,7 @@ class ReadyOperators(unittest.TestCase):
             self.assertEqual(names(kind), sorted(meanings))
             self.assertEqual(sorted(READY[kind]), sorted(meanings))
         with open(os.path.join(TOP, 'docs', 'operators.md'), encoding='utf-8') as page:
-            self.assertIn('lists %d that are already written' % sum(map(len, MEANINGS.values())), page.read())
+            self.assertIn('%d operators are [ready]' % sum(map(len, MEANINGS.values())), page.read())
 
     def test_unary(self):
         for name, meaning in UNARY.items():

@@ -1,5 +1,5 @@
 """Cases that hold the documents to the program: examples, shell functions, and each reply that the tables of rules in
-docs/protocol.md and docs/operators.md show; and every code block of docs/examples.md, docs/scaling.md and the Python client's README."""
+docs/protocol.md and docs/bpf.md show; and every code block of docs/examples.md, docs/scaling.md and the Python client's README."""
 import os
 import re
 import subprocess
@@ -8,7 +8,7 @@ from tests.lib.commands import TOP, assembly_command, matrix_command, matrix_tex
 from tests.lib.runs import SECONDS, Wrong, difference, run_session
 from tests.program.made.document_blocks import page_case
 
-PROTOCOL, OPERATORS = 'protocol.md', 'operators.md'
+PROTOCOL, BPF = 'protocol.md', 'bpf.md'
 BANNER = '%%MatrixMarket matrix coordinate integer general'
 
 
@@ -121,7 +121,7 @@ def slots_of_lines(program):
     with tempfile.TemporaryDirectory(prefix='spmat-slots-') as folder:
         with open(os.path.join(folder, 'a.asm'), 'wb') as file:
             file.write(text)
-        counted = run_shell(code_block('slots()', OPERATORS) + 'slots a.asm', folder, program)
+        counted = run_shell(code_block('slots()', BPF) + 'slots a.asm', folder, program)
     done = subprocess.run([program] + run_words(), input=assembly_command('a', text) + b'types a\n', stdout=subprocess.PIPE,
                           timeout=SECONDS)
     want, got = ([line.split()[0] for line in lines if line] for lines in (done.stdout.split(b'\n')[2:], counted.split(b'\n')))
@@ -164,7 +164,7 @@ def matrix_filters(program):
 
 def assembly_rules(program):
     """Each example of a refused line of assembly text."""
-    for row in tables('Rule | Fault | Examples', OPERATORS)[0]:
+    for row in tables('Rule | Fault | Examples', BPF)[0]:
         lines = quoted(row['Examples']) or [{'A1': ';' * 1025, 'A6': ''}[row['Rule']]]
         for line in lines:
             text = text_of([line]) if line else b''
@@ -173,14 +173,14 @@ def assembly_rules(program):
 
 def code_rules(program):
     """Each example of refused code."""
-    for row in tables('Rule | Fault | Slot named | Example', OPERATORS)[0]:
+    for row in tables('Rule | Fault | Slot named | Example', BPF)[0]:
         code, reply = quoted(row['Example'])
         expect_reply(program, operator_command('a', code.encode()), reply)
 
 
 def verifier_rules(program):
     """Each smallest program is refused, and what was mended is accepted."""
-    for row in tables('Rule | What is wrong', OPERATORS)[0]:
+    for row in tables('Rule | What is wrong', BPF)[0]:
         expect_reply(program, assembly_command('a', text_of(quoted(row['The smallest program']))), quoted(row['Reply'])[0])
         mended = quoted(row['Mended'])
         expect_reply(program, assembly_command('a', text_of(mended)), 'ok op %d %d' % (len(mended), len(mended)))
@@ -188,7 +188,7 @@ def verifier_rules(program):
 
 def worked_operators(program):
     """The code of each operator that is shown byte by byte stands for the assembly beside it."""
-    for rows in tables('Slot | Assembly | Code', OPERATORS):
+    for rows in tables('Slot | Assembly | Code', BPF):
         lines = [quoted(row['Assembly'])[0] for row in rows]
         code = ' '.join(quoted(row['Code'])[0] for row in rows).encode()
         reply = 'ok op %d %d\nok dis %d\n' % ((len(lines),) * 3)

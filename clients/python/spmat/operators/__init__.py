@@ -128,7 +128,7 @@ class Semiring:
 
 
 def asm(kind: str, text: str, name: Optional[str] = None) -> Operator:
-    """An operator from assembly text (docs/operators.md). A jump may name a label, a word and a colon before an instruction or on a
+    """An operator from assembly text (docs/bpf.md). A jump may name a label, a word and a colon before an instruction or on a
     line of its own: `jeq64 r2, 0, end` and `end: exit`. ValueError names the line where a label isn't there. Else nothing is looked at
     before its first use, or `Session.check`."""
     text = without_labels(text)

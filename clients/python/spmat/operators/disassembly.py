@@ -1,4 +1,4 @@
-"""Assembly text of code. Source: RFC 9669, sections 3 to 5, in the mnemonics of docs/operators.md.
+"""Assembly text of code. Source: RFC 9669, sections 3 to 5, in the mnemonics of docs/bpf.md.
 
 It is for people, and takes code that stands for no program too: what has no mnemonic is written as its bytes.
 """

@@ -1,6 +1,6 @@
 """Assembly text of operators: its mnemonics and their operands, and labels, which the client turns into numbers before it is sent.
 
-docs/operators.md has the language. A label is a word and a colon before an instruction, or on a line of its own; a jump may name it in
+docs/bpf.md has the language. A label is a word and a colon before an instruction, or on a line of its own; a jump may name it in
 place of its offset. Lines stay where they are, so that refusals name the line that was written.
 """
 from __future__ import annotations
