@@ -200,6 +200,7 @@ class Made(unittest.TestCase):
                 subprocess.run(['dpkg-deb', '-x', os.path.join(self.folder, name), room], check=True)
             self.assertEqual(sum_of(self.bytes_of(os.path.join(room, 'usr/bin/spmat'))), sum_of(self.program()))
             for path in ('usr/share/man/man1/spmat.1.gz', 'usr/share/man/man7/spmat-protocol.7.gz', 'usr/share/man/man7/spmat-operators.7.gz',
+                         'usr/share/man/man7/spmat-bpf.7.gz', 'usr/share/man/man7/spmat-limits.7.gz',
                          'usr/share/man/man7/spmat-server.7.gz', 'usr/bin/spmat-health', 'usr/bin/spmat-drain', 'etc/default/spmat', 'usr/lib/sysusers.d/spmat.conf',
                          'usr/lib/python3/dist-packages/spmat/VERSION', 'usr/share/doc/spmat/copyright',
                          'usr/share/doc/spmat/CHANGELOG.md', 'usr/share/doc/spmat/docs/api.md', 'usr/bin/spmat-graph', 'usr/share/man/man1/spmat-graph.1.gz',

@@ -14,8 +14,10 @@ PACKAGING = 'packaging/debian/'
 # The manual pages of section 7: a document each, and what it is about.
 PAGES = {
     'protocol': 'commands, replies and refusals of a session of spmat',
-    'operators': 'the machine that operators of spmat run on, and what its verifier wants',
+    'operators': 'operators of spmat from Python functions and from C, and ready ones',
+    'bpf': 'the instructions and the assembly text of operators, and what the verifier of spmat wants',
     'server': 'how to run a server of spmat for others',
+    'limits': 'what a session of spmat takes, and how to bound it',
 }
 # The first session of the program, and what it prints.
 FIRST_SESSION = ('crates/spmat/stdin', 'crates/spmat/stdout')
