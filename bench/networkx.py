@@ -131,7 +131,7 @@ def arguments(name, middle, far, count):
 
 def functions(graphs):
     """What is timed: each function that is served, with a kind of graph and arguments; some with directed graphs, too."""
-    from spmat.networkx.info import SERVED
+    from spmat.networkx.backend_info import SERVED
     middle = max(range(3), key=lambda node: sum(node in pair for pair in graphs.pairs[:1000]))
     found = []
     for name in sorted(SERVED):
@@ -156,9 +156,9 @@ class Clock:
     @staticmethod
     def of_processors():
         """Seconds that processors spent on this process and on the program of its session."""
-        from spmat.networkx import sessions
+        from spmat.networkx import process_session
         spent = time.process_time()
-        for held in list(sessions._open.values()):
+        for held in list(process_session._open.values()):
             for place in glob.glob('/proc/%d/task/*/schedstat' % held.connection._channel.process.pid):
                 with contextlib.suppress(OSError), open(place) as file:
                     spent += int(file.read().split()[0]) / 1e9
@@ -187,8 +187,8 @@ def seconds(work, limit, before=lambda: None):
                 break
         return best, answer
     except OutOfTime:
-        from spmat.networkx import sessions
-        sessions.close()                            # whose jobs were cut short
+        from spmat.networkx import process_session
+        process_session.close()                            # whose jobs were cut short
         return None, None
     finally:
         signal.setitimer(signal.ITIMER_REAL, 0)
@@ -227,7 +227,7 @@ class Table:
     """The times of one size."""
 
     def __init__(self, edges, limit, whole):
-        from spmat.networkx.dispatch import Backend
+        from spmat.networkx.backend import Backend
         self.backend, self.limit, self.end = Backend, limit, time.perf_counter() + whole
         self.graphs, self.held, self.wrong, self.edges, self.cells = Graphs(edges), {}, [], edges, {}
 
@@ -251,12 +251,12 @@ class Table:
             print('| numpy: array(list(G.edges())) | %s |' % told(took, limit))
         except ImportError:
             print('numpy is not there')
-        from spmat.networkx.graphs import SpmatGraph
+        from spmat.networkx.spmat_graph import SpmatGraph
         took, _ = seconds(lambda: SpmatGraph(graph), limit)
         print('| the backend: positions | %s |' % told(took, limit))
         took, _ = seconds(lambda: SpmatGraph(graph).A, limit)
         print('| and the matrix on the server | %s |' % told(took, limit))
-        from spmat.networkx.sessions import session
+        from spmat.networkx.process_session import session
         for weight in (None, 'weight'):
             took, _ = seconds(lambda: session().from_networkx(graph, weight=weight), limit)
             print('| Session.from_networkx, weight=%r | %s |' % (weight, told(took, limit)), flush=True)

@@ -25,7 +25,7 @@ os.environ['PYTHONPATH'] = os.pathsep.join(sys.path[:2])       # also for Dask's
 import alike  # noqa: E402  # pylint: disable=wrong-import-position
 import spmat  # noqa: E402  # pylint: disable=wrong-import-position
 from spmat import blocks  # noqa: E402  # pylint: disable=wrong-import-position
-from spmat.blocks import place  # noqa: E402  # pylint: disable=wrong-import-position
+from spmat.blocks import worker_store  # noqa: E402  # pylint: disable=wrong-import-position
 
 
 WORKERS = 3
@@ -33,7 +33,7 @@ WORKERS = 3
 
 def program_of(settings):
     """The process of the program in a worker."""
-    store = place._stores.get(settings.token)
+    store = worker_store._stores.get(settings.token)
     return None if store is None else store.session.connection.process
 
 
@@ -150,7 +150,7 @@ def settings(weather, chance):
     """What sessions are opened with."""
     if weather == 'budget':
         return {'steps': chance.choice((30_000, 90_000))}
-    return {'program': ['sh', '-c', 'ulimit -v 7000; exec "$0" "$@"', spmat.program.program_words(None)[0]]} if weather == 'memory' else {}
+    return {'program': ['sh', '-c', 'ulimit -v 7000; exec "$0" "$@"', spmat._client.server_program.program_words(None)[0]]} if weather == 'memory' else {}
 
 
 def sessions(stack, options):

@@ -34,12 +34,12 @@ OPERATORS = (
 )
 # The modules of spmat.algorithms under their subjects: an algorithm is shown where its module is.
 ALGORITHM_MODULES = {
-    'Degrees, triangles, undirected graphs': ('graph', 'common', 'counts'),
-    'Searches and shortest paths': ('traversal', 'paths', 'routes', 'pairs', 'batches', 'distances'),
-    'Components, orders and trees': ('components', 'strong', 'sides', 'orders', 'trees'),
-    'Centrality': ('ranks', 'through', 'centralities'),
-    'Communities and dense parts': ('communities', 'louvain', 'cores', 'trusses'),
-    'Similarity': ('similarity',),
+    'Degrees, triangles, undirected graphs': ('protocols', 'utils', 'triangle_counts'),
+    'Searches and shortest paths': ('bfs', 'single_source_paths', 'shortest_path_trees', 'all_pairs_paths', 'multi_source_bfs', 'distance_measures'),
+    'Components, orders and trees': ('components', 'strong_components', 'bipartite', 'topological_order', 'spanning_forest'),
+    'Centrality': ('page_rank', 'betweenness_centrality', 'centrality'),
+    'Communities and dense parts': ('label_propagation_communities', 'louvain_communities', 'core_decomposition', 'truss'),
+    'Similarity': ('neighbour_similarity',),
 }
 PICTURES = ('spy', 'degree_histogram', 'levels')
 BLOCKS = ('Sessions', 'Threads', 'Dask')

@@ -19,7 +19,7 @@ from tools.releasing import tree
 # The C library of 2.34 is the oldest that has what the program calls.
 PLATFORM = 'manylinux_2_34_x86_64'
 SECTION = b'[console_scripts]\n'                       # of entry_points.txt, as setuptools writes it
-COMMAND = b'spmat = spmat.program:main\n'
+COMMAND = b'spmat = spmat._client.server_program:main\n'
 ANY = 'py3-none-any'
 TIME = (1980, 1, 1, 0, 0, 0)
 

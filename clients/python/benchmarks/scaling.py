@@ -26,7 +26,8 @@ from typing import Any, Callable, Dict, Iterator, List, NamedTuple, Optional
 HERE = os.path.dirname(os.path.abspath(__file__))
 sys.path[:0] = [HERE, os.path.join(HERE, '..')]
 import spmat  # noqa: E402
-from spmat import algorithms, blocks, market  # noqa: E402
+from spmat import algorithms, blocks  # noqa: E402
+from spmat.io import matrix_text  # noqa: E402
 
 ALPHA = 0.6                                        # the weight of the vertex of rank r is r to the power of -ALPHA
 
@@ -72,7 +73,7 @@ def power_law_graph(entries: int, path: str) -> int:
     columns = numpy.concatenate((keys % count, keys // count))
     order = numpy.argsort(rows * count + columns)
     with open(path, 'wb') as file:
-        file.write(market.write(market.Triples(rows[order], columns[order], numpy.ones(len(rows), numpy.int64), count, count)))
+        file.write(matrix_text.write(matrix_text.Triples(rows[order], columns[order], numpy.ones(len(rows), numpy.int64), count, count)))
     return int(numpy.bincount(rows).argmax())
 
 

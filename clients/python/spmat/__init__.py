@@ -15,19 +15,18 @@ from typing import TYPE_CHECKING, Any, Dict, List
 
 if TYPE_CHECKING:
     from . import algorithms, draw
-    from .compile import c
-    from .errors import (BudgetExceeded, Busy, Closed, CompileError, DimensionMismatch, DomainMismatch, NoThread, NotMade, NotSettled,
-                         OperatorRefused,
-                         OutOfMemory, ReadError, Refused, SpmatError, TextRefused, TooLarge)
-    from .jobs import JobResult
-    from .looping import Loop, empty, loop, steady
+    from ._client.job_queue import JobResult
+    from .errors import (BudgetExceeded, Busy, Closed, CompileError, DimensionMismatch, DomainMismatch, NoThread, NotMade,
+                         NotSettled, OperatorRefused, OutOfMemory, ReadError, Refused, SpmatError, TextRefused, TooLarge)
+    from .loops import Loop, empty, loop, steady
+    from .loops.fixpoint import fixpoint
     from .mask import Mask
     from .matrix import Matrix, bipartite
     from .operators import Operator, Semiring, asm, binary, code, indexunary, select, semiring, unary
-    from .operators.functions.operands import cdiv, cmod, rsh, udiv, ult, umod, where
-    from .operators.showing import code_of, explain
-    from .pricing import price
-    from .rounds import fixpoint
+    from .operators.clang import c
+    from .operators.compiler.symbolic_operands import cdiv, cmod, rsh, udiv, ult, umod, where
+    from .operators.explanation import code_of, explain
+    from .pricing.estimates import price
     from .session import Budget, Session
 
 
@@ -47,18 +46,18 @@ __all__ = ['Budget', 'BudgetExceeded', 'Busy', 'Closed', 'CompileError', 'Dimens
 # Each name is imported when it is first asked for: networkx imports this package to ask for its backend's names, and a program
 # that makes a session doesn't wait for pictures.
 _PLACES: Dict[str, str] = {name: module for module, names in {
-    'compile': 'c',
+    'operators.clang': 'c',
     'errors': 'BudgetExceeded Busy Closed CompileError DimensionMismatch DomainMismatch NoThread NotMade NotSettled OperatorRefused '
               'OutOfMemory ReadError Refused SpmatError TextRefused TooLarge',
-    'jobs': 'JobResult',
-    'looping': 'Loop empty loop steady',
+    '_client.job_queue': 'JobResult',
+    'loops': 'Loop empty loop steady',
     'mask': 'Mask',
     'matrix': 'Matrix bipartite',
     'operators': 'Operator Semiring asm binary code indexunary select semiring unary',
-    'operators.functions.operands': 'cdiv cmod rsh udiv ult umod where',
-    'operators.showing': 'code_of explain',
-    'pricing': 'price',
-    'rounds': 'fixpoint',
+    'operators.compiler.symbolic_operands': 'cdiv cmod rsh udiv ult umod where',
+    'operators.explanation': 'code_of explain',
+    'pricing.estimates': 'price',
+    'loops.fixpoint': 'fixpoint',
     'session': 'Budget Session'}.items() for name in names.split()}
 
 

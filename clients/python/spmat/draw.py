@@ -11,10 +11,10 @@ import errno
 import os
 from typing import Any, Dict, FrozenSet, List, Optional, Sequence, Set, Tuple
 
-from . import graph_picture
+from .display import graph_layout
+from .display.matplotlib_style import (GREY, INK, LABELS, LONG, PALE, Path, SHORT, WARM, entries, figure_of, halo, many,
+                                       name_ticks, note, plain_ticks, saved, shortened)
 from .matrix import Matrix
-from .picture_parts import (GREY, INK, LABELS, LONG, PALE, SHORT, WARM, Path, entries, figure_of, halo, many, name_ticks, note, plain_ticks,
-                            saved, shortened)
 
 RASTER = 256               # `spy` shows a square for each entry up to so many rows and columns, and a raster of as many cells above
 FEW_ROWS = 64              # with a line between squares up to so many
@@ -126,7 +126,7 @@ def graph(G: Matrix, path: Optional[Path] = None) -> Any:
     """The graph itself: a dot a vertex, with its name where they are up to 60, and a line or an arrow an edge, with its value where there
     are up to 40 that the caller gave. Vertices that edges join are near one another. Up to 1,000 vertices and 5,000 edges; ValueError above
     that, and where the matrix isn't square. Runs: 1. In networkx `draw`."""
-    return saved(graph_picture.drawn(G), path)
+    return saved(graph_layout.drawn(G), path)
 
 
 def levels(G: Matrix, found: Matrix, path: Optional[Path] = None) -> Any:

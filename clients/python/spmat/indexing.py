@@ -9,8 +9,8 @@ from __future__ import annotations
 
 from typing import TYPE_CHECKING, Any, List, NamedTuple, NoReturn, Optional, Tuple, Union
 
-from .notes import NOTHING, Nodes
-from .results import Held
+from .io.exporters import Held
+from .metadata import NOTHING, Nodes
 
 if TYPE_CHECKING:
     from .matrix import Matrix

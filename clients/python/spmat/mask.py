@@ -4,7 +4,7 @@ from __future__ import annotations
 from typing import TYPE_CHECKING, Any, NamedTuple, Optional, Union
 
 if TYPE_CHECKING:
-    from .results import Held
+    from .io.exporters import Held
 
 
 class Mask(NamedTuple):
@@ -22,7 +22,7 @@ class Mask(NamedTuple):
         return '%s%r.%s' % ('~' if self.complement else '', self.matrix, 'V' if self.value else 'S')
 
     def _repr_html_(self) -> str:
-        from . import html
+        from .display import html
         return html.mask(self)
 
 
@@ -30,7 +30,7 @@ def as_mask(mask: Union['Held', Mask, None]) -> Optional[Mask]:
     """A mask that is given as itself, or as a matrix, which is its structure. TypeError for anything else."""
     if mask is None or isinstance(mask, Mask):
         return mask
-    from .results import Held
+    from .io.exporters import Held
     if isinstance(mask, Held):
         return Mask(mask)
     raise TypeError('a mask is A.S, A.V, ~A.S, ~A.V or a matrix, not %r' % (mask,))

@@ -1,4 +1,4 @@
-"""Matrices of a session: jobs on them, and masks. `results` has what they hold, `indexing` what stands in brackets."""
+"""Matrices of a session: jobs on them, and masks. `io.exporters` has what they hold, `indexing` what stands in brackets."""
 from __future__ import annotations
 
 # a matrix asks others of its class for what callers need not see
@@ -7,11 +7,13 @@ from __future__ import annotations
 import weakref
 from typing import TYPE_CHECKING, Any, Dict, NamedTuple, Optional, Sequence, Tuple, Union
 
-from . import convert, html, limits, market, notes
+from . import job_limits, metadata
+from .display import html
 from .errors import NotMade, TooLarge, refusal
 from .indexing import Signs, picked
+from .io import coo, matrix_text
 from .mask import Mask, as_mask
-from .operators import READY, Op as Op, Operator, Semiring, binary, find, find_semiring, indexunary, unary
+from .operators import Op as Op, Operator, READY, Semiring, binary, find, find_semiring, indexunary, unary
 
 if TYPE_CHECKING:
     from .session import Session
@@ -38,9 +40,9 @@ class Matrix(Signs):
                  price: Optional[int] = None) -> None:
         self.session, self._key, self.name = session, key, name or key
         self.nrows, self.ncols, self._price = nrows, ncols, price
-        self._most = market.MOST_SIDE if nvals is None else nvals       # entries, at most
+        self._most = matrix_text.MOST_SIDE if nvals is None else nvals       # entries, at most
         self.steps: Optional[int] = None
-        self.notes = notes.NOTHING
+        self.notes = metadata.NOTHING
         self._nvals = nvals
         self._lost: Optional[BaseException] = None
         self._transposed: Optional['weakref.ref[Matrix]'] = None
@@ -135,26 +137,26 @@ class Matrix(Signs):
         row, column, right), where `right` is 0 unless given. A bound binary operator is sent as an index operator of one (right)
         or two (left) more instructions, once for all numbers. In the GraphBLAS GrB_apply."""
         sent = applied(op, right, left)
-        told = notes.of_applied(self.notes, sent.op, sent.even)
+        told = metadata.of_applied(self.notes, sent.op, sent.even)
         return self._job(_Job('apply', [sent.op], [self], self.shape, told, sent.thunk), mask, name)
 
     def select(self, op: Op, thunk: int = 0, *, mask: MaskLike = None, name: Optional[str] = None) -> 'Matrix':
         """The entries for which an index operator's answer isn't 0, with their values. Its name may be a sign: `A.select(">=",
         3)` is `A.select("valuege", 3)`. In the GraphBLAS GrB_select."""
-        found, thunk = _of_kind('index', op, 'select'), convert.word(thunk, 'thunk')
-        told = notes.of_selected(self.notes, found, thunk)
+        found, thunk = _of_kind('index', op, 'select'), coo.word(thunk, 'thunk')
+        told = metadata.of_selected(self.notes, found, thunk)
         return self._job(_Job('select', [found], [self], self.shape, told, thunk), mask, name)
 
     def ewise_add(self, other: 'Matrix', op: Op = 'plus', *, mask: MaskLike = None, name: Optional[str] = None) -> 'Matrix':
         """op(x, y) where both have an entry, else a copy of the one that has. In the GraphBLAS GrB_eWiseAdd; here `union`."""
         self._check_shape('union', other, self.shape)
-        told = notes.of_pair(self.notes, other.notes)
+        told = metadata.of_pair(self.notes, other.notes)
         return self._job(_Job('union', [_of_kind('binary', op, 'union')], [self, other], self.shape, told), mask, name)
 
     def ewise_mult(self, other: 'Matrix', op: Op = 'times', *, mask: MaskLike = None, name: Optional[str] = None) -> 'Matrix':
         """op(x, y) where both have an entry. In the GraphBLAS GrB_eWiseMult; here `both`."""
         self._check_shape('both', other, self.shape)
-        told = notes.of_pair(self.notes, other.notes)
+        told = metadata.of_pair(self.notes, other.notes)
         return self._job(_Job('both', [_of_kind('binary', op, 'both')], [self, other], self.shape, told), mask, name)
 
     def mxm(self, other: 'Matrix', op: Ring = 'plus_times', *, mask: MaskLike = None, parts: bool = False,
@@ -169,12 +171,12 @@ class Matrix(Signs):
         self._check_shape('product', other, (self.ncols, None))
         ring = find_semiring(op)
         ops = [_of_kind('binary', ring.add, 'product'), _of_kind('binary', ring.mul, 'product')]
-        told = notes.of_product(self.notes, other.notes, ring.mul, self is other)
+        told = metadata.of_product(self.notes, other.notes, ring.mul, self is other)
 
         def job(rows: 'Matrix') -> 'Matrix':
             return self._queued(_Job('product', ops, [rows, other], (self.nrows, other.ncols), told), mask, name)
         if parts:
-            return limits.in_parts(self, job)
+            return job_limits.in_parts(self, job)
         return self._job(_Job('product', ops, [self, other], (self.nrows, other.ncols), told), mask, name)
 
     def mxv(self, vector: 'Matrix', op: Ring = 'plus_times', *, mask: MaskLike = None, name: Optional[str] = None) -> 'Matrix':
@@ -192,7 +194,7 @@ class Matrix(Signs):
     def reduce_rowwise(self, op: Op = 'plus', *, mask: MaskLike = None, name: Optional[str] = None) -> 'Matrix':
         """A column: the fold of each row that isn't empty, from its first column to its last. In the GraphBLAS GrB_reduce by
         rows."""
-        told = notes.of_rows(self.notes)
+        told = metadata.of_rows(self.notes)
         return self._job(_Job('reduce', [_of_kind('binary', op, 'reduce')], [self], (self.nrows, 1), told), mask, name)
 
     def _job(self, job: '_Job', mask: MaskLike, name: Optional[str]) -> 'Matrix':
@@ -202,7 +204,7 @@ class Matrix(Signs):
         except TooLarge as fault:
             where = as_mask(mask)
             cut = where.matrix if where is not None and not where.complement else None
-            raise limits.explained(fault, job.form, job.ops, job.operands, cut) from None
+            raise job_limits.explained(fault, job.form, job.ops, job.operands, cut) from None
 
     def _queued(self, job: '_Job', mask: MaskLike, name: Optional[str]) -> 'Matrix':
         where = as_mask(mask)
@@ -211,7 +213,7 @@ class Matrix(Signs):
         cut = where.matrix._structure(where.value) if where is not None and not where.complement else None
         inner = None if where is not None and where.complement else name
         made = self.session._submit(job.form, job.ops, job.operands, job.shape, job.thunk, cut, inner)
-        made.notes = job.told if cut is None else notes.masked(job.told, cut.notes)
+        made.notes = job.told if cut is None else metadata.masked(job.told, cut.notes)
         return made.without(~where, name=name) if where is not None and where.complement else made
 
     def _structure(self, value: bool) -> 'Matrix':
@@ -252,11 +254,11 @@ class Matrix(Signs):
         costs as much as reading and writing it. While the transpose is held, asking again costs nothing."""
         held = self._transposed() if self._transposed is not None else None
         if held is None:
-            from . import certain, pricing         # which want matrices
-            if pricing.stays_here():
-                return certain.turned(self)
-            held = self.session.from_text(market.swapped(self.to_text()))
-            held.notes = notes.turned(self.notes)
+            from .pricing import estimates, lower_bounds  # which want matrices
+            if estimates.stays_here():
+                return lower_bounds.turned(self)
+            held = self.session.from_text(matrix_text.swapped(self.to_text()))
+            held.notes = metadata.turned(self.notes)
             held._transposed, self._transposed = weakref.ref(self), weakref.ref(held)
         return held
 
@@ -268,7 +270,7 @@ class Matrix(Signs):
         rows, columns, values = self.to_coo()
         at, count = (rows, self.nrows) if self.ncols == 1 else (columns, self.ncols)
         made = self.session.from_coo(at, at, values, count, count)
-        made.notes = notes.on_diagonal(self.notes)
+        made.notes = metadata.on_diagonal(self.notes)
         return made
 
     def dup(self, *, mask: MaskLike = None, name: Optional[str] = None) -> 'Matrix':
@@ -336,7 +338,7 @@ class _Job(NamedTuple):
     ops: Sequence[Operator]
     operands: Sequence[Matrix]
     shape: Tuple[int, int]
-    told: notes.Notes
+    told: metadata.Notes
     thunk: Optional[int] = None
 
 
@@ -366,7 +368,7 @@ def applied(op: Op, right: Optional[int], left: Optional[int]) -> Applied:
     bound = right is not None or left is not None
     kinds = ('binary', 'index') if bound else ('unary', 'index')
     found = find(_kind_of(op, kinds, bound), op)
-    thunk = convert.word(left if left is not None else right if right is not None else 0, 'thunk')
+    thunk = coo.word(left if left is not None else right if right is not None else 0, 'thunk')
     if found.kind == 'index' and left is None:
         return Applied(found, thunk, False)
     if found.kind == 'binary' and bound:
@@ -381,7 +383,7 @@ def applied(op: Op, right: Optional[int], left: Optional[int]) -> Applied:
 def _kind_of(op: Op, kinds: Tuple[str, str], bound: bool) -> str:
     """As which kind `apply` looks for an operator that is given by name or as a function."""
     if callable(op) and not isinstance(op, Operator):
-        from .operators.functions import kind_of
+        from .operators.compiler import kind_of
         return kind_of(op, bound)
     return kinds[1] if op not in READY[kinds[0]] and op in READY[kinds[1]] else kinds[0]
 
@@ -391,12 +393,12 @@ def bipartite(B: Matrix) -> Matrix:
     then the columns, and each entry as an edge both ways. No job: the entries come to the client and go back, as for `T`."""
     rows, columns, values = B.to_coo()
     ends = B.nrows + B.ncols
-    if market.is_array(rows):
+    if matrix_text.is_array(rows):
         import numpy
         i, j = numpy.concatenate((rows, columns + B.nrows)), numpy.concatenate((columns + B.nrows, rows))
         made = B.session.from_coo(i, j, numpy.concatenate((values, values)), ends, ends)
     else:
         behind = [column + B.nrows for column in columns]
         made = B.session.from_coo(rows + behind, behind + rows, values + values, ends, ends)
-    made.notes = notes.of_both_sides(B.notes, B.nrows, B.ncols)
+    made.notes = metadata.of_both_sides(B.notes, B.nrows, B.ncols)
     return made

@@ -7,19 +7,20 @@ import itertools
 import re
 from typing import TYPE_CHECKING, Any, Callable, Dict, List, NamedTuple, Optional, Sequence, Tuple, Union
 
-from . import convert, files, market, pricing
+from ._client.connection import Address, Connection, MOST_STEPS, Progress, Reply, Sent, Turn
+from ._client.deferred_upload import Kept
+from ._client.handles import Names
+from ._client.job_queue import (Budget as Budget, Job, JobResult as JobResult, Most, QUEUE, Queue, Run, most_of)  # pylint: disable=unused-import
+from ._client.pipeline import Later, Outbox
+from ._client.server_program import Program
 from .errors import OperatorRefused, Refused, TextRefused, refusal
-from .jobs import QUEUE, Budget as Budget, Job, JobResult as JobResult, Most, Queue, Run, most_of  # pylint: disable=unused-import
-from .kept import Kept
-from .market import Triples
+from .io import coo, matrix_market, matrix_text
+from .io.graph_files import Layout, Request, name_of
+from .io.importers import DupOp, Sources
+from .io.matrix_text import Triples
 from .matrix import Matrix
-from .names import Names
-from .operators import Operator, find, telling
-from .outbox import Later, Outbox
-from .program import Program
-from .reading import Layout, Request, name_of
-from .sources import DupOp, Sources
-from .wire import MOST_STEPS, Address, Connection, Progress, Reply, Sent, Turn
+from .operators import Operator, diagnostics, find
+from .pricing import estimates
 
 if TYPE_CHECKING:
     import ssl
@@ -119,7 +120,7 @@ class Session(Sources[Matrix]):
         """Overwrites large matrices that nobody holds, as no command forgets one."""
         if self._names.dropped:
             for name in self._names.settle(self._queue.names()):
-                self._outbox.put(Later(Sent('matrix ' + name, market.EMPTY), lambda _: None, lambda _: None, matters=False))
+                self._outbox.put(Later(Sent('matrix ' + name, matrix_text.EMPTY), lambda _: None, lambda _: None, matters=False))
 
     def _command(self, line: str, body: Optional[bytes] = None, near: Any = None) -> Reply:
         self._sweep()
@@ -147,15 +148,15 @@ class Session(Sources[Matrix]):
     def from_text(self, text: Union[bytes, str], name: Optional[str] = None) -> Matrix:
         """A matrix from a Matrix Market text that the server reads as it is: coordinate, integer or pattern, general or symmetric.
         TextRefused names the line; `mmread` reads other texts too."""
-        pricing.check_read()
+        estimates.check_read()
         text = text.encode() if isinstance(text, str) else bytes(text)
-        if len(text) > market.MOST_TEXT:
+        if len(text) > matrix_text.MOST_TEXT:
             raise refusal('S7', detail='the text has %d bytes' % len(text))
         with self._turn():
             self._sweep()
             key = self._names.take(name)
             try:
-                reply = self._command('matrix ' + key, text, lambda rule, at: market.line_at(text, at))
+                reply = self._command('matrix ' + key, text, lambda rule, at: matrix_text.line_at(text, at))
             except BaseException:
                 self._names.give_back(key)
                 raise
@@ -171,7 +172,7 @@ class Session(Sources[Matrix]):
     def _send(self, kept: Kept, entries: Triples) -> str:
         """Sends the entries of a matrix that is kept, with the next command; its name."""
         with self._turn():
-            key, text = self._names.take(), market.write(entries, ones=True)
+            key, text = self._names.take(), matrix_text.write(entries, ones=True)
             self._outbox.put(Later(Sent('matrix ' + key, text), lambda _: None, kept._lose))
             self._names.bound(key, entries.nrows, len(entries.rows))
             if self._outbox.is_full:
@@ -186,19 +187,19 @@ class Session(Sources[Matrix]):
 
     def _of_triples(self, triples: Triples, symmetric: bool, name: Optional[str]) -> Matrix:
         try:
-            return pricing.stood(self, triples[3:], len(triples.rows)) or self.from_text(market.write(triples, ones=True, symmetric=symmetric), name)
+            return estimates.stood(self, triples[3:], len(triples.rows)) or self.from_text(matrix_text.write(triples, ones=True, symmetric=symmetric), name)
         except TextRefused as refused:
             if refused.rule != 'M8' or refused.at is None:
                 raise
-            raise convert.repeated(triples, refused.at - market.HEAD_LINES - 1, symmetric) from None
+            raise coo.repeated(triples, refused.at - matrix_text.HEAD_LINES - 1, symmetric) from None
 
     def _folded(self, triples: Triples, dup_op: DupOp) -> Triples:
         """Each position once: values that share one are folded by the server, in a matrix with a row for each such position."""
         if dup_op is None:
             return triples
         op = find('binary', dup_op)
-        return convert.unrepeated(triples, lambda many: self._from(many).reduce_rowwise(op).to_coo(
-            arrays=market.is_array(many.rows))[2])
+        return coo.unrepeated(triples, lambda many: self._from(many).reduce_rowwise(op).to_coo(
+            arrays=matrix_text.is_array(many.rows))[2])
 
     def mmread(self, source: Any, *, values: bool = True, scale: Optional[float] = None, dup_op: DupOp = None,
                name: Optional[str] = None) -> Matrix:
@@ -208,49 +209,49 @@ class Session(Sources[Matrix]):
         `values=False` not read, so that each entry is 1, also of `complex` files. ValueError names the file and the line. In
         python-graphblas `io.mmread`; `read_graph` reads other formats too."""
         request = Request('mtx', Layout(values=values, scale=scale))
-        return self._market(name_of(source), files.load(source), request, dup_op, name)
+        return self._market(name_of(source), matrix_market.load(source), request, dup_op, name)
 
     def _market(self, file: str, text: bytes, request: Request, dup_op: DupOp, name: Optional[str]) -> Matrix:
-        values = files.Values(request.layout.values, request.layout.scale)
+        values = matrix_market.Values(request.layout.values, request.layout.scale)
         try:
             made, kind = self._of_market(text, values, dup_op, name)
         except TextRefused as refused:
-            if refused.rule == 'M8' and refused.command != files.COMMAND and not files.is_plain(text):
-                raise files.repeated(text).of_file(file) from None       # the file's line, not that of the text that was made of it
-            said = '' if text.split()[:1] == [b'%%MatrixMarket'] else files.NO_MARKET
-            raise refused.hinting('M8', convert.DUP_OP).of_file(file, said if refused.rule == 'M1' else '') from None
+            if refused.rule == 'M8' and refused.command != matrix_market.COMMAND and not matrix_market.is_plain(text):
+                raise matrix_market.repeated(text).of_file(file) from None       # the file's line, not that of the text that was made of it
+            said = '' if text.split()[:1] == [b'%%MatrixMarket'] else matrix_market.NO_MARKET
+            raise refused.hinting('M8', coo.DUP_OP).of_file(file, said if refused.rule == 'M1' else '') from None
         except Refused as refused:
             raise refused.of_file(file) from None
         made.notes = kind.notes if dup_op is None else kind.notes._replace(weighted=True)
         return made
 
-    def _of_market(self, text: bytes, values: files.Values, dup_op: DupOp, name: Optional[str]) -> Tuple[Matrix, files.Kind]:
+    def _of_market(self, text: bytes, values: matrix_market.Values, dup_op: DupOp, name: Optional[str]) -> Tuple[Matrix, matrix_market.Kind]:
         """The matrix of a text, as it is sent or made here, and what its first line says."""
-        as_it_is = dup_op is None and files.is_plain(text) and values == files.Values()
+        as_it_is = dup_op is None and matrix_market.is_plain(text) and values == matrix_market.Values()
         if as_it_is:
             made = self.from_text(text, name)      # which refuses a first line of any other form
-            return made, files.kind_of(text)
-        triples, symmetry = files.parse(text, values)
-        made = self.from_text(market.write(files.mirrored(self._folded(triples, dup_op), symmetry)), name)
-        return made, files.kind_of(text, values)
+            return made, matrix_market.kind_of(text)
+        triples, symmetry = matrix_market.parse(text, values)
+        made = self.from_text(matrix_text.write(matrix_market.mirrored(self._folded(triples, dup_op), symmetry)), name)
+        return made, matrix_market.kind_of(text, values)
 
     def full(self, nrows: int, ncols: int, value: int = 1, *, name: Optional[str] = None) -> Matrix:
         """A matrix with one value everywhere."""
-        nrows, ncols = convert.side(nrows, 0, 'nrows'), convert.side(ncols, 0, 'ncols')
-        if nrows * ncols > market.MOST_SIDE:
+        nrows, ncols = coo.side(nrows, 0, 'nrows'), coo.side(ncols, 0, 'ncols')
+        if nrows * ncols > matrix_text.MOST_SIDE:
             raise refusal('M4', detail='%d entries' % (nrows * ncols))
-        return pricing.stood(self, (nrows, ncols), nrows * ncols) or self._from(convert.full(nrows, ncols, value), name=name)
+        return estimates.stood(self, (nrows, ncols), nrows * ncols) or self._from(coo.full(nrows, ncols, value), name=name)
 
     def identity(self, n: int, value: int = 1, *, name: Optional[str] = None) -> Matrix:
         """A square matrix with one value on its diagonal."""
-        at = convert.indices(convert.side(n, 0, 'n'))
-        return pricing.stood(self, (n, n), n) or self._from(convert.checked(at, at, value, n, n), name=name)
+        at = coo.indices(coo.side(n, 0, 'n'))
+        return estimates.stood(self, (n, n), n) or self._from(coo.checked(at, at, value, n, n), name=name)
 
     def ones(self, ncols: int) -> Matrix:
         """A row of ones, which folds columns. The session keeps those of the last few lengths, but for very long ones."""
         with self._turn():
             row = self._ones.pop(ncols, None) or self.full(1, ncols)
-            if ncols <= LONG and not isinstance(row, pricing.Stand):
+            if ncols <= LONG and not isinstance(row, estimates.Stand):
                 self._ones[ncols] = row
             while len(self._ones) > KEPT_ONES:
                 del self._ones[next(iter(self._ones))]
@@ -268,7 +269,7 @@ class Session(Sources[Matrix]):
         """The canonical text of a matrix."""
         with self._turn():
             matrix._check_usable()
-            pricing.check_read()
+            estimates.check_read()
             if matrix.waits:
                 self._queue.run_later()
             try:
@@ -300,7 +301,7 @@ class Session(Sources[Matrix]):
             try:
                 reply = self._command('%s %s %s' % ('op' if op.text is None else 'asm', name, op.kind), op.body, op.line_at)
             except OperatorRefused as refused:
-                raise telling.mended(op, refused) from None
+                raise diagnostics.mended(op, refused) from None
             self._operators[op] = Uploaded(name, int(reply.words[-1]))
         return self._operators[op]
 
@@ -327,22 +328,22 @@ class Session(Sources[Matrix]):
         with self._turn():
             return self._command('types ' + self._upload(op)).lines
 
-    def check(self, op: Operator) -> telling.Check:
+    def check(self, op: Operator) -> diagnostics.Check:
         """What the verifier says of an operator: whether it is accepted, the instructions with what R0 to R10 hold before each, and
         where it is refused the refusal, with the rows up to there. No job; it is uploaded. Printed, it is a table."""
         try:
             lines, types = self.dis(op).splitlines(), self.types(op)
         except OperatorRefused as refused:
             known = refused.rule.startswith('V') and refused.at is not None and refused.rule not in CODE_RULES
-            return telling.Check(op, refused, telling.rows_before(op, refused.at or 0) if known else [])
-        return telling.Check(op, None, telling.rows_of(lines, types))
+            return diagnostics.Check(op, refused, diagnostics.rows_before(op, refused.at or 0) if known else [])
+        return diagnostics.Check(op, None, diagnostics.rows_of(lines, types))
 
     # -- jobs
 
     def run(self) -> Run:
         """Runs the jobs that wait. Matrix methods do it where they need a result. Where the run is refused (OutOfMemory,
         NoThread) the queue is empty all the same, and each result of it raises NotMade from then on."""
-        pricing.check_read()
+        estimates.check_read()
         with self._turn():
             self.connection.settle()
             if not len(self._queue) and not self._queue.running:
@@ -371,7 +372,7 @@ class Session(Sources[Matrix]):
                         return matrix.session._submit(form, ops, operands, shape, thunk, mask, name)
                     raise ValueError('a matrix of another session')
                 matrix._check_made()
-            asked = pricing.asked()
+            asked = estimates.asked()
             if asked is not None:
                 return asked.foresee(self, form, ops, operands, mask, shape)
             sent = [self._operators.get(op) or self._uploaded(op) for op in ops]
@@ -397,7 +398,7 @@ class Session(Sources[Matrix]):
                 self._sweep()                      # so that a loop of jobs uses the names of what nobody holds again
             return job
         try:
-            with pricing.told():
+            with estimates.told():
                 self._queue.add_now(job, line, self._exchange)
         except BaseException:
             if not self.connection.owes:

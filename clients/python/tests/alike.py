@@ -8,7 +8,7 @@ import tempfile
 
 import spmat
 from spmat import algorithms, blocks
-from spmat.blocks import absent
+from spmat.blocks import unsupported
 
 THREE = 'ABK'                                      # square matrices of random values; K is a mask
 MASKS = {'none': lambda M: None, 'S': lambda M: M.S, 'V': lambda M: M.V, '~S': lambda M: ~M.S, '~V': lambda M: ~M.V, 'itself': lambda M: M}
@@ -197,7 +197,7 @@ SESSIONS = {
     'from_triples': [lambda s: s.from_triples([(0, 1, 5), (3, 0, 2)]), lambda s: s.from_triples([(0, 1, 5), (0, 1, 2)])],
     'full': [lambda s: s.full(5, 2, -3), lambda s: s.full(0, 3)],
     'identity': [lambda s: s.identity(6, 4)],
-    'keep': [lambda s: s.keep(spmat.market.Triples([0, 1, 3], [1, 0, 2], [4, 5, 6], 4, 4)).ewise_add(s.identity(4))],
+    'keep': [lambda s: s.keep(spmat.io.matrix_text.Triples([0, 1, 3], [1, 0, 2], [4, 5, 6], 4, 4)).ewise_add(s.identity(4))],
     'load': [_saved],
     'save': [_saved],
     'mmread': [lambda s: _file(TEXT, s.mmread), lambda s: _file(SYMMETRIC, s.mmread), lambda s: _file(PATTERN, s.mmread), lambda s: _file(DENSE, s.mmread),
@@ -351,8 +351,8 @@ def public(kind):
 def missing():
     """Names of Session, Matrix and `algorithms` that neither stand here, nor among what blocks say that they don't have."""
     functions = {name for name in algorithms.__all__ if inspect.isfunction(getattr(algorithms, name))}
-    return (sorted(public(spmat.Session) - set(SESSIONS) - set(absent.SESSION)), sorted(public(spmat.Matrix) - set(METHODS) - set(absent.MATRIX)),
-            sorted(functions - set(ALGORITHMS) - set(absent.ALGORITHMS)))
+    return (sorted(public(spmat.Session) - set(SESSIONS) - set(unsupported.SESSION)), sorted(public(spmat.Matrix) - set(METHODS) - set(unsupported.MATRIX)),
+            sorted(functions - set(ALGORITHMS) - set(unsupported.ALGORITHMS)))
 
 
 def arguments():

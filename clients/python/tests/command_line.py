@@ -8,8 +8,8 @@ import tempfile
 import unittest
 
 import support
-from spmat.commands import main
-from spmat.commands.ends import Status
+from spmat.cli import main
+from spmat.cli.exit_status import Status
 
 PACKAGE = os.path.join(support.TOP, 'clients', 'python')
 

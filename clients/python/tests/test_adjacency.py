@@ -81,7 +81,7 @@ class Networkx(InSession):
     def test_beside_networkx(self):
         """Random graphs of each kind, with and without numpy's columns: the entries that networkx lists."""
         import networkx
-        from spmat import adjacency
+        from spmat.io import networkx_adjacency
         r = random.Random(4)
         for number in range(60):
             kind = (networkx.Graph, networkx.DiGraph, networkx.MultiGraph, networkx.MultiDiGraph)[number % 4]
@@ -97,11 +97,11 @@ class Networkx(InSession):
                     for pair in {(u, v), (u, v) if G.is_directed() else (v, u)}:
                         want[pair] = want.get(pair, 0) + value
             for few in (1 << 30, 0):
-                before, adjacency.FEW = adjacency.FEW, few
+                before, networkx_adjacency.FEW = networkx_adjacency.FEW, few
                 try:
                     A = self.s.from_networkx(G, nodelist=chosen, dup_op='plus')
                 finally:
-                    adjacency.FEW = before
+                    networkx_adjacency.FEW = before
                 self.assertEqual({(u, v): value for u, v, value in A.to_edgelist()}, want)
                 self.assertEqual(A.nodes, list(G) if chosen is None else chosen)
                 self.assertEqual(A.directed, G.is_directed())

@@ -7,7 +7,7 @@ import unittest
 
 from support import InSession, needs
 import spmat
-from spmat import market
+from spmat.io import matrix_text
 
 
 @needs('numpy')
@@ -33,13 +33,13 @@ class Numpy(InSession):
         """Where lines of one width are too long for a body, the zeros are taken out."""
         import numpy
         rows, columns, values = numpy.array([0, 99999, 7]), numpy.array([12345678, 0, 9]), numpy.array([0, -10, 2 ** 62])
-        triples = market.Triples(rows, columns, values, 100000, 12345679)
-        long = market.write(triples)
-        before, market.MOST_TEXT = market.MOST_TEXT, len(long) - 1
+        triples = matrix_text.Triples(rows, columns, values, 100000, 12345679)
+        long = matrix_text.write(triples)
+        before, matrix_text.MOST_TEXT = matrix_text.MOST_TEXT, len(long) - 1
         try:
-            short = market.write(triples)
+            short = matrix_text.write(triples)
         finally:
-            market.MOST_TEXT = before
+            matrix_text.MOST_TEXT = before
         self.assertEqual(short.split(b'\n')[2:], [b'1 12345679 +0', b'100000 1 -10', b'8 10 +4611686018427387904', b''])
         self.assertLess(len(short), len(long))
         self.assertTrue(self.s.from_text(short).isequal(self.s.from_text(long)))
@@ -78,11 +78,11 @@ class Numpy(InSession):
     def test_small_arrays_are_quick(self):
         """The table of digits is made once, not at each upload."""
         import numpy
-        market.write(market.Triples(numpy.arange(3), numpy.arange(3), numpy.arange(3), 3, 3))
-        before = market._four_digits.cache_info().misses
+        matrix_text.write(matrix_text.Triples(numpy.arange(3), numpy.arange(3), numpy.arange(3), 3, 3))
+        before = matrix_text._four_digits.cache_info().misses
         for _ in range(5):
-            market.write(market.Triples(numpy.arange(3), numpy.arange(3), numpy.arange(3), 3, 3))
-        self.assertEqual(market._four_digits.cache_info().misses, before)
+            matrix_text.write(matrix_text.Triples(numpy.arange(3), numpy.arange(3), numpy.arange(3), 3, 3))
+        self.assertEqual(matrix_text._four_digits.cache_info().misses, before)
 
     def test_wrong_arrays(self):
         import numpy

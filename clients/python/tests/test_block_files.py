@@ -9,8 +9,9 @@ from unittest import mock
 import alike
 import support
 import spmat
-from spmat import blocks, files
-from spmat.blocks import loading, ranges
+from spmat import blocks
+from spmat.blocks import file_ranges, parallel_read
+from spmat.io import matrix_market
 
 SYMMETRIES = ('general', 'symmetric', 'skew-symmetric')
 
@@ -35,20 +36,20 @@ class Files(unittest.TestCase):
         folder = tempfile.TemporaryDirectory()
         self.addCleanup(folder.cleanup)
         self.path = os.path.join(folder.name, 'graph.mtx')
-        for module, name, value in ((loading, 'LEAST', 1), (loading, 'MOST', 300), (files, 'FEW', 0)):
+        for module, name, value in ((parallel_read, 'LEAST', 1), (parallel_read, 'MOST', 300), (matrix_market, 'FEW', 0)):
             patched = mock.patch.object(module, name, value)
             patched.start()
             self.addCleanup(patched.stop)
         self.one = spmat.Session()
         self.addCleanup(self.one.close)
         self.by_workers = []
-        read = loading.matrix_market
+        read = parallel_read.matrix_market
 
         def noted(*args):
             made = read(*args)
             self.by_workers.append(made is not None)
             return made
-        patched = mock.patch.object(loading, 'matrix_market', noted)
+        patched = mock.patch.object(parallel_read, 'matrix_market', noted)
         patched.start()
         self.addCleanup(patched.stop)
 
@@ -99,7 +100,7 @@ class Files(unittest.TestCase):
                   'outside': b'1 1 1\n2 2 2\n3 3 3\n10 4 4\n', 'column outside': b'1 1 1\n2 12 2\n3 3 3\n5 4 4\n', 'no row': b'0 1 1\n2 1 2\n3 3 3\n5 4 4\n',
                   'no number': b'1 1 1\n2 2 x\n3 3 3\n4 4 4\n', 'few fields': b'1 1 1\n2 2\n3 3 3\n4 4 4\n', 'large value': b'1 1 1\n2 2 2\n3 3 9223372036854775808\n4 4 4\n',
                   'long row': b'1 1 1\n2 2 2\n000000003 3 3\n4 4 4\n', 'wrong shuffled': b'4 4 4\n1 1 1\n2 2-2\n3 3 3\n', 'word': b'1x 1 1\n2 2 2\n3 3 3\n4 4 4\n'}
-        with blocks.Sessions(2) as s, mock.patch.object(loading, 'MOST', 12):
+        with blocks.Sessions(2) as s, mock.patch.object(parallel_read, 'MOST', 12):
             for name, body in bodies.items():
                 for text in (head + body, (head + body).replace(b'\n', b'\r\n'), (head + body)[:-1]):
                     self.write(text)
@@ -162,11 +163,11 @@ class Files(unittest.TestCase):
     @support.needs('numpy')
     def test_a_file_that_changes_meanwhile(self):
         self.write(a_text(random.Random(4), n=50))
-        stamp = ranges.stamp_of(self.path)
-        part = ranges.cut_up(self.path, stamp, 80, 1000, 2)[0]
+        stamp = file_ranges.stamp_of(self.path)
+        part = file_ranges.cut_up(self.path, stamp, 80, 1000, 2)[0]
         self.write(a_text(random.Random(5), n=50))
         with self.assertRaisesRegex(ValueError, 'has changed while it was read'):
-            ranges.lines_in(part)
+            file_ranges.lines_in(part)
 
     def test_ranges(self):
         """Each line is in one range, wherever ranges end."""
@@ -175,8 +176,8 @@ class Files(unittest.TestCase):
             lines = [b'x' * chance.randrange(9) + b'\n' for _ in range(chance.randrange(1, 20))]
             text = b''.join(lines)[:-1 if chance.random() < .3 else None]
             self.write(b'head\n' + text)
-            parts = ranges.cut_up(self.path, ranges.stamp_of(self.path), 5, chance.randrange(1, 40), chance.randrange(1, 5))
-            found = b''.join(map(ranges.lines_in, parts))
+            parts = file_ranges.cut_up(self.path, file_ranges.stamp_of(self.path), 5, chance.randrange(1, 40), chance.randrange(1, 5))
+            found = b''.join(map(file_ranges.lines_in, parts))
             self.assertEqual(found, text if text.endswith(b'\n') or not text else text + b'\n')
 
     def test_packed_and_small_files_stay_with_the_caller(self):
@@ -187,9 +188,9 @@ class Files(unittest.TestCase):
             self.assertEqual(s.mmread(self.path).to_text(), self.one.mmread(self.path).to_text())
             self.write(text)
             with open(self.path, 'rb') as file:
-                self.assertIsNone(loading.seen(s, file))
-            with mock.patch.object(loading, 'LEAST', len(text) + 1):
-                self.assertIsNone(loading.matrix_market(s, self.path, files.Values(), None, None))
+                self.assertIsNone(parallel_read.seen(s, file))
+            with mock.patch.object(parallel_read, 'LEAST', len(text) + 1):
+                self.assertIsNone(parallel_read.matrix_market(s, self.path, matrix_market.Values(), None, None))
         self.assertEqual(self.by_workers, [False, False])
 
 

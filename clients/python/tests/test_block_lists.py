@@ -10,7 +10,7 @@ import alike
 import support
 import spmat
 from spmat import blocks
-from spmat.blocks import lists, loading
+from spmat.blocks import parallel_edgelist, parallel_read
 
 NAMES = {'0 to n - 1': lambda k: k, 'some numbers': lambda k: 7 * k - 30, 'words': lambda k: 'v%d é' % (k * 37 % 101), 'long words': lambda k: 'x' * (k % 23) + '_%d' % k}
 
@@ -35,13 +35,13 @@ class Lists(unittest.TestCase):
         self.addCleanup(folder.cleanup)
         self.folder = folder.name
         self.path = os.path.join(folder.name, 'graph.csv')
-        read, self.by_workers = lists.of_file, []
+        read, self.by_workers = parallel_edgelist.of_file, []
 
         def noted(*args):
             made = read(*args)
             self.by_workers.append(made is not None)
             return made
-        for module, name, value in ((loading, 'LEAST', 1), (loading, 'MOST', 120), (lists, 'of_file', noted)):
+        for module, name, value in ((parallel_read, 'LEAST', 1), (parallel_read, 'MOST', 120), (parallel_edgelist, 'of_file', noted)):
             patched = mock.patch.object(module, name, value)
             patched.start()
             self.addCleanup(patched.stop)
@@ -100,7 +100,7 @@ class Lists(unittest.TestCase):
     def test_matrix_market_by_read_graph(self):
         text = self.one.identity(30).to_text()
         self.write(text)
-        with blocks.Sessions(2) as s, mock.patch('spmat.blocks.inputs.pieces.spool_of', side_effect=AssertionError):
+        with blocks.Sessions(2) as s, mock.patch('spmat.blocks.importers.chunked_input.spool_of', side_effect=AssertionError):
             self.assertEqual(s.read_graph(self.path).to_text(), text)
 
     def test_progress(self):

@@ -12,8 +12,8 @@ import model
 import support
 import spmat
 from spmat import algorithms, blocks
-from spmat.algorithms.lines import SWAPPED, Vector
-from spmat.blocks import fronts
+from spmat.algorithms.frontier import SWAPPED, Vector
+from spmat.blocks import frontier
 
 COUNTS = (1, 2, 5)
 BY_FRONTS = ('components', 'bfs_levels', 'bfs_parents', 'sssp', 'core')
@@ -195,8 +195,8 @@ class Algorithms(unittest.TestCase):
                     for function in functions:
                         both = graph.matrix(one), graph.matrix(many)
                         for matrix in both:                # what blocks alone want to know is found out by either
-                            algorithms.facts.is_both_ways(matrix)
-                            algorithms.facts.extremes(matrix)
+                            algorithms.graph_properties.is_both_ways(matrix)
+                            algorithms.graph_properties.extremes(matrix)
                         before = [one.budget().spent, many.budget().spent]
                         want, got = function(both[0], graph), function(both[1], graph)
                         with self.subTest(graph=graph.name, function=function.__name__, sessions=count):
@@ -265,7 +265,7 @@ class Algorithms(unittest.TestCase):
             larger = many.full(2400, 32)
             with self.assertRaisesRegex(spmat.TooLarge, 'J8.*block 0 of 2, rows 0 to 1199'):
                 larger.mxm(B, ('plus', dear))
-            made = algorithms.common.product(larger, B, spmat.Semiring('plus', dear))
+            made = algorithms.utils.product(larger, B, spmat.Semiring('plus', dear))
             self.assertEqual((made.nvals, made.reduce_scalar('plus')), (2400 * 32, 2400 * 32 * 32))
 
 
@@ -411,7 +411,7 @@ class Fronts(unittest.TestCase):
                         at, values = list(map(int, front.at)), list(map(int, front.values))
                         row = one.from_coo([0] * size, at, values, 1, n).mxm(G, ring)
                         want = row.to_coo(arrays=False)[1:]
-                        found = fronts.push(X, front, ring), fronts.pull(X.T, front, turned)
+                        found = frontier.push(X, front, ring), frontier.pull(X.T, front, turned)
                         for way, got in zip(('push', 'pull'), found):
                             with self.subTest(ring=ring, size=size, way=way, kind=type(front.at).__name__):
                                 self.assertEqual((list(map(int, got.at)), list(map(int, got.values))), tuple(map(list, want)))
@@ -422,7 +422,7 @@ class Fronts(unittest.TestCase):
             X.wait()
             asked, submit = [], s.engine.submit
             s.engine.submit = lambda settings, place, *more: asked.append(place) or submit(settings, place, *more)
-            self.assertEqual(fronts.push(X, Vector([11, 12], [1, 1]), spmat.semiring('any', 'first')), Vector([11, 12], [1, 1]))
+            self.assertEqual(frontier.push(X, Vector([11, 12], [1, 1]), spmat.semiring('any', 'first')), Vector([11, 12], [1, 1]))
             self.assertEqual(asked, [1])
 
 

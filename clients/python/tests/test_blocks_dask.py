@@ -20,8 +20,8 @@ import support
 import test_blocks
 import spmat
 from spmat import algorithms, blocks
-from spmat.algorithms.lines import Vector
-from spmat.blocks import fronts, loading, place, tasks
+from spmat.algorithms.frontier import Vector
+from spmat.blocks import frontier, parallel_read, worker_store, worker_tasks
 
 WORKERS = 3
 SECONDS = 200                                      # for workers that are started anew, on a busy machine
@@ -45,7 +45,7 @@ def uploads_of(store):
 
 def program_of(settings):
     """The process below this worker."""
-    return place.store_of(settings).session.connection._channel.process.pid
+    return worker_store.store_of(settings).session.connection._channel.process.pid
 
 
 def use_program(path):
@@ -177,17 +177,17 @@ class Dask(unittest.TestCase):
                 engine._direct._where.update(wrong)
                 asked.clear()
                 self.assertEqual(algorithms.bfs_levels(G, 3, G, check=False).to_text(), want)
-                self.assertEqual(asked.count(tasks.pushed), 1 if wrong else 0)
+                self.assertEqual(asked.count(worker_tasks.pushed), 1 if wrong else 0)
             front = Vector([0, 1], [1, 1])
             with self.assertRaisesRegex(spmat.OperatorRefused, 'V14.*block 0 of 3') as caught:
-                fronts.push(G, front, spmat.Semiring('min', spmat.asm('binary', 'ldx64 r0, r1, 0\nexit')))
+                frontier.push(G, front, spmat.Semiring('min', spmat.asm('binary', 'ldx64 r0, r1, 0\nexit')))
             self.assertEqual(caught.exception.rule, 'V14')
 
     def test_a_file_that_workers_read(self):
         """By ranges, from worker to worker or through a folder; the caller's process reads no line."""
         text = GRAPH.matrix(self.one).to_text()
         for given in (False, True):
-            with tempfile.TemporaryDirectory() as folder, mock.patch.multiple(loading, LEAST=1, MOST=100):
+            with tempfile.TemporaryDirectory() as folder, mock.patch.multiple(parallel_read, LEAST=1, MOST=100):
                 path = os.path.join(folder, 'graph.mtx')
                 with open(path, 'wb') as file:
                     file.write(text)
@@ -221,7 +221,7 @@ class Dask(unittest.TestCase):
             killed = 0
 
             def submit(self, settings, place, label, function, *args):
-                amid = function is tasks.job and args[0] == 'mxm' and place == 1 and not self.killed
+                amid = function is worker_tasks.job and args[0] == 'mxm' and place == 1 and not self.killed
                 if amid:
                     wait(args[1])
                 future = super().submit(settings, place, label, function, *args)

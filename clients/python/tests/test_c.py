@@ -13,8 +13,8 @@ import unittest
 
 import support
 import spmat
-from spmat import compile as compiling
-from spmat.objects import Malformed, ObjectFile
+from spmat.operators import clang as compiling
+from spmat.operators.elf import Malformed, ObjectFile
 
 FOLDER = os.path.join(os.path.dirname(os.path.abspath(__file__)), 'c')
 PAGE = os.path.join(support.TOP, 'docs', 'operators.md')

@@ -7,7 +7,7 @@ import graphs
 import support
 import spmat
 from spmat import algorithms
-from spmat.algorithms import centralities, lines
+from spmat.algorithms import centrality, frontier
 
 
 def values_of(graph, weighted):
@@ -117,13 +117,13 @@ class ByArrays(Centralities):
 
     def setUp(self):
         super().setUp()
-        for module in (centralities, lines):
+        for module in (centrality, frontier):
             few = mock.patch.object(module, 'FEW', 0)
             few.start()
             self.addCleanup(few.stop)
 
     def test_they_are(self):
-        with mock.patch.object(centralities._Steps, '_dense', autospec=True, side_effect=centralities._Steps._dense) as made:
+        with mock.patch.object(centrality._Steps, '_dense', autospec=True, side_effect=centrality._Steps._dense) as made:
             algorithms.katz(graphs.UNDIRECTED[3].matrix(self.s), 0.03)
         self.assertTrue(all(call.args[0].numpy is not None for call in made.call_args_list))
         self.assertGreater(made.call_count, 5)

@@ -14,18 +14,19 @@ import unittest
 import support
 from command_line import PACKAGE, CommandLine
 from spmat import algorithms
-from spmat.commands import parser
-from spmat.commands.algorithms import description
-from spmat.commands.completion import SHELLS, grammar
-from spmat.commands.ends import Status
-from spmat.commands.flags import spoken
-from spmat.commands.table import ALGORITHMS
+from spmat.cli import parser
+from spmat.cli.algorithm_commands import description
+from spmat.cli.algorithm_table import ALGORITHMS
+from spmat.cli.completion import SHELLS, grammar
+from spmat.cli.error_wording import spoken
+from spmat.cli.exit_status import Status
 
 # What of the module is no algorithm: types, and what the flag --undirected does.
 NO_COMMAND = {'Bounds', 'Centrality', 'Communities', 'CycleError', 'GraphMatrix', 'modularity', 'NoPath', 'Path', 'PathTree', 'Progress', 'undirected'}
 ROADS = 'from,to,km\nann,bob,5\nbob,cid,7\ncid,ann,2\ncid,dee,4\n'
 # Where messages come from that the command line shows, and what in them looks like an argument and isn't one of a call that it makes.
-MODULES = ('reading/*.py', 'files.py', 'values.py', 'convert.py', 'channels.py', 'compile.py')
+MODULES = ('io/[cdefipt]*_*.py', 'io/dimacs.py', 'io/factorize.py', 'io/pandas.py', 'io/coo.py', 'io/matrix_market.py', '_client/transport.py',
+           'operators/clang.py')
 NEVER = {'source', 'target', 'mcpu', 'nodelist', 'right', 'left'}
 
 

@@ -11,7 +11,7 @@ import unittest
 import support
 from command_line import PACKAGE, CommandLine
 from test_ends import alive, gone
-from spmat.commands.ends import Status
+from spmat.cli.exit_status import Status
 
 DATA = os.path.join(PACKAGE, 'tests', 'data')
 KARATE = os.path.join(support.TOP, 'docs', 'karate.mtx')

@@ -12,7 +12,7 @@ import unittest
 import support
 import test_loops
 import spmat
-from spmat import wire
+from spmat._client import connection
 
 
 class FileRelay(support.Relay):
@@ -120,8 +120,8 @@ class Files(unittest.TestCase):
         self.assertIn('is a socket file', str(said.exception))
 
     def test_how_an_address_reads(self):
-        self.assertEqual(str(wire.Address(self.path, 7171)), self.path)
-        self.assertEqual(str(wire.Address('here', 7171)), 'here, port 7171')
+        self.assertEqual(str(connection.Address(self.path, 7171)), self.path)
+        self.assertEqual(str(connection.Address('here', 7171)), 'here, port 7171')
 
 
 @unittest.skipIf(shutil.which('openssl') is None, 'no program openssl')
@@ -160,7 +160,7 @@ class Secrets(unittest.TestCase):
             self.assertEqual(s.budget(), (100, 0, 0))
 
     def test_loop(self):
-        child = wire.Connection.to_child()
+        child = connection.Connection.to_child()
         self.addCleanup(child.quit)
         with self.server(served_by(child)) as server:
             with spmat.Session.connect('localhost', server.port, tls=self.client('anna'), timeout=100) as s:

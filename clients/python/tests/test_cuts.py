@@ -4,23 +4,24 @@ import unittest
 
 import support  # noqa: F401 (finds the program)
 import spmat
-from spmat import blocks, market
-from spmat.blocks import cuts
+from spmat import blocks
+from spmat.blocks import row_partition
+from spmat.io import matrix_text
 from test_blocks import Pair, entries
 
 
 class Cuts(unittest.TestCase):
     def test_by_entries(self):
-        self.assertEqual(cuts.by_entries([1] * 10, 3).bounds, (0, 3, 7, 10))
-        self.assertEqual(cuts.by_entries([1, 1, 100, 1, 1], 3).bounds, (0, 2, 3, 5))
-        self.assertEqual(cuts.by_entries([0, 0, 9, 0], 4).blocks, 4)
-        self.assertEqual(cuts.by_entries([], 3).bounds, (0, 0, 0, 0))
+        self.assertEqual(row_partition.by_entries([1] * 10, 3).bounds, (0, 3, 7, 10))
+        self.assertEqual(row_partition.by_entries([1, 1, 100, 1, 1], 3).bounds, (0, 2, 3, 5))
+        self.assertEqual(row_partition.by_entries([0, 0, 9, 0], 4).blocks, 4)
+        self.assertEqual(row_partition.by_entries([], 3).bounds, (0, 0, 0, 0))
         for seed in range(200):
             random_ = random.Random(seed)
             counts = [random_.randrange(9) * (random_.random() < .6) for _ in range(random_.randrange(1, 40))]
             count = random_.randrange(1, 9)
-            cut = cuts.by_entries(counts, count)
-            cuts.checked(cut.bounds, len(counts))
+            cut = row_partition.by_entries(counts, count)
+            row_partition.checked(cut.bounds, len(counts))
             self.assertEqual(cut.blocks, count)
             sizes = [sum(counts[first:end]) for first, end in cut.ranges()]
             self.assertLessEqual(max(sizes), sum(counts) / count + max(counts), counts)
@@ -69,11 +70,11 @@ class Texts(unittest.TestCase):
             n = random_.randrange(1, 12)
             a = entries(seed, n, 30, random_.randrange(40))
             lines = [b'%d %d %d\n' % (i + 1, j + 1, a[i, j]) for i, j in sorted(a)]
-            text = market.BANNER + b'%d 30 %d\n' % (n, len(a)) + b''.join(lines)
+            text = matrix_text.BANNER + b'%d 30 %d\n' % (n, len(a)) + b''.join(lines)
             for first in range(n + 1):
                 for end in range(first, n + 1):
                     want = [line for line, (i, _) in zip(lines, sorted(a)) if first <= i < end]
-                    self.assertEqual(cuts.lines_of(text, first, end), (b''.join(want), len(want)))
+                    self.assertEqual(row_partition.lines_of(text, first, end), (b''.join(want), len(want)))
 
 
 if __name__ == '__main__':

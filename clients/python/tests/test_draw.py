@@ -9,7 +9,8 @@ from unittest import mock
 import graphs
 import support
 import spmat
-from spmat import algorithms, draw, graph_picture, picture_parts
+from spmat import algorithms, draw
+from spmat.display import graph_layout, matplotlib_style
 
 
 def ink(path, colour):
@@ -147,8 +148,8 @@ class Pictures(unittest.TestCase):
         for graph in (graphs.UNDIRECTED[0], graphs.UNDIRECTED[1], graphs.UNDIRECTED[5], graphs.DIRECTED[3]):
             self.drawn(draw.graph, graph.matrix(self.session))
         sides = [(i, j) for part in (0, 10) for i in range(part, part + 10) for j in range(part, i)] + [(0, 10)]
-        at = graph_picture.places(20, set(sides))
-        self.assertEqual(at.tolist(), graph_picture.places(20, set(sides)).tolist())
+        at = graph_layout.places(20, set(sides))
+        self.assertEqual(at.tolist(), graph_layout.places(20, set(sides)).tolist())
         self.assertLessEqual(abs(at).max(), 1)
         within, across = (sum(abs(at[i] - at[j]).sum() for i, j in pairs) / len(pairs)
                           for pairs in (sides[:-1], [(i, j) for i in range(10) for j in range(10, 20)]))
@@ -191,7 +192,7 @@ class RoundNumbers(unittest.TestCase):
     def test_round_numbers(self):
         for least, most, want in ((1, 8, [1, 2, 5]), (3, 4, [3, 4]), (1, 1, [1]), (1, 300, [1, 2, 5, 10, 20, 50, 100, 200]),
                                   (2, 100000, [10, 100, 1000, 10000, 100000])):
-            self.assertEqual(picture_parts.round_numbers(least, most), want)
+            self.assertEqual(matplotlib_style.round_numbers(least, most), want)
 
 
 class WithoutMatplotlib(unittest.TestCase):

@@ -11,8 +11,8 @@ import unittest
 
 import support  # noqa: F401 (finds the program)
 import spmat
-from spmat.outbox import Later
-from spmat.wire import Sent
+from spmat._client.connection import Sent
+from spmat._client.pipeline import Later
 
 ENVIRONMENT = dict(os.environ, PYTHONPATH=os.path.dirname(os.path.dirname(os.path.abspath(spmat.__file__))))
 

@@ -9,7 +9,7 @@ import unittest
 
 import support
 import spmat
-from spmat import files, market
+from spmat.io import matrix_market, matrix_text
 
 
 def text_of(head, *lines):
@@ -139,14 +139,14 @@ class Quick(unittest.TestCase):
         """What both ways give: triples, or the refusal's words."""
         got = []
         for few in (1 << 62, 0):
-            before, files.FEW = files.FEW, few
+            before, matrix_market.FEW = matrix_market.FEW, few
             try:
-                triples, symmetry = files.parse(text)
+                triples, symmetry = matrix_market.parse(text)
                 got.append([list(map(int, part)) for part in triples[:3]] + [triples[3:], symmetry])
             except ValueError as fault:
                 got.append(str(fault))
             finally:
-                files.FEW = before
+                matrix_market.FEW = before
         self.assertEqual(got[0], got[1], text)
         return got[0]
 
@@ -179,28 +179,28 @@ class Quick(unittest.TestCase):
                               (1, text_of('array real general', '2 1', '1', '2')),
                               (2, text_of('coordinate pattern symmetric', '2 2 1', '2 1')),
                               (2, text_of('array integer symmetric', '2 2', '1', '2', '3'))):
-            kind, lines = files.kind_of(text), files._Lines(text)
+            kind, lines = matrix_market.kind_of(text), matrix_market._Lines(text)
             lines.next_line('M3')
-            before, files.FEW = files.FEW, 0
+            before, matrix_market.FEW = matrix_market.FEW, 0
             try:
-                self.assertIsNotNone(files.read_quickly(kind, text[lines.at:], text.count(b'\n') - 2, 2, columns))
+                self.assertIsNotNone(matrix_market.read_quickly(kind, text[lines.at:], text.count(b'\n') - 2, 2, columns))
             finally:
-                files.FEW = before
+                matrix_market.FEW = before
 
 
 class Texts(unittest.TestCase):
     def test_there_and_back(self):
-        triples = market.Triples([0, 2], [5, 0], [-2 ** 63, 2 ** 63 - 1], 3, 6)
-        text = market.write(triples)
+        triples = matrix_text.Triples([0, 2], [5, 0], [-2 ** 63, 2 ** 63 - 1], 3, 6)
+        text = matrix_text.write(triples)
         self.assertEqual(text, b'%%MatrixMarket matrix coordinate integer general\n3 6 2\n'
                                b'1 6 -9223372036854775808\n3 1 9223372036854775807\n')
-        self.assertEqual(market.read(text), triples)
-        self.assertEqual(market.read(market.swapped(text)), market.Triples([5, 0], [0, 2], triples.values, 6, 3))
-        self.assertEqual(market.read(market.EMPTY), market.Triples([], [], [], 0, 0))
+        self.assertEqual(matrix_text.read(text), triples)
+        self.assertEqual(matrix_text.read(matrix_text.swapped(text)), matrix_text.Triples([5, 0], [0, 2], triples.values, 6, 3))
+        self.assertEqual(matrix_text.read(matrix_text.EMPTY), matrix_text.Triples([], [], [], 0, 0))
 
     def test_line_at(self):
         text = b'one\n\nthree\r\n' + b'x' * 200
-        self.assertEqual([market.line_at(text, k) for k in range(1, 7)], ['one', '', 'three', 'x' * 100 + '..', '', ''])
+        self.assertEqual([matrix_text.line_at(text, k) for k in range(1, 7)], ['one', '', 'three', 'x' * 100 + '..', '', ''])
 
 
 if __name__ == '__main__':

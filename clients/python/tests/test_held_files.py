@@ -13,8 +13,8 @@ import unittest
 
 import support
 import spmat
-from spmat import reading
-from spmat.commands import main, parser
+from spmat.cli import main, parser
+from spmat.io import graph_files
 
 AB = [('a', 'b', 7), ('b', 'c', 8)]
 PLAIN = [('a', 'b', 1), ('b', 'c', 1)]
@@ -271,7 +271,7 @@ class Page(unittest.TestCase):
         flags = {word for action in commands()['degrees']._actions for word in action.option_strings}
         self.assertEqual(told - flags, set())
         for argument in re.findall(r'^\| `(\w+)=', self.page, re.M):
-            self.assertIn(argument, {*inspect.signature(spmat.Session.read_graph).parameters, *reading.Layout._fields}, argument)
+            self.assertIn(argument, {*inspect.signature(spmat.Session.read_graph).parameters, *graph_files.Layout._fields}, argument)
 
 
 if __name__ == '__main__':

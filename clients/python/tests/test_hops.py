@@ -5,9 +5,10 @@ from unittest import mock
 import graphs
 import spmat
 import support
-from spmat import algorithms, market
-from spmat.algorithms import batches, chance, cores, lines, trusses
+from spmat import algorithms
+from spmat.algorithms import core_decomposition, frontier, multi_source_bfs, random_vector, truss
 from spmat.errors import refusal
+from spmat.io import matrix_text
 
 PATH = graphs.undirected('path', 90, [(i, i + 1) for i in range(89)])
 ONE_WAY = graphs.directed('one way', 80, [(i, i + 1) for i in range(79)] + [(i, i + 2) for i in range(0, 70, 7)])
@@ -29,7 +30,7 @@ class Hops(support.InSession):
         """More levels than a part has, and less; those of a search whose levels in vain would cost much."""
         for graph in (PATH, ONE_WAY, graphs.UNDIRECTED[4]):
             for part, small, many in ((32, 1 << 18, (1, 31, 32, 33, 200)), (5, 1 << 18, (5, 64)), (32, 0, (33,)), (1, 0, (3,))):
-                with mock.patch.object(batches, 'PART', part), mock.patch.object(batches, 'SMALL', small):
+                with mock.patch.object(multi_source_bfs, 'PART', part), mock.patch.object(multi_source_bfs, 'SMALL', small):
                     for most in many:
                         self.look(graph, [0, graph.count // 2, graph.count - 1, 0], most)
 
@@ -45,7 +46,7 @@ class Hops(support.InSession):
 
     def test_by_hand(self):
         """As behind a product that has more multiplications than a job may."""
-        with mock.patch.object(batches.Loop, 'rounds', side_effect=refusal('J8')):
+        with mock.patch.object(multi_source_bfs.Loop, 'rounds', side_effect=refusal('J8')):
             for graph in (PATH, ONE_WAY, graphs.UNDIRECTED[4]):
                 for most in (1, 3, 40, 100):
                     self.look(graph, [3, 0], most)
@@ -62,11 +63,11 @@ class Trusses(graphs.OnGraphs):
 
     def test_by_a_loop(self):
         for anew in (0, 1, 4, 1 << 40):            # never counted anew, seldom, as usual, always
-            with mock.patch.object(trusses, 'ANEW', anew):
+            with mock.patch.object(truss, 'ANEW', anew):
                 self.compare()
 
     def test_by_hand(self):
-        with mock.patch.object(trusses.Loop, 'rounds', side_effect=refusal('J8')), mock.patch.object(trusses, 'ANEW', 0):
+        with mock.patch.object(truss.Loop, 'rounds', side_effect=refusal('J8')), mock.patch.object(truss, 'ANEW', 0):
             self.compare()
 
     def test_edges_that_fall_one_after_the_other(self):
@@ -74,7 +75,7 @@ class Trusses(graphs.OnGraphs):
         side = 16
         pairs = [(side * r + c, side * ((r + a) % side) + (c + b) % side) for r in range(side) for c in range(side) for a, b in ((0, 1), (1, 0), (1, 1))]
         graph, told = graphs.undirected('torus', side * side, pairs[1:]), []
-        with mock.patch.object(trusses, '_product', wraps=trusses._product) as multiplied:
+        with mock.patch.object(truss, '_product', wraps=truss._product) as multiplied:
             found = algorithms.k_truss(graph.matrix(self.s), 4, lambda *now: told.append(now))
         self.assertEqual(found.to_dict(), graphs.truss(graph.near(), 4))
         self.assertGreater(len(told), 6)
@@ -91,25 +92,25 @@ class Cores(graphs.OnGraphs):
                 k += 1
             for most in (1 << 12, graph.count // 2, 3, 0):
                 told = []
-                with mock.patch.object(cores, 'HANDED_OVER', most):
+                with mock.patch.object(core_decomposition, 'HANDED_OVER', most):
                     self.assertEqual(algorithms.core_numbers(G, lambda *now: told.append(now)).to_dict(), want, most)
                 self.assertEqual(told, [('round', number, 0) for number in range(1, len(told) + 1)])
         self.each(graphs.UNDIRECTED, look)
 
     def test_lists(self):
-        with mock.patch.object(market, 'find_numpy', lambda: None):
+        with mock.patch.object(matrix_text, 'find_numpy', lambda: None):
             self.compare()
 
     @support.needs('numpy')
     def test_numpy(self):
-        with mock.patch.object(lines, 'FEW', 0):
+        with mock.patch.object(frontier, 'FEW', 0):
             self.compare()
 
     def test_a_budget_counts(self):
         """Where steps are counted nobody is looked at but those that fall."""
-        with mock.patch.object(cores, '_on_the_loop', side_effect=AssertionError('the loop takes more steps')):
+        with mock.patch.object(core_decomposition, '_on_the_loop', side_effect=AssertionError('the loop takes more steps')):
             self.assertEqual(algorithms.core_numbers(PATH.matrix(self.few)).to_list(), [1] * 90)
-        with self.assertRaisesRegex(AssertionError, 'more steps'), mock.patch.object(cores, '_on_the_loop', side_effect=AssertionError('more steps')):
+        with self.assertRaisesRegex(AssertionError, 'more steps'), mock.patch.object(core_decomposition, '_on_the_loop', side_effect=AssertionError('more steps')):
             algorithms.core_numbers(PATH.matrix(self.s))
 
     def setUp(self):
@@ -137,16 +138,16 @@ class Squares(support.InSession):
 class Drawn(support.InSession):
     def test_each_once(self):
         for seed in (0, 1, 'x', 1 << 70):
-            values = chance.drawn(self.s.ones(5000), seed).to_list()
+            values = random_vector.drawn(self.s.ones(5000), seed).to_list()
             self.assertEqual(len(set(values)), 5000)
             self.assertTrue(0 < min(values) and max(values) < 1 << 32)
-            self.assertEqual(values, [value for value in chance.drawn(self.s.full(5000, 1, 7), seed).to_list()])
+            self.assertEqual(values, [value for value in random_vector.drawn(self.s.full(5000, 1, 7), seed).to_list()])
             self.assertLess(abs(sum(values) / 5000 / (1 << 31) - 1), .05)
             up = sum(a < b for a, b in zip(values, values[1:]))
             self.assertLess(abs(up - 2500), 200)                           # no more than by chance
 
     def test_seeds(self):
-        first, second = (chance.drawn(self.s.ones(2000), seed).to_list() for seed in (1, 2))
+        first, second = (random_vector.drawn(self.s.ones(2000), seed).to_list() for seed in (1, 2))
         self.assertLess(sum(a == b for a, b in zip(first, second)), 3)
         self.assertLess(abs(sum(a < b for a, b in zip(first, second)) - 1000), 150)
 

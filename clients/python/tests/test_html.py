@@ -7,7 +7,8 @@ from unittest import mock
 
 import support
 import spmat
-from spmat import blocks, html as shown, operators
+from spmat import blocks, operators
+from spmat.display import html as shown
 
 
 class Parser(html.parser.HTMLParser):

@@ -10,8 +10,9 @@ from unittest import mock
 import graphs
 import support
 import spmat
-from spmat import blocks, market
-from spmat.looping import loops
+from spmat import blocks
+from spmat.io import matrix_text
+from spmat.loops import server_loop
 
 NEXT = spmat.semiring('any', spmat.asm('binary', 'mov64 r0, r1\nadd64 r0, 1\nexit\n'))
 NAME = re.compile('_[0-9]+')                        # of the client, for a matrix
@@ -51,7 +52,7 @@ def by_hand(step, state, most):
     now = dict(state)
     for number in range(1, most + 1):
         try:
-            got = loops.of_two(step)(loops.State(now), number)
+            got = server_loop.of_two(step)(server_loop.State(now), number)
             for matrix in got.values():
                 matrix.wait()
         except spmat.Refused as fault:
@@ -120,7 +121,7 @@ class Rounds(support.InSession):
             self.assertIsNone(fault)
             self.assertEqual(texts(loop.state), texts(now))
             before = by_hand(step, start, rounds - 1)[0]
-            near = step(loops.State(before), rounds)['near']
+            near = step(server_loop.State(before), rounds)['near']
             last = [(int(place), int(value)) for number, place, value in zip(*loop.shown['near']) if number == rounds]
             self.assertEqual(last, [(j, value) for _, j, value in near.to_triples()])
             self.assertEqual(len(loop.shown['least'].values), rounds)
@@ -218,7 +219,7 @@ class Rounds(support.InSession):
         self.assertEqual(sorted(map(int, again.shown['front'].places)), list(range(1, 70)))
 
     def test_lists(self):
-        with mock.patch.object(market, 'find_numpy', lambda: None):
+        with mock.patch.object(matrix_text, 'find_numpy', lambda: None):
             loop = search(self.s, PATH)
             loop.run(spmat.empty('front'))
             self.assertEqual(list(loop.shown['front']), [list(range(1, 70)), list(range(1, 70)), list(range(1, 70))])
@@ -258,7 +259,7 @@ class Rounds(support.InSession):
         for graph in graphs.UNDIRECTED[3:6]:
             step, state = lengths(self.s, graph)
             told = []
-            got = spmat.fixpoint(state['known'], lambda now: step(loops.State(known=now))['known'], progress=lambda *now: told.append(now))
+            got = spmat.fixpoint(state['known'], lambda now: step(server_loop.State(known=now))['known'], progress=lambda *now: told.append(now))
             want = graphs.shortest(graph.edges, graph.near(), 0)
             self.assertEqual({i: length for (i, _), length in got.to_dict().items() if length < 1 << 39}, want)
             self.assertEqual([number for _, number, _ in told], list(range(1, len(told) + 1)))
@@ -291,7 +292,7 @@ class Refusals(unittest.TestCase):
             step, state = begin(s)
             spent, now = [], dict(state)
             for number in range(1, 12):
-                now = {'known': step(loops.State(now))['known'].wait()}
+                now = {'known': step(server_loop.State(now))['known'].wait()}
                 s.run()
                 spent.append(s.budget().spent)
         tripped, seen = 0, set()

@@ -4,7 +4,8 @@ import unittest
 
 import support  # noqa: F401 (finds the program)
 import spmat
-from spmat import Semiring, asm, binary, code, indexunary, semiring, unary, wire
+from spmat import Semiring, asm, binary, code, indexunary, semiring, unary
+from spmat._client import connection
 
 A_MAP = {(0, 0): 5, (0, 2): -3, (1, 1): 0, (2, 0): 7, (2, 2): 2}
 B_MAP = {(0, 0): 2, (1, 1): 4, (1, 2): 1, (2, 2): 6}
@@ -309,7 +310,7 @@ class Progress(unittest.TestCase):
             sizes = {of for what, _, of in told if what == 'sent'}
             self.assertEqual(len(sizes), 1)
             self.assertEqual(max(done for what, done, _ in told if what == 'sent'), sizes.pop())
-            self.assertGreater(s.connection.sent, wire.PIECE)
+            self.assertGreater(s.connection.sent, connection.PIECE)
             A.apply('abs').wait()
             self.assertEqual([what for what in told if what[0] == 'jobs'], [('jobs', 0, 1), ('jobs', 1, 1)])
             size = len(A.to_text())

@@ -16,10 +16,10 @@ try:
     import networkx
     from networkx.utils.backends import backends
     FOUND = 'spmat' in backends
-    from spmat.networkx import graph, sessions
-    from spmat.networkx.conversion import convert_to_nx
-    from spmat.networkx.dispatch import Backend
-    from spmat.networkx.info import DEFAULTS, SERVED, info
+    from spmat.networkx import graph, process_session
+    from spmat.networkx.backend import Backend
+    from spmat.networkx.backend_info import DEFAULTS, SERVED, info
+    from spmat.networkx.convert import convert_to_nx
 except ImportError:
     FOUND = False
 
@@ -42,7 +42,7 @@ class Case(unittest.TestCase):
     @classmethod
     def tearDownClass(cls):
         if FOUND:
-            sessions.close()
+            process_session.close()
 
 
 def labelled(kind):
@@ -86,7 +86,7 @@ class Conversion(Case):
 
     def test_lists_without_numpy(self):
         made = labelled(networkx.MultiDiGraph)
-        with mock.patch('spmat.market.find_numpy', lambda: None):
+        with mock.patch('spmat.io.matrix_text.find_numpy', lambda: None):
             held = graph(made)
             self.assertIsInstance(held.at.rows, list)
             back = convert_to_nx(held)
@@ -188,7 +188,7 @@ class Conversion(Case):
         """Ten calls convert a graph once, whatever attributes they ask for, until it is changed."""
         made = networkx.gnm_random_graph(30, 60, seed=1)
         networkx.set_edge_attributes(made, 3, 'far')
-        with mock.patch('spmat.networkx.reading.positions', wraps=sys.modules['spmat.networkx.reading'].positions) as read:
+        with mock.patch('spmat.networkx.graph_arrays.positions', wraps=sys.modules['spmat.networkx.graph_arrays'].positions) as read:
             for _ in range(3):
                 networkx.triangles(made, backend='spmat')
                 networkx.single_source_dijkstra_path_length(made, 0, weight='far', backend='spmat')
@@ -317,19 +317,19 @@ class Left(Case):
 class Sessions(Case):
     def setUp(self):
         super().setUp()
-        sessions.close()
+        process_session.close()
 
     def test_one(self):
-        first = sessions.session()
+        first = process_session.session()
         networkx.triangles(networkx.path_graph(4), backend='spmat')
-        self.assertIs(sessions.session(), first)
+        self.assertIs(process_session.session(), first)
 
     def test_settings(self):
         """Each change of the settings is another session; its budget is what they say."""
         with settings(steps=12345, workers=2):
-            held = sessions.session()
+            held = process_session.session()
             self.assertEqual(held.budget().left, 12345)
-        self.assertIsNot(sessions.session(), held)
+        self.assertIsNot(process_session.session(), held)
         self.assertIsNotNone(held.connection.ended)
 
     def test_budget(self):
@@ -356,11 +356,11 @@ class Sessions(Case):
         ring = networkx.cycle_graph(5)
         held = graph(ring)
         want = networkx.triangles(held)
-        process = sessions.session().connection._channel.process
+        process = process_session.session().connection._channel.process
         process.kill()
         process.wait()
         self.assertEqual(networkx.triangles(held), want)
-        sessions.session().connection._channel.process.kill()
+        process_session.session().connection._channel.process.kill()
         self.assertEqual(networkx.triangles(held), want)
 
     @unittest.skipUnless(hasattr(os, 'fork'), 'no fork')
@@ -368,23 +368,23 @@ class Sessions(Case):
         """A process that is forked off has a session of its own, and the parent's goes on."""
         held = graph(networkx.complete_graph(4))
         networkx.triangles(held)
-        first = sessions.session()
+        first = process_session.session()
         child = os.fork()
         if child == 0:
             try:
-                good = networkx.triangles(held)[0] == 3 and sessions.session() is not first
-                sessions.close()
+                good = networkx.triangles(held)[0] == 3 and process_session.session() is not first
+                process_session.close()
             finally:
                 os._exit(0 if good else 1)
         self.assertEqual(os.waitpid(child, 0)[1], 0)
-        self.assertIs(sessions.session(), first)
+        self.assertIs(process_session.session(), first)
         self.assertEqual(networkx.triangles(held)[0], 3)
 
     def test_server(self):
         """`connect` is a server's address."""
         with support.Relay() as relay, settings(connect='127.0.0.1:%d' % relay.port):
             self.assertEqual(networkx.triangles(networkx.complete_graph(3), backend='spmat'), {0: 1, 1: 1, 2: 1})
-            sessions.close()
+            process_session.close()
 
 
 class Imports(Case):
@@ -395,7 +395,7 @@ class Imports(Case):
     def test_nothing_before_it_is_asked(self):
         """networkx' import brings what names the functions, and nothing else of spmat."""
         ran = self.run_python('import sys, networkx; print(sorted(name for name in sys.modules if name.startswith("spmat")))')
-        self.assertEqual(ran.stdout, "['spmat', 'spmat.networkx', 'spmat.networkx.info', 'spmat.networkx.settings']\n", ran.stderr)
+        self.assertEqual(ran.stdout, "['spmat', 'spmat.networkx', 'spmat.networkx.backend_info', 'spmat.networkx.settings']\n", ran.stderr)
 
     def test_quiet_end(self):
         """A process that ends with a session open says nothing."""

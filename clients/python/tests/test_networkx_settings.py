@@ -13,8 +13,8 @@ try:
     import networkx
     from networkx.utils.backends import backends
     FOUND = 'spmat' in backends and hasattr(networkx, 'config')
-    from spmat.networkx import graph, sessions
-    from spmat.networkx.info import DEFAULTS
+    from spmat.networkx import graph, process_session
+    from spmat.networkx.backend_info import DEFAULTS
 except ImportError:
     FOUND = False
 
@@ -26,16 +26,16 @@ CAUSES = ('/no/such/program', '/no/such/program', 'status 0', 'none of spmat', '
 @contextlib.contextmanager
 def settings(**values):
     """Other settings for a while, and a process that wasn't told of anything yet."""
-    with networkx.config.backends.spmat(**values), mock.patch.object(sessions.Warned, 'is_told', False), \
-            mock.patch.object(sessions.Warned, 'last', None):
+    with networkx.config.backends.spmat(**values), mock.patch.object(process_session.Warned, 'is_told', False), \
+            mock.patch.object(process_session.Warned, 'last', None):
         yield
 
 
 @unittest.skipUnless(FOUND, 'no networkx 3.3 or above that finds the backend')
 class Case(unittest.TestCase):
     def setUp(self):
-        sessions.close()
-        self.addCleanup(sessions.close)
+        process_session.close()
+        self.addCleanup(process_session.close)
         self.graph = networkx.complete_graph(4)
 
 
@@ -45,7 +45,7 @@ class NoSession(Case):
         for values, words in zip(NO_SESSION, CAUSES):
             with self.subTest(**values), settings(**values), self.assertRaisesRegex(RuntimeError, words) as caught:
                 networkx.triangles(self.graph, backend='spmat')
-            self.assertIsInstance(caught.exception, sessions.NoSession)
+            self.assertIsInstance(caught.exception, process_session.NoSession)
             self.assertIsNotNone(caught.exception.__cause__)
 
     def test_on_server(self):
@@ -69,7 +69,7 @@ class NoSession(Case):
     def test_tried_again(self):
         """A failure isn't tried again at once, and is when settings change, or some time has passed."""
         with networkx.config(backend_priority=['spmat']), warnings.catch_warnings(), \
-                mock.patch.object(sessions, '_opened', side_effect=FileNotFoundError('gone')) as opened:
+                mock.patch.object(process_session, '_opened', side_effect=FileNotFoundError('gone')) as opened:
             warnings.simplefilter('ignore')
             with settings(least_edges=0):
                 for _ in range(3):
@@ -78,7 +78,7 @@ class NoSession(Case):
                 with networkx.config.backends.spmat(workers=1):
                     networkx.triangles(self.graph)
                 self.assertEqual(opened.call_count, 2)
-                sessions.Warned.last = sessions.Warned.last._replace(when=-2 * sessions.SECONDS)
+                process_session.Warned.last = process_session.Warned.last._replace(when=-2 * process_session.SECONDS)
                 networkx.triangles(self.graph)
                 self.assertEqual(opened.call_count, 3)
 
@@ -94,7 +94,7 @@ class NoSession(Case):
     def test_full_server(self):
         """A server without a seat is no session either."""
         busy = spmat.errors.refusal('busy')
-        with settings(), mock.patch.object(sessions, '_opened', side_effect=busy), self.assertRaisesRegex(RuntimeError, 'as many sessions'):
+        with settings(), mock.patch.object(process_session, '_opened', side_effect=busy), self.assertRaisesRegex(RuntimeError, 'as many sessions'):
             networkx.triangles(self.graph, backend='spmat')
 
 
@@ -123,7 +123,7 @@ class Settings(Case):
 
     def test_used(self):
         with networkx.config.backends.spmat(steps='1e6'):
-            self.assertEqual(sessions.session().budget().left, 10 ** 6)
+            self.assertEqual(process_session.session().budget().left, 10 ** 6)
 
     def test_pickle(self):
         held = networkx.config.backends.spmat

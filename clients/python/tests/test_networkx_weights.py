@@ -10,14 +10,14 @@ try:
     import networkx as nx
     from networkx.utils.backends import backends
     FOUND = 'spmat' in backends and hasattr(nx, 'config')
-    from spmat.networkx import sessions, units
+    from spmat.networkx import process_session, weight_scaling
 except ImportError:
     FOUND = False
 
 
 def tearDownModule():
     if FOUND:
-        sessions.close()
+        process_session.close()
 
 
 def weighted(kind, choices, seed=3, nodes=30, edges=110):
@@ -103,13 +103,13 @@ class Weights(unittest.TestCase):
     def test_units(self):
         for found, unit, values in (([.5, 1, 2.25], 100, [50, 100, 225]), ([1e-9, 3.0], 10 ** 9, [1, 3 * 10 ** 9]), ([2.0 ** -30], 1 << 30, [1]),
                                     ([.1, 1e22], 10, [1, 10 ** 23])):
-            self.assertEqual(units.whole_multiples(found, 'w', 0), (values, unit))
+            self.assertEqual(weight_scaling.whole_multiples(found, 'w', 0), (values, unit))
         for found in ([math.pi], [2.0 ** -41], [1e-12, .1]):
             with self.assertRaises(NotImplementedError):
-                units.whole_multiples(found, 'w', 0)
+                weight_scaling.whole_multiples(found, 'w', 0)
         for found in ([math.nan], [math.inf, .5]):
             with self.assertRaises(ValueError):
-                units.whole_multiples(found, 'w', 0)
+                weight_scaling.whole_multiples(found, 'w', 0)
 
 
 if __name__ == '__main__':

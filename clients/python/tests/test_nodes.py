@@ -4,7 +4,7 @@ import unittest
 import support  # noqa: F401 (finds the program)
 import spmat
 from spmat import blocks
-from spmat.notes import Nodes
+from spmat.metadata import Nodes
 
 NAMES = ['ann', 'bob', 'cid', 'dee']
 PAIRS = [(0, 1), (1, 2), (2, 0), (2, 3)]

@@ -6,8 +6,9 @@ from unittest import mock
 
 import graphs
 import spmat
-from spmat import algorithms, blocks, digits, market
-from spmat.algorithms import components, lines, small, strong, trees
+from spmat import algorithms, blocks
+from spmat.algorithms import components, frontier, spanning_forest, strong_components, tarjan
+from spmat.io import matrix_text, parse_integers
 from support import InSession, needs
 
 FORESTS = [graph for graph in graphs.UNDIRECTED if graph.count < 100]
@@ -47,13 +48,13 @@ class Ways(InSession):
 
     @contextlib.contextmanager
     def by_lists(self):
-        with mock.patch.object(market, 'find_numpy', lambda: None):
+        with mock.patch.object(matrix_text, 'find_numpy', lambda: None):
             yield
 
     @contextlib.contextmanager
     def by_numpy(self):
         with contextlib.ExitStack() as stack:
-            for module in (components, lines, strong, trees):
+            for module in (components, frontier, strong_components, spanning_forest):
                 stack.enter_context(mock.patch.object(module, 'FEW', 0))
             yield
 
@@ -66,14 +67,14 @@ class Ways(InSession):
                 want = least_of(strong_groups(near), graph.count)
                 for at_once, most, pulls in ((1 << 12, 1 << 18, 16), (0, 1 << 18, 16), (0, 1 << 18, 1), (0, 0, 1)):
                     if most or graph.count < 40:
-                        with mock.patch.object(strong, 'AT_ONCE', at_once), mock.patch.object(strong, 'SMALL', most), \
-                                mock.patch.object(strong, 'PULLS', pulls):
+                        with mock.patch.object(strong_components, 'AT_ONCE', at_once), mock.patch.object(strong_components, 'SMALL', most), \
+                                mock.patch.object(strong_components, 'PULLS', pulls):
                             G.kept.pop('transpose', None)
                             self.assertEqual(algorithms.strongly_connected_components(G).to_list(), want)
         for graph in FORESTS:
             weight, parts = forest_weight(graph)
             forest = algorithms.minimum_spanning_forest(graph.matrix(self.session))
-            self.assertEqual((trees.weight_of(forest), forest.nvals), (weight, 2 * (graph.count - parts)), graph.name)
+            self.assertEqual((spanning_forest.weight_of(forest), forest.nvals), (weight, 2 * (graph.count - parts)), graph.name)
             self.assertEqual(forest.to_triples(), self.session.from_coo(*forest.to_coo(), *forest.shape).to_triples())
 
     def test_lists(self):
@@ -127,7 +128,7 @@ class Ways(InSession):
             for i, j in edges:
                 near[i].add(j)
             rows, columns = [i for i, _ in edges], [j for _, j in edges]
-            at, labels = small.strong_components(rows, columns)
+            at, labels = tarjan.strong_components(rows, columns)
             out = list(range(30))
             for i, label in zip(at, labels):
                 out[i] = label
@@ -146,13 +147,13 @@ class Digits(unittest.TestCase):
                      random_.choice(ends) if k % 7 == 0 else random_.randrange(-1 << random_.randrange(1, 63), 1 << 40)) for k in range(many)]
             text = b''.join(b'%d %d %d\n' % line for line in made)
             for wanted in ((0, 1, 2), (1, 2), (2,), (1,), (0,)):
-                got = digits.fields(text, wanted)
+                got = parse_integers.fields(text, wanted)
                 self.assertEqual([one.tolist() for one in got], [[line[field] for line in made] for field in wanted])
 
     def test_short_chunks(self):
         text = b''.join(b'%d %d %d\n' % (k, 7 * k, -k) for k in range(1, 4000))
-        with mock.patch.object(digits, 'CHUNK', 64), mock.patch.object(digits, 'SHORT', 0):
-            rows, columns, values = digits.fields(text, (0, 1, 2))
+        with mock.patch.object(parse_integers, 'CHUNK', 64), mock.patch.object(parse_integers, 'SHORT', 0):
+            rows, columns, values = parse_integers.fields(text, (0, 1, 2))
         self.assertEqual((rows.sum(), columns.sum(), values.sum()), (7998000, 55986000, -7998000))
 
 
@@ -172,9 +173,9 @@ class Loading(InSession):
                 A = self.s.from_coo(rows, columns, values, 5, 5)
                 want = [1, 1, 1] if bare else list(values)
                 self.assertEqual(A.to_dict(), {(int(i), int(j)): int(v) for i, j, v in zip(rows, columns, want)})
-            self.assertIn(b'pattern', market.write(market.Triples(rows, columns, kind([1, 1, 1]), 5, 5), ones=True))
-            self.assertNotIn(b'pattern', market.write(market.Triples(rows, columns, kind([1, 1, 1]), 5, 5)))
-            self.assertNotIn(b'pattern', market.write(market.Triples(rows, columns, kind([1, 1, 0]), 5, 5), ones=True))
+            self.assertIn(b'pattern', matrix_text.write(matrix_text.Triples(rows, columns, kind([1, 1, 1]), 5, 5), ones=True))
+            self.assertNotIn(b'pattern', matrix_text.write(matrix_text.Triples(rows, columns, kind([1, 1, 1]), 5, 5)))
+            self.assertNotIn(b'pattern', matrix_text.write(matrix_text.Triples(rows, columns, kind([1, 1, 0]), 5, 5), ones=True))
 
     def test_symmetric(self):
         want = {(0, 1): 5, (1, 0): 5, (3, 2): -6, (2, 3): -6, (4, 4): 7}

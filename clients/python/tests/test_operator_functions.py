@@ -13,7 +13,7 @@ import operator_functions as functions
 import support
 import spmat
 from operator_model import EDGES, READY, SIGNLESS, Plain, differences, meaning, operands_of, signed
-from spmat.operators.functions import cache
+from spmat.operators.compiler import cache
 
 TIMES = 120
 

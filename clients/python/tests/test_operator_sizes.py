@@ -9,8 +9,8 @@ import operator_sizes
 import reference_code
 import spmat
 from operator_model import Plain, meaning, operands_of
-from spmat.compile import FromC
-from spmat.operators import grammar
+from spmat.operators import assembly
+from spmat.operators.clang import FromC
 
 
 class Sizes(unittest.TestCase):
@@ -78,7 +78,7 @@ class Shown(unittest.TestCase):
     def test_code_as_assembly(self):
         """Each mnemonic with each form of its operands, as code and back."""
         forms = {'D': ['r3'], 'R': ['r3'], 'S': ['r4'], 'B': ['r10'], 'V': ['r4', '-7'], 'N': ['-8'], 'J': ['2']}
-        lines = [(name + ' ' + ', '.join(operands)).strip() for name, form in grammar.OPERANDS.items()
+        lines = [(name + ' ' + ', '.join(operands)).strip() for name, form in assembly.OPERANDS.items()
                  for operands in itertools.product(*(forms[letter] for letter in form))]
         self.assertGreater(len(lines), 116)
         op = spmat.code('unary', reference_code.code_of('\n'.join(lines) + '\n'))

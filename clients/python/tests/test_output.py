@@ -7,7 +7,7 @@ import unittest
 
 import command_line
 import support
-from spmat.commands import output, table
+from spmat.cli import algorithm_table, output
 
 GRAPH = '%%MatrixMarket matrix coordinate pattern symmetric\n6 6 7\n2 1\n3 1\n3 2\n4 3\n5 4\n6 4\n6 5\n'
 ROWS = [('Anna', 'Dvořák, Emil', 3), ('a "b"', 'c', -2)]
@@ -75,7 +75,7 @@ class EveryCommand(command_line.CommandLine):
     def test_algorithms(self):
         words = {'k': ['--k', '2'], 'sources': ['--source', 'a'], 'pair': ['--pair', 'a', 'd'],
                  'target': ['--target', 'd']}
-        for name, algorithm in table.ALGORITHMS.items():
+        for name, algorithm in algorithm_table.ALGORITHMS.items():
             more = [word for option in algorithm.options for word in words.get(option, [])]
             graph = 'path.csv' if name in ('topological-levels', 'longest-paths', 'bipartite-sides') else 'graph.csv'
             fields, objects, rows, plain = self.forms(name, graph, *more, '--quiet')

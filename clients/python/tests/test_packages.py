@@ -22,7 +22,7 @@ def named():
 
 class Packages(unittest.TestCase):
     def test_all_are_installed(self):
-        self.assertIn('spmat.commands', folders())
+        self.assertIn('spmat.cli', folders())
         self.assertEqual(named(), folders())
 
 

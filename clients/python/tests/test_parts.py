@@ -182,7 +182,7 @@ class Parts(graphs.OnGraphs):
 
     def test_betweenness_in_batches(self):
         graph = graphs.DIRECTED[2]
-        with mock.patch('spmat.algorithms.through.MOST_AT_ONCE', 7 * len(graph.edges)):
+        with mock.patch('spmat.algorithms.betweenness_centrality.MOST_AT_ONCE', 7 * len(graph.edges)):
             told = []
             got = algorithms.betweenness(graph.matrix(self.session), progress=lambda *words: told.append(words), weighted=True)
         self.near_to(got, map(sum, zip(*betweenness_by_values(graph))), graph.count)

@@ -11,7 +11,7 @@ from unittest import mock
 import support
 import spmat
 from spmat import blocks
-from spmat.blocks import pieces
+from spmat.blocks import chunked_input
 
 BANNER = support.BANNER.encode()
 
@@ -41,7 +41,7 @@ class Files(unittest.TestCase):
     def test_read_by_pieces(self):
         """Sorted and in any order, by pieces of a few lines and whole, with numpy where it is there."""
         for size in (1, 50, 700, 1 << 23):
-            with mock.patch.object(pieces, 'PIECE', size), mock.patch.object(pieces, 'ENTRIES', 1 + size // 24):
+            with mock.patch.object(chunked_input, 'PIECE', size), mock.patch.object(chunked_input, 'ENTRIES', 1 + size // 24):
                 for seed, (nrows, ncols, many) in enumerate(((30, 20, 200), (1, 50, 30), (2, 1, 2), (60, 60, 500))):
                     a = entries(seed, nrows, ncols, many)
                     for order in (sorted, shuffled):
@@ -59,7 +59,7 @@ class Files(unittest.TestCase):
                      b'%%MatrixMarket matrix array real symmetric\n2 2\n1\n2\n3\n',
                      b'\xef\xbb\xbf' + BANNER + b'2 2 1\r\n1 2 +3\r\n', BANNER + b'0 0 0\n', BANNER + b'5 0 0\n'):
             for size in (1, 1 << 23):
-                with mock.patch.object(pieces, 'PIECE', size), self.subTest(text=text, size=size):
+                with mock.patch.object(chunked_input, 'PIECE', size), self.subTest(text=text, size=size):
                     self.assertEqual(self.many.mmread(io.BytesIO(text)).to_text(), self.one.mmread(io.BytesIO(text)).to_text())
 
     def test_the_line_is_named(self):
@@ -68,7 +68,7 @@ class Files(unittest.TestCase):
                                  (b'3 3 4\n' + good, 'M9', 5), (b'3 3\n', 'M3', 2), (b'', 'M3', 2), (b'16777217 1 0\n', 'M4', 2),
                                  (b'3 3 1\n1 1\n', 'M5', 3), (b'3 3 1\n1 1 9223372036854775808\n', 'M7', 3), (b'3 3 1\n0 1 1\n', 'M6', 3)):
             for size in (1, 1 << 23):
-                with mock.patch.object(pieces, 'PIECE', size), self.subTest(body=body, size=size):
+                with mock.patch.object(chunked_input, 'PIECE', size), self.subTest(body=body, size=size):
                     with self.assertRaises(spmat.Refused) as caught:
                         self.many.mmread(io.BytesIO(BANNER + body))
                     self.assertEqual((caught.exception.rule, caught.exception.at), (rule, line))
@@ -110,9 +110,9 @@ class Files(unittest.TestCase):
         """What is made text at a time, of a file whose entries are counted and cut in three."""
         a = entries(3, 300, 300, 6000)
         seen = []
-        written = spmat.market.write
-        with mock.patch.object(pieces, 'PIECE', 4096), \
-                mock.patch.object(pieces.market, 'write', lambda triples: seen.append(len(triples.rows)) or written(triples)):
+        written = spmat.io.matrix_text.write
+        with mock.patch.object(chunked_input, 'PIECE', 4096), \
+                mock.patch.object(chunked_input.market, 'write', lambda triples: seen.append(len(triples.rows)) or written(triples)):
             X = self.many.mmread(io.BytesIO(text_of(a, 300, 300, shuffled)))
         self.assertEqual(seen[:3], [counts.nvals for counts in X.counts()])
         self.assertLess(max(seen), len(a) / 3 + 40)
@@ -121,7 +121,7 @@ class Files(unittest.TestCase):
         """The number of entries, and the bytes of a text, are limited for each block alone."""
         a = entries(4, 90, 90, 800)
         text = text_of(a, 90, 90)
-        with mock.patch.object(spmat.market, 'MOST_SIDE', 500), mock.patch.object(spmat.market, 'MOST_TEXT', 9000):
+        with mock.patch.object(spmat.io.matrix_text, 'MOST_SIDE', 500), mock.patch.object(spmat.io.matrix_text, 'MOST_TEXT', 9000):
             X = self.many.mmread(io.BytesIO(text))
             self.assertEqual(X.nvals, len(a))
             with self.assertRaisesRegex(spmat.TooLarge, 'M4'):
@@ -144,7 +144,7 @@ class Files(unittest.TestCase):
             with open(path, 'ab') as file:
                 file.write(b' ')
             with self.assertRaisesRegex(ValueError, 'has changed since it was written'):
-                s.results([s.submit(0, 'a block', blocks.tasks.read, path, b'')], ['a block'])
+                s.results([s.submit(0, 'a block', blocks.worker_tasks.read, path, b'')], ['a block'])
             s.close()
             self.assertEqual(os.listdir(folder), [])
 
@@ -156,7 +156,7 @@ class Others(unittest.TestCase):
 
     def test_generator_of_edges(self):
         a = entries(1, 60, 40, 500)
-        with mock.patch.object(pieces, 'CHUNK', 7):
+        with mock.patch.object(chunked_input, 'CHUNK', 7):
             for order in (sorted, shuffled):
                 X = self.many.from_edges(((i, j, a[i, j]) for i, j in order(a)), 60, 40)
                 self.assertEqual(X.to_dict(), a)

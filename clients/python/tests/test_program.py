@@ -10,7 +10,7 @@ from unittest import mock
 
 import support
 import spmat
-from spmat import program
+from spmat._client import server_program
 
 TELL = '#!/bin/sh\necho "$0 $*"\n'
 
@@ -29,8 +29,8 @@ class Order(unittest.TestCase):
 
     def words(self, given=None, own=None, **variables):
         environment = {'PATH': os.path.dirname(shutil.which('sh')), **variables}
-        with mock.patch.dict(os.environ, environment, clear=True), mock.patch.object(program, 'carried', lambda: own):
-            return program.program_words(given)
+        with mock.patch.dict(os.environ, environment, clear=True), mock.patch.object(server_program, 'carried', lambda: own):
+            return server_program.program_words(given)
 
     def test_each_comes_before_those_behind_it(self):
         own, found = os.path.join(self.folder, 'own'), os.path.join(self.folder, 'spmat')
@@ -49,7 +49,7 @@ class Order(unittest.TestCase):
         self.assertEqual(self.words(['ssh', 'x y']), ['ssh', 'x y'])
 
     def test_a_checkout_carries_none(self):
-        self.assertIsNone(program.carried())
+        self.assertIsNone(server_program.carried())
 
 
 class Carried(unittest.TestCase):
@@ -72,17 +72,17 @@ class Carried(unittest.TestCase):
 
     def test_it_is_found(self):
         os.chmod(self.own, 0o755)
-        said = self.ran('from spmat.program import program_words as w; print(w())')
+        said = self.ran('from spmat._client.server_program import program_words as w; print(w())')
         self.assertEqual(said.stdout.strip(), str([os.path.realpath(self.own)]).replace(os.path.realpath(self.folder), self.folder))
 
     def test_the_command_becomes_it(self):
         os.chmod(self.own, 0o755)
-        said = self.ran('from spmat.program import main; main()')
+        said = self.ran('from spmat._client.server_program import main; main()')
         self.assertEqual(said.stdout, '%s run --steps 5\n' % self.own)
 
     def test_what_cannot_be_started_is_none(self):
         os.chmod(self.own, 0o644)
-        said = self.ran('from spmat.program import main; main()')
+        said = self.ran('from spmat._client.server_program import main; main()')
         self.assertEqual((said.returncode, said.stderr), (1, 'spmat: this package carries no program\n'))
 
     def test_none_at_all(self):

@@ -11,10 +11,10 @@ import unittest
 
 import support
 import spmat
-from spmat import blocks, reading
-from spmat.reading import bulk, dimacs, edges, labels, tables
+from spmat import blocks
+from spmat.io import dimacs, edgelist_matrix, edgelist_numpy, edgelist_text, factorize, graph_files
 
-PIECE = bulk.PIECE
+PIECE = edgelist_numpy.PIECE
 DATA = os.path.join(os.path.dirname(os.path.abspath(__file__)), 'data')
 
 
@@ -221,20 +221,20 @@ class Both(Case):
 
     def pair(self, text, **layout):
         got = []
-        modules = (tables, dimacs, edges)
+        modules = (edgelist_text, dimacs, edgelist_matrix)
         for few in (1 << 62, 0):
             before = [module.FEW for module in modules]
-            bulk.PIECE = 24                        # so that these texts are read by pieces
+            edgelist_numpy.PIECE = 24                        # so that these texts are read by pieces
             for module in modules:
                 module.FEW = few
             try:
-                request = reading.Request(layout=reading.Layout(**layout))
-                triples, notes = reading.read('f', text, request, True)
+                request = graph_files.Request(layout=graph_files.Layout(**layout))
+                triples, notes = graph_files.read('f', text, request, True)
                 got.append([list(map(int, part)) for part in triples[:3]] + [triples[3:], notes.rows, notes.columns, notes.weighted])
             except ValueError as fault:
                 got.append(str(fault))
             finally:
-                bulk.PIECE = PIECE
+                edgelist_numpy.PIECE = PIECE
                 for module, value in zip(modules, before):
                     module.FEW = value
         self.assertEqual(got[0], got[1], text)
@@ -308,20 +308,20 @@ class Both(Case):
         r = random.Random(13)
         for span in (5, 50, 1 << 50):
             columns = [numpy.array([r.randrange(-span, span) for _ in range(40)]) for _ in 'ab']
-            codes, ascend = labels.ascending(columns)
+            codes, ascend = factorize.ascending(columns)
             self.assertEqual(ascend.tolist(), sorted({*columns[0].tolist(), *columns[1].tolist()}))
             self.assertTrue(all((ascend[code] == column).all() for code, column in zip(codes, columns)))
         rows = numpy.array([[r.randrange(3), r.randrange(3)] for _ in range(60)], numpy.uint64)
-        want = labels.first_seen(rows)
+        want = factorize.first_seen(rows)
         seen = list(dict.fromkeys(map(tuple, rows.tolist())))
         self.assertEqual([seen[code] for code in want[0]], list(map(tuple, rows.tolist())))
         for name, value in (('_pandas', lambda: None), ('MIX', (0, 0))):
-            before = getattr(labels, name)
-            setattr(labels, name, value)
+            before = getattr(factorize, name)
+            setattr(factorize, name, value)
             try:
-                got = labels.first_seen(rows)
+                got = factorize.first_seen(rows)
             finally:
-                setattr(labels, name, before)
+                setattr(factorize, name, before)
             self.assertEqual([part.tolist() for part in got], [part.tolist() for part in want])
 
     @support.needs('numpy')
@@ -344,12 +344,12 @@ class Both(Case):
         """The quick way is taken for plain lists."""
         for text in (b'0 1\n1 2\n', b'# c\n5\t7\t2.5\n', b'source,target\r\n"a","b c"\r\n\r\n# c\r\nd , e\r\n', 'ä b 1.5\nö\tü  2\n'.encode(),
                      b'a,12345678901234567,5\n"long names are words of eight bytes",b,-7\n', b'w;from;to\n1;a;b\n', b'source,target,weight\n1,2,3\n4,5,6\n', b'1 2 3\r\n2 3 4\r\n'):
-            before, tables.FEW = tables.FEW, 0
+            before, edgelist_text.FEW = edgelist_text.FEW, 0
             try:
-                table = tables.laid_out('f', text, reading.Layout())
-                self.assertIsNotNone(tables._in_bulk(table, 10), text)
+                table = edgelist_text.laid_out('f', text, graph_files.Layout())
+                self.assertIsNotNone(edgelist_text._in_bulk(table, 10), text)
             finally:
-                tables.FEW = before
+                edgelist_text.FEW = before
         before, dimacs.FEW = dimacs.FEW, 0
         try:
             text = b'c\np sp 3 2\na 1 2 5\na 2 3 6\n'

@@ -6,7 +6,7 @@ import unittest
 
 import support
 import spmat
-from spmat.notes import COMMUTE
+from spmat.metadata import COMMUTE
 
 TOP = support.TOP
 FOLDER = os.path.join(os.path.dirname(os.path.abspath(spmat.__file__)), 'operators')

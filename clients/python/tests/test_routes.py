@@ -8,7 +8,7 @@ import graphs
 import support
 import spmat
 from spmat import algorithms
-from spmat.algorithms import routes
+from spmat.algorithms import shortest_path_trees
 
 
 def simple_paths(near, edges, source, target):
@@ -107,7 +107,7 @@ class Routes(graphs.OnGraphs):
         graph = by_chance(1500, 4, list(range(1, 30)), 5)
         G = graph.matrix(self.s)
         with_arrays = [algorithms.shortest_paths(G, 0, weighted=weighted).predecessors.to_dict() for weighted in (False, True)]
-        with mock.patch('spmat.market.find_numpy', lambda: None):
+        with mock.patch('spmat.io.matrix_text.find_numpy', lambda: None):
             by_lists = [algorithms.shortest_paths(G, 0, weighted=weighted).predecessors.to_dict() for weighted in (False, True)]
         self.assertEqual(with_arrays, by_lists)
 

@@ -7,7 +7,7 @@ import unittest
 
 import support
 import spmat
-from spmat import channels, names, wire
+from spmat._client import connection, handles, transport
 
 
 class Versions(unittest.TestCase):
@@ -95,7 +95,7 @@ class Overwritten(unittest.TestCase):
         return {key: s.connection.command('show ' + key).body.split(b'\n')[1] for key in ('_1', '_2', '_3')}
 
     def test_large_ones(self):
-        n = names.SMALL + 1
+        n = handles.SMALL + 1
         with spmat.Session() as s:
             A, B = s.from_triples([], n, 1), s.from_triples([(0, 0, 1)], n, 1)
             C = B.apply('ainv').wait()
@@ -265,7 +265,7 @@ class Interrupted(unittest.TestCase):
             self.assertIsNone(process.poll())                                      # the batch goes on
             s.close()
             self.assertEqual(process.returncode, -signal.SIGKILL)
-            self.assertLess(time.monotonic() - stopped[0], channels.SECONDS_TO_QUIT)   # it wasn't waited for
+            self.assertLess(time.monotonic() - stopped[0], transport.SECONDS_TO_QUIT)   # it wasn't waited for
             with self.assertRaises(spmat.Closed) as said:
                 s.budget()
             self.assertIn('while a reply was awaited', str(said.exception))

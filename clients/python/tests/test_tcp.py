@@ -7,7 +7,7 @@ import unittest
 
 import support
 import spmat
-from spmat import wire
+from spmat._client import connection
 
 
 class Served:
@@ -107,10 +107,10 @@ class Relayed(unittest.TestCase):
 
     def test_busy_ends(self):
         with support.Relay(seats=0) as server:
-            connection = wire.Connection.to_server(wire.Address('127.0.0.1', server.port))
+            raw = connection.Connection.to_server(connection.Address('127.0.0.1', server.port))
             with self.assertRaises(spmat.Busy):
-                connection.command('budget')
-            self.assertIn('no busy', connection.ended)
+                raw.command('budget')
+            self.assertIn('no busy', raw.ended)
 
     def test_nobody_listens(self):
         with socket.create_server(('127.0.0.1', 0)) as taken:

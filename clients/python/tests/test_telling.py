@@ -7,9 +7,9 @@ import unittest
 
 import support
 import spmat
-from spmat import blocks, limits
+from spmat import blocks, job_limits
 from spmat.errors import refusal
-from spmat.operators import flow, grammar, telling
+from spmat.operators import assembly, dataflow, diagnostics
 
 LEFT_UNSET = '''; r6 is set on one way alone
 mov64 r3, r1
@@ -85,14 +85,14 @@ class Registers(Case):
                 ops.append(op)
         for op in ops:
             want = self.s.types(op)
-            for steps in (flow.steps_of_text(self.s.dis(op)), self.steps_of_code(op)):
-                before = flow.walk(op.kind, steps)
-                got = ['%d %s' % (step.slot, ' '.join(map(flow.tag, before[step.slot])) if step.slot in before else '-') for step in steps]
+            for steps in (dataflow.steps_of_text(self.s.dis(op)), self.steps_of_code(op)):
+                before = dataflow.walk(op.kind, steps)
+                got = ['%d %s' % (step.slot, ' '.join(map(dataflow.tag, before[step.slot])) if step.slot in before else '-') for step in steps]
                 self.assertEqual(got, want, op.text)
 
     def steps_of_code(self, op):
         from reference_code import code_of
-        return flow.steps_of_code(code_of(self.s.dis(op)))
+        return dataflow.steps_of_code(code_of(self.s.dis(op)))
 
     def random_text(self, r):
         lines = ['mov64 r0, r1', 'mov64 r2, r10']
@@ -140,8 +140,8 @@ class Lines(Case):
 
     def test_each_mnemonic_has_a_form(self):
         """The table of mnemonics is the server's: each is taken in its form, with wrong operands it isn't."""
-        for mnemonic, form in grammar.OPERANDS.items():
-            self.assertIn(mnemonic, grammar.form_of(mnemonic))
+        for mnemonic, form in assembly.OPERANDS.items():
+            self.assertIn(mnemonic, assembly.form_of(mnemonic))
             operands = {'D': 'r2', 'S': 'r1', 'R': 'r1', 'V': '1', 'N': '-8', 'J': '0', 'B': 'r10'}
             bits = {'ldx16': '-8', 'st64': '1'}
             line = (mnemonic + ' ' + ', '.join(operands[letter] for letter in form)).strip()
@@ -174,7 +174,7 @@ class Limits(Case):
         self.assertIn('20,000,000 multiplications', str(said.exception))
         few = self.s.from_coo(range(5), [0] * 5, 1, 5000, 5000)
         self.assertEqual(self.ones.mxm(self.wide, mask=few.S).nvals, 5)
-        union = limits.explained(refusal('J7', command='union a b c'), 'union', [spmat.binary.plus], [self.ones, self.ones])
+        union = job_limits.explained(refusal('J7', command='union a b c'), 'union', [spmat.binary.plus], [self.ones, self.ones])
         self.assertIn('10,000 entries of both together, and 16,777,216 is the most of a job: select() some rows', str(union))
 
     def test_a_price_too_high(self):
@@ -216,13 +216,13 @@ class Limits(Case):
 
 class Scripts(unittest.TestCase):
     def test_forms_of_commands(self):
-        from spmat.commands import script
+        from spmat.cli import script_command
         import argparse
         said = io.StringIO()
         options = argparse.Namespace(quiet=True, connect=None, steps=100, workers=1, program=None, keep_going=True,
                                      csv=False, json=False, tls=False, cacert=None, cert=None, key=None)
         with contextlib.redirect_stderr(said), contextlib.redirect_stdout(io.StringIO()):
-            script.run_lines(iter(['product P plus G G\n', 'reduce D\n', 'frobnicate\n']), '.', options)
+            script_command.run_lines(iter(['product P plus G G\n', 'reduce D\n', 'frobnicate\n']), '.', options)
         self.assertIn('it is written `product OUT ADD MUL A B [mask M]`', said.getvalue())
         self.assertIn('it is written `reduce OUT OP A [mask M]`', said.getvalue())
         self.assertIn('commands are matrix, asm, op', said.getvalue())
@@ -233,7 +233,7 @@ class Names(unittest.TestCase):
         found = dir(spmat.semiring)
         self.assertIn('min_plus', found)
         self.assertEqual(sum('_' in name and not name.startswith('_') for name in found), len(list(spmat.binary)) ** 2)
-        self.assertIn('telling', telling.__name__)
+        self.assertIn('telling', diagnostics.__name__)
 
 
 if __name__ == '__main__':

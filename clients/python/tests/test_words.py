@@ -4,8 +4,8 @@ import unittest
 import support  # noqa: F401 (finds the program)
 import spmat
 from spmat import operators
-from spmat.compile import FromC
-from spmat.wire import checked_settings
+from spmat._client.connection import checked_settings
+from spmat.operators.clang import FromC
 
 
 class Words(unittest.TestCase):

@@ -43,29 +43,29 @@ What a graph has to be is looked at where it is first asked, by a job or two, an
 """
 import inspect
 
-from ..certain import guarded
-from .batches import k_hop
-from .centralities import Centrality, closeness, eigenvector, hits, katz
-from .common import Progress, undirected
-from .communities import label_propagation
+from ..pricing.lower_bounds import guarded
+from .all_pairs_paths import all_pairs, path_lengths, transitive_closure
+from .betweenness_centrality import betweenness
+from .bfs import bfs_levels, bfs_parents
+from .bipartite import bipartite_sides
+from .centrality import Centrality, closeness, eigenvector, hits, katz
 from .components import connected_components, maximal_independent_set
-from .cores import core_numbers, k_core
-from .counts import clustering, degrees, triangle_count, triangles
-from .distances import Bounds, diameter, distance_counts, eccentricity
-from .orders import CycleError, longest_paths, topological_levels
-from .pairs import all_pairs, path_lengths, transitive_closure
-from .louvain import Communities, louvain, modularity
-from .paths import sssp
-from .graph import GraphMatrix
-from .ranks import pagerank
-from .routes import NoPath, Path, PathTree, has_path, k_shortest_paths, shortest_path, shortest_paths
-from .sides import bipartite_sides
-from .similarity import common_neighbours, jaccard, shared_neighbours, squares
-from .strong import strongly_connected_components
-from .through import betweenness
-from .traversal import bfs_levels, bfs_parents
-from .trees import minimum_spanning_forest
-from .trusses import k_truss
+from .core_decomposition import core_numbers, k_core
+from .distance_measures import Bounds, diameter, distance_counts, eccentricity
+from .label_propagation_communities import label_propagation
+from .louvain_communities import Communities, louvain, modularity
+from .multi_source_bfs import k_hop
+from .neighbour_similarity import common_neighbours, jaccard, shared_neighbours, squares
+from .page_rank import pagerank
+from .protocols import GraphMatrix
+from .shortest_path_trees import NoPath, Path, PathTree, has_path, k_shortest_paths, shortest_path, shortest_paths
+from .single_source_paths import sssp
+from .spanning_forest import minimum_spanning_forest
+from .strong_components import strongly_connected_components
+from .topological_order import CycleError, longest_paths, topological_levels
+from .triangle_counts import clustering, degrees, triangle_count, triangles
+from .truss import k_truss
+from .utils import Progress, undirected
 
 __all__ = ['all_pairs', 'betweenness', 'bfs_levels', 'bfs_parents', 'bipartite_sides', 'Bounds', 'Centrality', 'closeness',
            'clustering', 'common_neighbours', 'Communities', 'connected_components', 'core_numbers', 'CycleError', 'degrees',

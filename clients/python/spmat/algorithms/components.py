@@ -4,15 +4,15 @@ from __future__ import annotations
 import collections
 from typing import Any, Generic, List, Optional
 
-from .. import market
-from ..market import Triples
+from ..io import matrix_text
+from ..io.matrix_text import Triples
 from ..operators import Semiring, binary
-from .chance import drawn
-from .common import Progress, beside, order, tell
-from .facts import check_undirected, found, is_both_ways, transpose_of
-from .graph import M, Numbers
-from .lines import FEW, Columns, Lines, Rows, Vector, ones_like
-from .traversal import lines_of
+from .bfs import lines_of
+from .frontier import Columns, FEW, Lines, Rows, Vector, ones_like
+from .graph_properties import check_undirected, found, is_both_ways, transpose_of
+from .protocols import M, Numbers
+from .random_vector import drawn
+from .utils import Progress, beside, order, tell
 
 THERE = Semiring(binary.first, binary.zero)      # "one of them is a neighbour", marked 0
 GREATEST = Semiring(binary.max, binary.first)
@@ -23,7 +23,7 @@ class Labels:
     """The label of each vertex, kept by the client: the least vertex that it is known to be joined with."""
 
     def __init__(self, count: int) -> None:
-        self.numpy = market.find_numpy() if count >= FEW else None
+        self.numpy = matrix_text.find_numpy() if count >= FEW else None
         self.of: Numbers = list(range(count)) if self.numpy is None else self.numpy.arange(count)
 
     def join(self, first: Numbers, second: Numbers) -> bool:
@@ -69,7 +69,7 @@ class Labels:
 
     def at(self, vertices: Numbers) -> Numbers:
         """The labels of some vertices, of the same kind."""
-        if market.is_array(vertices):
+        if matrix_text.is_array(vertices):
             return self.of[vertices]
         return [int(self.of[i]) for i in vertices]
 

@@ -8,11 +8,11 @@
 With `blocks.Sessions(blocks.Dask(client))` the sessions are those of the workers of a `distributed.Client`. See `Sessions` and
 `BlockMatrix`; docs/scaling.md says what it costs, and from which size it pays.
 """
-from .cuts import Cut
 from .dask import Dask
-from .engines import Engine
 from .errors import BlockFailed, VersionMismatch
+from .executor import Engine
 from .matrix import BlockMatrix
+from .row_partition import Cut
 from .sessions import Sessions
 from .threads import Threads
 

@@ -6,19 +6,20 @@ from __future__ import annotations
 
 from typing import TYPE_CHECKING, Any, Dict, Iterable, List, Optional, Sequence, Tuple, Type, Union
 
-from .. import convert, notes
+from .. import metadata
 from ..errors import SpmatError, refusal
 from ..indexing import Signs, picked
+from ..io import coo
 from ..mask import Mask, as_mask
 from ..matrix import Op, Ring, _of_kind, applied
 from ..operators import Semiring, binary, find_semiring, indexunary
-from . import absent, cuts, fronts, moves, products, showing, singly, tasks
-from .budgets import Work
-from .cuts import Cut
-from .place import Counts
+from . import frontier, html, matrix_products, one_job_each, repartition, row_partition, unsupported, worker_tasks
+from .row_partition import Cut
+from .shared_budget import Work
+from .worker_store import Counts
 
 if TYPE_CHECKING:
-    from ..algorithms.lines import Vector
+    from ..algorithms.frontier import Vector
     from .sessions import Sessions
 
 HELD = 16                                          # whole matrices that a result holds, so that it is soon made again
@@ -47,7 +48,7 @@ class BlockMatrix(Signs):
     def __init__(self, sessions: 'Sessions', futures: Sequence[Any], cut: Cut, ncols: int, name: Optional[str] = None,
                  holds: Iterable[Any] = ()) -> None:
         self.sessions, self.futures, self.cut = sessions, list(futures), cut
-        self.nrows, self.ncols, self.name, self.notes = cut.nrows, ncols, name or 'in blocks', notes.NOTHING
+        self.nrows, self.ncols, self.name, self.notes = cut.nrows, ncols, name or 'in blocks', metadata.NOTHING
         self.holds: Tuple[Any, ...] = tuple(dict.fromkeys(holds))[-HELD:] if sessions.engine.forgets else ()
         self._counts: Optional[List[Counts]] = None
         self._whole: Any = None
@@ -70,7 +71,7 @@ class BlockMatrix(Signs):
         return '<BlockMatrix %s %dx%d, %d blocks>' % (self.name, *self.shape, self.cut.blocks)
 
     def _repr_html_(self) -> str:
-        return showing.matrix(self)
+        return html.matrix(self)
 
     # -- what it is
 
@@ -85,7 +86,7 @@ class BlockMatrix(Signs):
         return Mask(self, value=True)
 
     def __getattr__(self, name: str) -> Any:
-        raise AttributeError(absent.words('Matrix', name, self))
+        raise AttributeError(unsupported.words('Matrix', name, self))
 
     def __getitem__(self, at: Any) -> Any:
         """`G[i, j]`, `G[i, :]`, `G[rows, columns]`; see `Matrix`."""
@@ -100,7 +101,7 @@ class BlockMatrix(Signs):
         """The sizes, entries, price and steps of each block, once all are made."""
         if self._counts is None:
             labels = [self.cut.label(k) for k in range(self.cut.blocks)]
-            told = [self.sessions.submit(k, label, tasks.told, future) for k, (label, future) in enumerate(zip(labels, self.futures))]
+            told = [self.sessions.submit(k, label, worker_tasks.told, future) for k, (label, future) in enumerate(zip(labels, self.futures))]
             try:
                 self._counts = self.sessions.results(told, labels)
             except SpmatError:
@@ -153,33 +154,33 @@ class BlockMatrix(Signs):
         """Each entry's answer. In the GraphBLAS GrB_apply."""
         sent = applied(op, right, left)
         args = [sent.op, sent.thunk] if sent.op.kind == 'index' else [sent.op]
-        return self.job('apply', [], args, told=notes.of_applied(self.notes, sent.op, sent.even), mask=mask, name=name)
+        return self.job('apply', [], args, told=metadata.of_applied(self.notes, sent.op, sent.even), mask=mask, name=name)
 
     def select(self, op: Op, thunk: int = 0, *, mask: MaskLike = None, name: Optional[str] = None) -> 'BlockMatrix':
         """The entries for which an index operator's answer isn't 0. In the GraphBLAS GrB_select."""
-        found, thunk = _of_kind('index', op, 'select'), convert.word(thunk, 'thunk')
-        return self.job('select', [], [found, thunk], told=notes.of_selected(self.notes, found, thunk), mask=mask, name=name)
+        found, thunk = _of_kind('index', op, 'select'), coo.word(thunk, 'thunk')
+        return self.job('select', [], [found, thunk], told=metadata.of_selected(self.notes, found, thunk), mask=mask, name=name)
 
     def ewise_add(self, other: 'BlockMatrix', op: Op = 'plus', *, mask: MaskLike = None, name: Optional[str] = None) -> 'BlockMatrix':
         """op(x, y) where both have an entry, else a copy. In the GraphBLAS GrB_eWiseAdd; here `union`."""
         self.check_shape('union', other, self.shape)
-        told = notes.of_pair(self.notes, other.notes)
+        told = metadata.of_pair(self.notes, other.notes)
         return self.job('ewise_add', [other], [_of_kind('binary', op, 'union')], told=told, mask=mask, name=name)
 
     def ewise_mult(self, other: 'BlockMatrix', op: Op = 'times', *, mask: MaskLike = None, name: Optional[str] = None) -> 'BlockMatrix':
         """op(x, y) where both have an entry. In the GraphBLAS GrB_eWiseMult; here `both`."""
         self.check_shape('both', other, self.shape)
-        told = notes.of_pair(self.notes, other.notes)
+        told = metadata.of_pair(self.notes, other.notes)
         return self.job('ewise_mult', [other], [_of_kind('binary', op, 'both')], told=told, mask=mask, name=name)
 
     def reduce_rowwise(self, op: Op = 'plus', *, mask: MaskLike = None, name: Optional[str] = None) -> 'BlockMatrix':
         """A column: the fold of each row that isn't empty. In the GraphBLAS GrB_reduce by rows."""
-        told = notes.of_rows(self.notes)
+        told = metadata.of_rows(self.notes)
         return self.job('reduce_rowwise', [], [_of_kind('binary', op, 'reduce')], 1, told=told, mask=mask, name=name)
 
     def dup(self, *, mask: MaskLike = None, name: Optional[str] = None) -> 'BlockMatrix':
         """A copy; under a mask what of it lies there. Price and steps are those of the last of its jobs, as `Matrix` has it."""
-        return self.job('dup', [], [], told=notes.of_copy(self.notes), mask=mask, name=name)
+        return self.job('dup', [], [], told=metadata.of_copy(self.notes), mask=mask, name=name)
 
     def without(self, mask: Union['BlockMatrix', Mask], *, name: Optional[str] = None) -> 'BlockMatrix':
         """The entries outside a mask; see `Matrix.without`."""
@@ -193,9 +194,9 @@ class BlockMatrix(Signs):
         """What the GraphBLAS writes C<M, accum> = other; see `Matrix.update`."""
         self.check_shape('union', other, self.shape)
         op = None if accum is None else _of_kind('binary', accum, 'union')
-        made = self.job('update', [other], [op], told=notes.NOTHING, mask=mask, name=name, replace=replace)
+        made = self.job('update', [other], [op], told=metadata.NOTHING, mask=mask, name=name, replace=replace)
         where = as_mask(mask)
-        made.notes = notes.of_update(self.notes, other.notes, op is not None) if where is None else notes.of_update(
+        made.notes = metadata.of_update(self.notes, other.notes, op is not None) if where is None else metadata.of_update(
             self.notes, other.notes, op is not None, where.matrix.notes, value=where.value, complement=where.complement, replace=replace)
         return made
 
@@ -209,41 +210,41 @@ class BlockMatrix(Signs):
         return differ.nvals == self.nvals and differ.select(indexunary.nonzero).nvals == 0
 
     def job(self, method: str, others: Sequence['BlockMatrix'], args: Sequence[Any], ncols: Optional[int] = None, *,
-            told: notes.Notes, mask: MaskLike = None, name: Optional[str] = None, **options: Any) -> 'BlockMatrix':
+            told: metadata.Notes, mask: MaskLike = None, name: Optional[str] = None, **options: Any) -> 'BlockMatrix':
         """A method of Matrix at each block. The result has this matrix's rows and cut, and `told` is known of it without a mask."""
         width = self.ncols if ncols is None else ncols
         where = self._mask(mask, (self.nrows, width))
-        if not singly.is_single(method, where) and self.sessions.is_metered:
+        if not one_job_each.is_single(method, where) and self.sessions.is_metered:
             return self._singly(method, others, args, ncols, told, where, name, options)
-        there = [self, *(moves.recut(other, self.cut) for other in others)]
+        there = [self, *(repartition.recut(other, self.cut) for other in others)]
         held = self.masked(where)
         futures = self.sessions.batch([
-            Work(k, self.cut.label(k), tasks.job, (method, [matrix.futures[k] for matrix in there], held[k], list(args), options))
+            Work(k, self.cut.label(k), worker_tasks.job, (method, [matrix.futures[k] for matrix in there], held[k], list(args), options))
             for k in range(self.cut.blocks)])
         holds = [future for matrix in (*there, *([where.matrix] if where else [])) for future in matrix.holds]
         made = BlockMatrix(self.sessions, futures, self.cut, width, name, holds).of_job(FORMS[method])
         made.notes = noted(told, where)
         return made
 
-    def _singly(self, method: str, others: Sequence['BlockMatrix'], args: Sequence[Any], ncols: Optional[int], told: notes.Notes,
+    def _singly(self, method: str, others: Sequence['BlockMatrix'], args: Sequence[Any], ncols: Optional[int], told: metadata.Notes,
                 where: Optional[Mask], name: Optional[str], options: Dict[str, Any]) -> 'BlockMatrix':
         """The same by single jobs, under a mask."""
         assert where is not None
         if method == 'update':
             inside = others[0] if args[0] is None else self.ewise_add(others[0], args[0])
-            return singly.updated(self, inside, where, options['replace'], name)
+            return one_job_each.updated(self, inside, where, options['replace'], name)
         if method == 'dup':
-            made = singly.copied(self, where, name)
+            made = one_job_each.copied(self, where, name)
         else:
-            made = singly.under(lambda cut, called: self.job(method, others, args, ncols, told=told, mask=cut, name=called), where, name)
+            made = one_job_each.under(lambda cut, called: self.job(method, others, args, ncols, told=told, mask=cut, name=called), where, name)
         made.notes = noted(told, where)
         return made
 
-    def masked(self, where: Optional[Mask]) -> List[Optional[tasks.MaskPiece]]:
+    def masked(self, where: Optional[Mask]) -> List[Optional[worker_tasks.MaskPiece]]:
         """A mask at each block, cut as this matrix."""
         if where is None:
             return [None] * self.cut.blocks
-        matrix = moves.recut(where.matrix, self.cut)
+        matrix = repartition.recut(where.matrix, self.cut)
         return [(future, where.value, where.complement) for future in matrix.futures]
 
     def _mask(self, mask: MaskLike, shape: Tuple[int, int]) -> Optional[Mask]:
@@ -292,8 +293,8 @@ class BlockMatrix(Signs):
         where = self._mask(mask, (self.nrows, other.ncols))
         if associative is None:
             associative = other.ncols > 1 and ring.add in self.sessions.associative
-        made = products.made(self, other, products.Way(ring, where, parts), bool(associative), name)
-        told = notes.of_product(self.notes, other.notes, ring.mul, self is other)
+        made = matrix_products.made(self, other, matrix_products.Way(ring, where, parts), bool(associative), name)
+        told = metadata.of_product(self.notes, other.notes, ring.mul, self is other)
         made.notes = noted(told, where)
         waits = other.ncols != 1 or associative or self.sessions.engine.forgets
         return made.wait() if waits else made
@@ -321,20 +322,20 @@ class BlockMatrix(Signs):
     def reduce_scalar(self, op: Op = 'plus') -> Optional[int]:
         """The fold of all entries as a number, or None where there are none; the operator has to be associative. Each session
         folds its own rows, and a number a block goes on."""
-        return products.fold_all(self, _of_kind('binary', op, 'reduce'))[0]
+        return matrix_products.fold_all(self, _of_kind('binary', op, 'reduce'))[0]
 
     def reach(self, transpose: Optional['BlockMatrix'], front: 'Vector', ring: Tuple[Semiring, Semiring], large: bool) -> 'Vector':
         """A step of a search whose front the client has, for the algorithms: pushed along the rows that the front has, or where it is large
         pulled along those of the transpose."""
-        return fronts.step(self, transpose, front, ring, large)
+        return frontier.step(self, transpose, front, ring, large)
 
     @property
     def T(self) -> 'BlockMatrix':
         """The transpose, by text and without steps: each block's lines are sorted at its worker, and each block of the transpose gets
         some of each. A square matrix's is cut at the same rows, another's by entries. It is kept while this matrix is held."""
         if self._transposed is None:
-            self._transposed = moves.transposed(self)
-            self._transposed.notes = notes.turned(self.notes)
+            self._transposed = repartition.transposed(self)
+            self._transposed.notes = metadata.turned(self.notes)
         return self._transposed
 
     def diag(self) -> 'BlockMatrix':
@@ -345,39 +346,39 @@ class BlockMatrix(Signs):
         rows, columns, values = self.to_coo()
         at, count = (rows, self.nrows) if self.ncols == 1 else (columns, self.ncols)
         made = self.sessions.from_coo(at, at, values, count, count)
-        made.notes = notes.on_diagonal(self.notes)
+        made.notes = metadata.on_diagonal(self.notes)
         return made
 
     # -- where it is cut, and what it holds
 
     def recut(self, cut: Union[Cut, Sequence[int]]) -> 'BlockMatrix':
         """The same matrix, cut at other rows: by text, without steps. This matrix where it is cut so already."""
-        return moves.recut(self, cuts.checked(cut.bounds if isinstance(cut, Cut) else cut, self.nrows))
+        return repartition.recut(self, row_partition.checked(cut.bounds if isinstance(cut, Cut) else cut, self.nrows))
 
     def checkpoint(self) -> 'BlockMatrix':
         """The same matrix on texts that stand by themselves: should a worker be lost, nothing that came before is computed again.
         The texts lie in the sessions' `folder` where there is one, else with the engine's scheduler. For long loops whose result
         stands on all rounds; a product's result needs none of it (docs/scaling.md)."""
-        return moves.checkpoint(self)
+        return repartition.checkpoint(self)
 
     def texts(self) -> Iterable[bytes]:
         """The lines of the entries of each block, in order, one block at a time."""
-        return (lines for lines, _ in moves.lines(self))
+        return (lines for lines, _ in repartition.lines(self))
 
     def to_text(self) -> bytes:
         """The canonical Matrix Market text of the whole; TooLarge where a session wouldn't take it. `mmwrite` has no such limit."""
-        return cuts.text_of(*self.shape, moves.all_lines(self))
+        return row_partition.text_of(*self.shape, repartition.all_lines(self))
 
     def mmwrite(self, target: Any) -> None:
         """Writes the text block by block to a path, or to a file opened in binary; one block's text is held at a time."""
         if not hasattr(target, 'write'):
             with open(target, 'wb') as file:
                 return self.mmwrite(file)
-        target.write(cuts.head(*self.shape, self.nvals))
+        target.write(row_partition.head(*self.shape, self.nvals))
         for lines in self.texts():
             target.write(lines)
 
 
-def noted(told: notes.Notes, where: Optional[Mask]) -> notes.Notes:
+def noted(told: metadata.Notes, where: Optional[Mask]) -> metadata.Notes:
     """What is known of a job's result under a mask, as in one session."""
-    return told if where is None else notes.under(told, where.matrix.notes, where.value, where.complement)
+    return told if where is None else metadata.under(told, where.matrix.notes, where.value, where.complement)

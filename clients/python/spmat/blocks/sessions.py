@@ -10,23 +10,24 @@ import tempfile
 import weakref
 from typing import Any, Callable, Dict, Iterable, List, Optional, Sequence, Tuple, Union
 
-from .. import convert, pricing
+from .._client.connection import MOST_STEPS, MOST_WORKERS
+from .._client.job_queue import JobResult, Run
+from .._client.server_program import Program
 from ..errors import BudgetExceeded, SpmatError
-from ..jobs import JobResult, Run
-from ..operators import Op, Operator, find, telling
-from ..program import Program
+from ..io import coo
+from ..operators import Op, Operator, diagnostics, find
+from ..pricing import estimates
 from ..session import Budget
-from ..wire import MOST_STEPS, MOST_WORKERS
-from . import absent, tasks
-from .budgets import Ledger, Work
-from .cuts import Cut
-from .direct import Call
-from .engines import Engine, Progress
+from . import unsupported, worker_tasks
+from .dask_direct_calls import Call
 from .errors import AtBlock, VersionMismatch, in_all, named
-from .inputs import Inputs
+from .executor import Engine, Progress
+from .importers import Inputs
 from .matrix import BlockMatrix
-from .place import Settings, agree
+from .row_partition import Cut
+from .shared_budget import Ledger, Work
 from .threads import Threads
+from .worker_store import Settings, agree
 
 MOST_WAITING = 1024                                # results that are noted until those are passed over that are there
 
@@ -54,7 +55,7 @@ class Sessions(Inputs):
                  patience: Optional[float] = 10) -> None:
         _check_settings(steps, workers, patience)
         self.engine = engine if isinstance(engine, Engine) else Threads() if engine is None else Threads(engine)
-        self.blocks = self.engine.places if blocks is None else convert.whole(blocks, 'number of blocks')
+        self.blocks = self.engine.places if blocks is None else coo.whole(blocks, 'number of blocks')
         if self.blocks < 1:
             raise ValueError('1 block at least, not %d' % self.blocks)
         self.folder, self.progress = folder, progress
@@ -94,7 +95,7 @@ class Sessions(Inputs):
             self._spool.cleanup()
 
     def __getattr__(self, name: str) -> Any:
-        raise AttributeError(absent.words('Session', name, self))
+        raise AttributeError(unsupported.words('Session', name, self))
 
     def spool(self) -> Optional[str]:
         """Where texts of blocks lie that come from here: in `folder`, or where all sessions are on this machine in one that `close`
@@ -130,7 +131,7 @@ class Sessions(Inputs):
         """The name and the budget of each session, by the first of its workers."""
         found: Dict[str, Tuple[str, Tuple[str, Budget]]] = {}
         try:
-            told = self.engine.everywhere(self.settings, tasks.budget)
+            told = self.engine.everywhere(self.settings, worker_tasks.budget)
         except AtBlock as at:
             raise named(at.label, at.fault) from None
         for worker, (session, budget) in told.items():
@@ -143,17 +144,17 @@ class Sessions(Inputs):
         """How many tasks were done again, because a worker or its program was lost."""
         return self.engine.again(self.settings)
 
-    def check(self, op: Operator) -> telling.Check:
+    def check(self, op: Operator) -> diagnostics.Check:
         """What the verifier says of an operator; see `Session.check`. One of the sessions is asked."""
-        return self._one('', tasks.check, op)  # type: ignore[no-any-return]
+        return self._one('', worker_tasks.check, op)  # type: ignore[no-any-return]
 
     def dis(self, op: Operator) -> str:
         """An operator as assembly text; see `Session.dis`."""
-        return str(self._one('', tasks.dis, op))
+        return str(self._one('', worker_tasks.dis, op))
 
     def types(self, op: Operator) -> List[str]:
         """What the verifier knows before each instruction; see `Session.types`."""
-        return list(self._one('', tasks.types, op))
+        return list(self._one('', worker_tasks.types, op))
 
     # -- tasks
 
@@ -191,7 +192,7 @@ class Sessions(Inputs):
         self._check(price)
         futures = [self.submit(*work[:3], *work.args) for work in works]
         try:
-            self.results([self.submit(work.block, work.label, tasks.done, future) for work, future in zip(works, futures)], labels)
+            self.results([self.submit(work.block, work.label, worker_tasks.done, future) for work, future in zip(works, futures)], labels)
         finally:
             with contextlib.suppress(SpmatError):  # what came first is raised
                 self.budget()
@@ -215,7 +216,7 @@ class Sessions(Inputs):
     def _check(self, price: int) -> None:
         """BudgetExceeded where jobs of this price together are above what is left, with what the algorithm wanted that asks for them."""
         try:
-            with pricing.told():
+            with estimates.told():
                 self.ledger.check(price)
         except BudgetExceeded as fault:
             fault.block, fault.spent_in_all = '', self.ledger.budget.spent  # type: ignore[attr-defined]
@@ -232,7 +233,7 @@ class Sessions(Inputs):
 
     def _price(self, works: Sequence[Work], exact: bool) -> int:
         """The price of jobs together, or a bound of it."""
-        return sum(self.results([self.submit(work.block, work.label, tasks.priced, work.function, list(work.args), exact) for work in works],
+        return sum(self.results([self.submit(work.block, work.label, worker_tasks.priced, work.function, list(work.args), exact) for work in works],
                                 [work.label for work in works]))
 
     def submit(self, block: int, label: str, function: Callable[..., Any], *args: Any) -> Any:

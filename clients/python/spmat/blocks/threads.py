@@ -8,10 +8,10 @@ import weakref
 from typing import Any, Callable, Dict, Iterator, List, Sequence, Tuple
 
 from ..errors import Closed
-from . import tasks
-from .engines import Engine, Progress, Version
+from . import worker_tasks
 from .errors import AtBlock
-from .place import Before, Piece, Settings, Store, version_of
+from .executor import Engine, Progress, Version
+from .worker_store import Before, Piece, Settings, Store, version_of
 
 LOOK = 1.0                                         # seconds after which it is looked at what holds results up
 ATTEMPTS = 3                                       # times that a task is begun, where the program ends amid it
@@ -157,7 +157,7 @@ class _Maker:
         raise AssertionError
 
     def _make(self, recipe: Recipe, values: Any) -> Any:
-        value = tasks.perform(lambda: self._engine.store(self._settings, self._place), recipe.label, recipe.function, values)
+        value = worker_tasks.perform(lambda: self._engine.store(self._settings, self._place), recipe.label, recipe.function, values)
         if isinstance(value, Piece):
             recipe.last = weakref.ref(value)
         return value

@@ -13,11 +13,11 @@ from __future__ import annotations
 from typing import TYPE_CHECKING, Any
 
 if TYPE_CHECKING:
-    from .graphs import SpmatGraph, graph
-    from .sessions import session
+    from .process_session import session
+    from .spmat_graph import SpmatGraph, graph
 
 __all__ = ['SpmatGraph', 'graph', 'session']
-_PLACES = {'SpmatGraph': 'graphs', 'graph': 'graphs', 'session': 'sessions'}
+_PLACES = {'SpmatGraph': 'spmat_graph', 'graph': 'spmat_graph', 'session': 'process_session'}
 
 
 def __getattr__(name: str) -> Any:

@@ -5,12 +5,13 @@ from typing import Any, Dict, Iterator, List, Set, Tuple
 
 from networkx import NetworkXError
 
-from .. import algorithms, market
+from .. import algorithms
+from ..io import matrix_text
 from ..matrix import Matrix
-from .degrees import degree, need_nodes
-from .graphs import SpmatGraph
-from .serving import DIRECTED, UNDIRECTED, serves
-from .sessions import session
+from .degree import degree, need_nodes
+from .process_session import session
+from .registry import DIRECTED, UNDIRECTED, serves
+from .spmat_graph import SpmatGraph
 
 
 def labels(G: SpmatGraph) -> List[int]:
@@ -25,7 +26,7 @@ def strong_labels(G: SpmatGraph) -> List[int]:
 
 def parts(G: SpmatGraph, found: List[int]) -> List[Set[Any]]:
     """Sets of nodes by their labels, in the order of their first nodes."""
-    if len(found) > market.FEW // 16 and market.find_numpy() is not None:
+    if len(found) > matrix_text.FEW // 16 and matrix_text.find_numpy() is not None:
         return _by_sorting(G, found)
     out: Dict[int, Set[Any]] = {}
     for node, label in zip(G.nodes, found):
@@ -100,7 +101,7 @@ def condensed(G: SpmatGraph) -> Tuple[List[Set[Any]], Matrix]:
     rows = list(range(count))
     inside = session().from_coo(rows, at, 1, count, many)
     out = session().from_coo(at, rows, 1, many, count)
-    between = algorithms.common.product(algorithms.common.product(out, G.A, 'any_pair'), inside, 'any_pair')
+    between = algorithms.utils.product(algorithms.utils.product(out, G.A, 'any_pair'), inside, 'any_pair')
     return parts(G, found), between.select('offdiag')
 
 

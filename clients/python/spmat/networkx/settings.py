@@ -7,7 +7,7 @@ from typing import Any, Callable, Dict
 
 from networkx.utils.configs import Config          # pylint: disable=import-error  # from networkx 3.3 on
 
-from .info import DEFAULTS
+from .backend_info import DEFAULTS
 
 
 class Settings(Config):                             # type: ignore[misc]  # networkx has no types
@@ -49,12 +49,12 @@ def _connect(value: Any) -> str:
 
 
 def _steps(value: Any) -> int:
-    from ..wire import MOST_STEPS
+    from .._client.connection import MOST_STEPS
     return _within('steps', value, 0, MOST_STEPS, '0 (as many as there can be) to 2^62, also 1e9')
 
 
 def _workers(value: Any) -> int:
-    from ..wire import MOST_WORKERS
+    from .._client.connection import MOST_WORKERS
     return _within('workers', value, 0, MOST_WORKERS, '0 (one for each processor) to %d' % MOST_WORKERS)
 
 
@@ -68,7 +68,7 @@ def _scale(value: Any) -> int:
 
 def _within(name: str, value: Any, least: int, most: int, said: str) -> int:
     """A whole number, also as a word as the command line takes it."""
-    from ..convert import whole, whole_of_word
+    from ..io.coo import whole, whole_of_word
     try:
         number = whole_of_word(value) if isinstance(value, str) else whole(value)
     except (TypeError, ValueError):

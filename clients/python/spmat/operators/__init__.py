@@ -12,7 +12,7 @@ import os
 from dataclasses import dataclass, field
 from typing import Any, Callable, Dict, Iterator, List, Optional, Tuple, Union, overload
 
-from .grammar import without_labels
+from .assembly import without_labels
 
 KINDS = ('unary', 'binary', 'index')
 _FOLDER = os.path.dirname(os.path.abspath(__file__))
@@ -49,7 +49,7 @@ class Operator:
         return '<%s operator %s>' % (self.kind, self.name or "'%s ..'" % first if self.name or first else 'of %d slots' % (len(self.code or b'') // 8))
 
     def _repr_html_(self) -> str:
-        from .. import html
+        from ..display import html
         return html.operator(self)
 
     @property
@@ -80,7 +80,7 @@ class Operator:
         """The slot of each instruction, and its assembly text: of code, too."""
         if self.text is not None:
             return list(self.slots())
-        from .disassembly import lines_of_code
+        from .disassembler import lines_of_code
         return lines_of_code(self.code or b'')
 
     def origin(self) -> Tuple[str, str]:
@@ -123,7 +123,7 @@ class Semiring:
         return '<semiring %s_%s>' % (self.add.name or '?', self.mul.name or '?')
 
     def _repr_html_(self) -> str:
-        from .. import html
+        from ..display import html
         return html.semiring(self)
 
 
@@ -176,7 +176,7 @@ class Ready:
         `BinaryOp.register_anonymous`."""
         if function is None:
             return lambda function: self(function, name=name, check=check)
-        from .functions import operator_of
+        from .compiler import operator_of
         return operator_of(self._kind, function, name, check)
 
     def register_anonymous(self, func: Callable[..., Any], name: Optional[str] = None) -> Operator:
@@ -243,7 +243,7 @@ class Semirings:
         return '<semirings of any two binary operators, joined by _: %s, ..>' % ', '.join(USES)
 
     def _repr_html_(self) -> str:
-        from .. import html
+        from ..display import html
         return html.semirings(USES)
 
     def __call__(self, add: Op, mul: Op) -> Semiring:

@@ -1,0 +1,72 @@
+"""Matrices that the client has the entries of, which are sent when a job first wants them."""
+from __future__ import annotations
+
+# pylint: disable=protected-access  # a session and its matrices keep one another's books
+
+from typing import TYPE_CHECKING, Any, Dict, List, Optional, Tuple
+
+from ..io import matrix_text
+from ..io.matrix_text import Triples
+from ..matrix import Matrix
+
+if TYPE_CHECKING:
+    from ..session import Session
+
+
+class Entries:
+    """What a matrix answers whose entries the client has."""
+
+    _entries: Triples
+
+    def to_text(self) -> bytes:
+        """The canonical Matrix Market text, by the client."""
+        rows, columns, values, nrows, ncols = self._lists()
+        return matrix_text.write(Triples(rows, columns, values, nrows, ncols))
+
+    def _lists(self) -> Triples:
+        rows, columns, values, nrows, ncols = self._entries
+        if matrix_text.is_array(rows):
+            return Triples(rows.tolist(), columns.tolist(), values.tolist(), nrows, ncols)
+        return Triples(list(rows), list(columns), list(values), nrows, ncols)
+
+    def to_coo(self, *, arrays: Optional[bool] = None) -> Tuple[Any, Any, Any]:
+        """Rows, columns (from 0) and values, as `Matrix.to_coo`."""
+        numpy = matrix_text.find_numpy() if arrays is None or arrays else None
+        if numpy is None:
+            if arrays:
+                raise ImportError('arrays are those of numpy, which is not here')
+            return self._lists()[:3]
+        rows, columns, values = (numpy.array(many, numpy.int64) for many in self._entries[:3])
+        return rows, columns, values
+
+    def to_triples(self) -> List[Tuple[int, int, int]]:
+        """(row, column, value) by ascending row and column."""
+        return list(zip(*self._lists()[:3]))
+
+    def to_dict(self) -> Dict[Tuple[int, int], int]:
+        """{(row, column): value}."""
+        rows, columns, values = self._lists()[:3]
+        return dict(zip(zip(rows, columns), values))
+
+
+class Kept(Entries, Matrix):
+    """A matrix whose entries the client has, by ascending row and column. It has all of `Matrix`. Reading it asks nothing of the
+    server, and it is sent at its first use in a job, once."""
+
+    is_named = False                               # its name says what it is
+
+    def __init__(self, session: 'Session', entries: Triples) -> None:
+        self._entries, self._sent = entries, ''
+        super().__init__(session, '', entries.nrows, entries.ncols, len(entries.rows), name='of the client')
+
+    @property
+    def _key(self) -> str:
+        """The name that the server has it under: it is sent where it wasn't."""
+        if not self._sent:
+            self._sent = self.session._send(self, self._entries)
+            self.session._hold(self)
+        return self._sent
+
+    @_key.setter
+    def _key(self, key: str) -> None:
+        self._sent = key

@@ -1,0 +1,236 @@
+"""The queue of a session: jobs that wait, how many steps and entries they can have, and what runs settle."""
+from __future__ import annotations
+
+# pylint: disable=protected-access  # a session and its matrices keep one another's books
+
+import collections
+import copy
+import weakref
+from typing import Callable, Deque, Dict, Iterable, List, NamedTuple, Optional, Sequence, Set, Tuple
+
+from ..display import html
+from ..errors import BudgetExceeded, Refused, SpmatError
+from ..io.matrix_text import MOST_SIDE
+from ..matrix import Matrix
+from .connection import Reply, Sent
+from .handles import Names
+from .pipeline import Later, Outbox
+
+Exchange = Callable[[Optional[Sent], Optional[Callable[[Reply], object]]], Optional[Reply]]
+"""Sends what waits and one command more; its reply, which is given to the function where it comes late."""
+
+QUEUE = 64                                         # jobs that may wait
+MOST_PRICE = 1 << 32
+AMPLE = 1 << 56                                    # steps that clients of one server don't take from one another within a day
+
+
+class Budget(NamedTuple):
+    """Steps: left, reserved for jobs that wait, spent. Over TCP it is one for all sessions of the server."""
+    left: int
+    reserved: int
+    spent: int
+
+    def _repr_html_(self) -> str:
+        return html.budget(self)
+
+
+class JobResult(NamedTuple):
+    """A job that `run` settled: its result (None where nobody holds it any more), its form as the protocol names it, the most steps
+    that it could have taken, and those that it took."""
+    matrix: Optional[Matrix]
+    form: str
+    price: int
+    steps: int
+
+
+class Run(List[JobResult]):
+    """The jobs that a run settled, in order."""
+
+    def _repr_html_(self) -> str:
+        return html.runs(self)
+
+
+class Most(NamedTuple):
+    """What a job can come to: terms that a product may be refused for, steps, entries of the result."""
+    terms: int
+    steps: int
+    entries: int
+
+
+def most_of(form: str, length: int, operands: Sequence[Matrix], mask: Optional[Matrix], shape: Tuple[int, int]) -> Most:
+    """What a job with operators of so many instructions can come to, by what is known of its operands' entries."""
+    a = operands[0]._most
+    under = mask._most if mask is not None else MOST_SIDE
+    room = min(under, shape[0] * shape[1])
+    if form == 'product':
+        terms = min(a * operands[1].ncols, operands[0].nrows * operands[1]._most)
+        return Most(terms, terms * length, min(terms, room))
+    if form == 'union':
+        b = operands[1]._most
+        return Most(a + b, min(a, b, under) * length, min(a + b, room))
+    calls = min(a, operands[1]._most, under) if form == 'both' else a if form == 'reduce' else min(a, under)
+    return Most(0, calls * length, min(calls, room))
+
+
+class Job:
+    """A job that was handed in: its result, the name that it will have, and, once the server answered, its price, or why it is lost."""
+
+    def __init__(self, name: str, form: str, most: Most) -> None:
+        self.name, self.form, self.most = name, form, most
+        self.matrix: Callable[[], Optional[Matrix]] = lambda: None
+        self.price: Optional[int] = None
+        self.refused = False
+        self.cause: Optional[BaseException] = None
+
+    def bind(self, matrix: Matrix) -> None:
+        """The result, which the caller holds."""
+        self.matrix = weakref.ref(matrix)
+        if self.cause is not None:
+            matrix._lose(self.cause)
+
+    def lose(self, cause: BaseException) -> None:
+        """The result is never made."""
+        self.cause = self.cause or without_frames(cause)
+        matrix = self.matrix()
+        if matrix is not None:
+            matrix._lose(self.cause)
+
+
+class Queue:
+    """Jobs that wait to be run, sent or not, and runs that wait to be sent. `left` is what the budget has for sure: all of it where
+    nobody shares it. `ceiling` is what it can have at most, were all prices settled with nothing."""
+
+    def __init__(self, outbox: Outbox, names: Names, shared: bool) -> None:
+        self._outbox, self._names, self._shared = outbox, names, shared
+        self._waiting: Dict[str, Job] = {}
+        self._running: Deque[List[Job]] = collections.deque()      # in the order in which they will be answered
+        self._results = Run()
+        self._unknown = 0                          # entries, at most, of results that aren't known yet
+        self.left = self.ceiling = 0
+        self.runs = 0
+
+    def __len__(self) -> int:
+        return len(self._waiting)
+
+    def note_budget(self, left: int, reserved: int) -> None:
+        """What the server says of the budget, whoever reserved it. What is spent doesn't come back."""
+        self.left, self.ceiling = left, left + reserved
+
+    @property
+    def running(self) -> int:
+        """Jobs whose run waits to be sent."""
+        return sum(map(len, self._running))
+
+    def names(self) -> Set[str]:
+        """The names that jobs will bind."""
+        return {job.name for jobs in self._running for job in jobs}.union(self._waiting)
+
+    def has(self, matrices: Iterable[Matrix]) -> bool:
+        """Whether one of these is a result that no run stands behind yet."""
+        return bool(self._waiting) and any(matrix._key in self._waiting for matrix in matrices)
+
+    @property
+    def is_long(self) -> bool:
+        """Whether what waits could hold so much memory that it is better run and looked at."""
+        return self._unknown > MOST_SIDE
+
+    # -- handing in
+
+    def is_sure(self, most: Most) -> bool:
+        """Whether a job can be refused by nothing but want of memory, so that it needn't be sent at once."""
+        enough = self.left - most.steps >= (AMPLE if self._shared else 0)
+        return enough and most.terms <= MOST_SIDE and most.steps <= MOST_PRICE
+
+    def add_later(self, job: Job, line: str) -> None:
+        """Hands a job in without sending it."""
+        self.left -= job.most.steps
+        self._waiting[job.name] = job
+        self._unknown += job.most.entries
+        self._outbox.put(Later(Sent(line), lambda reply: self._queued(job, reply), lambda cause: self._unqueued(job, cause)))
+
+    def add_now(self, job: Job, line: str, exchange: Exchange) -> None:
+        """Hands a job in. A budget that is too small while jobs wait gets back what these don't take, and the job is sent once more.
+        Where that is interrupted, the job is queued all the same, and its result is nobody's."""
+        def late(reply: Reply) -> None:
+            self._handed_in(job, reply)
+            self._names.drop(job.name)
+        try:
+            reply = exchange(Sent(line), late)
+        except BudgetExceeded:
+            if not self._waiting:
+                raise
+            self.run_later()
+            exchange(None, None)
+            if self._outbox.refused is not None:
+                raise self._outbox.refused from None
+            reply = exchange(Sent(line), late)
+        assert reply is not None
+        self._handed_in(job, reply)
+
+    def _handed_in(self, job: Job, reply: Reply) -> None:
+        self._waiting[job.name] = job
+        self.left -= job.most.steps
+        self._queued(job, reply)
+
+    def _queued(self, job: Job, reply: Reply) -> None:
+        job.price = int(reply.words[2])
+        self.left += job.most.steps - job.price
+        if self._outbox.refused is not None:
+            job.lose(self._outbox.refused)
+        matrix = job.matrix()
+        if matrix is not None:
+            matrix._priced(job.price)
+
+    def _unqueued(self, job: Job, cause: BaseException) -> None:
+        job.refused = True
+        self.left += job.most.steps
+        self._waiting.pop(job.name, None)
+        job.lose(cause)
+
+    # -- running
+
+    def run_later(self) -> None:
+        """A run behind what waits, not sent yet."""
+        if self._waiting:
+            jobs = list(self._waiting.values())
+            self._waiting.clear()
+            self._running.append(jobs)
+            self.runs += 1
+            self._outbox.put(Later(Sent('run'), lambda reply: self._ran(jobs, reply), lambda cause: self._not_run(jobs, cause)))
+
+    def _ran(self, jobs: List[Job], reply: Reply) -> None:
+        self._results = Run()
+        for job, line in zip([job for job in jobs if not job.refused], reply.lines):
+            nrows, _, entries, steps = map(int, line.split()[1:5])
+            assert job.price is not None
+            self.left += job.price - steps
+            self.ceiling -= steps
+            self._names.bound(job.name, nrows, entries)
+            matrix = job.matrix()
+            if matrix is not None and job.cause is None:
+                matrix._settle(entries, steps)
+            self._results.append(JobResult(matrix, job.form, job.price, steps))
+        self._done(jobs)
+
+    def _not_run(self, jobs: List[Job], cause: BaseException) -> None:
+        self.left = 0 if isinstance(cause, Refused) else self.left     # what was spent is not told
+        for job in jobs:
+            job.lose(cause)
+        self._done(jobs)
+
+    def _done(self, jobs: List[Job]) -> None:
+        self._running.popleft()
+        self._unknown = max(0, self._unknown - sum(job.most.entries for job in jobs))
+
+    def results(self) -> Run:
+        """What the last run settled."""
+        results, self._results = self._results, Run()
+        return results
+
+
+def without_frames(fault: BaseException) -> BaseException:
+    """The same exception without the frames that it came through, which would keep their matrices."""
+    try:
+        return copy.copy(fault).with_traceback(None)
+    except Exception:                              # pylint: disable=broad-exception-caught  # of whatever can't be copied
+        return SpmatError('%s: %s' % (type(fault).__name__, fault))

@@ -1,0 +1,123 @@
+"""Replies out of a stream of bytes: each whole, or none of it.
+
+Bytes that came stay here until a reply is there whole. So whatever comes while one is awaited (Ctrl-C), the next call goes on where this
+one was.
+"""
+from __future__ import annotations
+
+from typing import Callable, List, NamedTuple, Optional
+
+from ..errors import Closed
+
+PIECE = 1 << 20
+LONGEST_LINE = 1 << 16
+WITH_LINES, WITH_BYTES = ('run', 'dis', 'types'), 'show'
+WITH_MORE = (*WITH_LINES, WITH_BYTES)
+
+
+class Reply(NamedTuple):
+    """An `ok` reply: the words behind `ok`, the lines of `run`, `dis` and `types`, and the text of `show`."""
+    words: List[str]
+    lines: List[str]
+    body: bytes
+
+
+class Incoming:
+    """What has come and was not taken. `fill` appends what comes next, and answers whether anything did; `fault` says why nothing
+    does; `tell(done, of)` is called as a long reply comes."""
+
+    def __init__(self, fill: Callable[[bytearray], bool], fault: Callable[[], str], tell: Callable[[int, int], None]) -> None:
+        self._bytes = bytearray()
+        self._fill, self._fault, self._tell = fill, fault, tell
+        self._lines_seen, self._looked = 0, 0      # of a reply with lines: how many ended before the place that was looked at
+        self.received = 0
+
+    def next(self) -> 'Raw':
+        """The next reply, once it is there whole. Closed where it can't come any more, or is none."""
+        first = self._first_line()
+        if first.words[:1] != ['ok'] or len(first.words) < 2 or first.words[1] not in WITH_MORE:
+            return self._taken(first, first.end)
+        try:
+            size = int(first.words[2])
+        except (IndexError, ValueError):
+            raise Closed('the reply is none of spmat: `%s`' % ' '.join(first.words)[:200]) from None
+        if first.words[1] == WITH_BYTES:
+            return self._taken(first, self._bytes_until(first.end + size, size))
+        return self._taken(first, self._lines_until(first.end, size))
+
+    def through(self, mark: bytes) -> bytes:
+        """All that comes up to the end of the line with a mark, which stands in no other reply, once it is there."""
+        while True:
+            at = self._bytes.find(mark, self._looked)
+            end = self._bytes.find(b'\n', at) if at >= 0 else -1
+            if end >= 0:
+                out = bytes(memoryview(self._bytes)[:end + 1])
+                del self._bytes[:end + 1]
+                self._looked = 0
+                return out
+            self._looked = max(0, len(self._bytes) - len(mark)) if at < 0 else at
+            self._more()
+
+    def _first_line(self) -> '_First':
+        while True:
+            end = self._bytes.find(b'\n', 0, LONGEST_LINE)
+            if end >= 0:
+                return _First(self._bytes[:end].decode('ascii', 'replace').split(), end + 1)
+            if len(self._bytes) >= LONGEST_LINE:
+                raise Closed('the reply is none of spmat: `%s`' % self._bytes[:200].decode('ascii', 'replace'))
+            self._more()
+
+    def _bytes_until(self, end: int, size: int) -> int:
+        while len(self._bytes) < end:
+            before = len(self._bytes)
+            self._more()
+            if size >= PIECE and (before // PIECE != len(self._bytes) // PIECE or len(self._bytes) >= end):
+                self._tell(min(size, size - (end - len(self._bytes))), size)
+        return end
+
+    def _lines_until(self, start: int, count: int) -> int:
+        self._looked = max(self._looked, start)
+        while self._lines_seen < count:
+            end = self._bytes.find(b'\n', self._looked)
+            if end < 0:
+                self._more()
+            else:
+                self._looked, self._lines_seen = end + 1, self._lines_seen + 1
+        return self._looked
+
+    def _more(self) -> None:
+        before = len(self._bytes)
+        if not self._fill(self._bytes):
+            raise Closed(self._fault())
+        self.received += len(self._bytes) - before
+
+    def _taken(self, first: '_First', end: int) -> 'Raw':
+        rest = bytes(memoryview(self._bytes)[first.end:end]) if end > first.end else b''
+        del self._bytes[:end]
+        self._lines_seen = self._looked = 0
+        return Raw(first.words, rest)
+
+
+class _First(NamedTuple):
+    words: List[str]
+    end: int
+
+
+class Raw(NamedTuple):
+    """A reply as it came: the words of its first line, and all behind it."""
+    words: List[str]
+    rest: bytes
+
+    @property
+    def first(self) -> str:
+        """The first line."""
+        return ' '.join(self.words)
+
+    def reply(self) -> Optional[Reply]:
+        """An `ok` reply in its parts, None for another."""
+        words = self.words
+        if words[:1] != ['ok']:
+            return None
+        if words[1:2] == [WITH_BYTES]:
+            return Reply(words[1:], [], self.rest)
+        return Reply(words[1:], self.rest.decode('ascii', 'replace').split('\n')[:-1], b'')

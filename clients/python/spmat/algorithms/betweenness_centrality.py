@@ -1,0 +1,171 @@
+"""How many shortest paths go through each vertex, by the number of edges or by their values."""
+from __future__ import annotations
+
+from typing import Any, Callable, Generic, Iterable, List, NamedTuple, Optional, Tuple
+
+from ..operators import Semiring, asm, binary
+from .all_pairs_paths import lengths_from, reach_of
+from .frontier import Tally, read
+from .graph_properties import extremes, is_both_ways, is_transpose, transpose_of
+from .multi_source_bfs import Batch, REACHED, vertices
+from .protocols import M
+from .utils import Progress, beside, product, tell
+
+PATHS = Semiring(binary.plus, binary.first)
+LENGTHEN = Semiring(binary.any, binary.plus)
+MOST_PATHS = 1 << 62
+MOST_AT_ONCE = 1 << 22                             # entries of a batch
+SCALE = 1 << 20
+
+
+class Fixed(NamedTuple):
+    """How shares of paths are written as whole numbers: those of a path in units of 2^-bits, results in units of 1/scale; and how many paths
+    from one vertex keep what is lost by rounding below the tolerance."""
+    bits: int
+    scale: int
+    most: int
+
+
+class Edges(Generic[M]):
+    """A graph by its edges, numbered in the order of their entries: from which vertex each leads, with its value, and to which; both also
+    transposed. A product of a row for each search with these has a column for each edge, or for each vertex again."""
+
+    def __init__(self, G: M) -> None:
+        tails, heads, values = G.to_coo()
+        self.many = len(tails)
+        self.leave = G.session.from_coo(tails, range(self.many), values, G.nrows, self.many)
+        self.enter = G.session.from_coo(range(self.many), heads, 1, self.many, G.nrows)
+        self.tails, self.heads = self.leave.T, self.enter.T
+        self.reach = reach_of(G)
+
+
+class Tight(Generic[M]):
+    """Searches from some vertices along the edges of shortest paths, by values. `front` has how many of so many edges lead to each vertex:
+    one with shortest paths of several numbers of edges is found as often."""
+
+    def __init__(self, edges: Edges[M], sources: List[int], count: int) -> None:
+        self._edges, many = edges, len(sources)
+        self.front = edges.leave.session.from_coo(range(many), sources, 1, many, count)
+        lengths = lengths_from(self.front.apply('zero'), edges.reach)
+        there = product(lengths, edges.heads, REACHED)
+        self._tight = product(lengths, edges.leave, LENGTHEN).ewise_mult(there, 'eq').select('nonzero')
+
+    def advance(self) -> None:
+        """Takes each search an edge farther."""
+        self.front = product(product(self.front, self._edges.leave, REACHED, self._tight), self._edges.enter, PATHS)
+
+    def back(self, shares: M, counts: M) -> M:
+        """What the next vertices on shortest paths have, added up, at those that have counts."""
+        return product(product(shares, self._edges.heads, REACHED, self._tight), self._edges.tails, PATHS, counts)
+
+
+def betweenness(G: M, sources: Optional[Iterable[Any]] = None, tolerance: float = 1e-3, scale: int = SCALE,
+                progress: Progress = None, *, weighted: bool = False) -> M:
+    """How many shortest paths between two other vertices go through each vertex, as a column in units of 1/scale (2^-20): for each two
+    vertices the share of their shortest paths. Of an undirected graph each two vertices count once. With `sources` only paths from these
+    count, and each direction by itself, as LAGraph has it.
+
+    Values of edges count with `weighted=True` alone: they are lengths, 1 or more. Shares are rounded down: each vertex' number is too
+    small by less than `tolerance` for each source, or the call is refused. `progress('source', k, n)` is called after each batch of sources.
+
+    Limits: paths are counted in 62 bits, and a grid of 35 by 35 has more; all shortest paths from a source may be no more than 2^k times
+    the tolerance, where k is 62 less the bits of the number of vertices. Costs: a search from each source, forth and back.
+
+    Runs: 12 a level and batch; a batch has 4,194,304 / n sources. Steps: up to 10 an edge and 30 a vertex, a source; 20 a
+    vertex and level more where an edge leads one way alone. With `weighted=True` a batch has 4,194,304 / m sources of a graph of m edges,
+    and takes the runs and steps of `path_lengths` besides; a level is a number of edges of shortest paths, and steps are up to 20 an edge
+    for each number of edges that the shortest paths to its start have, and 20 a vertex and level, a source. Brandes' algorithm in fixed
+    point. LAGraph: `LAGr_Betweenness`. networkx: `betweenness_centrality` with `normalized=False`. Raises ValueError where there are too
+    many paths, for a scale that isn't 1 to 2^30, and with `weighted=True` for a value below 1 or lengths beyond 2^60.
+    """
+    at, count = vertices(G, sources), G.nrows
+    if not 1 <= scale <= 1 << 30 or not 0 < tolerance < 1:
+        raise ValueError('a scale is 1 to 2^30, and a tolerance lies between 0 and 1')
+    if count * len(at) * scale >= 1 << 62:
+        raise ValueError('%d sources of %d vertices are too many for a scale of %d' % (len(at), count, scale))
+    edges = _edges(G) if weighted else None
+    bits = 62 - count.bit_length()
+    fixed = Fixed(bits, scale, int(tolerance * 2 ** bits))
+    sums, size = Tally(count, 0), max(1, MOST_AT_ONCE // max(count, edges.many if edges is not None else 1, 1))
+    for first in range(0, len(at), size):
+        some = at[first:first + size]
+        _add(G, some, fixed, sums, edges)
+        tell(progress, 'source', first + len(some), len(at))
+    made = sums.column(G, None)
+    halved = sources is None and is_both_ways(G) and (not weighted or is_transpose(G, G, True))
+    return beside(G, made.apply('cdiv', right=2) if halved else made)
+
+
+def _edges(G: M) -> 'Edges[M]':
+    """The edges of a graph, whose values are lengths. ValueError where one is below 1."""
+    least = extremes(G)[0]
+    if least < 1 and G.nvals:
+        raise ValueError('with weighted=True values are lengths of 1 or more, and here is one of %d: along edges of 0 or less shortest paths '
+                         'have no number' % least)
+    return Edges(G)
+
+
+def _add(G: M, sources: List[int], fixed: Fixed, sums: Tally, edges: Optional['Edges[M]']) -> None:
+    """Adds what the paths from some sources give to each vertex."""
+    levels, back = _by_edges(G, sources, fixed) if edges is None else _by_values(G, sources, fixed, edges)
+    if len(levels) < 3:
+        return
+    inverse = asm('unary', 'wide r0, %d\ndiv64 r0, r1\nexit\n' % (1 << fixed.bits))
+    share = asm('binary', 'mov64 r0, r1\nmul64 r0, r2\nwide r3, %d\ndiv64 r0, r3\nexit\n' % max(1, (1 << fixed.bits) // fixed.scale))
+    shares = levels[-1].apply(inverse)
+    through: Optional[M] = None
+    for counts in reversed(levels[1:-1]):
+        came = back(shares, counts)
+        here = came.ewise_mult(counts, share)
+        through = here if through is None else through.ewise_add(here, 'first')
+        shares = counts.apply(inverse).ewise_add(came, 'plus')
+    assert through is not None
+    at, values = read(_row(through).to_text(), 1)
+    for i, value in zip(at, values):
+        sums.numbers[i] += int(value)
+
+
+Back = Callable[[M, M], M]
+"""What the shares of a level's vertices add up to at those before them on shortest paths, of which the counts are given."""
+
+
+def _by_edges(G: M, sources: List[int], fixed: Fixed) -> Tuple[List[M], 'Back[M]']:
+    """The numbers of shortest paths from some sources, level by level, and the way back."""
+    levels, _ = _counted(Batch(G, sources, PATHS), fixed, G.nvals)
+    transpose = transpose_of(G, None, False)
+    return levels, lambda shares, counts: product(shares, transpose, PATHS, counts)
+
+
+def _by_values(G: M, sources: List[int], fixed: Fixed, edges: 'Edges[M]') -> Tuple[List[M], 'Back[M]']:
+    """The same by values. A level has all vertices with a shortest path of so many edges, and for each the number of all its shortest
+    paths: what is behind a vertex doesn't depend on the level, and all of it is in the next one."""
+    search = Tight(edges, sources, G.nrows)
+    levels, total = _counted(search, fixed, edges.many)
+    return [counts.ewise_mult(total, 'second') for counts in levels], search.back
+
+
+def _row(matrix: M) -> M:
+    """The sums of the columns."""
+    ones = matrix.session.full(1, matrix.nrows)
+    return ones.mxm(matrix, ('plus', 'second'))
+
+
+def _counted(search: Any, fixed: Fixed, edges: int) -> Tuple[List[Any], Any]:
+    """The numbers of paths that a search finds, level by level and in all. ValueError where there are too many."""
+    levels: List[Any] = []
+    total, greatest, count = search.front, 1, search.front.ncols
+    while search.front.nvals:
+        if levels:
+            total = total.ewise_add(search.front, 'plus')
+        levels.append(search.front)
+        greatest *= min(count, max(1, edges)) + 1  # what came before, and a path along each edge that enters
+        if greatest * count >= MOST_PATHS:
+            greatest = total.reduce_scalar('max') or 0
+            if greatest * count >= MOST_PATHS:
+                raise ValueError('there are more than 2^62 shortest paths: they can not be counted in 64 bits')
+        search.advance()
+    paths = total.reduce_rowwise('plus').reduce_scalar('max') or 0
+    if paths > fixed.most:
+        raise ValueError('%d shortest paths from one vertex: shares would be rounded by more than the tolerance; '
+                         'give a greater one' % paths)
+    return levels, total

@@ -1,0 +1,125 @@
+"""Searches from many vertices at once: a row for each of them."""
+from __future__ import annotations
+
+from typing import Any, Callable, Dict, Generic, Iterable, List, Optional
+
+from ..errors import TooLarge
+from ..loops import Loop, State, empty
+from ..loops.pipelined_rounds import Round
+from ..operators import Semiring, binary
+from .graph_properties import is_both_ways
+from .protocols import M
+from .server_side_search import ANY_NEXT
+from .utils import Progress, order, places, product, tell
+
+REACHED = Semiring(binary.any, binary.first)
+PART = 32                                          # levels after which what was found is gathered
+SMALL = 1 << 18                                    # places of a search whose levels in vain cost little
+
+
+class Batch(Generic[M]):
+    """Searches from some vertices. `front` has what each found at the last level, with the values of the semiring."""
+
+    def __init__(self, G: M, sources: List[int], ring: Semiring) -> None:
+        many = len(sources)
+        self.graph, self.ring, self.both_ways = G, ring, is_both_ways(G)
+        self.front = G.session.from_coo(range(many), sources, 1, many, G.nrows)
+        self.marks = [self.front.apply('zero')]
+
+    def advance(self) -> None:
+        """Takes each search a level farther. A neighbour of what was found last is new, or was found in the last two levels, where each
+        edge leads both ways; else in any before."""
+        reached = product(self.front, self.graph, self.ring)
+        for mark in self.marks:
+            reached = reached.ewise_add(mark, 'zero')
+        self.front = reached.select('nonzero')
+        new = self.front.apply('zero')
+        self.marks = [self.marks[-1], new] if self.both_ways else [self.marks[0].ewise_add(new, 'first')]
+
+
+def vertices(G: M, sources: Optional[Iterable[Any]]) -> List[int]:
+    """The vertices that are meant, by number: all where none are named."""
+    count = order(G)
+    return list(range(count)) if sources is None else places(G, sources)
+
+
+class Hops(Generic[M]):
+    """Searches from some vertices, a row each, whose values are levels. `front` is what was found last, `near` what an edge from there may lead
+    to again: where each edge leads both ways what the last two levels found, else all. `recent` has what isn't among `found` yet, so that
+    a level costs no walk along all of that."""
+
+    def __init__(self, G: M, sources: List[int]) -> None:
+        start = G.session.from_coo(range(len(sources)), sources, 0, len(sources), G.nrows)
+        self.graph, self.both_ways, self.level = G, is_both_ways(G), 0
+        self.state = State({'front': start, 'near': start, 'recent': start} if self.both_ways else {'front': start, 'near': start})
+        self.found: M = start
+
+    def next(self, s: State, level: int, parts: bool = False) -> Dict[str, Any]:
+        """The state behind a level. In a loop a product isn't made by parts."""
+        reached = product(s.front, self.graph, ANY_NEXT) if parts else s.front.mxm(self.graph, ANY_NEXT)
+        new = reached.ewise_add(s.near, 'zero').select('valueeq', level)
+        if self.both_ways:
+            return {'front': new, 'near': new.ewise_add(s.front, 'any'), 'recent': s.recent.ewise_add(new, 'first')}
+        return {'front': new, 'near': s.near.ewise_add(new, 'first')}
+
+    def by_hand(self) -> None:
+        """Takes each search a level farther."""
+        self.level += 1
+        self.state = State(self.next(self.state, self.level, True))
+
+    def by_loop(self, most: int, heard: Callable[[int], None]) -> bool:
+        """Takes each search so many levels farther, or until nothing is found; whether a product was too large for a job. `heard` is told of each
+        level that found something."""
+        first, here = self.level, self.state
+        loop = Loop(lambda s, number: self.next(s, first + number), here)
+
+        def told(number: int, rounds: List[Round]) -> None:
+            for at, one in enumerate(rounds, first + number):
+                if one.counts['front']:
+                    heard(at)
+        is_small = self.found.nrows * self.found.ncols <= SMALL
+        try:
+            loop.rounds(empty('front')._replace(rests=is_small), most, told)
+        except TooLarge:
+            return True
+        finally:
+            self.level, self.state = first + loop.number, loop.state
+        return False
+
+    def gathered(self) -> M:
+        """All that was found."""
+        if self.both_ways:
+            self.found = self.found.ewise_add(self.state.recent, 'first')
+            self.state.update(recent=self.state.front)
+            return self.found
+        near: M = self.state.near
+        return near
+
+
+def k_hop(G: M, k: int, sources: Optional[Iterable[Any]] = None, progress: Progress = None) -> M:
+    """Which vertices lie within k edges of each source: a row for each source in their order (of all vertices without `sources`), whose
+    entries are the numbers of edges; 0 at the source.
+
+    `progress('level', i, k)` is called after each level. Levels are a loop that stays at the server, in one session.
+
+    Runs: 5 a level, more where the product is made by parts, and 4. Steps: up to 4 for each edge that leaves a vertex which is found,
+    and 12 an entry of the result; 6 more an entry and level where an edge leads one way alone, and else an entry of the last 32 levels. Of
+    a search with up to 262,144 places some levels in vain are among them. Whether each edge leads both ways is found out once (2 jobs, 13 steps
+    an edge and 5 a vertex). GraphBLAS: `mxm` over any and a level more, of a row for each source. networkx:
+    `single_source_shortest_path_length` with a cutoff, `ego_graph`. Raises ValueError where k is below 0, and TooLarge where the result
+    has more than 16,777,216 entries.
+    """
+    at = vertices(G, sources)
+    if k < 0:
+        raise ValueError('a number of edges is 0 or more, not %d' % k)
+    hops, by_loop = Hops(G, at), G.in_one_place
+    while hops.level < k and hops.state.front.nvals:
+        if by_loop:
+            by_loop = not hops.by_loop(min(PART, k - hops.level), lambda level: tell(progress, 'level', level, k))
+        else:
+            hops.by_hand()
+            if hops.state.front.nvals:
+                tell(progress, 'level', hops.level, k)
+        if by_loop or hops.level % PART == 0:
+            hops.gathered()
+    return hops.gathered()

@@ -1,0 +1,297 @@
+"""PageRank in fixed point."""
+from __future__ import annotations
+
+import math
+from typing import Any, Generic, Mapping, NamedTuple, Optional, Tuple
+
+from ..io import matrix_text
+from ..io.matrix_text import Triples
+from ..operators import Semiring, asm, binary
+from .bfs import lines_of
+from .frontier import Columns, FEW, Lines, Vector
+from .graph_properties import extremes, found, is_both_ways
+from .protocols import GraphMatrix, M, Numbers
+from .triangle_counts import degrees
+from .utils import Progress, beside, order, tell
+
+ONE = 1 << 40                                      # the units of a rank of 1, unless there are too many vertices for it
+MOST_SCALE = 52                                    # bits
+SPARE = 8                                          # bits below a unit that shares have
+PARTS = 1000                                       # parts that a damping has at least
+DIGITS = (3, 4, 5, 6)                              # decimals that a damping may have
+MOST_BITS = 54
+FIRST, MOST_AHEAD = 6, 8                           # the round that is asked first, and how many rounds may go unasked
+Weights = Mapping[Any, float]
+
+
+class Point(NamedTuple):
+    """Fixed point: a rank of 1 is 2^bits; the damping is parts of `whole`."""
+    bits: int
+    parts: int
+    whole: int
+
+    @property
+    def damping(self) -> float:
+        """The damping as a fraction."""
+        return self.parts / self.whole
+
+    def damped(self) -> str:
+        """Code that makes of shares in R0 what they add to a rank."""
+        return 'rsh64 r0, %d\nmul64 r0, %d\ndiv64 r0, %d\n' % (SPARE, self.parts, self.whole)
+
+
+def point_of(damping: float) -> Point:
+    """The fixed point for a damping. ValueError where it isn't between 0 and 1, or has more than six decimals."""
+    for digits in DIGITS:
+        whole = 10 ** digits
+        parts = round(damping * whole)
+        if 0 < parts < whole and abs(damping * whole - parts) < 1e-6:
+            return Point(min(MOST_BITS, 64 - whole.bit_length()), parts, whole)
+    raise ValueError('the damping lies between 0 and 1, and has at most %d decimals: not %r' % (DIGITS[-1], damping))
+
+
+class System(Generic[M]):
+    """A graph along whose edges ranks flow: each vertex gives each edge that leaves it the share of its rank that the edge has of the
+    weight of all. Ranks of vertices that no edge leaves are lost."""
+
+    def __init__(self, lines: Lines[M], out: M, weighted: bool, point: Point) -> None:
+        self.lines, self.out, self.point = lines, out, point
+        self.ring = Semiring(binary.plus, binary.times if weighted else binary.first)
+        self.spread = asm('binary', 'mov64 r0, r1\nlsh64 r0, %d\ndiv64 r0, r2\nexit\n' % SPARE)
+        self.join = asm('binary', 'mov64 r0, r2\n%sadd64 r0, r1\nexit\n' % self._damped())
+
+    def _damped(self) -> str:
+        """Code that makes of the shares in R0 what they add to a rank."""
+        return 'rsh64 r0, %d\nmul64 r0, %d\ndiv64 r0, %d\n' % (SPARE, self.point.parts, self.point.whole)
+
+    def start(self, given: Vector) -> M:
+        """The shares of ranks to begin with."""
+        return self.lines.put(given).ewise_mult(self.out, self.spread)
+
+    def flow(self, shares: M) -> M:
+        """What comes to each vertex."""
+        return self.lines.step(shares, self.ring)
+
+    def turn(self, flow: M, base: int) -> M:
+        """The next shares, of those vertices alone that something comes to; each gets `base` anyhow."""
+        return flow.ewise_mult(self.out, asm('binary', 'mov64 r0, r1\n%swide r3, %d\nadd64 r0, r3\nlsh64 r0, %d\ndiv64 r0, r2\nexit\n'
+                                             % (self._damped(), base, SPARE)))
+
+    def turn_all(self, flow: M, bases: M) -> M:
+        """The next shares of all vertices, of which each gets its own base."""
+        return bases.ewise_add(flow, self.join).ewise_mult(self.out, self.spread)
+
+    def ranks(self, flow: M, bases: Vector) -> Numbers:
+        """The rank of each vertex."""
+        got = self.lines.get(flow)
+        if matrix_text.is_array(bases.values):
+            import numpy
+            ranks = bases.values.copy()
+            at, shares = numpy.asarray(got.at, numpy.int64), numpy.asarray(got.values, numpy.int64)
+            ranks[at] += (shares >> SPARE) * self.point.parts // self.point.whole
+            return ranks
+        ranks = list(bases.values)
+        for i, shares in zip(got.at, got.values):
+            ranks[i] += (shares >> SPARE) * self.point.parts // self.point.whole
+        return ranks
+
+    def total(self, flow: M, bases: Vector) -> float:
+        """What all ranks add up to."""
+        came = (flow.reduce_scalar('plus') or 0) / 2.0 ** SPARE * self.point.damping
+        return (float(sum(bases.values.tolist() if matrix_text.is_array(bases.values) else bases.values)) + came) / 2.0 ** self.point.bits
+
+
+class Watch:
+    """How far ranks may still be from the true ones, and when that is asked next."""
+
+    def __init__(self, point: Point, aim: float, progress: Progress) -> None:
+        self.point, self.aim, self.progress = point, aim, progress
+        self.most = max(1, math.ceil(math.log(aim / 2) / math.log(point.damping)))
+        self.number, self.next = 0, min(FIRST, self.most)
+        self.last: Optional[Tuple[int, float]] = None
+
+    def tick(self) -> bool:
+        """A round has ended; whether it is time to ask."""
+        self.number += 1
+        tell(self.progress, 'round', self.number, self.most)
+        return self.number >= self.next
+
+    def settled(self, change: float, total: float) -> bool:
+        """Whether the aim is reached, from the change of the last round and what all ranks add up to. Each round makes distances
+        smaller by the damping at least."""
+        damping = self.point.damping
+        distance = min(2 * damping ** self.number, change * damping / (1 - damping))
+        distance *= 1 if total > 1 - 1e-9 else 2 / total
+        if distance <= self.aim:
+            return True
+        ahead = MOST_AHEAD
+        if self.last is not None and distance < self.last[1]:
+            rate = math.log(self.last[1] / distance) / (self.number - self.last[0])
+            ahead = max(1, min(MOST_AHEAD, math.ceil(math.log(distance / self.aim) / rate)))
+        self.last = (self.number, distance)
+        self.next = self.number + ahead
+        return False
+
+
+def solve(system: System[M], given: Vector, watch: Watch) -> Tuple[Numbers, float]:
+    """The ranks where each vertex is given so much in all, and what they add up to as a share of one."""
+    point = system.point
+    bases = _scaled(given, point.whole - point.parts, point.whole)
+    base = int(bases.values[0])
+    even = _are_all(bases.values, base)
+    column = None if even else system.lines.put(bases)
+    before: Optional[M] = None
+    flow = system.flow(system.start(given))
+    while True:
+        if watch.tick():
+            change = 2.0 if before is None else _change(flow, before) * point.damping / 2.0 ** (point.bits + SPARE)
+            total = system.total(flow, bases)
+            if watch.settled(change, total):
+                return system.ranks(flow, bases), total
+        shares = system.turn(flow, base) if column is None else system.turn_all(flow, column)
+        if before is None and column is None and shares.nvals < system.out.nvals:      # some have edges, and nothing comes to them
+            column = system.lines.put(bases)
+            shares = system.turn_all(flow, column)
+        before, flow = flow, system.flow(shares)
+
+
+def _change(now: M, before: M) -> int:
+    return now.ewise_mult(before, 'absdiff').reduce_scalar('plus') or 0
+
+
+def _scaled(vector: Vector, times: int, by: int) -> Vector:
+    """Values times a number by another, rounded down."""
+    if matrix_text.is_array(vector.values):
+        return Vector(vector.at, vector.values // by * times + vector.values % by * times // by)
+    return Vector(vector.at, [value * times // by for value in vector.values])
+
+
+def _are_all(values: Numbers, value: int) -> bool:
+    return bool((values == value).all()) if matrix_text.is_array(values) else all(one == value for one in values)
+
+
+def given_by(graph: GraphMatrix, weights: Optional[Weights], unit: int) -> Vector:
+    """What each vertex is given of one unit: in proportion to its weight, or all the same. ValueError where a key is no vertex, a weight
+    is negative, or all are 0."""
+    count = graph.nrows
+    numpy = matrix_text.find_numpy() if count >= FEW else None
+    if weights is None:
+        if numpy is not None:
+            return Vector(numpy.arange(count), numpy.full(count, unit // count))
+        return Vector(list(range(count)), [unit // count] * count)
+    total = float(sum(weights.values()))
+    if not 0 < total < math.inf or min(weights.values()) < 0:
+        raise ValueError('weights of vertices are 0 or more, and one is above 0')
+    values = [0] * count
+    for key, weight in weights.items():
+        values[graph.index(key)] = int(unit * (float(weight) / total))
+    return Vector(list(range(count)), values) if numpy is None else Vector(numpy.arange(count), numpy.array(values, numpy.int64))
+
+
+def out_weights(lines: Lines[M], weighted: bool) -> M:
+    """The weight of the edges that leave each vertex, or their number, beside the graph; kept with it."""
+    graph = lines.graph
+
+    def find() -> M:
+        if not weighted and not isinstance(lines, Columns) and is_both_ways(graph):
+            return lines.step(lines.ones(), Semiring(binary.plus, binary.first))
+        columns = Columns(graph, graph)
+        out = graph.reduce_rowwise('plus').select('nonzero') if weighted else degrees(graph)
+        return out if isinstance(lines, Columns) else lines.put(columns.get(out))
+    made: M = found(graph, '%s of edges as %s' % ('weights' if weighted else 'numbers', type(lines).__name__), find)
+    return made
+
+
+def scale_for(count: int, tolerance: float) -> int:
+    """The units of a rank of 1 in which so many ranks can be told within a tolerance: 2^40, or as many more bits as they want, up to
+    52."""
+    wanted = math.ceil(math.log2(2 * max(1, count) / tolerance))
+    return 1 << max(ONE.bit_length() - 1, min(MOST_SCALE, wanted))
+
+
+def kept_tolerance(count: int, weight: int, point: Point, tolerance: float, scale: int) -> float:
+    """What rounding leaves of the tolerance. ValueError where that is less than half of it."""
+    flows = 2 * (weight / 2.0 ** SPARE + 3 * count) / 2.0 ** point.bits / (1 - point.damping)
+    result = count / (2.0 * scale)
+    if flows > tolerance / 4:
+        finer = '' if point.whole == 10 ** DIGITS[0] else ', or a damping of three decimals'
+        raise ValueError('a tolerance of %g can not be kept: rounding takes up to %.2g, by %d vertices and weights that add up to %d, and a quarter '
+                         'of the tolerance is for it: give a tolerance of %.2g or more, or smaller weights%s'
+                         % (tolerance, flows, count, weight, 4.1 * flows, finer))
+    if result > tolerance / 4:
+        least = math.ceil(math.log2(2 * count / tolerance))
+        raise ValueError('a tolerance of %g wants ranks in smaller units: scale=2**%d, or more%s'
+                         % (tolerance, least, '' if least <= 52 else ', which is above 2^52'))
+    return tolerance - flows - result
+
+
+def pagerank(G: M, GT: Optional[M] = None, damping: float = 0.85, tolerance: float = 1e-6, scale: Optional[int] = None,
+             progress: Progress = None, *, weighted: bool = False, personalization: Optional[Weights] = None,
+             dangling: Optional[Weights] = None, check: bool = True) -> M:
+    """The PageRank of each vertex in units of 1/scale, as a column. The ranks' distances from the true ones add up to at most
+    `tolerance`, all rounding included, or the call is refused. Without `scale` a rank of 1 is 2^40 units; with more vertices than
+    549,755 (at the usual tolerance) the least power of two above that keeps the tolerance: all ranks add up to it.
+
+    Values of edges count with `weighted=True` alone: a vertex divides its rank among its edges in proportion to them.
+    `personalization` has a weight for each vertex (0 where it says nothing): the share of what is given anew in each round; else all
+    get the same. What a vertex without an edge that leaves it has goes to all by the weights `dangling`, or else as what is given
+    anew: as in networkx.
+
+    The damping has at most six decimals. `GT` serves blocks alone, where it is made without it. `progress('round', k, n)` is
+    called after each round, of which there are at most n, log(tolerance / 2) / log(damping) (90), but for graphs with many vertices that
+    no edge leaves. Rounds end as soon as the change of the last one shows that the tolerance is kept, which is asked every few rounds.
+
+    Runs: 2 a round, 3 where something else than one number is given, or some vertex that edges leave has none that come; 3 each time
+    that is asked; 8 more; all of it twice where `dangling` differs. Steps: up to 5 an edge and 10 a vertex, a round (6 an edge with
+    weights; 15 a vertex); 5 an edge, and 10 a vertex each time that is asked. GraphBLAS: `vxm` over plus and first, damped. LAGraph:
+    `LAGr_PageRank`. networkx: `pagerank`. Raises ValueError where damping, tolerance, scale (1 to 2^52) or weights are out of range, and
+    where values are negative (4 jobs, once), and where GT isn't the transpose (`check=False` leaves these out).
+    """
+    count = order(G, GT)
+    if not 0 < tolerance < 1 or not (scale is None or 1 <= scale <= 1 << MOST_SCALE):
+        raise ValueError('damping and tolerance lie between 0 and 1, and scale is 1 to 2^52')
+    scale = scale_for(count, tolerance) if scale is None else scale
+    point = point_of(damping)
+    if count == 0:
+        return Columns(G, G).put(Vector([], []))
+    lines = lines_of(G, GT, check, values=weighted)
+    out = out_weights(lines, weighted)
+    weight = _weight(G, out, weighted, check)
+    aim = kept_tolerance(count, weight, point, tolerance, scale)
+    system, unit = System(lines, out, weighted, point), 1 << point.bits
+    ranks, total = solve(system, given_by(G, personalization, unit), Watch(point, aim, progress))
+    if dangling is None or total > 1 - 1e-9:
+        return _column(G, ranks, scale)
+    others, more = solve(system, given_by(G, dangling, unit), Watch(point, aim, progress))
+    lost, again = _lost(total, point.damping), _lost(more, point.damping)
+    share = point.damping * lost / (1 - point.damping - point.damping * again)
+    if matrix_text.is_array(ranks):
+        return _column(G, ranks + others * share, scale)
+    return _column(G, [a + b * share for a, b in zip(ranks, others)], scale)
+
+
+def _lost(total: float, damping: float) -> float:
+    """What vertices have that no edge leaves, from what all have: all = 1 - damping, and damping times what isn't lost."""
+    return total - (total - (1 - damping)) / damping
+
+
+def _weight(G: M, out: M, weighted: bool, check: bool) -> int:
+    """What all edges weigh together. ValueError where a value is negative, or they add up to too much."""
+    if not weighted:
+        return G.nvals
+    least, most = extremes(G) if check else (0, 1)
+    if least < 0 or most * G.nvals >= 1 << 62:
+        raise ValueError('weights are 0 or more, and add up to less than 2^62: here they are %d to %d' % (least, most))
+    return out.reduce_scalar('plus') or 0
+
+
+def _column(G: M, ranks: Numbers, scale: int) -> M:
+    """Ranks that add up to one, in units of 1/scale."""
+    count = G.nrows
+    if matrix_text.is_array(ranks):
+        import numpy
+        values = numpy.rint(ranks * (scale / float(ranks.sum()))).astype(numpy.int64)
+        at = numpy.arange(count)
+        return beside(G, G.session.keep(Triples(at, at * 0, values, count, 1)))
+    times = scale / float(sum(ranks))
+    return beside(G, G.session.keep(Triples(list(range(count)), [0] * count, [round(rank * times) for rank in ranks], count, 1)))

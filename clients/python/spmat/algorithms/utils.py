@@ -1,0 +1,129 @@
+"""What the algorithms share: columns, checks of what is handed in, products by parts, and rounds until nothing changes."""
+from __future__ import annotations
+
+from typing import Any, Callable, List, Optional
+
+from ..errors import NotSettled
+from ..io.matrix_text import Triples
+from ..operators import asm
+from ..pricing.estimates import asked
+from .graph_properties import found
+from .protocols import GraphMatrix, M, Ring
+
+Progress = Optional[Callable[[str, int, int], None]]
+"""Called as a session's `progress` is: with a word ('level' or 'round'), the number of those that have ended, and of how
+many; 0 where that isn't known."""
+NOT_THIS_ROW = asm('index', 'mov64 r0, 1\njne64 r2, r4, 1\nmov64 r0, 0\nexit\n')
+
+
+def order(graph: GraphMatrix, transpose: Optional[GraphMatrix] = None) -> int:
+    """The number of vertices. Raises TypeError where the graph is no matrix, ValueError where it isn't square, or its transpose is
+    of another size."""
+    if not hasattr(type(graph), 'mxm'):
+        raise TypeError('a graph is a matrix of a session, as from_coo or from_networkx makes it, not %s' % type(graph).__name__)
+    if graph.nrows != graph.ncols:
+        raise ValueError('a graph is a square matrix; this one has %d rows and %d columns' % (graph.nrows, graph.ncols))
+    if transpose is not None and transpose.shape != graph.shape:
+        raise ValueError('GT has to be the transpose: it has %d rows and %d columns, and the graph %d vertices'
+                         % (transpose.nrows, transpose.ncols, graph.nrows))
+    return graph.nrows
+
+
+def places(graph: GraphMatrix, named: Any) -> List[int]:
+    """The vertices that are meant by one vertex, or by several: by their names where the graph has any, or as numbers. ValueError
+    where one isn't there."""
+    names = graph.nodes
+    try:
+        alone = names is not None and named in names
+    except (TypeError, ValueError):
+        alone = False
+    if alone or isinstance(named, str) or not hasattr(named, '__iter__'):
+        return [graph.index(named)]
+    return [graph.index(one) for one in named]
+
+
+def beside(graph: GraphMatrix, result: M) -> M:
+    """A column that says something of each vertex, with the graph's names of its vertices."""
+    if graph.nodes is not None:
+        result.nodes = graph.nodes
+    return result
+
+
+def column(like: M, value: int) -> M:
+    """A column of one value, with a row for each vertex of a graph. It is kept with the graph."""
+    made: M = found(like, 'column of %d' % value, lambda: like.session.full(like.nrows, 1, value))
+    return made
+
+
+def nothing(like: M) -> M:
+    """A column without entries."""
+    return like.session.keep(Triples([], [], [], like.nrows, 1))
+
+
+def loops(like: M, value: int) -> M:
+    """A loop of one value at each vertex: a diagonal matrix. It is kept with the graph."""
+    made: M = found(like, 'loops of %d' % value, lambda: like.session.identity(like.nrows, value))
+    return made
+
+
+def tell(progress: Progress, word: str, number: int, of: int = 0) -> None:
+    if progress is not None and asked() is None:
+        progress(word, number, of)
+
+
+def until_as_many(first: M, step: Callable[[M], M], progress: Progress) -> M:
+    """What a step comes to that only adds entries, or only takes some away: the first result with as many as there were before.
+    `progress('round', i, 0)` is called after each step."""
+    now, number = first, 0
+    while True:
+        then = step(now)
+        number += 1
+        settled = then.nvals == now.nvals
+        tell(progress, 'round', number)
+        if settled:
+            return then
+        now = then
+
+
+def product(a: M, b: M, semiring: Ring, mask: Optional[M] = None) -> M:
+    """`a.mxm(b, semiring, mask=mask.S)`; where that is refused as too large (over 16,777,216 multiplications), by halves of the
+    rows of `a`, their halves, and so on, joined as they come; in blocks each block does so by itself. Runs: those that the operands
+    want, and up to 3 for each halving. Raises TooLarge where a single row is too dear (its price above 2^32)."""
+    return a.mxm(b, semiring, mask=None if mask is None else mask.S, parts=True)
+
+
+def settle(step: Callable[[M], M], start: M, progress: Progress = None, most: Optional[int] = None) -> M:
+    """`start`, `step(start)`, `step(step(start))` and so on, until two that follow are the same. Positions may be added on the way,
+    and none may go.
+
+    Runs: 1 a round. Round k and the comparison of rounds k-1 and k-2 stand in one batch, so two rounds too many are made. Raises
+    NotSettled where `most` rounds are too few.
+    """
+    older: Optional[M] = None
+    differs: Optional[M] = None
+    oldest_count, last, number = -1, start, 0
+    while True:
+        new = step(last)
+        changed = differs.select('nonzero', 0) if differs is not None else None
+        differs = last.ewise_mult(older, 'ne') if older is not None else None
+        new.wait()                                                         # runs the batch
+        number += 1
+        tell(progress, 'round', number)
+        if changed is not None and older is not None and changed.nvals == 0 and older.nvals == oldest_count:
+            return older
+        if most is not None and number > most + 2:
+            raise NotSettled('did not converge after %d rounds' % number)
+        oldest_count = older.nvals if older is not None else -1
+        older, last = last, new
+
+
+def undirected(graph: M, GT: Optional[M] = None) -> M:
+    """The graph without its directions, weights and loops: an entry 1 at (i, j) and (j, i) for each edge between two vertices.
+
+    `GT` is the transpose, where the caller has it. Runs: 3. Steps: up to 16 an entry.
+    GraphBLAS: `eWiseAdd` with the transpose, `select` off the diagonal.
+    """
+    order(graph, GT)
+    back = graph.T if GT is None else GT
+    there, back = graph.select('offdiag', 0), back.select('offdiag', 0)
+    return there.ewise_add(back, 'first').apply('one')

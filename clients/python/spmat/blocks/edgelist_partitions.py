@@ -1,0 +1,172 @@
+"""Parts of lists of edges by name, as workers read them: ranges of a list, whole files, frames of pandas. A part has the names that stand in it, and
+its edges by their numbers there; the caller's process tells then which vertices these are."""
+from __future__ import annotations
+
+from typing import Any, List, NamedTuple, Optional, Sequence, Tuple, Union
+
+from ..errors import ReadError
+from ..io import edgelist_numpy, edgelist_text, matrix_market, matrix_text, pandas, third_party_formats
+from ..io.edgelist_header import Layout
+from ..io.factorize import Coded, ascending, factorized
+from ..io.integer_values import Rounding
+from ..io.matrix_text import Triples
+from . import file_ranges
+from .file_ranges import Part, Range
+from .row_partition import Cut
+
+Names = Any
+"""An ascending array of whole numbers, or a list of texts and others in the order in which they first stand."""
+
+
+class ListRange(NamedTuple):
+    """Lines of a list that are read in bulk."""
+    range: Range
+    shape: edgelist_numpy.Shape
+
+    @property
+    def label(self) -> str:
+        """The range in words."""
+        return self.range.label
+
+
+class WholeFile(NamedTuple):
+    """A file that one worker reads: a list, also packed, or of parquet."""
+    path: str
+    parquet: bool
+    layout: Layout
+
+    @property
+    def label(self) -> str:
+        """The file."""
+        return self.path
+
+
+class Frame(NamedTuple):
+    """A frame of pandas, or what computes one, and the columns that are read of it."""
+    frame: Any
+    ends: Tuple[Any, Any]
+    value: Any
+
+    @property
+    def label(self) -> str:
+        """The frame in words."""
+        return 'a part of the frame'
+
+
+Source = Union[ListRange, WholeFile, Frame]
+
+
+class EdgePart(NamedTuple):
+    """Edges of a part: the numbers of sources and targets, by one list of names or, of two kinds of vertices, by two; and values or None."""
+    codes: List[Any]
+    names: List[Names]
+    values: Optional[Any]
+    told: str = ''
+
+
+def read(source: Source, bipartite: bool) -> Optional[EdgePart]:
+    """The edges of a part. None where a range has to be read line by line; ReadError, with file and line, where anything else can't be read."""
+    if isinstance(source, ListRange):
+        found = edgelist_numpy.read(file_ranges.lines_in(source.range), 0, source.shape, Rounding(None))
+        return None if found is None else _numbered(found.sources, found.targets, found.values, bipartite)
+    if isinstance(source, Frame):
+        frame = source.frame.compute() if hasattr(source.frame, 'compute') else source.frame
+        edges = pandas.edges_of(frame, source.ends, source.value, None)
+    elif source.parquet:
+        with open(source.path, 'rb') as file:
+            edges = third_party_formats.table(source.path, file.read(), source.layout)
+    else:
+        edges = edgelist_text.read(source.path, matrix_market.load(source.path), source.layout)
+    return _numbered(edges.sources, edges.targets, edges.values, bipartite, edges.told)
+
+
+def _numbered(sources: Any, targets: Any, values: Any, bipartite: bool, told: str = '') -> EdgePart:
+    import numpy
+    codes, names = [], []
+    for columns in ([[sources], [targets]] if bipartite else [[sources, targets]]):
+        if not all(matrix_text.is_array(column) or isinstance(column, Coded) for column in columns):
+            columns = _coded([column.tolist() if hasattr(column, 'tolist') else list(column) for column in columns])
+        if matrix_text.is_array(columns[0]):
+            found, ascend = ascending(columns)
+            codes += found
+            names.append(ascend)
+        elif bipartite:
+            found, first = factorized(columns[0].codes)
+            codes.append(found)
+            names.append([columns[0].names[at] for at in columns[0].codes[first].tolist()])
+        else:
+            codes += [column.codes for column in columns]
+            names.append(columns[0].names)
+    return EdgePart(codes, names, None if values is None else numpy.asarray(values, numpy.int64), told)
+
+
+def _coded(columns: Sequence[List[Any]]) -> List[Any]:
+    """Columns of names as arrays of whole numbers, where all are, else by one list of names."""
+    import numpy
+    if all(type(name) is int and abs(name) < 1 << 62 for column in columns for name in column):
+        return [numpy.array(column, numpy.int64) for column in columns]
+    places = {name: at for at, name in enumerate(dict.fromkeys(name for edge in zip(*columns) for name in edge))}
+    names = list(places)
+    return [Coded(numpy.array([places[name] for name in column], numpy.int64), names) for column in columns]
+
+
+# -- names of all parts
+
+def merged(parts: Sequence[Names]) -> Optional[Names]:
+    """The names of all parts; None where some are whole numbers and some aren't."""
+    parts = [names for names in parts if len(names)]
+    if all(matrix_text.is_array(names) for names in parts):
+        return ascending(parts)[1]
+    if any(matrix_text.is_array(names) for names in parts):
+        return None
+    return list(dict.fromkeys(name for names in parts for name in names))
+
+
+def places_in(names: Names, all_names: Names, places: Any) -> Any:
+    """The number of each name of a part among all; `places` are those of texts."""
+    import numpy
+    if matrix_text.is_array(names):
+        return numpy.searchsorted(all_names, names).astype(numpy.int32) if len(names) else numpy.zeros(0, numpy.int32)
+    return numpy.array([places[name] for name in names], numpy.int32)
+
+
+# -- edges by blocks
+
+class To(NamedTuple):
+    """Where the edges of a part go: the numbers of its names among all, the sizes of the matrix, whether edges lead one way alone, and whether
+    lines have no value."""
+    places: List[Any]
+    nrows: int
+    ncols: int
+    directed: bool
+    bare: bool
+
+
+def _triples(part: EdgePart, to: To) -> Triples:
+    import numpy
+    rows, columns = (to.places[min(at, len(to.places) - 1)][codes].astype(numpy.int64) for at, codes in enumerate(part.codes))
+    values = numpy.ones(len(rows), numpy.int64) if part.values is None else part.values
+    triples = Triples(rows, columns, values, to.nrows, to.ncols)
+    return triples if to.directed else matrix_market.mirrored(matrix_market.lowered(triples, 'symmetric'), 'symmetric')
+
+
+def row_counts(part: EdgePart, to: To, edges: Sequence[int]) -> Any:
+    """How many entries lie in the rows from each edge to below the next."""
+    import numpy
+    return numpy.histogram(_triples(part, to).rows, numpy.array(edges))[0]
+
+
+def split(part: EdgePart, to: To, cut: Cut) -> List[Part]:
+    """The lines of each block."""
+    return file_ranges.written(_triples(part, to), to.bare, cut)
+
+
+class Repeated(ReadError):
+    """An edge with a value is given twice: the numbers of its vertices are known, its line isn't."""
+
+    def __init__(self, row: int, column: int) -> None:
+        super().__init__('the edges', None, 'the edge between %d and %d is there already' % (row, column))
+        self.row, self.column = row, column
+
+    def __reduce__(self) -> Tuple[Any, ...]:
+        return Repeated, (self.row, self.column)

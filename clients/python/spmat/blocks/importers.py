@@ -1,0 +1,216 @@
+"""Matrices in blocks from what callers have: text, files, generators."""
+from __future__ import annotations
+
+import io
+import os
+import uuid
+from typing import TYPE_CHECKING, Any, Callable, Iterable, Iterator, List, Optional, Sequence, Tuple, Union
+
+from ..errors import Refused, TextRefused, refusal
+from ..io import coo, matrix_market, matrix_text
+from ..io.graph_files import Request, name_of
+from ..io.importers import DupOp, Sources
+from ..io.matrix_text import Triples
+from ..metadata import NOTHING
+from ..operators import Operator, find
+from . import chunked_input, duplicate_positions, parallel_edgelist, parallel_read, row_partition, worker_tasks
+from .deferred_vector import HeldVector
+from .executor import Engine, Progress
+from .matrix import BlockMatrix
+from .row_partition import Cut
+from .shared_budget import Work
+from .worker_store import Piece, Settings
+
+if TYPE_CHECKING:
+    from .sessions import Sessions
+
+SMALL = 1 << 16                                    # bytes of a text that goes with its task, where another would lie in a file
+
+
+class Inputs(Sources[BlockMatrix]):
+    """What makes matrices of several sessions."""
+
+    blocks: int
+    cut: Optional[Cut]
+    files: List[str]
+    folder: Optional[str]
+    progress: Progress
+    submit: Callable[..., Any]
+    batch: Callable[[Sequence[Work]], List[Any]]
+    results: Callable[..., List[Any]]
+    spool: Callable[[], Optional[str]]
+    engine: Engine
+    settings: Settings
+    turns: Iterator[int]
+
+    def from_edges(self, edges: Iterable[Any], nrows: int, ncols: int, *, cut: Optional[Sequence[int]] = None, dup_op: DupOp = None,
+                   name: Optional[str] = None) -> BlockMatrix:
+        """A matrix from a generator of (row, column, value), or of chunks of them: arrays of numpy with these as columns. They come
+        in any order, and lie in files while they come: no more than a block of them is held. Where a position repeats it is a
+        TextRefused (M8), or with `dup_op` its values are folded by that operator in the order in which they came."""
+        with chunked_input.Spool(coo.side(nrows, 0, 'nrows'), coo.side(ncols, 0, 'ncols')) as spool:
+            spool.take(edges)
+            return self._spooled(spool, cut, name, dup_op)
+
+    def from_text(self, text: Union[bytes, str], name: Optional[str] = None) -> BlockMatrix:
+        """A matrix from a Matrix Market text as a session reads it; see `Session.from_text`. TextRefused names the line."""
+        text = text.encode() if isinstance(text, str) else bytes(text)
+        if len(text) > matrix_text.MOST_TEXT:
+            raise refusal('S7', detail='the text has %d bytes' % len(text))
+        if matrix_market.is_plain(text):
+            try:
+                made = self.mmread(io.BytesIO(text), name=name)
+                made.notes = NOTHING               # as a session's, which reads the text itself
+                return made
+            except Refused:                        # a session has the words for it
+                pass
+        self.results([self.submit(0, '', worker_tasks.source, text)], [''])
+        raise AssertionError('a session takes a text that was refused here')
+
+    def mmread(self, source: Any, *, values: bool = True, scale: Optional[float] = None, dup_op: DupOp = None,
+               cut: Optional[Sequence[int]] = None, name: Optional[str] = None) -> BlockMatrix:
+        """A matrix from a Matrix Market file: a path (also .gz and .bz2), or a file opened in binary. It is read by pieces, and no more
+        than a block is held; it may be larger than one session takes. `array` files, which are small, are read at once. `values`,
+        `scale` and `dup_op` are as for `Session.mmread`. What is refused names the file and the line. `progress('read', done, of)` is
+        called after each piece, with bytes. In python-graphblas `io.mmread`."""
+        made = None if dup_op is not None else parallel_read.matrix_market(self, source, matrix_market.Values(values, scale), cut, name)
+        if made is not None:
+            return made
+        start = source.tell() if hasattr(source, 'read') and hasattr(source, 'seekable') and source.seekable() else None
+        with chunked_input.spool_of(source, matrix_market.Values(values, scale), self.progress, whole=dup_op is None) as spool:
+            if dup_op is not None:
+                return self._refolded(spool, cut, name, dup_op)
+            try:
+                return self._spooled(spool, cut, name)
+            except TextRefused as fault:
+                if fault.rule != 'M8':
+                    raise
+                raise duplicate_positions.of_file(source, start, spool, self._cut(spool.nrows, spool, cut), fault).of_file(name_of(source)) from None
+
+    def _read(self, path: Any, request: Request, dup_op: DupOp, name: Optional[str]) -> BlockMatrix:
+        """The matrix of a file, or of a folder of lists or parquet, by the workers where they see it."""
+        layout = request.layout
+        asked = parallel_edgelist.Asked(request.directed is not False, request.bipartite, dup_op, name)
+        made = None if dup_op is not None or request.format not in (None, 'mtx') else parallel_read.matrix_market(
+            self, path, matrix_market.Values(layout.values, layout.scale), None, name)
+        if made is None and request.format in (None, 'edges', 'csv', 'tsv', 'parquet'):
+            made = parallel_edgelist.of_file(self, path, request, asked)
+        return super()._read(path, request, dup_op, name) if made is None else made
+
+    def from_dask_dataframe(self, frame: Any, source: Any = 'source', target: Any = 'target', edge_attr: Any = None, *, directed: bool = True,
+                            bipartite: bool = False, dup_op: DupOp = None, name: Optional[str] = None) -> BlockMatrix:
+        """The adjacency matrix of a `dask.dataframe`, as `from_pandas_edgelist` has it of a table of pandas: each worker takes its partitions, and
+        the caller's process gets the names alone. By `Dask` the partitions are computed by the same cluster. ValueError where edges with
+        values repeat, unless `dup_op` folds them, and where names of some partitions are whole numbers and of others aren't."""
+        return parallel_edgelist.of_frame(self, frame, (source, target), edge_attr, parallel_edgelist.Asked(directed, bipartite, dup_op, name))
+
+    def _refolded(self, spool: 'chunked_input.Spooled', cut: Optional[Sequence[int]], name: Optional[str], dup_op: DupOp) -> BlockMatrix:
+        """A matrix of a file's entries, whose positions may repeat: they are folded as they stand in the file, and then the other
+        triangle of a symmetric one is added."""
+        with chunked_input.Spool(spool.nrows, spool.ncols) as folded:
+            for triples in spool.blocks(row_partition.by_entries(spool.counts, self.blocks)):
+                folded.add(matrix_market.mirrored(self._folded(triples, dup_op), spool.symmetry))
+            folded.notes = spool.notes._replace(weighted=True)
+            return self._spooled(folded, cut, name)
+
+    def _market(self, file: str, text: bytes, request: Request, dup_op: DupOp, name: Optional[str]) -> BlockMatrix:
+        layout = request.layout
+        try:
+            return self.mmread(io.BytesIO(text), values=layout.values, scale=layout.scale, dup_op=dup_op, name=name)
+        except Refused as fault:
+            raise fault.of_file(file) from None
+
+    def _folded(self, triples: Triples, dup_op: DupOp) -> Triples:
+        if dup_op is None:
+            return triples
+        op = find('binary', dup_op)
+        return coo.unrepeated(triples, lambda many: self._fold(many, op))
+
+    def full(self, nrows: int, ncols: int, value: int = 1, *, name: Optional[str] = None) -> BlockMatrix:
+        """A matrix with one value everywhere, made at the workers."""
+        shape = coo.side(nrows, 0, 'nrows'), coo.side(ncols, 0, 'ncols')
+        cut, value = self._cut(shape[0], None), coo.word(value, 'value')
+        return self._each(cut, shape[1], name, lambda first, end: (worker_tasks.full, first, end, shape, value))
+
+    def ones(self, ncols: int) -> BlockMatrix:
+        """A row of ones, which folds columns."""
+        return self.full(1, ncols)
+
+    def identity(self, n: int, value: int = 1, *, name: Optional[str] = None) -> BlockMatrix:
+        """A square matrix with one value on its diagonal, made at the workers."""
+        n, value = coo.side(n, 0, 'n'), coo.word(value, 'value')
+        return self._each(self._cut(n, None), n, name, lambda first, end: (worker_tasks.identity, first, end, n, value))
+
+    def _each(self, cut: Cut, ncols: int, name: Optional[str], task: Callable[[int, int], Tuple[Any, ...]]) -> BlockMatrix:
+        futures = [self.submit(k, cut.label(k), *task(first, end)) for k, (first, end) in enumerate(cut.ranges())]
+        return BlockMatrix(self.itself(), futures, cut, ncols, name)
+
+    def itself(self) -> 'Sessions':
+        """These sessions."""
+        return self  # type: ignore[return-value]
+
+    def cut_for(self, nrows: int, given: Union[Cut, Sequence[int], None]) -> Optional[Cut]:
+        """Where a new matrix is cut: as the caller says, or as the matrix that these sessions cut after; None where neither tells."""
+        if given is not None:
+            return row_partition.checked(given.bounds if isinstance(given, Cut) else given, nrows)
+        return self.cut if self.cut is not None and self.cut.nrows == nrows else None
+
+    def _cut(self, nrows: int, spool: Optional['chunked_input.Spooled'], given: Union[Cut, Sequence[int], None] = None) -> Cut:
+        """Where a new matrix is cut: as `cut_for` has it, or by entries."""
+        found = self.cut_for(nrows, given)
+        if found is not None:
+            return found
+        return row_partition.evenly(nrows, self.blocks) if spool is None else row_partition.by_entries(spool.counts, self.blocks)
+
+    def _from(self, triples: Triples, dup_op: DupOp = None, name: Optional[str] = None) -> BlockMatrix:
+        folded = self._folded(triples, dup_op)
+        with chunked_input.Held(folded) as held:
+            try:
+                return self._spooled(held, None, name)
+            except TextRefused as fault:
+                raise (duplicate_positions.of_triples(folded, fault) if fault.rule == 'M8' else fault) from None
+
+    def keep(self, entries: Triples) -> BlockMatrix:
+        """A matrix of entries by ascending row and column, which aren't looked at. The client keeps those of a vector; they are sent
+        when a job wants them."""
+        if 1 not in (entries.nrows, entries.ncols):
+            return self._from(entries)
+        return HeldVector(self.itself(), entries, self._cut(entries.nrows, None))
+
+    def share(self, piece: Piece) -> Any:
+        """A piece that has its text, as tasks of all places take it: by Dask from one worker, which the others get it from."""
+        if not self.engine.forgets or len(piece.text()) < SMALL:
+            return piece
+        return self.submit(next(self.turns), 'a vector', worker_tasks.given, piece)
+
+    def _fold(self, many: Triples, op: Operator) -> Any:
+        label = 'values that share a position'
+        folds = self.results(self.batch([Work(0, label, worker_tasks.folded, (many, op))]), [label])[0]
+        return matrix_text.find_numpy().array(folds) if matrix_text.is_array(many.rows) else folds
+
+    def _spooled(self, spool: 'chunked_input.Spooled', given: Union[Cut, Sequence[int], None], name: Optional[str],
+                 dup_op: DupOp = None) -> BlockMatrix:
+        """A matrix of what lies in a spool, block by block."""
+        cut = self._cut(spool.nrows, spool, given)
+        fold = None if dup_op is None else lambda triples: self._folded(triples, dup_op)
+        futures = []
+        for block, text in enumerate(spool.texts(cut, fold)):
+            futures.append(self.put(block, cut.label(block), text))
+        made = BlockMatrix(self.itself(), futures, cut, spool.ncols, name).wait()
+        made.notes = spool.notes
+        return made
+
+    def put(self, block: int, label: str, text: bytes) -> Any:
+        """The future of a block that is made of its text."""
+        if (len(text) < SMALL and self.folder is None) or self.spool() is None:
+            return self.submit(block, label, worker_tasks.source, text)
+        path = self.new_file()
+        return self.submit(block, label, worker_tasks.read, path, chunked_input.put(path, text))
+
+    def new_file(self) -> str:
+        """The path of a file in `spool()` that isn't there yet, and that `close` removes."""
+        folder = self.spool()
+        assert folder is not None
+        path = os.path.join(folder, uuid.uuid4().hex + '.mtx')
+        self.files.append(path)
+        return path

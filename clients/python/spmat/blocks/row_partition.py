@@ -1,0 +1,118 @@
+"""Where the rows of a matrix are cut into blocks, and texts cut at rows.
+
+A cut of n blocks is n + 1 bounds: block k has the rows from bound k to below bound k + 1. Blocks may have no row. Texts are the
+server's (`show`): their entries stand by ascending row, so the lines of some rows are found by halving and are cut out as they
+are.
+"""
+from __future__ import annotations
+
+import bisect
+import itertools
+from typing import Any, Iterable, Iterator, List, NamedTuple, Sequence, Tuple
+
+from ..errors import refusal
+from ..io import matrix_text
+
+
+class Cut(NamedTuple):
+    """Where rows are cut: bounds that ascend from 0 to the number of rows."""
+    bounds: Tuple[int, ...]
+
+    @property
+    def nrows(self) -> int:
+        """The rows of the whole."""
+        return self.bounds[-1]
+
+    @property
+    def blocks(self) -> int:
+        """How many blocks there are, those without a row among them."""
+        return len(self.bounds) - 1
+
+    def rows(self, block: int) -> Tuple[int, int]:
+        """The first row of a block, and the one behind its last."""
+        return self.bounds[block], self.bounds[block + 1]
+
+    def ranges(self) -> Iterator[Tuple[int, int]]:
+        """`rows` of each block."""
+        return zip(self.bounds, self.bounds[1:])
+
+    def label(self, block: int) -> str:
+        """A block in words, as errors name it."""
+        first, end = self.rows(block)
+        rows = 'rows %d to %d' % (first, end - 1) if first < end else 'no rows'
+        return 'block %d of %d, %s' % (block, self.blocks, rows)
+
+    def meeting(self, first: int, end: int) -> List[int]:
+        """The blocks that have any of the rows from `first` to below `end`."""
+        return [k for k, (start, stop) in enumerate(self.ranges()) if max(start, first) < min(stop, end)]
+
+
+def checked(bounds: Iterable[int], nrows: int) -> Cut:
+    """A cut that a caller gives, looked at. ValueError where the bounds don't ascend from 0 to the number of rows."""
+    cut = Cut(tuple(bounds))
+    if len(cut.bounds) < 2 or cut.bounds[0] != 0 or cut.nrows != nrows or any(a > b for a, b in cut.ranges()):
+        raise ValueError('a cut ascends from 0 to the %d rows, and this is %s' % (nrows, cut.bounds))
+    return cut
+
+
+def by_entries(counts: Sequence[int], blocks: int) -> Cut:
+    """The cut into so many blocks of about as many entries each, by the number of entries of each row. A row is never divided, so
+    a row with most of the entries has a block to itself, and others may stay without a row."""
+    numpy = matrix_text.find_numpy() if matrix_text.is_array(counts) else None
+    ends: Any = numpy.cumsum(counts) if numpy is not None else list(itertools.accumulate(counts))
+    total = int(ends[-1]) if len(ends) else 0
+    if not total:
+        return evenly(len(counts), blocks)
+    places = [_nearest(ends, total * k / blocks) for k in range(1, blocks)]
+    return Cut((0, *places, len(counts)))
+
+
+def _nearest(ends: Any, wanted: float) -> int:
+    """The row before which the entries are nearest to so many."""
+    at = bisect.bisect_left(ends, wanted)
+    before = int(ends[at - 1]) if at else 0
+    return at if wanted - before <= int(ends[at]) - wanted else at + 1
+
+
+def evenly(nrows: int, blocks: int) -> Cut:
+    """The cut into so many blocks of about as many rows each, where nothing is known of the entries."""
+    return Cut(tuple(nrows * k // blocks for k in range(blocks + 1)))
+
+
+def lines_of(text: bytes, first: int, end: int) -> Tuple[bytes, int]:
+    """The lines of the entries in the rows from `first` to below `end`, and their number, out of a text as the server writes it."""
+    nrows, _, start = matrix_text.head_of(text)
+    if first <= 0 and end >= nrows:
+        lines = text[start:]
+    else:
+        at = _line_of_row(text, start, first)
+        lines = text[at:_line_of_row(text, at, end)]
+    return lines, lines.count(b'\n')
+
+
+def _line_of_row(text: bytes, start: int, row: int) -> int:
+    """Where the first line of a row, or of one behind it, begins at or behind `start`."""
+    low, high = start, len(text)
+    while low < high:
+        middle = text.rfind(b'\n', low, (low + high) // 2) + 1 or low
+        if int(text[middle:text.index(b' ', middle)]) - 1 < row:
+            low = text.index(b'\n', middle) + 1
+        else:
+            high = middle
+    return low
+
+
+def head(nrows: int, ncols: int, count: int) -> bytes:
+    """What stands before the lines of the entries in a text."""
+    return matrix_text.BANNER + b'%d %d %d\n' % (nrows, ncols, count)
+
+
+def text_of(nrows: int, ncols: int, parts: Sequence[Tuple[bytes, int]]) -> bytes:
+    """One text of lines and their numbers. TooLarge where it is longer, or has more entries, than a session takes."""
+    count, size = sum(part[1] for part in parts), sum(len(part[0]) for part in parts)
+    first = head(nrows, ncols, count)
+    if count > matrix_text.MOST_SIDE:
+        raise refusal('M4', detail='%d entries' % count)
+    if len(first) + size > matrix_text.MOST_TEXT:
+        raise refusal('S7', detail='the text has %d bytes' % (len(first) + size))
+    return b''.join([first, *(part[0] for part in parts)])

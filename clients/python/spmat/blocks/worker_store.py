@@ -1,0 +1,333 @@
+"""What a worker keeps: one session of its own, and in it the matrices of the pieces that came there.
+
+A `Piece` is what a task gives: a block, or a whole matrix that products want at each worker. In the process that made it, it is a
+matrix of the worker's session. Where an engine hands it to another process it goes as text, which is taken out of the session
+only then; the session there takes the text in at the piece's first use, and each content once. So where a task's operands are
+there, nothing moves, and a piece is enough to compute on anywhere.
+"""
+from __future__ import annotations
+
+import contextlib
+import hashlib
+import os
+import shutil
+import signal
+import threading
+import time
+import uuid
+import weakref
+from dataclasses import dataclass, field, replace
+from typing import Any, Dict, Iterator, List, NamedTuple, Optional, Tuple
+
+from .._client.connection import MOST_STEPS
+from .._client.job_queue import Budget
+from .._client.server_program import Program, program_words
+from ..errors import Closed
+from ..matrix import Matrix
+from .dask_worker_exit import leave
+from .errors import VersionMismatch
+from .shared_budget import Metered
+
+SHORT = 1 << 20                                    # bytes of a text that is kept with what was made of it
+LEAST_SIZE = 64                                    # bytes that a piece counts for at least, to engines that move data
+
+
+class Counts(NamedTuple):
+    """What is told of a piece: its sizes and entries, and of a job's result its price and steps."""
+    nrows: int
+    ncols: int
+    nvals: int
+    price: int = 0
+    steps: int = 0
+
+
+@dataclass(frozen=True)
+class Settings:
+    """How each worker opens its session: the budget of steps of all, its threads, the words that start the program (without them each
+    worker finds its own, as `Session` does), the seconds after which a program that stands still is taken for lost (None: never), and
+    the version that is expected there. With `texts` each result is taken out as text
+    as soon as it is made."""
+    steps: int = MOST_STEPS
+    workers: int = 1
+    program: Optional[Program] = None
+    texts: bool = False
+    patience: Optional[float] = 10
+    version: Optional[Tuple[str, str]] = None
+    token: str = field(default_factory=lambda: uuid.uuid4().hex)
+
+
+def version_of(program: Optional[Program] = None) -> Tuple[str, str]:
+    """What tells a version here: that of this package, and the SHA-256 of the program's file, which says more than the
+    version that the program tells, since two builds of one source may differ as well. Where the program is started by several words
+    (a shell, a wrapper), each word that is a file counts, and each other word as it stands. FileNotFoundError where the first is
+    none."""
+    from .. import __version__
+    said = hashlib.sha256()
+    for number, word in enumerate(program_words(program)):
+        path = shutil.which(word) or word
+        if os.path.isfile(path):
+            said.update(b'file ' + _file_digest(path))
+        elif number == 0:
+            raise FileNotFoundError('no program %s' % word)
+        else:
+            said.update(b'word %d %s' % (len(word), word.encode()))
+    return __version__, said.hexdigest()
+
+
+def _file_digest(path: str) -> bytes:
+    said = hashlib.sha256()
+    with open(path, 'rb') as file:
+        for piece in iter(lambda: file.read(1 << 20), b''):
+            said.update(piece)
+    return said.digest()
+
+
+class Piece:
+    """A block, or a whole matrix: a matrix of the session where it was made, a text elsewhere. Pickling it takes the text out."""
+
+    def __init__(self, counts: Counts, matrix: Optional[Matrix] = None, text: Optional[bytes] = None) -> None:
+        self.counts, self.matrix, self._text = counts, matrix, text
+        self._digest: Optional[bytes] = None
+
+    def text(self) -> bytes:
+        """The text, out of the session where it isn't here."""
+        if self._text is not None:
+            return self._text
+        assert self.matrix is not None
+        return self.matrix.to_text()
+
+    @property
+    def has_text(self) -> bool:
+        """Whether its text is here, so that it is right wherever it goes."""
+        return self._text is not None
+
+    @property
+    def is_short(self) -> bool:
+        """Whether it is a vector, or its text is short: it is kept with what was made of it."""
+        return 1 in (self.counts.nrows, self.counts.ncols) or (self._text is not None and len(self._text) < SHORT)
+
+    def lost(self) -> bool:
+        """Whether it has gone with the session that it was in."""
+        return self._text is None and self.matrix is not None and not self.matrix.session.connection.usable()
+
+    def keep_text(self) -> 'Piece':
+        """The same piece, which has its text from now on."""
+        self._text = self.text()
+        return self
+
+    def digest(self) -> bytes:
+        """What tells contents apart: two pieces of one text have the same."""
+        if self._digest is None:
+            self._digest = hashlib.blake2b(self.text(), digest_size=32).digest()
+        return self._digest
+
+    def marked(self) -> 'Piece':
+        """The same piece, told apart by a mark of its own and not by its content, which takes longer."""
+        self._digest = uuid.uuid4().bytes
+        return self
+
+    def __reduce__(self) -> Any:
+        try:
+            return _arrived, (self.counts, self.text(), self._digest)
+        except Closed:
+            leave()                                # another worker asks for what this one has lost
+            raise
+
+    def __sizeof__(self) -> int:
+        """About the bytes of its text, so that engines know what moving it takes."""
+        return LEAST_SIZE + (len(self._text) if self._text is not None else 16 * self.counts.nvals)
+
+
+def _arrived(counts: Counts, text: bytes, digest: Optional[bytes]) -> Piece:
+    piece = Piece(counts, text=text)
+    piece._digest = digest                         # pylint: disable=protected-access  # of this module
+    return piece
+
+
+class Before(NamedTuple):
+    """What is known of a session that has ended here, for the next one: its name, and the steps that it had spent."""
+    name: str = ''
+    spent: int = 0
+
+
+class Store:
+    """One worker's session, and which piece is which matrix in it."""
+
+    def __init__(self, settings: Settings, before: Before = Before()) -> None:
+        if settings.version is not None and version_of(settings.program) != settings.version:
+            raise VersionMismatch('this worker has another version than the others: %s, and %s is expected'
+                                  % (_words(version_of(settings.program)), _words(settings.version)))
+        self.settings, self.name = settings, before.name or uuid.uuid4().hex
+        self.session = Metered(max(0, settings.steps - before.spent), settings.workers, settings.program)
+        self._lock = threading.Lock()
+        self._here: 'weakref.WeakKeyDictionary[Piece, Matrix]' = weakref.WeakKeyDictionary()
+        self._contents: 'weakref.WeakValueDictionary[bytes, Matrix]' = weakref.WeakValueDictionary()
+        self.uploads = 0
+        self._seen: Optional[Tuple[float, int]] = None     # when the program was first seen to have used so much of a processor
+        self._known = before.spent
+        self._users, self._last_use = 0, time.monotonic()
+        self._made: 'weakref.WeakSet[Piece]' = weakref.WeakSet()
+
+    def matrix(self, piece: Piece) -> Matrix:
+        """The piece as a matrix of this session. Its text is taken in where it isn't there, each content once."""
+        if piece.matrix is not None and piece.matrix.session is self.session:
+            return piece.matrix
+        with self._lock:
+            found = self._here.get(piece)
+            if found is None:
+                digest = piece.digest()
+                found = self._contents.get(digest)
+                if found is None:
+                    found = self._contents[digest] = self.session.from_text(piece.text())
+                    self.uploads += 1
+                self._here[piece] = found
+            return found
+
+    def piece(self, matrix: Matrix) -> Piece:
+        """A matrix of this session as a piece, once it is made."""
+        matrix.wait()
+        self._note_spent()
+        counts = Counts(matrix.nrows, matrix.ncols, matrix.nvals, matrix.price or 0, matrix.steps or 0)
+        piece = Piece(counts, matrix)
+        self._made.add(piece)
+        return piece.keep_text() if self.settings.texts else piece
+
+    def lost(self) -> bool:
+        """Whether the session has ended by itself: its program was killed, or the machine's memory was at its end."""
+        return not self.session.connection.usable()
+
+    @contextlib.contextmanager
+    def in_use(self) -> Iterator['Store']:
+        """This store, while a task uses it."""
+        with self._lock:
+            self._users += 1
+        try:
+            yield self
+        finally:
+            with self._lock:
+                self._users -= 1
+                self._last_use = time.monotonic()
+
+    def is_left(self, seconds: float) -> bool:
+        """Whether no task has used this session for so long, and nobody holds a piece of it."""
+        with self._lock:
+            return not self._users and time.monotonic() - self._last_use > seconds and not len(self._made)
+
+    @property
+    def ended(self) -> Before:
+        """What the next session here has to know of this one: the steps of those before it are in it."""
+        return Before(self.name, self._known)
+
+    def budget(self) -> Budget:
+        """What this session and those before it here have spent, and what this one has reserved and left."""
+        left, reserved, _ = self.session.budget()
+        return Budget(left, reserved, max(0, self.settings.steps - left - reserved))
+
+    def without_steps(self) -> 'Store':
+        """Another session that can't take a step, for whoever closes it."""
+        return Store(replace(self.settings, steps=0, texts=False, version=None))
+
+    def _note_spent(self) -> None:
+        queue = self.session._queue                # pylint: disable=protected-access  # which keeps the budget's books
+        if queue.left:
+            self._known = self.settings.steps - queue.left
+
+    def end_if_stopped(self, patience: float) -> bool:
+        """Ends a program that has used no processor for so many seconds while the reply to a command is awaited: it is stopped, or
+        waits for what doesn't come. What it held is made again elsewhere. Where the system doesn't tell (it does on Linux), nothing."""
+        process, used = self.session.connection.process, None
+        if process is not None and self.session.connection.awaits:
+            used = _used(process)
+        now = time.monotonic()
+        if process is None or used is None or self._seen is None or self._seen[1] != used:
+            self._seen = None if used is None else (now, used)
+            return False
+        if now - self._seen[0] < patience:
+            return False
+        with contextlib.suppress(ProcessLookupError):
+            os.killpg(process, signal.SIGKILL)
+        return True
+
+    def close(self) -> None:
+        """Ends the session."""
+        self.session.close()
+
+
+def _used(group: int) -> Optional[int]:
+    """The ticks of a processor that the processes of a group have used; None where the system doesn't tell."""
+    used: Optional[int] = None
+    with contextlib.suppress(OSError):
+        for number in filter(str.isdigit, os.listdir('/proc')):
+            with contextlib.suppress(OSError, IndexError, ValueError):
+                with open('/proc/%s/stat' % number, 'rb') as file:
+                    words = file.read().rsplit(b')', 1)[1].split()
+                if int(words[2]) == group:
+                    used = (used or 0) + int(words[11]) + int(words[12])
+    return used
+
+
+_stores: Dict[str, Store] = {}
+_ended: Dict[str, Before] = {}                     # sessions that have ended here
+_lock = threading.Lock()
+_sweeper: Optional[threading.Thread] = None
+LEFT = 60.0                                        # seconds after which a session ends of which nobody holds a piece
+
+
+def store_of(settings: Settings) -> Store:
+    """The store of this process, which is opened at its first use, and anew where its program has ended. What that one held is lost:
+    pieces that have their texts (`texts=True`) are taken in again, others are for the engine to make anew."""
+    global _sweeper                                # pylint: disable=global-statement  # one for the process
+    with _lock:
+        held = _stores.get(settings.token)
+        if held is None or held.lost():
+            if held is not None:
+                _ended[settings.token] = held.ended
+            _stores[settings.token] = held = Store(settings, _ended.get(settings.token, Before()))
+        if _sweeper is None:
+            _sweeper = threading.Thread(target=_sweep, name='spmat-sweeper', daemon=True)
+            _sweeper.start()
+        return held
+
+
+def _sweep() -> None:
+    """Ends sessions that nobody uses: a client that dies, or forgets to close, doesn't hold memory at workers for good. Should its
+    client live, the next task opens a session with what is left of its budget."""
+    while True:
+        time.sleep(LEFT / 12)
+        with _lock:
+            left = [(token, store) for token, store in _stores.items() if store.is_left(LEFT)]
+            for token, store in left:
+                _ended[token] = store.ended
+                del _stores[token]
+        for _, store in left:
+            store.close()
+
+
+def program_stopped(settings: Settings, patience: float) -> bool:
+    """Ends the program of this process where it stands still."""
+    store = _stores.get(settings.token)
+    return store is not None and store.end_if_stopped(patience)
+
+
+def close_store(settings: Settings) -> None:
+    """Ends the session of this process, where there is one."""
+    with _lock:
+        store = _stores.pop(settings.token, None)
+        _ended.pop(settings.token, None)
+    if store is not None:
+        store.close()
+
+
+def agree(versions: Dict[str, Tuple[str, str]]) -> Tuple[str, str]:
+    """The version that all workers have, by their names. Raises VersionMismatch, which names them, where they differ."""
+    told: Dict[Tuple[str, str], List[str]] = {}
+    for worker, version in versions.items():
+        told.setdefault(version, []).append(worker)
+    if len(told) > 1:
+        parts = ['%s has %s' % (', '.join(sorted(workers)), _words(version)) for version, workers in sorted(told.items())]
+        raise VersionMismatch('workers have different versions of spmat: ' + '; '.join(parts))
+    return next(iter(told))
+
+
+def _words(version: Tuple[str, str]) -> str:
+    return 'client %s with program %s' % (version[0], version[1][:16])

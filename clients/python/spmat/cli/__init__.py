@@ -1,0 +1,97 @@
+"""The command line `spmat-graph COMMAND ..`, which is `python3 -m spmat COMMAND ..`, too.
+
+A command for each algorithm of `spmat.algorithms` (`algorithm_table`, `algorithm_commands`), `spy` and `draw`, `types`, `script`
+and `completion`. Results go to standard output, progress to standard error where that is a terminal, and a fault is one line there.
+`exit_status` has the exit statuses.
+"""
+from __future__ import annotations
+
+import argparse
+import difflib
+import re
+import signal
+import sys
+from typing import Any, List, NoReturn, Optional
+
+from .. import __version__
+from ..io.matrix_market import ENDINGS
+from . import algorithm_commands, completion, draw_commands, script_command, types_command
+from .exit_status import MEANINGS, PROGRAM, Status, finish
+
+DESCRIPTION = 'Graph algorithms, pictures, operators and sessions of spmat, the job server for sparse integer matrices.'
+EPILOG = """examples:
+  %%(prog)s triangle-count graph.mtx --undirected
+  %%(prog)s bfs-levels people.csv --source Anna
+  %%(prog)s bfs-levels graph.mtx --source 1 --plot levels.png
+  %%(prog)s pagerank graph.mtx --mtx > ranks.mtx
+  %%(prog)s spy graph.mtx --plot spy.png
+  %%(prog)s types my_operator.asm --kind binary
+  %%(prog)s script session.txt
+
+A graph is a file in Matrix Market format, an edge list, CSV, TSV or DIMACS (also %s), which is seen from what stands in it. An entry
+at row i and column j, or a line `i j`, is an edge from i to j. Vertices have their names in the file; those of a Matrix Market file count
+from 1. `%%(prog)s COMMAND --help` tells more of each command. The server itself is another program: see `spmat --help`.
+
+exit status:
+%s
+"""
+SERVERS = ('run', 'serve')                         # words of the program spmat
+FORMER = 'run'                                     # what `script` is called where the program is `python3 -m spmat`
+
+
+class Parser(argparse.ArgumentParser):
+    """A grammar of words. What is wrong with them is told in one line; a word that is the server's as such."""
+
+    def error(self, message: str) -> NoReturn:
+        found = re.match(r"argument COMMAND: invalid choice: '([^']*)'", message)
+        if found:
+            message = self.no_command(found.group(1))
+        self.exit(Status.WORDS, '%s: %s (%s --help)\n' % (PROGRAM, message, self.prog))
+
+    def no_command(self, word: str) -> str:
+        """What is said of a word that is no command."""
+        if word in SERVERS:
+            return '`%s` is a command of the server, `spmat %s`; here `%s script FILE` runs a file of commands' % (word, word, self.prog)
+        names = next(tuple(action.choices or ()) for action in self._actions if action.dest == 'command')
+        near = difflib.get_close_matches(word.replace('_', '-'), names, 2)
+        return 'no command %s%s' % (word, ': did you mean %s?' % ' or '.join(near) if near else '')
+
+
+def epilog() -> str:
+    """Examples, and the exit statuses."""
+    return EPILOG % (', '.join(ENDINGS), '\n'.join('  %3d  %s' % pair for pair in MEANINGS.items()))
+
+
+def parser(program: str = PROGRAM) -> argparse.ArgumentParser:
+    """The grammar of the words, of a program of this name."""
+    made = Parser(prog=program, description=DESCRIPTION, epilog=epilog(), formatter_class=argparse.RawDescriptionHelpFormatter)
+    made.add_argument('--version', action='version', version='spmat %s, the client' % __version__, help="tell the client's version")
+    commands = made.add_subparsers(dest='command', metavar='COMMAND', required=True)
+    for module in (algorithm_commands, draw_commands, types_command):
+        module.add_commands(commands)
+    script_command.add_commands(commands, () if program == PROGRAM else (FORMER,))
+    completion.add_commands(commands)
+    return made
+
+
+def main(words: Optional[List[str]] = None, program: str = PROGRAM) -> int:
+    """Runs a command, and gives its exit status."""
+    options, rest = parser(program).parse_known_args(words)
+    if rest:
+        options.parser.error('unrecognized arguments: ' + ' '.join(rest))
+    try:
+        status: int = options.run(options) or 0
+        return status
+    except (Exception, KeyboardInterrupt) as fault:    # pylint: disable=broad-exception-caught  # each has its status
+        return finish(fault)
+
+
+def end(*_: Any) -> NoReturn:
+    """Ends as the shell's status has it, with the program that was started: it may be amid a batch, which nothing cancels."""
+    sys.exit(Status.TERMINATED)
+
+
+def run(program: str = PROGRAM) -> NoReturn:
+    """The command `spmat-graph`."""
+    signal.signal(signal.SIGTERM, end)
+    sys.exit(main(None, program))

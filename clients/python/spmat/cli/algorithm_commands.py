@@ -1,0 +1,119 @@
+"""A command for each algorithm. Vertices have the names of the file: in options, in results, and where a value is a vertex. Those of a
+Matrix Market file count from 1."""
+from __future__ import annotations
+
+import argparse
+import functools
+import inspect
+import re
+import textwrap
+from typing import Any, Callable, Iterable
+
+from .. import draw as pictures
+from ..matrix import Matrix
+from . import graph_options, output
+from .algorithm_table import ALGORITHMS, Algorithm, OPTIONS
+from .session_options import add_session_options, open_session
+
+WIDTH = 100                                        # of descriptions
+# A sentence of a docstring that speaks of Python's arguments, and what is said of a column that is printed.
+PYTHONIC = re.compile(r'`[^`]*[(=][^`]*`|`(G|W|GT|WT|sources|pairs|scale|tolerance|searches)`|\bNone\b')
+COLUMN = re.compile(r',? as (a column|bounds)( of (labels|ones))?( in units of [^:.;,]*)?|,? in units of [^:.;,]*|A column; | \(see `undirected`\)')
+COSTS = re.compile(r'(Runs|Steps|GraphBLAS|LAGraph|networkx|igraph): ')
+EXAMPLES = {'source': '--source 1', 'target': '--target 7', 'k': '--k 4', 'sources': '--source 1', 'pair': '--pair 1 2'}
+
+def add_commands(commands: Any) -> None:
+    """Adds a command for each algorithm."""
+    for name, algorithm in ALGORITHMS.items():
+        command = commands.add_parser(name, help=algorithm.gives, description=description(algorithm),
+                                      formatter_class=argparse.RawDescriptionHelpFormatter, epilog=epilog(algorithm))
+        graph_options.add_graph_options(command)
+        for option in algorithm.options:
+            grammar = dict(OPTIONS[option])
+            command.add_argument(grammar.pop('flag'), **grammar)
+        graph_options.add_output_options(command, algorithm.ranked)
+        if algorithm.plot:
+            command.add_argument('--plot', metavar='FILE.png', help='a picture of the result; wants matplotlib')
+        add_session_options(command)
+        command.set_defaults(run=functools.partial(run, algorithm), parser=command)
+
+
+def description(algorithm: Algorithm) -> str:
+    """What the function says of itself in its first paragraph, less what is said of Python's arguments; and what it costs."""
+    paragraphs = [list(sentences(paragraph)) for paragraph in (inspect.getdoc(algorithm.function) or '').split('\n\n')]
+    first = [COLUMN.sub('', sentence) for sentence in paragraphs[0] if not PYTHONIC.search(sentence)]
+    costs = [sentence for paragraph in paragraphs[1:] for sentence in paragraph if COSTS.match(sentence) and not PYTHONIC.search(sentence)]
+    begin = [algorithm.gives[0].upper() + algorithm.gives[1:] + '.']
+    return '\n\n'.join(textwrap.fill(' '.join(told), WIDTH) for told in (algorithm.tells or first or begin, costs) if told)
+
+
+def sentences(paragraph: str) -> Iterable[str]:
+    """The sentences of a paragraph."""
+    return re.split(r'(?<=[.)])\s+(?=[A-Z(`])', ' '.join(paragraph.split()))
+
+
+def epilog(algorithm: Algorithm) -> str:
+    """What is printed, and an example."""
+    words = ' '.join(EXAMPLES[option] for option in algorithm.options if option in EXAMPLES)
+    if algorithm.scale > 1:
+        printed = 'Printed are fractions; --mtx has whole numbers, in units of 1/%d.' % algorithm.scale
+    elif algorithm.are_vertices:
+        printed = 'Values are vertices.'
+    else:
+        printed = 'Vertices have their names.'
+    printed += ' Vertices of a Matrix Market file count from 1. A tab parts what is printed where a name has blanks.'
+    return '%s\n\nexample:\n  %%(prog)s graph.mtx%s' % (printed, ' ' + words if words else '')
+
+
+def run(algorithm: Algorithm, options: argparse.Namespace) -> int:
+    """Reads the graph, computes, writes the result and draws it."""
+    if getattr(options, 'plot', None):
+        pictures.check(options.plot)
+    graph_options.check_output(options)
+    with graph_options.progress_of(options) as progress, open_session(options, progress) as session:
+        graph = graph_options.read_graph(session, options, graph_options.Needs(algorithm.wanted, algorithm.values or getattr(options, 'weighted', False)))
+        result = algorithm.call(graph, options, progress)
+        if isinstance(result, Matrix):
+            result.notes = result.notes._replace(rows=result.notes.rows or graph.notes.rows,
+                                                 columns=graph.notes.columns if result.ncols > 1 else None)
+        if getattr(options, 'plot', None):
+            with graph_options.writing(options.plot):
+                draw(algorithm, graph, result, options)
+        lines = lines_of(algorithm, result, options)
+    graph_options.write(options, lines)
+    return 0
+
+
+def lines_of(algorithm: Algorithm, result: Any, options: argparse.Namespace) -> Iterable[str]:
+    """A number, a column or a matrix as lines."""
+    called = options.command.replace('-', '_')
+    if isinstance(result, int):
+        return output.lines(options, output.number(called, result))
+    if isinstance(result, list):
+        return output.lines(options, output.Result(algorithm.fields, result))
+    if options.mtx:
+        return [(result.apply('plus', right=1) if algorithm.are_vertices else result).to_text().decode()]
+    return output.lines(options, graph_options.rows_of(options, result, called, shown(algorithm, result)))
+
+
+def shown(algorithm: Algorithm, result: Matrix) -> Callable[[int], Any]:
+    """What makes a vertex, a fraction or a number of a value."""
+    names, scale = result.notes.rows, algorithm.scale
+    if algorithm.are_vertices:
+        assert names is not None
+        return names.__getitem__
+    if scale == 1:
+        return int
+    return lambda value: value / scale
+
+
+def draw(algorithm: Algorithm, graph: Matrix, result: Any, options: argparse.Namespace) -> None:
+    """Draws the result into the file that the options name."""
+    if algorithm.plot == 'degree_histogram':
+        pictures.degree_histogram(graph, options.plot)
+    elif algorithm.plot == 'route':
+        pictures.route(graph, [vertex for vertex, _ in result], options.plot)
+    elif algorithm.plot == 'levels':
+        pictures.levels(graph, result, options.plot)
+    else:
+        pictures.spy(result, options.plot, first=1)

@@ -1,0 +1,219 @@
+"""What the commands share: the options of a graph, progress on a terminal, and results as text."""
+from __future__ import annotations
+
+import argparse
+import contextlib
+import enum
+import heapq
+import operator
+import os
+import sys
+from typing import Any, Callable, Iterable, Iterator, List, NamedTuple, Optional, TextIO, Tuple
+
+from ..algorithms import undirected
+from ..errors import ReadError
+from ..io import matrix_market
+from ..io.graph_files import FORMATS, Layout, Request, format_of
+from ..matrix import Matrix, bipartite
+from ..metadata import Nodes
+from ..session import Session
+from .exit_status import Ended, Status, reading
+from .output import Result, add_form_options, named
+
+BAR = 30        # characters of a progress bar
+UNDIRECTED = ': --undirected takes the graph without directions, weights and loops'
+BOTH_WAYS = ', --both-ways each edge both ways with its value'
+
+
+class Wanted(enum.Enum):
+    """Which graphs an algorithm is for: of others its result would mean nothing."""
+    ANY = 'any'
+    BOTH_WAYS = 'each edge leads both ways'
+    WITHOUT_LOOPS = 'each edge leads both ways, and none from a vertex to itself'
+
+
+def add_graph_options(command: argparse.ArgumentParser) -> None:
+    """What is read, and how its values are joined."""
+    command.add_argument('graph', metavar='GRAPH', help='a file in Matrix Market format, an edge list, CSV, TSV or DIMACS (also %s), or - '
+                         'for standard input' % ', '.join(matrix_market.ENDINGS))
+    command.add_argument('--undirected', action='store_true', help='take the graph without directions, weights and loops')
+    command.add_argument('--both-ways', action='store_true', help='each edge leads both ways, with its value, of two the lesser')
+    command.add_argument('--bipartite', action='store_true', help='sources and targets (rows and columns) are two kinds of vertices')
+    group = command.add_argument_group('how the file is read')
+    group.add_argument('--format', choices=FORMATS, help='what it is (default: by what stands in it)')
+    group.add_argument('--delimiter', type=character, metavar='C', help='what parts the fields of a list (default: tab, comma, semicolon or blanks)')
+    group.add_argument('--header', action='store_true', default=None, help='the first line of a list names its columns')
+    group.add_argument('--no-header', dest='header', action='store_false', help='.. is an edge (default: by what stands there)')
+    group.add_argument('--columns', metavar='FROM,TO[,VALUE]', help='which columns of a list are read: by name, or from 0')
+    group.add_argument('--pattern', action='store_true', help='read no values: each edge has 1')
+    group.add_argument('--scale', type=float, metavar='N', help='multiply values by N and round them to whole numbers')
+    group.add_argument('--dup-op', metavar='OP', help='joins the values of an edge that repeats: plus, max, first, ..')
+
+
+def character(word: str) -> str:
+    """A character. ArgumentTypeError for more, or none."""
+    if len(word) != 1:
+        raise argparse.ArgumentTypeError('a delimiter is one character, not %r' % word)
+    return word
+
+
+def check_graph(options: argparse.Namespace) -> None:
+    """Ends the command where its words on the graph don't go together."""
+    if options.both_ways and (options.bipartite or options.undirected):
+        options.parser.error('--both-ways is for a graph of one kind of vertices, whose weights count: not with --bipartite or --undirected')
+
+
+def add_output_options(command: argparse.ArgumentParser, ranked: bool = False) -> None:
+    """Where the result goes, and in which form; how many of it where it is `ranked`."""
+    add_form_options(command, mtx=True)
+    command.set_defaults(top=None)
+    if ranked:
+        command.add_argument('--top', type=int, metavar='N', help='the N greatest alone, the greatest first')
+    command.add_argument('--output', metavar='FILE', help='where the result goes (default: standard output)')
+
+
+class Bar:
+    """Progress on a terminal: one line that is written over, and cleared at the end."""
+
+    def __init__(self, stream: TextIO) -> None:
+        self._stream, self._shown = stream, 0
+
+    def __call__(self, what: str, done: int, of: int) -> None:
+        if of:
+            filled = BAR * done // of
+            text = '%-9s [%s%s] %d%%' % (what, '#' * filled, '.' * (BAR - filled), 100 * done // of)
+        else:
+            text = '%s %d' % (what, done)
+        self._stream.write('\r' + text.ljust(self._shown))
+        self._stream.flush()
+        self._shown = len(text)
+
+    def clear(self) -> None:
+        """Takes the line away."""
+        if self._shown:
+            self._stream.write('\r' + ' ' * self._shown + '\r')
+            self._stream.flush()
+            self._shown = 0
+
+
+@contextlib.contextmanager
+def progress_of(options: argparse.Namespace) -> Iterator[Optional[Bar]]:
+    """A progress bar where standard error is a terminal, else none. Standard output may be the same terminal: write to it behind
+    this, or clear the bar before."""
+    if options.quiet or not sys.stderr.isatty():
+        yield None
+        return
+    drawn = Bar(sys.stderr)
+    try:
+        yield drawn
+    finally:
+        drawn.clear()
+
+
+class Needs(NamedTuple):
+    """What an algorithm needs of a graph: its kind, whether values count, and whether rows and columns may be of two kinds."""
+    kind: Wanted = Wanted.ANY
+    values: bool = False
+    rectangular: bool = False
+
+
+def read_graph(session: Session, options: argparse.Namespace, needs: Needs) -> Matrix:
+    """The graph of the file that the options name, with names for its vertices: those of the file, or numbers from 1 where it is a
+    Matrix Market file. Ended where it isn't of the wanted kind."""
+    file = 'standard input' if options.graph == '-' else options.graph
+    with reading(file):
+        text = matrix_market.load(sys.stdin.buffer if options.graph == '-' else options.graph)
+    if not text.strip():
+        raise ReadError(file, None, 'it is empty')
+    graph = session.read_text(file, text, request_of(options, text, needs), options.dup_op)
+    if graph.notes.source and not options.quiet:
+        print(graph.notes.source, file=sys.stderr)             # which columns were taken, so that a wrong guess is seen
+    name_vertices(graph, 1 if format_of(text) == 'mtx' else 0)
+    if options.bipartite and not needs.rectangular:
+        graph = bipartite(graph)
+    if options.undirected and not options.bipartite:
+        graph = named_as(undirected(graph), graph)
+    elif graph.nrows == graph.ncols and options.both_ways:
+        graph = named_as(graph.ewise_add(graph.T, 'min'), graph)
+        graph.notes = graph.notes._replace(directed=False)
+        check_kind(graph, needs.kind, True)
+    elif graph.nrows == graph.ncols:
+        check_kind(graph, needs.kind, graph.directed is False)
+    elif not needs.rectangular:
+        raise Ended(Status.FILE, 'a graph is a square matrix, and %s has %d rows and %d columns: --bipartite takes them as two kinds of vertices'
+                         % (file, graph.nrows, graph.ncols))
+    return graph
+
+
+def request_of(options: argparse.Namespace, text: bytes, needs: Needs) -> Request:
+    """What the options ask of a file. Values that don't count are read only where the server reads them by itself."""
+    columns = None if options.columns is None else [int(word) if word.isdigit() else word for word in options.columns.split(',')]
+    plain = format_of(text) == 'mtx' and matrix_market.is_plain(text)
+    values = not options.pattern and (plain or (needs.values and not options.undirected) or options.scale is not None)
+    layout = Layout(options.delimiter, options.header, columns, values, options.scale)
+    two = options.bipartite and format_of(text) not in ('mtx', 'dimacs', 'graphml', 'gexf', 'gml')
+    return Request(options.format, layout, None, None, two)
+
+
+def name_vertices(graph: Matrix, first: int) -> None:
+    """Gives rows and columns without names numbers as their names."""
+    rows = graph.notes.rows if graph.notes.rows is not None else Nodes(range(first, first + graph.nrows))
+    alike = graph.nrows == graph.ncols and graph.notes.columns in (None, graph.notes.rows)
+    columns = rows if alike else graph.notes.columns if graph.notes.columns is not None else Nodes(range(first, first + graph.ncols))
+    graph.notes = graph.notes._replace(rows=rows, columns=columns)
+
+
+def named_as(made: Matrix, graph: Matrix) -> Matrix:
+    """A matrix with another's names."""
+    made.notes = made.notes._replace(rows=graph.notes.rows, columns=graph.notes.columns)
+    return made
+
+
+def check_kind(graph: Matrix, wanted: Wanted, symmetric: bool) -> None:
+    """Ends the command where a graph isn't of the wanted kind; `symmetric` where its file says so."""
+    if wanted is not Wanted.ANY and not symmetric and graph.ewise_mult(graph.T, 'pair').nvals < graph.nvals:
+        raise Ended(Status.FILE, 'expected an undirected graph, but an edge leads one way alone' + UNDIRECTED + BOTH_WAYS)
+    if wanted is Wanted.WITHOUT_LOOPS and graph.select('diag').nvals:
+        raise Ended(Status.FILE, 'expected a graph without loops, but there is an edge from a vertex to itself' + UNDIRECTED)
+
+
+def check_output(options: argparse.Namespace) -> None:
+    """Says before the work where the words don't go together, or the result, or its picture, can go nowhere."""
+    check_graph(options)
+    if options.mtx and options.top is not None:
+        options.parser.error('argument --top: not with --mtx, which has the whole result')
+    for path in (options.output, getattr(options, 'plot', None)):
+        folder = os.path.dirname(path or '')
+        if folder and not os.path.isdir(folder):
+            raise Ended(Status.OTHER, '%s: no such folder' % folder)
+
+
+@contextlib.contextmanager
+def writing(path: Optional[str]) -> Iterator[None]:
+    """What is done here writes a result, to standard output where there is no path: a failure is told as such."""
+    try:
+        yield
+    except BrokenPipeError:
+        raise
+    except OSError as fault:
+        raise Ended(Status.OTHER, '%s: not written: %s' % (path or 'standard output', fault.strerror or fault)) from None
+
+
+def write(options: argparse.Namespace, lines: Iterable[str]) -> None:
+    """Writes a result where it goes."""
+    with writing(options.output):
+        if options.output is None:
+            sys.stdout.writelines(lines)
+            sys.stdout.flush()
+            return
+        with open(options.output, 'w', encoding='utf-8') as file:
+            file.writelines(lines)
+
+
+def rows_of(options: argparse.Namespace, matrix: Matrix, called: str, value_of: Callable[[int], Any] = int) -> Result:
+    """A matrix as rows, one an entry: the names of its row and its column, of a column the row's alone, and the value, which is called
+    so. Nothing is asked of the server once they are handed out."""
+    entries: List[Tuple[Any, ...]] = [*(matrix.to_edgelist() if matrix.ncols != 1 else matrix.by_node().items())]
+    if options.top is not None:
+        entries = heapq.nlargest(options.top, entries, key=operator.itemgetter(-1))
+    return named([(*entry[:-1], value_of(entry[-1])) for entry in entries], called, matrix.ncols == 1)

@@ -1,0 +1,121 @@
+"""Where a command's work is done: a process of its own, or a server, over TLS where something in front of it speaks that."""
+from __future__ import annotations
+
+import argparse
+import os
+from typing import TYPE_CHECKING, Optional
+
+from .._client.connection import MOST_STEPS, MOST_WORKERS, Progress
+from .._client.transport import Address
+from ..io.coo import whole_of_word
+from ..session import Session
+from .exit_status import Ended, Status
+
+if TYPE_CHECKING:
+    import ssl
+
+TLS = ('tls', 'cacert', 'cert', 'key')
+
+
+def add_session_options(command: argparse.ArgumentParser) -> None:
+    """Where the work is done, and within which budget."""
+    group = command.add_argument_group('session')
+    group.add_argument('--workers', type=workers, default=1, metavar='N', help='threads, 1 to %d (default: 1)' % MOST_WORKERS)
+    group.add_argument('--steps', type=steps, default=MOST_STEPS, metavar='N', help='the budget, 0 to 2^62, also 1e9 (default: 2^62)')
+    group.add_argument('--program', metavar='PATH', help='the program (default: the variable SPMAT, then `spmat` on the PATH)')
+    group.add_argument('--quiet', action='store_true', help='no progress, also on a terminal, and no word on which columns were read')
+    group = command.add_argument_group('a server in place of a process of its own')
+    group.add_argument('--connect', type=address, metavar='HOST:PORT', help='where it listens; a word with a slash is a socket file')
+    group.add_argument('--tls', action='store_true', help='speak TLS; the name in the certificate has to be HOST')
+    group.add_argument('--cacert', metavar='FILE', help='who signs the server\'s certificate (default: those the system trusts)')
+    group.add_argument('--cert', metavar='FILE', help='the certificate of this client, where the server asks for one')
+    group.add_argument('--key', metavar='FILE', help='its key, where that is in a file of its own')
+
+
+def whole_number(word: str) -> int:
+    """A whole number as a word, also 1e9. argparse tells the ValueError of anything else."""
+    return whole_of_word(word)
+
+
+def steps(word: str) -> int:
+    """A budget. ArgumentTypeError outside its range."""
+    return within(whole_number(word), 0, MOST_STEPS, 'a budget is 0 to 2^62 steps')
+
+
+def workers(word: str) -> int:
+    """A number of threads. ArgumentTypeError outside its range."""
+    return within(whole_number(word), 1, MOST_WORKERS, 'workers are 1 to %d' % MOST_WORKERS)
+
+
+def within(number: int, least: int, most: int, words: str) -> int:
+    """A number within its range. ArgumentTypeError outside."""
+    if not least <= number <= most:
+        raise argparse.ArgumentTypeError('%s, not %d' % (words, number))
+    return number
+
+
+for _kind in (whole_number, steps, workers):
+    _kind.__name__ = 'whole number'                # as argparse calls it
+
+
+def address(word: str) -> Address:
+    """A server's address: HOST:PORT, or the path of a socket file. ArgumentTypeError for any other word."""
+    if '/' in word:
+        return Address(word, 0)
+    host, colon, port = word.rpartition(':')
+    if not colon or not port.isdigit() or not 1 <= int(port) <= 65535:
+        raise argparse.ArgumentTypeError('an address is HOST:PORT, as 127.0.0.1:7171, or the path of a socket file; not %r' % word)
+    return Address(host.strip('[]') or '127.0.0.1', int(port))
+
+
+def check_session(options: argparse.Namespace) -> None:
+    """Ends the command where its words on the server don't go together. (Whoever names a certificate means TLS.)"""
+    named = ['--' + name for name in TLS if getattr(options, name)]
+    if named and options.connect is None:
+        options.parser.error('%s is for --connect' % named[0])
+    if named and options.connect.is_file():
+        options.parser.error('%s is for a host and a port, and --connect names a socket file' % named[0])
+    if options.key and not options.cert:
+        options.parser.error('--key wants its certificate: --cert FILE')
+
+
+def tls_of(options: argparse.Namespace) -> Optional[ssl.SSLContext]:
+    """What speaks TLS as the options say, None where they don't."""
+    if not any(getattr(options, name) for name in TLS):
+        return None
+    import ssl
+    try:
+        made = ssl.create_default_context(cafile=checked(options.cacert))
+    except OSError as fault:
+        raise Ended(Status.FILE, '%s: no certificates in PEM format: %s' % (options.cacert, fault.strerror or fault)) from None
+    if options.cert:
+        try:
+            made.load_cert_chain(checked(options.cert) or '', checked(options.key))
+        except OSError as fault:
+            raise Ended(Status.FILE, '%s: no certificate with its key in PEM format: %s'
+                        % (' and '.join(filter(None, (options.cert, options.key))), fault.strerror or fault)) from None
+    return made
+
+
+def checked(path: Optional[str]) -> Optional[str]:
+    """A path that can be read: what is told of it elsewhere doesn't name it."""
+    if path:
+        try:
+            with open(path, 'rb'):
+                pass
+        except OSError as fault:
+            raise Ended(Status.FILE, '%s: %s' % (path, fault.strerror)) from None
+    return path
+
+
+def open_session(options: argparse.Namespace, progress: Optional[Progress] = None) -> Session:
+    """The session that the options ask for. Ended where there is no program, or nobody listens."""
+    check_session(options)
+    try:
+        if options.connect is None:
+            return Session(options.steps, options.workers, options.program, progress)
+        where = options.connect
+        return Session.connect(where.host, where.port, progress=progress, tls=tls_of(options))
+    except OSError as fault:
+        said = fault.strerror or str(fault)
+        raise Ended(Status.UNREACHED, '%s: %s' % (os.fsdecode(fault.filename), said) if fault.filename else said) from None

@@ -1,0 +1,227 @@
+"""What a notebook shows of matrices, operators, budgets and runs: HTML without scripts, which `_repr_html_` gives.
+
+A matrix that waits is run for it, at the price that its job has reserved. Up to 50,000 entries come to the client; of more the server is asked
+for the corner and counts the raster (3 jobs, 2 runs), and where the budget refuses that, the sizes alone are shown. Matrices in row blocks
+are in `blocks.html`.
+"""
+from __future__ import annotations
+
+import html
+import math
+from typing import TYPE_CHECKING, Any, Dict, List, NamedTuple, Optional, Sequence, Tuple
+
+from ..errors import SpmatError
+
+if TYPE_CHECKING:
+    from .._client.job_queue import Budget, JobResult
+    from ..io.exporters import Held
+    from ..mask import Mask
+    from ..matrix import Matrix
+    from ..operators import Operator, Semiring
+    from ..operators.diagnostics import Check
+    from ..operators.explanation import Listing
+
+CORNER, CELLS, SIDE = 8, 48, 144                   # rows and columns of the corner, cells of the raster, pixels of its side
+FEW = 50_000
+CELL = 'text-align:right;padding:1px 6px;border:1px solid #ddd'
+HEAD = 'text-align:right;padding:1px 6px;color:#5a6672;font-weight:normal;border:1px solid #ddd'
+Cells = Dict[Tuple[int, int], int]
+
+
+class Shown(NamedTuple):
+    """The values of the corner, and how many entries each cell of the raster has."""
+    corner: Cells
+    raster: Cells
+
+
+def text_of(thing: Any) -> str:
+    """Anything as text in HTML."""
+    return html.escape(str(thing))
+
+
+def table(heads: Sequence[Any], rows: Sequence[Sequence[Any]]) -> str:
+    """A table; the first cell of each row is its name."""
+    top = ''.join('<th style="%s">%s</th>' % (HEAD, text_of(head)) for head in heads)
+    body = ''.join('<tr><th style="%s">%s</th>%s</tr>' % (HEAD, text_of(row[0]), ''.join(
+        '<td style="%s">%s</td>' % (CELL, text_of(cell)) for cell in row[1:])) for row in rows)
+    return '<table style="border-collapse:collapse;font-size:90%%;font-family:monospace"><tr>%s</tr>%s</table>' % (top, body)
+
+
+def matrix(shown: 'Matrix') -> str:
+    """A matrix: its sizes and entries, what is known of it, a corner with values, and where its entries are."""
+    about = [sizes(shown)]
+    try:
+        about.append('%s entries' % format(shown.nvals, ','))
+    except SpmatError as fault:
+        return headed('Matrix', about + [text_of(fault)], '')
+    about += known(shown)
+    try:
+        found = few(shown) if shown.nvals <= FEW else many(shown)
+    except SpmatError as fault:
+        return headed('Matrix', about, '<div>%s</div>' % text_of(fault))
+    return headed('Matrix', about, beside(corner(shown, found.corner), raster(shown.shape, found.raster)))
+
+
+def mask(shown: 'Mask') -> str:
+    """A mask: of which matrix, where a result may have entries, and that in the corner."""
+    of = shown.matrix
+    told = 'no entry' if shown.complement else 'an entry'
+    if shown.value:
+        told = 'no entry, or 0' if shown.complement else 'an entry that isn\'t 0'
+    about = [sizes(of), 'where %s has %s' % (text_of(of.name) if of.in_one_place else 'the matrix', told)]
+    if not of.in_one_place:
+        return headed('Mask', about, '')
+    try:
+        found = few(of) if of.nvals <= FEW else many(of)
+    except SpmatError as fault:
+        return headed('Mask', about, '<div>%s</div>' % text_of(fault))
+    cells = [(i, j) for i in range(min(CORNER, of.nrows)) for j in range(min(CORNER, of.ncols))]
+    open_ = {at: 1 for at in cells if (at in found.corner and not (shown.value and found.corner[at] == 0)) != shown.complement}
+    # the raster is that of the matrix, so beside a complement it would show the contrary
+    parts = [corner(of, open_)] + ([] if shown.complement else [raster(of.shape, found.raster)])
+    return headed('Mask', about, beside(*parts))
+
+
+def semiring(shown: 'Semiring') -> str:
+    """A semiring: its two operators, with their instructions."""
+    rows = [[part, op.name or 'of its own', ' ; '.join(line for _, line in op.slots()) if op.text is not None else '%d slots of code'
+             % (len(op.code or b'') // 8)] for part, op in (('add', shown.add), ('mul', shown.mul))]
+    return '<div><b>Semiring</b> %s%s</div>' % (text_of('%s_%s' % (shown.add.name or '?', shown.mul.name or '?')),
+                                                table(['', 'operator', 'instructions'], rows))
+
+
+def semirings(uses: Dict[str, str]) -> str:
+    """What semirings there are, and some of them with what they are for."""
+    return '<div><b>Semirings</b> of any two binary operators, joined by _%s</div>' % table(['', 'what a product tells'], list(uses.items()))
+
+
+def sizes(shown: 'Held') -> str:
+    """Rows and columns."""
+    return '%s &times; %s' % tuple(format(side, ',') for side in shown.shape)
+
+
+def known(shown: 'Held') -> List[str]:
+    """What is known of a matrix beside its entries."""
+    told = ['undirected'] if shown.directed is False else ['directed'] if shown.directed else []
+    return told + (['named'] if shown.row_nodes is not None or shown.column_nodes is not None else [])
+
+
+def headed(kind: str, about: Sequence[str], rest: str) -> str:
+    """A line about a matrix, and what stands below it."""
+    return '<div><div style="margin-bottom:4px"><b>%s</b> %s</div>%s</div>' % (kind, ', '.join(about), rest)
+
+
+def beside(*parts: str) -> str:
+    """Parts side by side."""
+    return '<div style="display:flex;gap:16px;align-items:flex-start">%s</div>' % ''.join(parts)
+
+
+def few(shown: 'Held') -> Shown:
+    """What is shown of a matrix of few entries, all of which come to the client."""
+    near: Cells = {}
+    counts: Cells = {}
+    for i, j, value in shown.to_triples():
+        if i < CORNER and j < CORNER:
+            near[i, j] = value
+        cell = _cell(i, shown.nrows), _cell(j, shown.ncols)
+        counts[cell] = counts.get(cell, 0) + 1
+    return Shown(near, counts)
+
+
+def _cell(at: int, count: int) -> int:
+    return at if count <= CELLS else at * CELLS // count
+
+
+def many(shown: 'Matrix') -> Shown:
+    """What is shown of a matrix of many entries: by one job the corner, by two the raster."""
+    session, (nrows, ncols) = shown.session, shown.shape
+    rows = session.from_coo([_cell(i, nrows) for i in range(nrows)], range(nrows), 1, min(CELLS, nrows), nrows)
+    columns = session.from_coo(range(ncols), [_cell(j, ncols) for j in range(ncols)], 1, ncols, min(CELLS, ncols))
+    near, counts = first_cells(shown), rows.mxm(shown, 'plus_pair').mxm(columns, 'plus_first')
+    return Shown(near.to_dict(), counts.to_dict())
+
+
+def first_cells(shown: 'Matrix') -> 'Matrix':
+    """The job that gives the corner's entries: a product of ones with the first rows, under a mask of the first columns. It makes a call
+    for each entry of the corner alone."""
+    session, height, width = shown.session, min(CORNER, shown.nrows), min(CORNER, shown.ncols)
+    first = session.from_coo(range(height), range(height), 1, height, shown.nrows)
+    where = session.from_coo([i for i in range(height) for _ in range(width)], [*range(width)] * height, 1, height, shown.ncols)
+    return first.mxm(shown, 'any_second', mask=where.S)
+
+
+def corner(shown: 'Held', near: Cells) -> str:
+    """The first rows and columns with their values and names."""
+    rows, columns = (range(min(CORNER, side)) for side in shown.shape)
+    first: Sequence[Any] = shown.row_nodes or range(shown.nrows)
+    second: Sequence[Any] = shown.column_nodes or range(shown.ncols)
+    more = ['..'] if shown.ncols > CORNER else []
+    body: List[List[Any]] = [[first[i], *(near.get((i, j), '') for j in columns), *more] for i in rows]
+    body += [['..', *('..' for _ in columns), *more]] if shown.nrows > CORNER else []
+    return table(['', *(second[j] for j in columns), *more], body)
+
+
+def raster(shape: Tuple[int, int], counts: Cells) -> str:
+    """A square for each cell that has entries, the darker the more, by the logarithm of their number."""
+    rows, columns = (max(1, min(CELLS, side)) for side in shape)
+    size = SIDE / max(rows, columns)
+    most = math.log(max(counts.values(), default=1) + 1)
+    squares = ''.join('<rect x="%.2f" y="%.2f" width="%.2f" height="%.2f" fill-opacity="%.2f"/>' % (
+        j * size, i * size, size, size, .3 + .7 * math.log(count + 1) / most) for (i, j), count in sorted(counts.items()))
+    return ('<svg width="%d" height="%d" style="border:1px solid #ddd;background:#fff" role="img" aria-label="where the entries are">'
+            '<g fill="#1f4e79">%s</g></svg>' % (math.ceil(columns * size), math.ceil(rows * size), squares))
+
+
+def operator(op: 'Operator') -> str:
+    """An operator that no server was asked about: its source beside its instructions."""
+    from ..operators import explanation
+    shown = explanation.shown(op)
+    if shown is not None:
+        return listing(shown)
+    return '<div><b>%s operator</b> %s%s</div>' % (text_of(op.kind), text_of(op.name or ''), code(op.origin()[1]))
+
+
+def code(text: str) -> str:
+    """Lines of a program."""
+    return '<pre style="margin:4px 0;text-align:left">%s</pre>' % text_of(text.strip('\n'))
+
+
+def listing(shown: 'Listing') -> str:
+    """An operator's source beside its instructions, with what is known of the registers before each."""
+    from ..operators import explanation
+    heads, *rows = shown.columns()
+    known = '<div>%s%s</div>' % (table(heads, rows), '<small>%s</small>' % text_of(explanation.KNOWN))
+    about = '%s<div style="color:#1f4e79">%s</div>' % (beside(code(shown.source), known), text_of(explanation.steps(shown.operator)))
+    return '<div><b>%s operator</b> %s <small>from %s</small>%s</div>' % (
+        text_of(shown.operator.kind), text_of(shown.operator.name or ''), text_of(shown.language), about)
+
+
+def check(found: 'Check') -> str:
+    """An operator beside what the verifier knows before each instruction; the one that is refused last."""
+    heads = ['slot', 'instruction'] + ['R%d' % number for number in range(11)]
+    rows = [row if len(row) == len(heads) else [*row[:2], 'no way leads here', *[''] * 10] for row in found.rows]
+    said = 'at most %d steps a call' % found.instructions if found.refusal is None else text_of(found.refusal)
+    colour = '#1f4e79' if found.accepted else '#b5651d'
+    return '<div><b>%s operator</b> %s <span style="color:%s">%s</span>%s<div style="color:%s">%s</div></div>' % (
+        text_of(found.operator.kind), text_of(found.operator.name or ''), colour, 'accepted' if found.accepted else 'refused',
+        table(heads, rows) if rows else '', colour, said)
+
+
+def budget(told: 'Budget') -> str:
+    """A budget, with a bar of what is spent and reserved."""
+    whole = max(1, sum(told))
+    bar = ''.join('<span style="display:inline-block;height:8px;width:%.1fpx;background:%s"></span>' % (240 * part / whole, colour)
+                  for part, colour in ((told.spent, '#1f4e79'), (told.reserved, '#b5651d'), (told.left, '#c9d3dd')))
+    return '<div><b>Budget</b> %s left, %s reserved, %s spent<div>%s</div></div>' % (
+        *(format(number, ',') for number in (told.left, told.reserved, told.spent)), bar)
+
+
+def runs(jobs: 'Sequence[JobResult]') -> str:
+    """The jobs of a run: of each its result, its price and its steps."""
+    rows = [[at, job.form, _size(job.matrix), format(job.price, ','), format(job.steps, ',')] for at, job in enumerate(jobs, 1)]
+    total = format(sum(job.steps for job in jobs), ',')
+    return '<div><b>Run</b> of %d jobs, %s steps%s</div>' % (len(jobs), total, table(['', 'form', 'result', 'price', 'steps'], rows))
+
+
+def _size(made: Optional['Matrix']) -> str:
+    return 'held by nobody' if made is None else '%dx%d, %s entries' % (*made.shape, format(made.nvals, ','))

@@ -1,0 +1,101 @@
+"""Files that keep matrices with their names, so that a later session goes on with them.
+
+Such a file is a zip archive: `matrices.json` says of each matrix what it is called, the names of its vertices and what is known of it, and
+in which member its entries are, as Matrix Market text. Nothing but the standard library writes or reads it, and other programs can.
+"""
+from __future__ import annotations
+
+import json
+import os
+import zipfile
+from typing import Any, Dict, Iterable, List, Mapping, Optional, Tuple
+
+from ..errors import ReadError, refusal
+from ..metadata import Nodes, Notes
+from .exporters import Held
+from .file_writers import replacing
+from .matrix_text import MOST_TEXT
+
+CONTENTS = 'matrices.json'
+VERSION = 1
+KINDS = (str, int, float, bool, type(None))        # of names, beside tuples of these
+
+
+def save(path: Any, matrices: Mapping[str, Held]) -> None:
+    """Writes matrices with their names; a file that is there is replaced at the end. TypeError for a name of a vertex that is no text,
+    number or tuple of these."""
+    contents: Dict[str, Any] = {'spmat': VERSION, 'matrices': {}}
+    for number, (name, matrix) in enumerate(matrices.items()):
+        contents['matrices'][name] = {
+            'entries': '%d.mtx' % number, 'rows': _encoded(matrix.notes.rows, name),
+            'columns': 'rows' if matrix.notes.columns is matrix.notes.rows else _encoded(matrix.notes.columns, name),
+            'directed': matrix.notes.directed, 'weighted': matrix.notes.weighted, 'source': matrix.notes.source}
+    with replacing(os.fspath(path)) as part, zipfile.ZipFile(part, 'w', zipfile.ZIP_DEFLATED, compresslevel=1) as file:
+        file.writestr(CONTENTS, json.dumps(contents, ensure_ascii=False))
+        for number, matrix in enumerate(matrices.values()):
+            file.writestr('%d.mtx' % number, matrix.to_text())
+
+
+def read(path: Any) -> Iterable[Tuple[str, bytes, Notes]]:
+    """The name of each matrix, its text and what is known of it. ReadError where the file is none that `save` wrote, or is damaged."""
+    name = os.fspath(path)
+    try:
+        with zipfile.ZipFile(path) as file:
+            contents = json.loads(file.read(CONTENTS))
+            if contents.get('spmat') != VERSION:
+                raise ReadError(name, None, 'its version is %r, and this client reads version %d' % (contents.get('spmat'), VERSION))
+            for called, about in contents['matrices'].items():
+                if file.getinfo(about['entries']).file_size > MOST_TEXT:
+                    raise refusal('S7', detail='%s of %s' % (called, name))
+                yield called, file.read(about['entries']), _notes(about)
+    except (zipfile.BadZipFile, KeyError, ValueError, AttributeError, TypeError, EOFError) as fault:
+        if isinstance(fault, ReadError) or getattr(fault, 'rule', None):
+            raise
+        raise ReadError(name, None, 'this is no file that save() wrote, or it is damaged (%s)' % fault) from None
+
+
+def _notes(about: Dict[str, Any]) -> Notes:
+    rows = _decoded(about['rows'])
+    columns = rows if about['columns'] == 'rows' else _decoded(about['columns'])
+    return Notes(rows, columns, about['directed'], about['weighted'], about['source'])
+
+
+def _encoded(names: Optional[Nodes], matrix: str) -> Any:
+    """Names as JSON has them: a tuple as a list; of whole numbers that follow one another the first and their number."""
+    if names is None:
+        return None
+    if len(names) > 1 and type(names[0]) is int and names == list(range(names[0], names[0] + len(names))) and set(map(type, names)) == {int}:
+        return {'first': names[0], 'count': len(names)}
+    return [_encoded_name(name, matrix) for name in names]
+
+
+def _encoded_name(name: Any, matrix: str) -> Any:
+    name = name.item() if hasattr(name, 'item') and hasattr(name, 'dtype') else name      # a number of numpy
+    if isinstance(name, tuple):
+        return [_encoded_name(part, matrix) for part in name]
+    if type(name) not in KINDS:
+        raise TypeError('the vertex %r of %s can\'t be saved: names are text, numbers, or tuples of these' % (name, matrix))
+    return name
+
+
+def _decoded(names: Any) -> Optional[Nodes]:
+    if names is None:
+        return None
+    if isinstance(names, dict):
+        return Nodes(range(names['first'], names['first'] + names['count']))
+    return Nodes(map(_decoded_name, names))
+
+
+def _decoded_name(name: Any) -> Any:
+    return tuple(map(_decoded_name, name)) if isinstance(name, list) else name
+
+
+def chosen(named: Mapping[str, Held], given: Mapping[str, Held]) -> Dict[str, Held]:
+    """The matrices to be saved: those that are given, or those that have a name. TypeError for what is no matrix, ValueError where there
+    are none."""
+    wrong: List[str] = [name for name, matrix in given.items() if not isinstance(matrix, Held)]
+    if wrong:
+        raise TypeError('%s is no matrix, but %s' % (wrong[0], type(given[wrong[0]]).__name__))
+    if not given and not named:
+        raise ValueError('no matrix has a name: save(path, A=A, B=B) names them here, name="A" where they are made')
+    return dict(given or named)

@@ -1,0 +1,253 @@
+"""Triples from what callers have, looked at before anything is sent: lists, arrays of numpy, scipy.sparse."""
+from __future__ import annotations
+
+import math
+import numbers
+import operator
+from typing import Any, Callable, Dict, Iterable, List, Optional, Sequence, Tuple
+
+from ..errors import Refused, refusal
+from .matrix_text import FEW, MOST_SIDE, Triples, find_numpy, is_array
+
+LEAST, MOST = -1 << 63, (1 << 63) - 1
+DUP_OP = 'dup_op= folds the values of a position that repeats'
+
+
+def checked(rows: Any, columns: Any, values: Any, nrows: Optional[int] = None, ncols: Optional[int] = None) -> Triples:
+    """Triples of whole numbers within 64 bits, indices within the sizes. Sizes that aren't given are the least that fit. `values`
+    may be one number for all. TypeError for what is no number, ValueError for lengths that differ, values that aren't whole, and
+    what is out of range; the place is counted from 0."""
+    if is_array(rows) or is_array(columns) or is_array(values):
+        return _checked_arrays(rows, columns, values, nrows, ncols)
+    rows, columns = whole_list(rows, 'row'), whole_list(columns, 'column')
+    values = whole_list(values, 'value') if _is_many(values) else [whole(values, 'value')] * len(rows)
+    _same_length(rows, columns, values)
+    nrows = side(nrows, max(0, max(rows, default=-1) + 1), 'nrows')
+    ncols = side(ncols, max(0, max(columns, default=-1) + 1), 'ncols')
+    for what, many, least, most in (('row', rows, 0, nrows - 1), ('column', columns, 0, ncols - 1), ('value', values, LEAST, MOST)):
+        if many and not (least <= min(many) and max(many) <= most):
+            at = next(at for at, number in enumerate(many) if not least <= number <= most)
+            raise _outside(what, many[at], least, most, at)
+    return Triples(rows, columns, values, nrows, ncols)
+
+
+def _outside(what: str, number: int, least: int, most: int, at: int) -> ValueError:
+    """What is said of a number out of range: of an index below 0 no more than that, as the least size that fits may be none."""
+    if least == 0 and number < 0:
+        return ValueError('%s %d is below 0 (entry %d)' % (what, number, at))
+    return ValueError('%s %d is not in %d to %d (entry %d)' % (what, number, least, most, at))
+
+
+def columns_of(triples: Any) -> Tuple[Any, Any, Any]:
+    """The rows, columns and values of (row, column, value) or (row, column), whose value is 1; or of an array of numpy with these as
+    its columns."""
+    if is_array(triples) and triples.shape[1:] in ((2,), (3,)):
+        return triples[:, 0], triples[:, 1], triples[:, 2] if triples.shape[1] == 3 else 1
+    many = list(triples)
+    lengths = {len(triple) for triple in many}
+    if not lengths <= {2, 3}:
+        at = next(at for at, triple in enumerate(many) if len(triple) not in (2, 3))
+        raise ValueError('a triple is (row, column, value), or (row, column) for a value of 1, not %r (entry %d)' % (many[at], at))
+    if lengths == {2, 3}:
+        many = [(*triple, 1) if len(triple) == 2 else triple for triple in many]
+    parts = tuple(zip(*many)) if many else ((), (), ())
+    return parts[0], parts[1], parts[2] if len(parts) == 3 else 1
+
+
+def whole(number: Any, what: str = 'value') -> int:
+    """A number as an int: any integer, or a float that is one. TypeError for what is no number, ValueError for other floats."""
+    try:
+        return operator.index(number)
+    except TypeError:
+        pass
+    if not isinstance(number, numbers.Real):
+        raise TypeError('a %s is a whole number, not %r' % (what, number))
+    if not math.isfinite(number) or number != int(number):
+        raise ValueError('a %s is a whole number, not %r%s' % (what, number, _mend(what)))
+    return int(number)
+
+
+def whole_of_word(word: str) -> int:
+    """A whole number as a word, also 1e9. ValueError for anything else."""
+    return int(word) if word.strip().lstrip('+-').isdigit() else whole(float(word), 'number')
+
+
+def _mend(what: str) -> str:
+    """What to do about numbers that aren't whole: of indices nothing."""
+    if what in ('value', 'weight'):
+        return ': scale=1000 takes thousandths'
+    return ': scale it first' if what in ('thunk', 'fill') else ''
+
+
+def word(number: Any, what: str) -> int:
+    """A whole number within 64 bits."""
+    got = whole(number, what)
+    if not LEAST <= got <= MOST:
+        raise ValueError('%s %d is not in -2^63 to 2^63 - 1' % (what, got))
+    return got
+
+
+def whole_list(many: Iterable[Any], what: str) -> List[int]:
+    """Numbers as ints; see `whole`."""
+    many = list(many)
+    try:
+        return list(map(operator.index, many))
+    except TypeError:
+        return [whole(number, what) for number in many]
+
+
+def side(given: Optional[int], least: int, what: str) -> int:
+    """A matrix's size: the given one, or the least that fits. TooLarge above the server's limit."""
+    size = least if given is None else whole(given, what)
+    if size < 0:
+        raise ValueError('%s is %d' % (what, size))
+    if size > MOST_SIDE:
+        raise refusal('M4', detail='%s is %d' % (what, size))
+    return size
+
+
+def _is_many(values: Any) -> bool:
+    return hasattr(values, '__iter__') and not isinstance(values, (str, bytes))
+
+
+def _same_length(rows: Sequence[Any], columns: Sequence[Any], values: Sequence[Any]) -> None:
+    if not len(rows) == len(columns) == len(values):
+        raise ValueError('%d rows, %d columns and %d values' % (len(rows), len(columns), len(values)))
+
+
+def _checked_arrays(rows: Any, columns: Any, values: Any, nrows: Optional[int], ncols: Optional[int]) -> Triples:
+    import numpy
+    rows, columns = whole_array(rows, 'row'), whole_array(columns, 'column')
+    values = whole_array(values, 'value') if _is_many(values) else numpy.full(len(rows), word(values, 'value'), numpy.int64)
+    _same_length(rows, columns, values)
+    nrows = side(nrows, max(0, int(rows.max()) + 1) if len(rows) else 0, 'nrows')
+    ncols = side(ncols, max(0, int(columns.max()) + 1) if len(columns) else 0, 'ncols')
+    for what, many, most in (('row', rows, nrows - 1), ('column', columns, ncols - 1)):
+        if len(many) and not (many.min() >= 0 and many.max() <= most):
+            at = int(((many < 0) | (many > most)).argmax())
+            raise _outside(what, many[at], 0, most, at)
+    return Triples(rows, columns, values, nrows, ncols)
+
+
+def whole_array(many: Any, what: str) -> Any:
+    """One dimension of numbers as an array of int64. TypeError for what is no number, ValueError for more dimensions, for values
+    that aren't whole, and for those beyond 64 bits."""
+    import numpy
+    if not hasattr(many, '__array__'):
+        many = many if hasattr(many, '__len__') else list(many)
+        if numpy.asarray(many).dtype.kind == 'f':  # numpy made floats of a list with ints that no float holds
+            many = numpy.array(whole_list(many, what), object)
+    array = numpy.asarray(many)
+    if array.ndim != 1:
+        raise ValueError('expected one dimension of %ss, got %d' % (what, array.ndim))
+    if array.dtype.kind == 'O' or not len(array):
+        return numpy.array([word(number, what) for number in array.tolist()], numpy.int64)
+    if array.dtype.kind not in 'biuf':
+        raise TypeError('%ss are whole numbers, not %s' % (what, array.dtype))
+    wrong = None
+    if array.dtype.kind == 'f':
+        wrong = ~(numpy.abs(array) <= 2.0 ** 63) | (array == 2.0 ** 63)
+        wrong |= numpy.trunc(array) != array
+    elif array.dtype.kind == 'u' and array.dtype.itemsize == 8:
+        wrong = array > numpy.uint64(MOST)
+    if wrong is not None and wrong.any():
+        at = int(wrong.argmax())
+        raise ValueError('a %s is a whole number of 64 bits, not %s (entry %d)%s' % (what, array[at], at, _mend(what)))
+    return array.astype(numpy.int64, copy=False)
+
+
+def from_dense(rows: Any, missing: Any = None) -> Triples:
+    """The triples of a table: a list of rows, or an array of two dimensions. A list of numbers, or an array of one dimension, is a
+    column. Cells that are `missing` (None: no cell) have no entry."""
+    if is_array(rows):
+        import numpy
+        table = rows.reshape(-1, 1) if rows.ndim == 1 else rows
+        if table.ndim != 2:
+            raise ValueError('expected one or two dimensions, got %d' % table.ndim)
+        at = numpy.nonzero(numpy.ones(table.shape, bool) if missing is None else table != missing)
+        return checked(at[0], at[1], table[at], *table.shape)
+    table = [list(row) if _is_many(row) else [row] for row in rows]
+    ncols = len(table[0]) if table else 0
+    if any(len(row) != ncols for row in table):
+        raise ValueError('rows of %s cells' % ' and '.join(sorted({str(len(row)) for row in table})))
+    kept = [(i, j, cell) for i, row in enumerate(table) for j, cell in enumerate(row) if missing is None or cell != missing]
+    rows, columns, cells = zip(*kept) if kept else ((), (), ())
+    return checked(rows, columns, cells, len(table), ncols)
+
+
+def indices(n: int) -> Any:
+    """0 to n - 1: an array of numpy where they are many and it is there."""
+    numpy = find_numpy() if n > FEW else None
+    return range(n) if numpy is None else numpy.arange(n, dtype=numpy.int64)
+
+
+def full(nrows: int, ncols: int, value: int) -> Triples:
+    """One value everywhere."""
+    at = indices(nrows * ncols)
+    if is_array(at):
+        return checked(at // ncols, at % ncols, value, nrows, ncols)
+    return checked([k // ncols for k in at], [k % ncols for k in at], value, nrows, ncols)
+
+
+def from_scipy(matrix: Any) -> Tuple[Any, Any, Any, Tuple[int, int]]:
+    """Rows, columns, values and shape of a scipy.sparse matrix or array; entries of one position are added up, as scipy has it."""
+    if not hasattr(matrix, 'tocoo'):
+        raise TypeError('expected a matrix of scipy.sparse, got %s: from_dense takes tables' % type(matrix).__name__)
+    if len(matrix.shape) != 2:
+        raise ValueError('expected two dimensions, got %d' % len(matrix.shape))
+    coo = matrix.tocoo(copy=True)
+    coo.sum_duplicates()
+    return coo.row, coo.col, coo.data, coo.shape
+
+
+def repeated(triples: Triples, at: int, symmetric: bool = False) -> Refused:
+    """The refusal (M8) of entry `at` of triples, whose position an earlier one has; or, where they are `symmetric`, its mirror."""
+    i, j = int(triples.rows[at]), int(triples.columns[at])
+    places = ((i, j), (j, i)) if symmetric else ((i, j),)
+    first = next(k for k, place in enumerate(zip(triples.rows, triples.columns)) if place in places)
+    return refusal('M8', detail='row %d, column %d is given as entry %d and as entry %d; %s' % (i, j, first, at, DUP_OP))
+
+
+Fold = Callable[[Triples], Any]
+
+
+def unrepeated(triples: Triples, fold: Fold) -> Triples:
+    """Triples in which each position stands once. `fold` gets the values of those that stand several times as a matrix with a row
+    for each such position, its values from column 0 in their order, and answers one value a row. It isn't called where there are
+    none."""
+    if is_array(triples.rows):
+        return _unrepeated_arrays(triples, fold)
+    found: Dict[Tuple[int, int], List[int]] = {}
+    for i, j, value in zip(triples.rows, triples.columns, triples.values):
+        found.setdefault((i, j), []).append(value)
+    if len(found) == len(triples.rows):
+        return triples
+    many = [position for position, had in found.items() if len(had) > 1]
+    cells = [(row, column, value) for row, position in enumerate(many) for column, value in enumerate(found[position])]
+    rows, columns, values = zip(*cells)
+    for position, value in zip(many, fold(Triples(rows, columns, values, len(many), max(columns) + 1))):
+        found[position] = [value]
+    return Triples([i for i, _ in found], [j for _, j in found], [had[0] for had in found.values()], triples.nrows, triples.ncols)
+
+
+def _unrepeated_arrays(triples: Triples, fold: Fold) -> Triples:
+    """The same of arrays: those that stand alone as they come, and behind them those that are folded."""
+    import numpy
+    key = triples.rows * max(triples.ncols, 1) + triples.columns
+    ordered = numpy.sort(key)
+    again = numpy.unique(ordered[1:][ordered[1:] == ordered[:-1]])
+    if not len(again):
+        return triples
+    place = numpy.minimum(numpy.searchsorted(again, key), len(again) - 1)
+    alone = again[place] != key
+    at = numpy.flatnonzero(~alone)
+    at = at[numpy.argsort(place[at], kind='stable')]
+    row = place[at]
+    starts = numpy.flatnonzero(numpy.append(True, row[1:] != row[:-1]))
+    lengths = numpy.diff(numpy.append(starts, len(row)))
+    column = numpy.arange(len(row)) - numpy.repeat(starts, lengths)
+    folded = fold(Triples(row, column, triples.values[at], len(again), int(lengths.max())))
+    first = at[starts]
+    rows, columns, values = (numpy.concatenate(both) for both in (
+        (triples.rows[alone], triples.rows[first]), (triples.columns[alone], triples.columns[first]), (triples.values[alone], folded)))
+    return Triples(rows, columns, values, triples.nrows, triples.ncols)

@@ -1,0 +1,211 @@
+"""What a matrix holds, taken out: text, numbers, tables of numpy, scipy and networkx; with the names of its rows and columns."""
+from __future__ import annotations
+
+import difflib
+import heapq
+from typing import TYPE_CHECKING, Any, Dict, Iterable, List, Optional, Sequence, Tuple
+
+from .. import top_k
+from ..errors import BudgetExceeded, refusal
+from ..metadata import NOTHING, Nodes, Notes, check_names
+from . import coo, matrix_text
+from .file_writers import Written
+
+if TYPE_CHECKING:
+    from ..session import Session
+
+FEW_NAMES = 6                                      # so many names are told where one isn't found
+FEW_NEAR, LIKE = 2, .7                              # so many names that are so much alike
+
+
+class Held(Written):
+    """What every matrix is: two sizes, entries, and what is known of them beside."""
+
+    session: 'Session'
+    nrows: int
+    ncols: int
+    notes: Notes = NOTHING
+    is_named = True                                # whether its name may be one that a caller gave
+
+    # -- what it is
+
+    @property
+    def shape(self) -> Tuple[int, int]:
+        """Rows and columns."""
+        return self.nrows, self.ncols
+
+    @property
+    def nodes(self) -> Optional[List[Any]]:
+        """The names of the vertices: of the rows of a column, of the columns of a row, and of the rows of a square matrix whose
+        columns have the same. None where there are none, or rows and columns have different ones (`row_nodes`, `column_nodes`).
+        Results carry the names of what they are made of. They can be set: `G.nodes = names`; ValueError where one stands twice, or has
+        an end of line in it."""
+        rows, columns = self.notes.rows, self.notes.columns
+        if 1 in self.shape and self.shape != (1, 1):
+            return rows if self.ncols == 1 else columns
+        return rows if columns is None or rows is columns or rows == columns else columns if rows is None else None
+
+    @nodes.setter
+    def nodes(self, names: Optional[Iterable[Any]]) -> None:
+        if self.nrows != self.ncols and 1 not in self.shape:
+            raise ValueError('rows and columns of a matrix of %dx%d have names of their own: row_nodes and column_nodes' % self.shape)
+        found = None if names is None else names if isinstance(names, Nodes) else Nodes(names)
+        if found is not None and found is not names:
+            check_names(found)
+        count = max(self.shape) if 0 not in self.shape else 0 if 1 in self.shape else self.nrows
+        if found is not None and len(found) != count:
+            raise ValueError('%d names for %d vertices' % (len(found), count))
+        self.notes = self.notes._replace(rows=found if self.nrows == count else None, columns=found if self.ncols == count else None)
+
+    @property
+    def row_nodes(self) -> Optional[List[Any]]:
+        """The names of the rows, None where they have none."""
+        return self.notes.rows
+
+    @property
+    def column_nodes(self) -> Optional[List[Any]]:
+        """The names of the columns, None where they have none."""
+        return self.notes.columns
+
+    @property
+    def directed(self) -> Optional[bool]:
+        """False where the matrix is known to be that of an undirected graph, whose entries stand both ways with one value; True
+        where it was read as a directed one; None where nothing is known."""
+        return self.notes.directed
+
+    def index(self, node: Any, axis: int = 0) -> int:
+        """The row (with `axis=1` the column) of a vertex: the place of its name where rows have names, else the number itself. Where
+        no name is a number, numbers are places as well. ValueError where there is no such vertex."""
+        names, count = self.notes.names(axis), self.shape[axis]
+        if names is not None:
+            try:
+                return names.at(node)
+            except KeyError:
+                if names.numbered or not hasattr(node, '__index__'):
+                    raise ValueError('no vertex %r: %s' % (node, near(node, names) or 'they are ' + told(names))) from None
+        if isinstance(node, bool) or not hasattr(node, '__index__') or not 0 <= node < count:
+            raise ValueError('no vertex %r: they are 0 to %d' % (node, count - 1) if count else 'there is no vertex')
+        return int(node)
+
+    # -- what it holds
+
+    def to_text(self) -> bytes:
+        """The canonical Matrix Market text: coordinate integer general, entries by ascending row and column. Runs the queue where
+        this matrix waits, as all of the following do."""
+        raise NotImplementedError
+
+    def to_coo(self, *, arrays: Optional[bool] = None) -> Tuple[Any, Any, Any]:
+        """Rows, columns (from 0) and values, by ascending row and column: arrays of numpy where it is there, else lists; `arrays`
+        says which. In python-graphblas the same name."""
+        wanted = matrix_text.find_numpy() is not None if arrays is None else arrays
+        return matrix_text.read(self.to_text(), wanted)[:3]
+
+    def to_triples(self) -> List[Tuple[int, int, int]]:
+        """(row, column, value) by ascending row and column."""
+        return list(zip(*matrix_text.read(self.to_text())[:3]))
+
+    def to_dict(self) -> Dict[Tuple[int, int], int]:
+        """{(row, column): value}. In python-graphblas `to_dicts`."""
+        rows, columns, values = matrix_text.read(self.to_text())[:3]
+        return dict(zip(zip(rows, columns), values))
+
+    def to_list(self, missing: Any = None) -> List[Any]:
+        """The values of a column or a row, `missing` where there is no entry. DimensionMismatch for another shape."""
+        out = [missing] * self._length('a column or a row')
+        for i, j, value in self.to_triples():
+            out[i if self.ncols == 1 else j] = value
+        return out
+
+    def by_node(self) -> Dict[Any, int]:
+        """{name: value} of a column or a row, {number: value} where it has no names; nothing of a vertex without an entry.
+        DimensionMismatch for another shape. In networkx results have this form."""
+        self._length('a column or a row')
+        rows, columns, values = matrix_text.read(self.to_text())[:3]
+        at, names = (rows, self.notes.rows) if self.ncols == 1 else (columns, self.notes.columns)
+        return dict(zip(at if names is None else map(names.__getitem__, at), values))
+
+    def to_edgelist(self) -> List[Tuple[Any, Any, int]]:
+        """(row, column, value) of each entry, with names where rows and columns have them. In networkx the same name."""
+        rows, columns, values = matrix_text.read(self.to_text())[:3]
+        first, second = self.notes.rows, self.notes.columns
+        return list(zip(rows if first is None else map(first.__getitem__, rows),
+                        columns if second is None else map(second.__getitem__, columns), values))
+
+    def top(self, k: int = 10) -> List[Tuple[Any, ...]]:
+        """The k entries of the greatest values, the greatest first, of equals the first: (name, value) of a column or a row, (name,
+        name, value) of another matrix; numbers where there are no names. Of many entries the session finds those from a threshold on, by some
+        50 small jobs, and these come to the client; all come where the budget has too little left. In pandas `nlargest`."""
+        few: Any = self
+        try:
+            few = top_k.greatest(few, k)
+        except BudgetExceeded:
+            pass                                   # entries can be read all the same
+        if few is not self:
+            few.notes = self.notes
+        found: Iterable[Tuple[Any, ...]] = few.by_node().items() if 1 in self.shape else few.to_edgelist()
+        return heapq.nlargest(k, found, key=lambda entry: int(entry[-1]))
+
+    def _length(self, wanted: str) -> int:
+        """The length of a column or a row."""
+        if 1 not in self.shape:
+            raise refusal('J5', detail='expected %s, got %dx%d' % (wanted, *self.shape))
+        return self.nrows if self.ncols == 1 else self.ncols
+
+    def to_dense(self, fill: int = 0) -> Any:
+        """An array of numpy of this shape, `fill` where there is no entry. In python-graphblas the same name."""
+        import numpy
+        table = numpy.full(self.shape, coo.word(fill, 'fill'), numpy.int64)
+        rows, columns, values = self.to_coo(arrays=True)
+        table[rows, columns] = values
+        return table
+
+    def to_scipy_sparse(self, format: str = 'csr') -> Any:
+        """A matrix of scipy.sparse, of int64. In python-graphblas `io.to_scipy_sparse`."""
+        import scipy.sparse
+        rows, columns, values = self.to_coo(arrays=True)
+        return scipy.sparse.coo_matrix((values, (rows, columns)), self.shape).asformat(format)
+
+    def to_networkx(self, directed: Optional[bool] = None, weight: Optional[str] = 'weight',
+                    nodes: Optional[Sequence[Any]] = None) -> Any:
+        """A networkx graph of a square matrix: a Graph where `directed` is False, or isn't given and the matrix is known to be that
+        of an undirected graph, else a DiGraph. (A Graph that is asked for has an edge where one of (i, j) and (j, i) is.) Its nodes
+        are `nodes`, or this matrix's, or 0 to n - 1. Values are the edges' `weight`, unless that is None, or the matrix came from a
+        graph without weights. In python-graphblas `io.to_networkx`."""
+        import networkx
+        if self.nrows != self.ncols:
+            raise refusal('J5', detail='expected a square matrix, got %dx%d: `spmat.bipartite` makes one of it' % self.shape)
+        given = nodes if nodes is not None else self.nodes
+        labels = list(range(self.nrows) if given is None else given)
+        if len(labels) != self.nrows:
+            raise ValueError('%d nodes for %d rows' % (len(labels), self.nrows))
+        graph = networkx.Graph() if (self.directed if directed is None else directed) is False else networkx.DiGraph()
+        graph.add_nodes_from(labels)
+        named = ((labels[i], labels[j], value) for i, j, value in self.to_triples())
+        if weight is None or self.notes.weighted is False:
+            graph.add_edges_from((u, v) for u, v, _ in named)
+        else:
+            graph.add_weighted_edges_from(named, weight)
+        return graph
+
+    def mmwrite(self, target: Any) -> None:
+        """Writes the text to a path, or to a file opened in binary. In python-graphblas `io.mmwrite`."""
+        if hasattr(target, 'write'):
+            target.write(self.to_text())
+            return
+        with open(target, 'wb') as file:
+            file.write(self.to_text())
+
+
+def near(node: Any, names: Sequence[Any]) -> str:
+    """The names that a wrong one may have meant, in words; nothing where none is like it."""
+    folded = {name.casefold(): name for name in names if isinstance(name, str)} if isinstance(node, str) else {}
+    found = [folded[word] for word in difflib.get_close_matches(node.casefold(), folded, FEW_NEAR, LIKE)] if folded else []
+    return 'did you mean %s?' % ' or '.join(map(repr, found)) if found else ''
+
+
+def told(names: Sequence[Any]) -> str:
+    """Some names in words."""
+    if len(names) > 1 and type(names[0]) is int and names == list(range(names[0], names[0] + len(names))):
+        return '%d to %d' % (names[0], names[-1])
+    some = ', '.join(map(repr, names[:FEW_NAMES]))
+    return some + (', .. (%d)' % len(names) if len(names) > FEW_NAMES else '')

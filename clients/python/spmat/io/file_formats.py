@@ -1,0 +1,124 @@
+"""Which format a file has, and reading it as a matrix."""
+from __future__ import annotations
+
+from typing import Any, Callable, Iterable, NamedTuple, Optional, Sequence, Tuple
+
+from ..errors import ReadError
+from ..metadata import Nodes
+from . import dimacs, edgelist_text, file_signatures, third_party_formats
+from .edgelist_header import Layout
+from .edgelist_matrix import Edges, Graph, How, graph_of
+from .integer_values import scaled
+from .matrix_text import line_at
+
+FORMATS = ('mtx', 'edges', 'csv', 'tsv', 'dimacs', 'graphml', 'gexf', 'gml', 'parquet')
+PARTED = {'csv': ',', 'tsv': '\t'}
+
+
+Progress = Callable[[str, int, int], object]
+
+
+class Request(NamedTuple):
+    """What a caller asks of a file: its format, or None for what its content says; how a list is written; what becomes of its edges.
+    `directed` None is as the file has it: DIMACS says, and a list's edges lead one way."""
+    format: Optional[str] = None
+    layout: Layout = Layout()
+    directed: Optional[bool] = None
+    nodelist: Optional[Sequence[Any]] = None
+    bipartite: bool = False
+
+
+def format_of(text: bytes) -> str:
+    """Which format a text has: `mtx` where its first line says Matrix Market, `parquet`, `graphml`, `gexf` and `gml` by their beginnings,
+    `dimacs` where a line `p` comes first, else `edges`."""
+    if text[:14].lower() == b'%%matrixmarket':
+        return 'mtx'
+    if text[:4] == b'PAR1':
+        return 'parquet'
+    return file_signatures.by_networkx(text) or ('dimacs' if dimacs.is_dimacs(text) else 'edges')
+
+
+def check_format(file: str, text: bytes, format: Optional[str]) -> str:
+    """The format that a caller names, or the content's. ValueError for none of `FORMATS`, ReadError for a file that is no Matrix
+    Market file and was to be one, or is one and was not."""
+    if format is not None and format not in FORMATS:
+        raise ValueError('a format is %s, or None for what stands in the file; not %r' % (', '.join(FORMATS), format))
+    found = format_of(text)
+    if format == 'mtx' and found != 'mtx':
+        raise not_market(file, text)
+    if format not in (None, 'mtx') and found == 'mtx':
+        raise ReadError(file, 1, 'this is a Matrix Market file, and %s was asked for' % format, line_at(text, 1))
+    if format in third_party_formats.BY_NETWORKX + ('parquet',) and found != format:
+        raise ReadError(file, 1, 'this is no file of the format %s' % format, line_at(text, 1))
+    other = file_signatures.other_kind(text) if found == 'edges' else None
+    if other is not None:
+        raise ReadError(file, None, other)
+    return found if format is None else format
+
+
+def not_market(file: str, text: bytes) -> ReadError:
+    """The error of a text that was to be a Matrix Market file, and says in no word that it is one."""
+    return ReadError(file, 1, 'this is no Matrix Market file, which begins with %%MatrixMarket; read_graph(), and the command line without '
+                     '--format mtx, read edge lists, CSV, TSV and DIMACS', line_at(text, 1))
+
+
+def read(file: str, text: bytes, request: Request, folds: bool, tell: Optional[Progress] = None) -> Graph:
+    """The matrix of a file of another format than Matrix Market; of an undirected graph the lower triangle alone. `tell` is told of the
+    phases: 'reading' of the bytes, 'names' of the edges."""
+    tell = tell if tell is not None else lambda what, done, of: None
+    tell('reading', 0, len(text))
+    edges, how = _edges_of(file, text, request, folds)
+    tell('reading', len(text), len(text))
+    count = len(edges.sources)
+    tell('names', 0, count)
+    graph = graph_of(edges, how)
+    tell('names', count, count)
+    return graph
+
+
+def _edges_of(file: str, text: bytes, request: Request, folds: bool) -> Tuple[Edges, How]:
+    """The edges of a file, and what becomes of them."""
+    format, layout = check_format(file, text, request.format), request.layout
+    how = How(request.directed is not False, request.nodelist, request.bipartite, folds)
+    if format in third_party_formats.BY_NETWORKX or format == 'dimacs':
+        if how.bipartite:
+            raise ValueError('%s has one kind of vertices: bipartite=True is for lists' % format)
+        edges, nodes, directed = _of_networkx(file, text, format, layout) if format != 'dimacs' else _of_dimacs(file, text, layout)
+        return edges, how._replace(directed=directed if request.directed is None else request.directed,
+                                   nodelist=nodes if how.nodelist is None else how.nodelist)
+    if format == 'parquet':
+        return third_party_formats.table(file, text, layout), how
+    if layout.columns is None and third_party_formats.has_dictionaries(text):
+        return third_party_formats.with_dictionaries(file, text, layout), how
+    delimiter = layout.delimiter if layout.delimiter is not None else PARTED.get(format)
+    return edgelist_text.read(file, text, layout._replace(delimiter=delimiter)), how
+
+
+def _of_networkx(file: str, text: bytes, format: str, layout: Layout) -> Tuple[Edges, Sequence[Any], bool]:
+    """The edges of a file that networkx reads, its vertices, and whether edges lead one way."""
+    drawn = third_party_formats.graph(file, text, format, layout)
+    return drawn.edges, drawn.nodes, drawn.directed
+
+
+def _of_dimacs(file: str, text: bytes, layout: Layout) -> Tuple[Edges, Sequence[Any], bool]:
+    """The same of a graph of DIMACS."""
+    edges, problem = dimacs.read(file, text, layout.values, layout.scale)
+    return edges, Nodes(range(1, problem.vertices + 1)), problem.directed
+
+
+def from_edges(edges: Iterable[Any], how: How, values: bool, scale: Optional[float] = None) -> Graph:
+    """The matrix of (from, to), (from, to, value) or (from, to, {'weight': value}), as networkx gives and takes them."""
+    many = edges.tolist() if hasattr(edges, 'tolist') else list(edges)
+    lengths = {len(edge) for edge in many}
+    if not lengths <= {2, 3}:
+        at = next(at for at, edge in enumerate(many) if len(edge) not in (2, 3))
+        raise ValueError('an edge is (from, to) or (from, to, value), not %r (edge %d)' % (many[at], at))
+    found: Any = [_value(edge) for edge in many] if 3 in lengths and values else None
+    found, rounding = (found, '') if found is None else scaled(found, scale)
+    edges = Edges([edge[0] for edge in many], [edge[1] for edge in many], found, lambda at: 'edge %d' % at, str(rounding))
+    return graph_of(edges, how)
+
+
+def _value(edge: Sequence[Any]) -> Any:
+    value = edge[2] if len(edge) == 3 else 1
+    return value.get('weight', 1) if isinstance(value, dict) else value

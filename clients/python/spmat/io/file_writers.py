@@ -1,0 +1,120 @@
+"""What a matrix holds, written out with its names: CSV, lists of edges, parquet, tables of pandas."""
+from __future__ import annotations
+
+import contextlib
+import csv
+import io
+import os
+from typing import IO, Any, Dict, Iterator, List, Optional, Sequence, Tuple
+
+from ..metadata import NOTHING, Notes
+
+EDGE = ('source', 'target', 'weight')
+NODE = ('node', 'value')
+
+
+class Written:
+    """What writes a matrix. Rows and columns have their names, or numbers from 0 where they have none.
+
+    `scale` is what values were multiplied by when they were read: they are divided by it, and are floats then."""
+
+    nrows: int
+    ncols: int
+    notes: Notes = NOTHING
+
+    def to_coo(self, *, arrays: Optional[bool] = None) -> Tuple[Any, Any, Any]:
+        """Rows, columns (from 0) and values."""
+        raise NotImplementedError
+
+    def _columns(self, scale: Optional[float]) -> Tuple[List[Any], ...]:
+        """Names and values: of a column or a row (names, values), of another matrix (sources, targets, values)."""
+        rows, columns, values = self.to_coo(arrays=False)
+        values = values if scale is None else [value / scale for value in values]
+        ends = [rows] if self.ncols == 1 else [columns] if self.nrows == 1 else [rows, columns]
+        names = [self.notes.rows] if self.ncols == 1 else [self.notes.columns] if self.nrows == 1 else [self.notes.rows, self.notes.columns]
+        return (*(list(end) if known is None else list(map(known.__getitem__, end)) for known, end in zip(names, ends)), list(values))
+
+    def _fields(self, given: Optional[Sequence[str]]) -> Sequence[str]:
+        """The names of the fields. ValueError where other numbers of them are given."""
+        wanted = NODE if 1 in (self.nrows, self.ncols) else EDGE
+        if given is not None and len(given) != len(wanted):
+            raise ValueError('expected %d fields, such as %r, got %d' % (len(wanted), wanted, len(given)))
+        return given if given is not None else wanted
+
+    def to_csv(self, target: Any = None, fields: Optional[Sequence[str]] = None, *, sep: str = ',', header: bool = True,
+               scale: Optional[float] = None) -> Optional[str]:
+        """Writes a line an entry to a path, or a file open in text, or gives the text: source, target, weight; of a column or a row
+        node, value. `fields` calls them otherwise, `header=False` leaves them out. `read_graph` reads it again. In pandas `to_csv`."""
+        columns, named = self._columns(scale), self._fields(fields)
+        text = io.StringIO() if target is None else None
+        with _opened(text if text is not None else target) as file:
+            writer = csv.writer(file, delimiter=sep, lineterminator='\n')
+            if header:
+                writer.writerow(named)
+            writer.writerows(zip(*columns))
+        return text.getvalue() if text is not None else None
+
+    def write_edgelist(self, target: Any, delimiter: str = ' ', *, values: bool = True, scale: Optional[float] = None) -> None:
+        """Writes an edge a line, names and value parted by a blank, to a path or a file open in text; `values=False` leaves them out.
+        ValueError, before anything is written, where a name has the delimiter in it. In networkx `write_weighted_edgelist`."""
+        columns = self._columns(scale)
+        wrong = next((name for column in columns[:-1] for name in column
+                      if delimiter in str(name) or not str(name) or (delimiter == ' ' and len(str(name).split()) > 1)), None)
+        if wrong is not None:
+            raise ValueError('the name %r has what parts the fields in it: another delimiter=, or to_csv, which quotes' % (wrong,))
+        with _opened(target) as file:
+            file.writelines(delimiter.join(map(str, row)) + '\n' for row in zip(*(columns if values else columns[:-1])))
+
+    def to_pandas(self, *, scale: Optional[float] = None) -> Any:
+        """Of a column or a row a Series of pandas by name; of another matrix a table as `to_pandas_edgelist` has it."""
+        import pandas
+        if 1 not in (self.nrows, self.ncols):
+            return self.to_pandas_edgelist(scale=scale)
+        names, values = self._columns(scale)
+        return pandas.Series(values, pandas.Index(names, name=NODE[0], tupleize_cols=False), 'int64' if scale is None else 'float64', NODE[1])
+
+    def to_pandas_edgelist(self, source: str = 'source', target: str = 'target', edge_attr: Optional[str] = 'weight', *,
+                           scale: Optional[float] = None) -> Any:
+        """A table of pandas with a row an entry: the names of its row and its column, and its value as `edge_attr`, unless that is None.
+        `from_pandas_edgelist` takes it again. In networkx the same name."""
+        import pandas
+        rows, columns, values = self.to_coo(arrays=True)
+        table: Dict[str, Any] = {}
+        for called, names, at in ((source, self.notes.rows, rows), (target, self.notes.columns, columns)):
+            table[called] = at if names is None else pandas.Series(list(names), dtype=None if names else object).take(at).to_numpy()
+        if edge_attr is not None:
+            table[edge_attr] = values if scale is None else values / scale
+        return pandas.DataFrame(table)
+
+    def to_parquet(self, path: Any, *, scale: Optional[float] = None) -> None:
+        """Writes what `to_pandas` gives as a parquet file, by pandas with pyarrow or fastparquet. In pandas the same name."""
+        table = self.to_pandas(scale=scale)
+        (table.to_frame().reset_index() if 1 in (self.nrows, self.ncols) else table).to_parquet(path, index=False)
+
+
+@contextlib.contextmanager
+def _opened(target: Any) -> Iterator[IO[str]]:
+    """A path opened for text, or a file that is open. A path is written anew at the end alone, so that a failure leaves the old file."""
+    if hasattr(target, 'write'):
+        yield target
+        return
+    path = os.fspath(target)
+    with replacing(path) as part, open(part, 'w', encoding='utf-8', newline='') as file:
+        yield file
+
+
+@contextlib.contextmanager
+def replacing(path: str) -> Iterator[str]:
+    """The path of a file beside another one, which takes its place at the end; nothing is left of it where something fails. What is no
+    plain file, as a pipe, is written itself."""
+    if os.path.exists(path) and not os.path.isfile(path):
+        yield path
+        return
+    part = '%s.%d.part' % (path, os.getpid())
+    try:
+        yield part
+        os.replace(part, path)
+    except BaseException:
+        with contextlib.suppress(OSError):
+            os.remove(part)
+        raise

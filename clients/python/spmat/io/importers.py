@@ -1,0 +1,190 @@
+"""Matrices from what callers have: lists, arrays of numpy, tables, scipy, networkx. What sessions and sessions in blocks share."""
+from __future__ import annotations
+
+import abc
+from typing import Any, Dict, Generic, Iterable, Optional, Sequence, TypeVar
+
+from ..operators import Op
+from . import archive, coo, matrix_market, networkx_adjacency, pandas
+from .edgelist_header import Column
+from .exporters import Held
+from .file_formats import check_format, from_edges
+from .graph_files import Graph, How, Layout, Request, name_of, read
+from .integer_values import Rounding, scaled
+from .matrix_text import Triples
+
+Made = TypeVar('Made', bound=Held)
+DupOp = Optional[Op]
+
+
+class Sources(abc.ABC, Generic[Made]):
+    """What makes matrices of what callers have, once triples can be sent."""
+
+    @abc.abstractmethod
+    def _from(self, triples: Triples, dup_op: DupOp = None, name: Optional[str] = None) -> Made:
+        """A matrix of triples, those of one position folded by an operator where one is given."""
+
+    def _both_ways(self, triples: Triples, name: Optional[str] = None) -> Made:
+        """A square matrix of triples, each of which stands for its mirror, too. Each position, or its mirror, is given once."""
+        return self._from(matrix_market.mirrored(triples, 'symmetric'), name=name)
+
+    def from_coo(self, rows: Iterable[int], columns: Iterable[int], values: Any = 1, nrows: Optional[int] = None,
+                 ncols: Optional[int] = None, *, square: bool = False, symmetric: bool = False, scale: Optional[float] = None,
+                 dup_op: DupOp = None, name: Optional[str] = None) -> Made:
+        """A matrix from rows and columns (from 0) and values, or one value for all: lists, or arrays of numpy. Sizes that aren't
+        given are the least that fit, with `square` the least for both. Values are whole numbers of 64 bits, else a ValueError; with
+        `scale` they are multiplied by it and rounded to the nearest, and `notes.source` says what that did. Where
+        a position repeats it is a TextRefused (M8), or with `dup_op` its values are folded by that binary operator in their order;
+        this takes 1 job and 1 run where any repeats.
+
+        With `symmetric` each entry (i, j) stands at (j, i), too, and the matrix is square: an undirected graph of which each edge is
+        given once, in either direction. It is loaded in less time. In python-graphblas `Matrix.from_coo`."""
+        whole, rounding = scaled(values, scale)
+        triples = coo.checked(rows, columns, whole, nrows, ncols)
+        if (square or symmetric) and nrows is None and ncols is None:
+            triples = triples._replace(nrows=max(triples.nrows, triples.ncols), ncols=max(triples.nrows, triples.ncols))
+        if not symmetric:
+            return _told(self._from(triples, dup_op, name), rounding)
+        if triples.nrows != triples.ncols:
+            raise ValueError('symmetric=True is of a square matrix, not of %d rows and %d columns' % (triples.nrows, triples.ncols))
+        made = _told(self._both_ways(self._folded(triples, dup_op), name), rounding)
+        made.notes = made.notes._replace(directed=False)
+        return made
+
+    def from_triples(self, triples: Iterable[Sequence[Any]], nrows: Optional[int] = None, ncols: Optional[int] = None, *,
+                     square: bool = False, scale: Optional[float] = None, dup_op: DupOp = None, name: Optional[str] = None) -> Made:
+        """A matrix from (row, column, value), or (row, column), whose value is 1; or an array of numpy with these as its columns.
+        See `from_coo`; `from_edgelist` takes names."""
+        return self.from_coo(*coo.columns_of(triples), nrows, ncols, square=square, scale=scale, dup_op=dup_op, name=name)
+
+    def from_dense(self, rows: Any, missing: Optional[int] = None, *, name: Optional[str] = None) -> Made:
+        """A matrix from a table: a list of rows, or an array of numpy; of one dimension it is a column. Each cell is an entry,
+        but for those that are `missing`. In python-graphblas `Matrix.from_dense`."""
+        return self._from(coo.from_dense(rows, missing), name=name)
+
+    def from_scipy_sparse(self, matrix: Any, *, scale: Optional[float] = None, name: Optional[str] = None) -> Made:
+        """A matrix from one of scipy.sparse, of any format; entries of one position are added up, as scipy has it. ValueError for
+        values that aren't whole; `scale` is as for `from_coo`. In python-graphblas `io.from_scipy_sparse`."""
+        rows, columns, values, shape = coo.from_scipy(matrix)
+        return self.from_coo(rows, columns, values, *shape, scale=scale, name=name)
+
+    def from_networkx(self, graph: Any, weight: Optional[str] = 'weight', nodelist: Optional[Sequence[Any]] = None, *,
+                      scale: Optional[float] = None, dup_op: DupOp = None, name: Optional[str] = None) -> Made:
+        """The adjacency matrix of a networkx graph: entry (i, j) is the edge from node i to node j of `nodelist` (all nodes, in
+        the graph's order), with the edge's attribute `weight`, or 1 where it has none or `weight` is None. An undirected edge stands
+        both ways. The matrix has the nodes as its `nodes`, and so have results. With `scale` weights are multiplied by it and rounded, as
+        `from_coo` has it. ValueError names the edge whose weight isn't whole, or that has parallel ones, unless `dup_op` folds them (1 job
+        and 1 run where there are any). In python-graphblas `io.from_networkx`."""
+        triples, notes = networkx_adjacency.triples_of(graph, weight, nodelist, networkx_adjacency.Asked(dup_op is not None, scale))
+        made = self._from(triples, dup_op, name)
+        made.notes = notes
+        return made
+
+    def from_edgelist(self, edges: Iterable[Any], *, directed: bool = True, nodelist: Optional[Sequence[Any]] = None, values: bool = True,
+                      scale: Optional[float] = None, bipartite: bool = False, dup_op: DupOp = None, name: Optional[str] = None) -> Made:
+        """The adjacency matrix of edges by name: (from, to), (from, to, value), or (from, to, {'weight': value}). It is square, and its
+        `nodes` are the names: whole numbers ascending, others as they first stand; just 0 to n - 1 need no names. `nodelist` gives them
+        in another order, with those that have no edge; edges that leave it are left out.
+
+        An edge leads one way; with `directed=False` both. With `bipartite` rows and columns are two kinds, each with its names. An edge
+        that is given twice is a ValueError where it has values, unless `dup_op` folds them; without values, or with `values=False`, it
+        counts once, or with `dup_op="plus"` as often as it is given. `scale` is as for `from_coo`. In networkx and python-graphblas `from_edgelist`."""
+        return self._graph(from_edges(edges, How(directed, nodelist, bipartite, dup_op is not None), values, scale), dup_op, name)
+
+    def from_pandas_edgelist(self, frame: Any, source: Any = 'source', target: Any = 'target', edge_attr: Any = None, *,
+                             scale: Optional[float] = None, directed: bool = True, nodelist: Optional[Sequence[Any]] = None,
+                             bipartite: bool = False, dup_op: DupOp = None, name: Optional[str] = None) -> Made:
+        """The adjacency matrix of a table of pandas: the columns `source` and `target` have the names, `edge_attr` the values (None: 1
+        each), multiplied by `scale` and rounded where that is given. The rest is as `from_edgelist` has it. In networkx the same name."""
+        edges = pandas.edges_of(frame, (source, target), edge_attr, scale)
+        return self._graph(pandas.graph_of(edges, How(directed, nodelist, bipartite, dup_op is not None)), dup_op, name)
+
+    def read_edgelist(self, path: Any, *, delimiter: Optional[str] = None, header: Optional[bool] = None,
+                      columns: Optional[Sequence[Column]] = None, values: bool = True, scale: Optional[float] = None,
+                      directed: bool = True, nodelist: Optional[Sequence[Any]] = None, bipartite: bool = False, dup_op: DupOp = None,
+                      name: Optional[str] = None) -> Made:
+        """The adjacency matrix of a list of edges: a path (also .gz and .bz2), or a file opened in binary, with an edge a line: two names
+        and perhaps a value, parted by commas, tabs, semicolons or blanks (CSV, TSV, edge list). Lines that begin with # or % are passed
+        over.
+
+        What isn't given is seen from the first lines: the `delimiter`; whether the first line is a `header` (it has known words, or no
+        number where the columns below have numbers); and the `columns` of the two names and of the value, by the header's words (source
+        and target, from and to, payer and payee, origin_id and dest_id, and others like these, in whatever columns; weight, value, w,
+        amount), or without such words the first two of two columns, or of three with numbers in the third. What they leave open is a
+        ReadError that says which argument tells it; `notes.source` has what was taken. `columns` are given by words, or from 0.
+        `values=False` reads no values. Values are whole numbers; with `scale` they are multiplied by it and rounded.
+
+        Names, `directed`, `nodelist`, `bipartite` and `dup_op` are as for `from_edgelist`. ReadError, a ValueError, names the file and
+        the line. In networkx `read_edgelist`, in pandas `read_csv`."""
+        layout = Layout(delimiter, header, columns, values, scale)
+        return self._read(path, Request('edges', layout, directed, nodelist, bipartite), dup_op, name)
+
+    def read_graph(self, path: Any, format: Optional[str] = None, *, values: bool = True, scale: Optional[float] = None,
+                   directed: Optional[bool] = None, bipartite: bool = False, dup_op: DupOp = None, name: Optional[str] = None,
+                   **layout: Any) -> Made:
+        """The matrix of a file of any format: 'mtx' (Matrix Market, see `mmread`), 'edges', 'csv' or 'tsv' (see `read_edgelist`, whose
+        `delimiter`, `header`, `columns` and `nodelist` it takes), 'dimacs' (.gr, .max, .col; vertices are named from 1), 'graphml', 'gexf'
+        and 'gml' by networkx, 'parquet' by pandas. Without a format the content says. `directed` None is as the file
+        has it: a DIMACS graph of edges `e` is undirected, the edges of a list lead one way. `values`, `scale`, `bipartite` and `dup_op` are as for `read_edgelist`."""
+        nodelist = layout.pop('nodelist', None)
+        return self._read(path, Request(format, Layout(values=values, scale=scale, **layout), directed, nodelist, bipartite), dup_op, name)
+
+    def save(self, path: Any, **matrices: Made) -> None:
+        """Writes matrices with the names of their vertices into one file: those that are given, as `save(path, G=G, ranks=ranks)`, or all
+        that were made with a `name=` and are still held. `load` reads them in this session or a later one. A file that is there is
+        replaced once the new one is whole. The file is a zip archive of Matrix Market texts with a `matrices.json`."""
+        archive.save(path, archive.chosen(self._named(), matrices))
+
+    def load(self, path: Any) -> Dict[str, Made]:
+        """The matrices of a file that `save` wrote, by name, with the names of their vertices. ReadError where it is no such file."""
+        found = {}
+        for called, text, known in archive.read(path):
+            found[called] = self._market('%s of %s' % (called, name_of(path)), text, Request('mtx'), None, called)
+            found[called].notes = known
+        return found
+
+    def _named(self) -> Dict[str, Made]:
+        """The matrices that callers named and hold."""
+        return {}
+
+    def _read(self, path: Any, request: Request, dup_op: DupOp, name: Optional[str]) -> Made:
+        return self.read_text(name_of(path), matrix_market.load(path), request, dup_op, name)
+
+    def read_text(self, file: str, text: bytes, request: Request = Request(), dup_op: DupOp = None, name: Optional[str] = None) -> Made:
+        """The matrix of the bytes of a file; `file` is what errors call it. `read_graph` is this with a path."""
+        if check_format(file, text, request.format) == 'mtx':
+            return self._market(file, text, request, dup_op, name)
+        return self._graph(read(file, text, request, dup_op is not None, self._tell), dup_op, name)
+
+    def _tell(self, what: str, done: int, of: int) -> None:
+        """Tells of long work, where somebody listens."""
+
+    @abc.abstractmethod
+    def _market(self, file: str, text: bytes, request: Request, dup_op: DupOp, name: Optional[str]) -> Made:
+        """A matrix of a Matrix Market text."""
+
+    def adopt(self, matrix: Held, *, name: Optional[str] = None) -> Made:
+        """A copy of a matrix of another session, with its names, also where that one's budget is spent: reading takes no step."""
+        rows, columns, values = matrix.to_coo()
+        made = self._from(Triples(rows, columns, values, *matrix.shape), name=name)
+        made.notes = matrix.notes
+        return made
+
+    @abc.abstractmethod
+    def _folded(self, triples: Triples, dup_op: DupOp) -> Triples:
+        """Each position once: what shares one is folded by an operator."""
+
+    def _graph(self, graph: Graph, dup_op: DupOp, name: Optional[str]) -> Made:
+        """A matrix of edges; of an undirected graph the other direction of each is added here."""
+        triples, notes = graph
+        triples = self._folded(triples, dup_op)
+        made = self._from(triples, name=name) if notes.directed is not False else self._both_ways(triples, name)
+        made.notes = notes if dup_op is None else notes._replace(weighted=True)
+        return made
+
+
+def _told(made: Made, rounding: Rounding) -> Made:
+    """A matrix that says what rounding did to its values."""
+    if rounding.scale is not None:
+        made.notes = made.notes._replace(source=str(rounding))
+    return made

@@ -1,5 +1,0 @@
-"""Loops whose rounds stay at the server; see `loops`."""
-from .loops import Loop, Until, empty, loop, steady
-from .tracing import NotAlike, NotTraced, State
-
-__all__ = ['Loop', 'NotAlike', 'NotTraced', 'State', 'Until', 'empty', 'loop', 'steady']

@@ -1,0 +1,311 @@
+"""Loops whose rounds stay at the server.
+
+A step makes of named matrices, the state, the next ones. It is traced once, and replayed: many rounds go in one trip, and two trips are under
+way at a time, so a round costs what its jobs do, and not the client's work and a trip for each. What ends the loop is seen from the numbers
+of entries that the server tells of each result anyway.
+
+Where a trip can't be borne or something in it is refused, the loop goes on round by round from where the trip began, by the step itself: so
+each refusal comes in the round, and leaves the state, that it would have without trips.
+"""
+from __future__ import annotations
+
+import time
+from typing import TYPE_CHECKING, Any, Callable, Dict, List, Mapping, NamedTuple, Optional, Sequence, Tuple, Union
+
+from ..errors import NotSettled, Refused
+from ..io.coo import whole
+from ..pricing.estimates import Unforeseen, asked
+from .pipelined_rounds import Counts, Round, Trips
+from .round_results import Body, Shown
+from .tracing import Made, State, TracedMatrix, of_two, results, trace
+
+if TYPE_CHECKING:
+    from ..algorithms.utils import Progress
+
+FIRST = 4                                          # rounds of the first trip
+QUICK, LONG = .002, .05                            # seconds of a trip: those that may be in vain grow to the one, others to the other
+Each = Callable[[int, Counts], Any]
+
+
+class Until(NamedTuple):
+    """An end: the results that it looks at, whether it is met by their numbers of entries in a round and in the one before, and whether
+    rounds behind it cost next to nothing."""
+    names: Tuple[str, ...]
+    met: Callable[[Counts, Counts], bool]
+    rests: bool = False
+
+
+def empty(name: str) -> Until:
+    """The end of a loop: this result has no entry."""
+    return Until((name,), lambda counts, _: counts[name] == 0, True)
+
+
+def steady(name: str) -> Until:
+    """The end of a loop: this result has as many entries as in the round before. Their values may still change: a loop over values returns
+    the difference, and ends where that is `empty`."""
+    return Until((name,), lambda counts, before: counts[name] == before.get(name))
+
+
+def _until(end: Union[Until, Callable[[Counts], bool]]) -> Until:
+    if isinstance(end, Until):
+        return end
+    function: Any = end
+    if not callable(function):
+        raise TypeError('until= is spmat.empty("name"), spmat.steady("name") or a function of the numbers of entries by name, not %r' % (end,))
+    return Until((), lambda counts, _: bool(function(counts)))
+
+
+class Loop:
+    """A step that is made again and again: `spmat.loop` makes one. `number` rounds are made; `state` has the matrices behind them, by name
+    (`loop.state.front`, or `loop.state["front"]`); `shown` the entries of what is shown, for all rounds (`loop.shown["front"].places`)."""
+
+    def __init__(self, step: Callable[..., Mapping[str, Any]], state: Mapping[str, Any], show: Sequence[str] = ()) -> None:
+        self._step, begun = of_two(step), _checked(state)
+        self._state, self._made = begun, 0         # where no trips are
+        self._end: Optional[int] = None            # rounds that are made, where fewer are known by their names
+        self._careful = False                      # something was refused
+        self.shown: Dict[str, Shown] = {}
+        self._show = [show] if isinstance(show, str) else list(show)
+        self._trips: Optional[Trips] = None
+        first = next(iter(begun.values()))
+        if asked() is None and all(matrix.in_one_place for matrix in begun.values()):
+            traced = trace(first.session, self._step, begun)
+            for name in self._show:
+                value = traced.out.get(name)
+                if not isinstance(value, Made):
+                    raise ValueError('show= names %r, which no job of the step makes: it has %s' % (name, ', '.join(traced.out)))
+                self.shown[name] = Shown(traced.jobs[value.job].shape)
+            self._results = set(traced.out)
+            self._trips = Trips(first.session, traced, begun, self._show)
+            if self._trips.bearable(1) == 0:
+                first.session.budget()             # which may have more than is known
+
+    def __repr__(self) -> str:
+        return '<Loop of %s, %d rounds made>' % (', '.join(self._names()), self.number)
+
+    def _names(self) -> List[str]:
+        return list(self._state) if self._trips is None else list(self._trips.place.names)
+
+    @property
+    def number(self) -> int:
+        """How many rounds are made."""
+        if self._end is not None:
+            return self._end
+        return self._made if self._trips is None else self._trips.place.number
+
+    @property
+    def state(self) -> State:
+        """The matrices behind the last round. Where an end was met amid a trip, the trip's rounds up to it are made again for this."""
+        self._catch_up()
+        if self._trips is None:
+            return State(self._state)
+        self._trips.settle()
+        return self._trips.matrices()
+
+    def run(self, until: Union[Until, Callable[[Counts], bool]], most: Optional[int] = None, each: Optional[Each] = None,
+            progress: 'Progress' = None) -> int:
+        """Makes rounds until an end is met: `spmat.empty("front")`, `spmat.steady("known")`, or a function of the numbers of entries,
+        a dict by name. The number of rounds that this took.
+
+        `each(k, counts)` is called for each round up to the end, in order, and `progress("round", k, 0)`. More rounds than `most` (by
+        default one more than rows or columns of the largest matrix) are a NotSettled, a RuntimeError, behind which the state is there. A few rounds behind the end may be
+        made in vain, and cost steps: with `empty` up to 128, else up to those that take 2 ms; with `advance` none."""
+        end, begun = _until(until), self._resumed()
+        most = self._default() if most is None else whole(most, 'number of rounds')
+        self._check_names(end.names)
+
+        def heard(first: int, rounds: List[Round]) -> None:
+            for number, one in enumerate(rounds, first):
+                if each is not None:
+                    each(number, one.counts)
+                if progress is not None:
+                    progress('round', number, 0)
+        if not self.rounds(end, most, heard):
+            raise NotSettled('did not converge after %d rounds: most= allows more, and advance() makes rounds without an end; the state is that '
+                             'behind them' % most)
+        return self.number - begun
+
+    def advance(self, rounds: int = 1, each: Optional[Each] = None, progress: 'Progress' = None) -> None:
+        """Makes so many rounds, none in vain. `each` and `progress` are as in `run`."""
+        self._resumed()
+        rounds = whole(rounds, 'number of rounds')
+
+        def heard(first: int, made: List[Round]) -> None:
+            for number, one in enumerate(made, first):
+                if each is not None:
+                    each(number, one.counts)
+                if progress is not None:
+                    progress('round', number, rounds)
+        self.rounds(None, rounds, heard)
+
+    def rounds(self, end: Optional[Until], most: int, heard: Callable[[int, List[Round]], Any]) -> bool:
+        """Makes rounds until an end is met, or so many; whether it was met. `heard(first, rounds)` is told of all rounds of a trip."""
+        if asked() is not None and most > 0:
+            results(self._step, self._state, 1)    # whose jobs are foreseen; what follows depends on what they come to
+            raise Unforeseen()
+        goal, size = self.number + most, FIRST if end is None or end.rests else 1
+        before = self._counts()
+        while self.number < goal:
+            begun, first = time.monotonic(), self.number + 1
+            rounds = self._by_trip(end, size, goal)
+            by_trip = rounds is not None
+            rounds = self._by_step() if rounds is None else rounds
+            met = _first_met(end, before, rounds)
+            before = rounds[-1].counts
+            kept = rounds if met is None else rounds[:met + 1]
+            if by_trip:
+                self._accept(rounds, None if met is None else first + met)
+            self._note(first, kept)
+            heard(first, kept)
+            if met is not None:
+                return True
+            size = self._next_size(size, end, time.monotonic() - begun)
+        return False
+
+    # -- rounds
+
+    def _by_trip(self, end: Optional[Until], size: int, goal: int) -> Optional[List[Round]]:
+        """The rounds of the trip that was sent first. None where they are to be made by the step itself."""
+        trips = self._trips
+        if trips is None or self._careful:
+            return None
+        depth = 2 if end is None or end.rests else 1
+        while len(trips.under_way) < depth and trips.next < goal:
+            rounds = trips.bearable(min(size, goal - trips.next))
+            if rounds == 0:
+                break
+            trips.post(rounds)
+        if not trips.under_way:
+            return None
+        rounds_made = trips.take()
+        self._careful = rounds_made is None
+        return rounds_made
+
+    def _accept(self, rounds: List[Round], end: Optional[int]) -> None:
+        """A trip's rounds count, up to an end where it is met."""
+        trips = self._trips
+        assert trips is not None
+        if end is None or end == trips.under_way[0].number:
+            trips.accept(rounds)
+        else:
+            self._end = end
+        if end is not None:
+            trips.stop()
+
+    def _by_step(self) -> List[Round]:
+        """One round by the step itself."""
+        trips, number = self._trips, self.number + 1
+        now = self._state if trips is None else trips.matrices()
+        try:
+            got = results(self._step, now, number)
+            for matrix in got.values():
+                matrix.wait()
+            bodies = {name: _body(got[name]) for name in self._show}
+        except Refused as fault:
+            fault.round = number
+            raise
+        made = Round({name: matrix.nvals for name, matrix in got.items()}, bodies)
+        for name in self._show:
+            self.shown.setdefault(name, Shown(got[name].shape))
+        state = State((name, got[name]) for name in now)
+        if trips is None:
+            self._state, self._made, self._results = state, number, set(got)
+        else:
+            trips.restart(state, number)
+        return [made]
+
+    def _next_size(self, size: int, end: Optional[Until], took: float) -> int:
+        if end is None or end.rests:
+            return 2 * size if 2 * took < LONG else size
+        return 2 * size if 2 * took < QUICK else size if took < QUICK else max(1, size // 2)
+
+    def _note(self, first: int, rounds: List[Round]) -> None:
+        """Puts aside what was shown."""
+        for name in self._show:
+            for number, one in enumerate(rounds, first):
+                self.shown[name].add(number, one.counts[name], one.bodies[name])
+
+    def _counts(self) -> Counts:
+        return {name: matrix.nvals for name, matrix in self._state.items()} if self._trips is None else self._trips.place.counts
+
+    def _catch_up(self) -> None:
+        """Makes the rounds again that came before an end amid a trip."""
+        end, self._end = self._end, None
+        if end is not None:
+            assert self._trips is not None
+            show, self._show = self._show, []
+            try:
+                self.rounds(None, end - self._trips.place.number, lambda first, rounds: None)
+            finally:
+                self._show = show
+
+    def _resumed(self) -> int:
+        """The number of rounds that are made, whose state is there to go on from."""
+        self._catch_up()
+        return self.number
+
+    def _default(self) -> int:
+        shapes = [matrix.shape for matrix in self._state.values()] if self._trips is None else list(self._trips.shapes.values())
+        return int(max(max(shape) for shape in shapes)) + 1
+
+    def _check_names(self, names: Sequence[str]) -> None:
+        if self._trips is not None:
+            for name in names:
+                if name not in self._results:
+                    raise ValueError('until= looks at %r, which no step returns: it has %s' % (name, ', '.join(sorted(self._results))))
+
+
+def _first_met(end: Optional[Until], before: Counts, rounds: List[Round]) -> Optional[int]:
+    """The first of some rounds in which an end is met."""
+    if end is not None:
+        for at, one in enumerate(rounds):
+            if end.met(one.counts, before):
+                return at
+            before = one.counts
+    return None
+
+
+def _body(matrix: Any) -> Body:
+    text = matrix.to_text()
+    return Body(text, 0, len(text))
+
+
+def _checked(state: Mapping[str, Any]) -> State:
+    """The state as it begins. TypeError or ValueError where it is none."""
+    if not isinstance(state, Mapping) or not state:
+        raise TypeError('the state of a loop is its matrices by name, such as {"front": F}, not %r' % (state,))
+    for name, matrix in state.items():
+        if not hasattr(type(matrix), 'mxm') or isinstance(matrix, TracedMatrix):
+            raise TypeError('%r of the state is no matrix of a session, but %s' % (name, type(matrix).__name__))
+    sessions = {id(matrix.session) for matrix in state.values()}
+    if len(sessions) > 1:
+        raise ValueError('the matrices of a state are of one session, and here of %d' % len(sessions))
+    return State(state)
+
+
+def loop(step: Callable[..., Mapping[str, Any]], state: Mapping[str, Any], show: Sequence[str] = ()) -> Loop:
+    """A loop whose rounds stay at the server: `step(s, k)` makes of the matrices `s` (`s.front`, or `s["front"]`) in round k, from 1, the next
+    ones, which it returns by name. Names that it leaves out stay as they are. It may leave out k (a second parameter with a value by default
+    isn't k), and return more results than the state has, to show or count them.
+
+        NEXT = spmat.semiring("any", spmat.asm("binary", "mov64 r0, r1\\nadd64 r0, 1\\nexit"))      # the level, and one
+
+        def step(s, k):
+            new = s.front.mxm(G, NEXT).ewise_add(s.near, "zero").select("valueeq", k)
+            return {"front": new, "near": new.ewise_add(s.front, "any")}
+
+        search = spmat.loop(step, {"front": F, "near": F}, show=["front"])
+        search.run(until=spmat.empty("front"))
+        search.shown["front"].places, search.shown["front"].rounds     # which vertices were found, and in which round each
+
+    The step is called a few times with matrices that have no entries, to see which jobs it asks for: these are the same in each round, and
+    only a number may be a * k + b. So a step decides nothing by Python: what depends on data is select, masks, and 1x1 matrices, as
+    reduce_rowwise makes of a row. It has all methods of a matrix but those that read entries (`nvals`, `to_coo`, `T`, `reduce_scalar`).
+    Matrices from outside the step are constants.
+
+    `show` names results that are rows or columns; their entries come to the client in each round. Jobs are those that the step asks for; runs as
+    few as they need. In blocks, on a budget that may not do for a trip of rounds, and where something is refused, rounds are made one
+    by one. Raises TypeError where the step asks for entries (NotTraced), and ValueError where it asks for other jobs in another round.
+    A refusal is raised as without a loop, with `.round`; the state is that before this round. Ctrl-C leaves the loop as it is: `run` goes on.
+    Threads take turns between trips."""
+    return Loop(step, state, show)

@@ -1,0 +1,72 @@
+"""Products of a row with a graph, one trip each: the row goes there, and what it comes to comes back.
+
+Where the client decides what is next, such a step is all that the server does in a round. Its commands are made once, but for the row.
+"""
+from __future__ import annotations
+
+# a session and its matrices keep one another's books
+# pylint: disable=protected-access
+
+from typing import TYPE_CHECKING, Optional
+
+from .._client.connection import Ahead
+from ..io import matrix_text
+from ..io.matrix_text import Triples
+from ..matrix import Matrix
+from ..operators import Semiring
+from .command_templates import OwnNames
+from .round_results import Body, Entries, Shown
+
+if TYPE_CHECKING:
+    from ..session import Session
+
+FEW = 1024
+
+
+class Push:
+    """The product of a row with a graph, over a semiring."""
+
+    def __init__(self, graph: Matrix, ring: Semiring) -> None:
+        session = graph.session
+        self.session, self.graph = session, graph.wait()
+        self._names = OwnNames(session._names, graph.ncols)
+        self._row = self._names.free(set())
+        made = self._names.free({self._row})
+        ops = [session._upload(op).encode() for op in (ring.add, ring.mul)]
+        self._rest = b'product %s %s %s %s\nrun\nshow %s\nbudget\n' % (made, b' '.join(ops), self._row, graph._key.encode(), made)
+
+    def __call__(self, entries: Triples) -> Optional[Entries]:
+        """The row that the product is: places and values. None where the server refuses the job, whatever for."""
+        session = self.session
+        text = matrix_text.write(_listed(entries), ones=True)
+        ahead = Ahead(b'matrix %s %d\n%s\n%s' % (self._row, len(text), text, self._rest), 5)
+        with session._turn():
+            flush(session)
+            session.connection.post(ahead)
+            session._queue.runs += 1
+            session.jobs += 1
+            replies = session.connection.collect(ahead)
+            session._queue.note_budget(*map(int, replies.rsplit(None, 3)[-3:-1]))
+        at = replies.find(b'ok show ')
+        head = replies if at < 0 else replies[:at]
+        if at < 0 or head.startswith(b'no ') or b'\nno ' in head:
+            return None
+        shown = Shown((1, self.graph.ncols))
+        line = replies.index(b'\n', at) + 1
+        shown.add(1, 1, Body(replies, line, line + int(replies[at + 8:line])))
+        return shown.drain(rounds=False)
+
+
+def _listed(entries: Triples) -> Triples:
+    """Few entries as lists, which are written in less time than a table of numpy is made."""
+    if len(entries.rows) >= FEW or not matrix_text.is_array(entries.rows):
+        return entries
+    return Triples(entries.rows.tolist(), entries.columns.tolist(), entries.values.tolist(), entries.nrows, entries.ncols)
+
+
+def flush(session: 'Session') -> None:
+    """Sends and runs what waits in a session, so that no other run takes it for its own."""
+    if len(session._queue) or session._queue.running:
+        session.run()
+    if len(session._outbox):
+        session._exchange()

@@ -1,0 +1,132 @@
+"""Graphs of networkx in, and out again."""
+from __future__ import annotations
+
+# networkx calls these by the names of its own arguments, served or not
+# pylint: disable=unused-argument,protected-access
+
+from typing import Any, Dict, Iterator, List, Optional, Set, Tuple
+
+import networkx as nx
+
+from ..io import matrix_text
+from . import graph_arrays
+from .graph_arrays import Values
+from .spmat_graph import SpmatGraph
+
+WAITING = 'spmat: values that can_run read'
+SUMMED = frozenset(['pagerank'])                   # whose parallel edges weigh as much as all of them together
+LONGEST = frozenset(['dag_longest_path_length'])   # whose parallel edges are as long as the longest
+
+
+def fold_of(name: Optional[str]) -> str:
+    """How a function takes the weights of parallel edges together: the shortest is that of a path."""
+    return 'plus' if name in SUMMED else 'max' if name in LONGEST else 'min'
+
+
+def odd_graph(graph: Any) -> Optional[str]:
+    """Why a graph can't be read by its adjacency, in words; None where it can."""
+    if isinstance(graph, SpmatGraph):
+        return None
+    if not isinstance(graph, nx.Graph):
+        return 'no graph of networkx: %s' % type(graph).__name__
+    if type(graph).__getitem__ is not nx.Graph.__getitem__ or not hasattr(graph, '_adj'):
+        return 'a %s, whose neighbours are not those of its adjacency' % type(graph).__name__
+    return None
+
+
+def held(graph: Any) -> Optional[SpmatGraph]:
+    """The conversion of a graph that networkx keeps with it, whatever attributes it was for."""
+    if not nx.config.cache_converted_graphs:
+        return None
+    kept = (getattr(graph, '__networkx_cache__', None) or {}).get('backends', {}).get('spmat', {})
+    return next((found for found in list(kept.values()) if isinstance(found, SpmatGraph)), None)
+
+
+def _cache(graph: Any) -> Dict[Any, Any]:
+    """Where networkx keeps what was made of a graph until it is changed; a dict of one's own where it keeps nothing."""
+    kept: Optional[Dict[Any, Any]] = getattr(graph, '__networkx_cache__', None) if nx.config.cache_converted_graphs else None
+    return {} if kept is None else kept
+
+
+def read_values(graph: Any, attribute: Any, default: Any, fold: str) -> Values:
+    """The values of an edge attribute, for `can_run`; the conversion that follows takes them over. NotImplementedError where one
+    isn't whole."""
+    if isinstance(graph, SpmatGraph):
+        return graph.values(attribute, default, fold)
+    made = held(graph)
+    if made is not None and made.edge_data is not None:
+        return made.values(attribute, default, fold)
+    key = graph_arrays.key_of(attribute, default, fold if graph.is_multigraph() else None)
+    waiting: Dict[Any, Values] = _cache(graph).setdefault(WAITING, {})
+    if key not in waiting:
+        waiting[key] = graph_arrays.values(graph_arrays.edge_data(graph), *key)
+    return waiting[key]
+
+
+def convert_from_nx(graph: Any, *, edge_attrs: Optional[Dict[str, Any]] = None, node_attrs: Optional[Dict[str, Any]] = None,
+                    preserve_edge_attrs: bool = False, preserve_node_attrs: bool = False, preserve_graph_attrs: bool = False,
+                    name: Optional[str] = None, graph_name: Optional[str] = None) -> SpmatGraph:
+    """A networkx graph as a SpmatGraph: the one that networkx keeps with the graph, where it has one, with what is asked for
+    added to it. NotImplementedError, upon which networkx does the work itself, for weights that aren't whole."""
+    if isinstance(graph, SpmatGraph):
+        return graph
+    odd = odd_graph(graph)
+    if odd is not None:
+        raise NotImplementedError(odd)
+    made = held(graph) or SpmatGraph(graph)
+    made.take(_cache(graph).pop(WAITING, {}))
+    made.keep(graph, preserve_node_attrs or bool(node_attrs), preserve_edge_attrs or bool(edge_attrs), preserve_graph_attrs)
+    for attribute, default in (edge_attrs or {}).items():
+        made.values(attribute, default, fold_of(name))
+    return made
+
+
+def convert_to_nx(thing: Any, *, name: Optional[str] = None) -> Any:
+    """A SpmatGraph as a networkx graph with the attributes that were converted, as `G.copy()` gives it; anything else as it is."""
+    return copied(thing) if isinstance(thing, SpmatGraph) else thing
+
+
+def copied(G: SpmatGraph, keep: Optional[Set[Any]] = None, links: Optional[Tuple[List[int], List[int]]] = None) -> Any:
+    """A networkx graph of the nodes in `keep`, or all, and of the edges between them, or of those at the rows and columns in
+    `links`; with the attributes that were converted."""
+    graph = G.kind()
+    graph.graph.update(G.graph)
+    data = G.node_data
+    graph.add_nodes_from((node, dict(data[node]) if data else {}) for node in G if keep is None or node in keep)
+    flags = None if keep is None else [node in keep for node in G]
+    graph.add_edges_from(list(_edges(G, _chosen(G, flags, links))))
+    return graph
+
+
+def _chosen(G: SpmatGraph, flags: Optional[List[bool]], links: Optional[Tuple[List[int], List[int]]]) -> List[int]:
+    """The entries that become edges: of an undirected edge the one whose row is less."""
+    rows, columns, count = G.at.rows, G.at.columns, len(G)
+    if matrix_text.is_array(rows):
+        import numpy
+        chosen = numpy.ones(len(rows), bool) if G.is_directed() else rows <= columns
+        if flags is not None:
+            kept = numpy.array(flags, bool)
+            chosen &= kept[rows] & kept[columns]
+        if links is not None:
+            chosen &= numpy.isin(rows * count + columns, numpy.array(links[0], int) * count + numpy.array(links[1], int))
+        found: List[int] = numpy.flatnonzero(chosen).tolist()
+        return found
+    wanted = None if links is None else set(zip(*links))
+    return [at for at, (i, j) in enumerate(zip(rows, columns))
+            if (G.is_directed() or i <= j) and (flags is None or (flags[i] and flags[j])) and (wanted is None or (i, j) in wanted)]
+
+
+def _edges(G: SpmatGraph, chosen: List[int]) -> Iterator[Tuple[Any, ...]]:
+    """What `add_edges_from` takes for each of these entries."""
+    rows, columns = G.at.rows, G.at.columns
+    if matrix_text.is_array(rows):
+        rows, columns = rows.tolist(), columns.tolist()
+    nodes, data, many = G.nodes, G.edge_data, G.is_multigraph()
+    for at in chosen:
+        u, v = nodes[rows[at]], nodes[columns[at]]
+        if many:
+            keys = data[at] if data else dict.fromkeys(range(G.at.counts[at] if G.at.counts else 1), {})
+            for key, had in keys.items():
+                yield u, v, key, dict(had)
+        else:
+            yield u, v, dict(data[at]) if data else {}

@@ -1,0 +1,193 @@
+"""The entry point networkx.backends: the functions that are served, and what of them can and should be run."""
+from __future__ import annotations
+
+# _adj is what a networkx graph is, and its backends know one another by protected names
+# pylint: disable=protected-access,unused-argument
+
+import functools
+import inspect
+import threading
+from typing import Any, Callable, Dict, Mapping, NamedTuple, Optional, TypeVar, Union
+
+import networkx as nx
+
+from .. import errors
+from . import process_session
+from .backend_info import NEVER, SERVED
+from .convert import convert_from_nx, convert_to_nx, fold_of, held, odd_graph, read_values
+from .spmat_graph import BOUND, SpmatGraph
+from .weight_scaling import FRACTIONS
+
+MORE_STEPS = 'a greater nx.config.backends.spmat.steps opens another session, and 0 gives the most that there are'
+FALLS_BACK = (errors.TooLarge, errors.OutOfMemory, errors.NoThread)
+WEIGHTS = ('weight', 'distance')                   # names of arguments that name an edge attribute
+
+_handed = threading.local()                        # whether networkx hands this thread's call over by itself
+
+Arguments = Mapping[str, Any]
+Refusal = Callable[[Arguments], Optional[str]]
+Function = TypeVar('Function', bound=Callable[..., Any])
+
+
+class Terms(NamedTuple):
+    """What a function is served for: whether of directed graphs, undirected ones and multigraphs, whether with weights below 0,
+    and a reason against given arguments."""
+    directed: bool = True
+    undirected: bool = True
+    multigraph: bool = True
+    negative: bool = False
+    unless: Optional[Refusal] = None
+
+
+ANY = Terms()
+UNDIRECTED = Terms(directed=False)
+DIRECTED = Terms(undirected=False)
+SIMPLE = Terms(multigraph=False)
+SIMPLE_UNDIRECTED = Terms(directed=False, multigraph=False)
+SIGNED = Terms(negative=True)
+_terms: Dict[str, Terms] = {}
+
+
+class Backend:
+    """The object that networkx calls: a static method for each function that is served, and what it asks of a backend."""
+    Graph = SpmatGraph
+    convert_from_nx = staticmethod(convert_from_nx)
+    convert_to_nx = staticmethod(convert_to_nx)
+
+    @staticmethod
+    def can_run(name: str, args: Any, kwargs: Dict[str, Any]) -> Union[bool, str]:
+        """True, or why this call is left to networkx: arguments, kinds of graphs and weights for which the answer would differ."""
+        _handed.over = False
+        try:
+            bound = _signature(name).bind(*args, **kwargs)
+        except TypeError:
+            return True                            # networkx says it better
+        bound.apply_defaults()
+        return _reason(name, bound.arguments) or True
+
+    @staticmethod
+    def should_run(name: str, args: Any, kwargs: Dict[str, Any]) -> Union[bool, str]:
+        """True where the graph has so many edges that it pays, or is on the server, and a session can be had; else why not, in words.
+        networkx asks this only of calls that it hands over by itself."""
+        graph = args[0] if args else next(iter(kwargs.values()))
+        said = None if isinstance(graph, SpmatGraph) else _little(name, graph)
+        said = said or process_session.missing()
+        _handed.over = said is None
+        return said or True
+
+    @staticmethod
+    def on_start_tests(items: Any) -> None:
+        """networkx' tests ask for scipy.sparse.sparray, which scipy has from 1.11 on."""
+        import scipy.sparse
+        if not hasattr(scipy.sparse, 'sparray'):
+            scipy.sparse.sparray = scipy.sparse._arrays._sparray
+
+
+backend = Backend
+
+
+def serves(terms: Terms = ANY) -> Callable[[Function], Function]:
+    """Makes a function one of the backend's. What the server has no room for is NotImplementedError, upon which networkx does the
+    work itself; a budget that is used up is BudgetExceeded. Where there is no session it is NoSession, a RuntimeError, but for calls that
+    networkx hands over by itself: these it does."""
+    def register(function: Function) -> Function:
+        name = function.__name__
+
+        @functools.wraps(function)
+        def served(*args: Any, **kwargs: Any) -> Any:
+            def call() -> Any:
+                return function(*args, **kwargs)
+            try:
+                return _answer(name, call)
+            except process_session.NoSession as fault:
+                if not getattr(_handed, 'over', False):
+                    raise
+                process_session.warn(str(fault))
+                raise NotImplementedError('%s: %s' % (name, fault)) from fault
+        setattr(Backend, name, staticmethod(served))
+        _terms[name] = terms
+        return function
+    return register
+
+
+def _answer(name: str, call: Callable[[], Any]) -> Any:
+    """What a call gives. Where the program died before it, or in it, once more with another; NoSession where that one dies, too."""
+    for is_last in (False, True):
+        try:
+            return call()
+        except errors.BudgetExceeded as fault:
+            raise fault.by(MORE_STEPS) from None
+        except FALLS_BACK as fault:
+            raise NotImplementedError('%s: %s' % (name, fault)) from fault
+        except errors.Closed as fault:
+            if is_last:
+                raise process_session.NoSession('spmat has no session: %s' % fault) from fault
+    return None
+
+
+def _little(name: str, graph: Any) -> Optional[str]:
+    """Why it doesn't pay to hand a call over, in words; None where it does."""
+    least = process_session.setting('least_edges')
+    if least < 0:
+        least = SERVED[name].first if held(graph) is None else SERVED[name].again
+    if least == NEVER:
+        return 'networkx has it at hand, or ends early'
+    many = _edges(graph, least)
+    return None if many >= least else 'only %d edges' % many
+
+
+@functools.lru_cache(maxsize=None)
+def _signature(name: str) -> inspect.Signature:
+    return inspect.signature(nx.utils.backends._registered_algorithms[name].orig_func)     # pylint: disable=no-member
+
+
+def _edges(graph: Any, enough: int) -> int:
+    """The number of a graph's edges; of a large graph no more than that they are enough."""
+    if not hasattr(graph, '_adj'):
+        return int(graph.number_of_edges())
+    ends = 0
+    for near in graph._adj.values():
+        ends += len(near)
+        if ends >= 2 * enough:
+            break
+    return ends if graph.is_directed() else ends // 2
+
+
+def _reason(name: str, arguments: Arguments) -> Optional[str]:
+    """Why a call is left to networkx, in words; None where it is not."""
+    terms, graph = _terms[name], next(iter(arguments.values()))
+    odd = odd_graph(graph)
+    if odd:
+        return odd
+    if not (terms.directed if graph.is_directed() else terms.undirected):
+        return 'not of %s graphs' % ('directed' if graph.is_directed() else 'undirected')
+    if graph.is_multigraph() and not terms.multigraph:
+        return 'not of multigraphs'
+    said = terms.unless(arguments) if terms.unless else None
+    if said:
+        return said
+    for key in WEIGHTS:
+        if key in arguments and arguments[key] is not None:
+            said = _weights(name, graph, arguments, key, terms.negative)
+            if said:
+                return said
+    return None
+
+
+def _weights(name: str, graph: Any, arguments: Arguments, key: str, negative: bool) -> Optional[str]:
+    """Why the values of an edge attribute don't do, in words."""
+    attribute = arguments[key]
+    if callable(attribute):
+        return '%s is a function, and not the name of an edge attribute' % key
+    default = arguments.get('default_weight', 1)
+    try:
+        found = read_values(graph, attribute, default, fold_of(name))
+    except NotImplementedError as fault:
+        return str(fault)
+    if found.unit not in (None, 1) and name not in FRACTIONS:
+        return 'the edge attribute %r has values that are not whole' % attribute
+    if not negative and found.least < 0:
+        return 'the edge attribute %r has values below 0' % attribute
+    if max(found.most, -found.least) * (len(graph) + 1) >= BOUND:
+        return 'the edge attribute %r: lengths of paths beyond 64 bits' % attribute
+    return None

@@ -1,0 +1,272 @@
+"""Lengths of paths from one node or some: by edges, and by weights."""
+from __future__ import annotations
+
+# networkx calls these by the names of its own arguments, served or not
+# pylint: disable=missing-function-docstring,unused-argument
+
+import bisect
+import math
+from typing import Any, Dict, Iterable, Iterator, List, Mapping, Optional, Sequence, Set
+
+import networkx as nx
+from networkx import NetworkXNoPath, NodeNotFound
+
+from .. import algorithms
+from ..algorithms.utils import loops, settle
+from ..errors import NotSettled
+from ..io import matrix_text
+from ..matrix import Matrix
+from .components import labels
+from .convert import copied
+from .degree import need_node
+from .registry import SIGNED, Terms, UNDIRECTED, serves
+from .spmat_graph import SpmatGraph
+from .weight_scaling import limit, told
+
+NEGATIVE = 'Negative cycle detected.'
+Lengths = Dict[Any, Any]
+
+
+def need(G: SpmatGraph, node: Any, said: str = 'Node %s not found in graph') -> None:
+    if node not in G:
+        raise NodeNotFound(said % (node,))
+
+
+def nearest_first(G: SpmatGraph, column: Matrix) -> Lengths:
+    """A column as {node: value} by ascending values."""
+    if column.nvals > matrix_text.FEW // 16 and matrix_text.find_numpy() is not None:
+        rows, _, values = column.to_coo(arrays=True)
+        order = values.argsort(kind='stable')
+        return dict(zip(map(G.nodes.__getitem__, rows[order].tolist()), values[order].tolist()))
+    rows, _, values = column.to_coo(arrays=False)
+    places = sorted(range(len(rows)), key=values.__getitem__)
+    return {G.nodes[rows[at]]: values[at] for at in places}
+
+
+def _depth(cutoff: Any) -> Optional[int]:
+    return None if cutoff is None or math.isinf(cutoff) else max(0, math.ceil(cutoff))
+
+
+def level_column(G: SpmatGraph, sources: Sequence[Any], cutoff: Any = None, back: bool = False, target: Any = None) -> Matrix:
+    """How many edges lead to each node from the nearest of some, or from it where `back` is set, as far as the cutoff, or until the
+    target's is known."""
+    at = [G.index[source] for source in sources]
+    until = None if target is None else G.index[target]
+    return algorithms.bfs_levels(G.AT if back else G.A, at, G.both, depth=_depth(cutoff), target=until, check=False)
+
+
+def levels(G: SpmatGraph, sources: Sequence[Any], cutoff: Any = None, back: bool = False) -> Lengths:
+    return nearest_first(G, level_column(G, sources, cutoff, back))
+
+
+def check_weights(G: SpmatGraph, weight: Any, signed: bool) -> None:
+    """NotImplementedError for weights below 0, of which networkx says what it likes, unless these are meant."""
+    if weight is not None and not signed and G.values(weight).least < 0:
+        raise NotImplementedError('weights below 0, of which networkx says what it likes')
+
+
+def length_to(G: SpmatGraph, source: Any, target: Any, weight: Any, signed: bool = False) -> Optional[Any]:
+    """The length of the shortest path between two nodes, None where no path leads."""
+    check_weights(G, weight, signed)
+    column = level_column(G, [source], target=target) if weight is None else shortest(G, [source], weight, False, target)
+    rows, _, values = column.to_coo(arrays=False)
+    at, place = G.index[target], bisect.bisect_left(rows, G.index[target])
+    if place == len(rows) or rows[place] != at:
+        return None
+    return values[place] if weight is None else told(values[place], G.values(weight).unit)
+
+
+def lengths(G: SpmatGraph, sources: Sequence[Any], weight: Any, back: bool = False, signed: bool = False,
+            cutoff: Any = None) -> Lengths:
+    """{node: the length of the shortest path} from some nodes, nearest first. NetworkXUnbounded for a negative cycle."""
+    if weight is None:
+        whole = cutoff if cutoff is None or math.isinf(cutoff) else math.floor(cutoff)
+        return levels(G, sources, whole, back)
+    check_weights(G, weight, signed)
+    values = G.values(weight)
+    found = nearest_first(G, shortest(G, sources, weight, back))
+    if cutoff is not None:
+        most = limit(cutoff, values.unit)
+        found = {node: far for node, far in found.items() if far <= most or node in sources}
+    return divided(found, values.unit)
+
+
+def divided(found: Lengths, unit: Optional[int]) -> Lengths:
+    """Lengths in whole units as networkx has them."""
+    return found if unit is None else {node: length / unit for node, length in found.items()}
+
+
+def shortest(G: SpmatGraph, sources: Sequence[Any], weight: Any, back: bool, target: Any = None) -> Matrix:
+    """The lengths of the shortest paths from some nodes, as a column. NetworkXUnbounded for a cycle of negative length."""
+    try:
+        if len(sources) == 1:
+            until = None if target is None else G.index[target]
+            W = G.matrix(weight, back=back)
+            return algorithms.sssp(W, G.index[sources[0]], None if G.is_directed() else W, target=until)
+        near = G.matrix(weight, back=not back).ewise_add(loops(G.A, 0), 'min')
+        return settle(lambda far: near.mxv(far, 'min_plus'), G.spots(sources, 0), most=len(G))
+    except (NotSettled, ValueError):
+        raise nx.NetworkXUnbounded(NEGATIVE) from None
+
+
+# -- by edges
+
+@serves()
+def single_source_shortest_path_length(G: SpmatGraph, source: Any, cutoff: Any = None) -> Lengths:
+    need(G, source, 'Source %s is not in G')
+    return levels(G, [source], cutoff)
+
+
+@serves()
+def single_target_shortest_path_length(G: SpmatGraph, target: Any, cutoff: Any = None) -> Lengths:
+    need(G, target, 'Target %s is not in G')
+    return levels(G, [target], cutoff, back=True)
+
+
+def _others(G: SpmatGraph, source: Any, back: bool) -> Set[Any]:
+    need_node(G, source)
+    rows = level_column(G, [source], back=back).to_coo(arrays=False)[0]
+    found = set(map(G.nodes.__getitem__, rows))
+    found.discard(source)
+    return found
+
+
+@serves()
+def descendants(G: SpmatGraph, source: Any) -> Set[Any]:
+    return _others(G, source, False)
+
+
+@serves()
+def ancestors(G: SpmatGraph, source: Any) -> Set[Any]:
+    return _others(G, source, True)
+
+
+@serves()
+def bfs_layers(G: SpmatGraph, sources: Any) -> Iterator[List[Any]]:
+    sources = [sources] if sources in G else list(sources)
+    for source in sources:
+        need_node(G, source)
+    layers: Dict[int, List[Any]] = {}
+    for node, level in (levels(G, sources) if sources else {}).items():
+        layers.setdefault(level, []).append(node)
+    return iter(list(layers.values()))
+
+
+@serves()
+def descendants_at_distance(G: SpmatGraph, source: Any, distance: int) -> Set[Any]:
+    need_node(G, source)
+    if distance < 0 or distance != int(distance):
+        return set()
+    found = level_column(G, [source], distance).select('valueeq', int(distance))
+    return set(G.by_node(found))
+
+
+def _both_ways(arguments: Mapping[str, Any]) -> Optional[str]:
+    if arguments['undirected'] and arguments['distance'] is not None and arguments['G'].is_directed():
+        return 'weights of a directed graph that is taken as undirected'
+    return None
+
+
+@serves(Terms(unless=_both_ways))
+def ego_graph(G: SpmatGraph, n: Any, radius: Any = 1, center: bool = True, undirected: bool = False, distance: Any = None) -> Any:
+    if distance is not None:
+        need(G, n)
+        near: Iterable[Any] = lengths(G, [n], distance, cutoff=radius)
+    else:
+        need(G, n, 'Source %s is not in G')
+        both = undirected and G.is_directed()
+        found = algorithms.bfs_levels(G.around, G.index[n], depth=_depth(radius), check=False) if both else level_column(G, [n], radius)
+        near = G.by_node(found)
+    part = copied(G, set(near))
+    if not center:
+        part.remove_node(n)
+    return part
+
+
+@serves()
+def has_path(G: SpmatGraph, source: Any, target: Any) -> bool:
+    for node in (source, target):
+        need(G, node, 'Node %s is not in G')
+    if not G.is_directed():
+        return labels(G)[G.index[source]] == labels(G)[G.index[target]]
+    return length_to(G, source, target, None) is not None
+
+
+@serves(UNDIRECTED)
+def efficiency(G: SpmatGraph, u: Any, v: Any) -> float:
+    for node in (u, v):
+        need(G, node, 'Node %s is not in G')
+    far: Optional[int] = length_to(G, u, v, None)
+    return 0 if far is None else 1 / far
+
+
+# -- by weights
+
+@serves()
+def single_source_dijkstra_path_length(G: SpmatGraph, source: Any, cutoff: Any = None, weight: Any = 'weight') -> Lengths:
+    need(G, source)
+    return lengths(G, [source], weight, cutoff=cutoff)
+
+
+@serves()
+def multi_source_dijkstra_path_length(G: SpmatGraph, sources: Any, cutoff: Any = None, weight: Any = 'weight') -> Lengths:
+    if not sources:
+        raise ValueError('sources must not be empty')
+    for source in sources:
+        need(G, source)
+    return lengths(G, list(sources), weight, cutoff=cutoff)
+
+
+@serves(SIGNED)
+def single_source_bellman_ford_path_length(G: SpmatGraph, source: Any, weight: Any = 'weight') -> Lengths:
+    need(G, source, 'Source %s not in G')
+    return lengths(G, [source], weight, signed=True)
+
+
+@serves()
+def dijkstra_path_length(G: SpmatGraph, source: Any, target: Any, weight: Any = 'weight') -> Any:
+    need(G, source)
+    if source == target:
+        return 0
+    far = length_to(G, source, target, weight) if target in G else None
+    if far is None:
+        raise NetworkXNoPath('Node %s not reachable from %s' % (target, source))
+    return far
+
+
+@serves(SIGNED)
+def bellman_ford_path_length(G: SpmatGraph, source: Any, target: Any, weight: Any = 'weight') -> Any:
+    need(G, source, 'Source %s not in G')
+    if source == target:
+        return 0
+    far = length_to(G, source, target, weight, signed=True) if target in G else None
+    if far is None:
+        raise NetworkXNoPath('node %s not reachable from %s' % (target, source))
+    return far
+
+
+@serves(SIGNED)
+def negative_edge_cycle(G: SpmatGraph, weight: Any = 'weight', heuristic: bool = True) -> bool:
+    if not G.entries or weight is None or G.values(weight).least >= 0:
+        return False
+    near = G.matrix(weight, back=True).ewise_add(loops(G.A, 0), 'min')
+    try:
+        settle(lambda far: near.mxv(far, 'min_plus'), G.full(0), most=len(G))
+    except NotSettled:
+        return True
+    return False
+
+
+def check_method(method: str) -> None:
+    if method not in ('dijkstra', 'bellman-ford'):
+        raise ValueError('method not supported: %s' % method)
+
+
+def from_one(G: SpmatGraph, source: Any, target: Any, weight: Any, signed: bool) -> Any:
+    """`shortest_path_length` where a source or a target is given."""
+    if source is None or target is None:
+        return lengths(G, [target if source is None else source], weight, source is None, signed)
+    far = length_to(G, source, target, weight, signed)
+    if far is None:
+        raise NetworkXNoPath('No path between %s and %s.' % (source, target))
+    return far

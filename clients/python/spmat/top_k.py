@@ -1,0 +1,56 @@
+"""The greatest entries of a matrix, found by the session: a threshold is bisected, and few entries come to the client."""
+from __future__ import annotations
+
+from typing import TYPE_CHECKING, Tuple
+
+if TYPE_CHECKING:
+    from .algorithms.protocols import M
+
+FEW = 1 << 14                                      # entries that come to the client sooner than they are counted
+SPARE = 4                                          # times as many as are asked for are few enough
+
+
+def greatest(matrix: M, k: int) -> M:
+    """The k greatest entries, of equals the first, and some others: all entries from a threshold on. This matrix where it has few entries.
+
+    Runs: 4, and 1 for each halving of what lies between the least and the greatest value; of entries of one value 1 for each halving of the
+    rows or columns. Steps: 8 an entry and 4 a row for the ends, and 3 an entry from the last threshold on for each halving."""
+    enough = max(FEW, SPARE * k)
+    if k < 1 or matrix.nvals <= enough:
+        return matrix
+    least, most = matrix.reduce_scalar('min') or 0, matrix.reduce_scalar('max') or 0
+    above = matrix                                 # all entries from `least` on: more than enough
+    while least < most:
+        middle = least + (most - least + 1) // 2
+        found = above.select('valuege', middle)
+        if found.nvals > enough:
+            above, least = found, middle
+        elif found.nvals >= k:
+            return found
+        else:
+            most = middle - 1
+    more = above.select('valuegt', least)
+    return more.ewise_add(first_entries(above.select('valueeq', least), k - more.nvals), 'first')
+
+
+def first_entries(matrix: M, k: int) -> M:
+    """The first k entries by row and column, and some others."""
+    rows = _bisected(matrix, k, matrix.nrows, ('rowle', 'rowgt'))
+    if rows[0].nvals <= max(FEW, SPARE * k):
+        return rows[0]
+    before = rows[0].select('rowle', rows[1] - 1)
+    last = rows[0].select('rowgt', rows[1] - 1)
+    return before.ewise_add(_bisected(last, k - before.nvals, matrix.ncols, ('colle', 'colgt'))[0], 'first')
+
+
+def _bisected(matrix: M, k: int, count: int, names: Tuple[str, str]) -> Tuple[M, int]:
+    """The entries up to the first row, or column, by which there are k of them or more; and that row."""
+    low, high, found = 0, count - 1, matrix
+    while low < high:
+        middle = (low + high) // 2
+        part = found.select(names[0], middle)
+        if part.nvals >= k:
+            found, high = part, middle
+        else:
+            low = middle + 1
+    return found, high
