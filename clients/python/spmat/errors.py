@@ -148,9 +148,9 @@ class Refused(SpmatError):
         self.text_line: Optional[int] = None
         key = rule if rule in SENTENCES and not (self.numbers and rule + ' SPENT' in SENTENCES) else rule + ' SPENT'
         self.sentence = SENTENCES.get(key, 'a refusal that this client does not know')
-        super().__init__(self._message())
+        super().__init__(self.message())
 
-    def _message(self) -> str:
+    def message(self) -> str:
         text = '%s: %s' % (self.rule, self.said or self.sentence)
         if self.rule in ('memory', 'thread') and self.numbers:
             text = text.replace('so many steps', '%d steps' % self.numbers[0])
@@ -175,7 +175,7 @@ class Refused(SpmatError):
     def _told(self, detail: str, file: str, said: str, text_line: Optional[int]) -> 'Refused':
         out = type(self)(self.rule, self.numbers, self.command, self.line, detail)
         out.file, out.said, out.text_line = file, said, text_line
-        out.args = (out._message(),)               # pylint: disable=protected-access  # of the same class
+        out.args = (out.message(),)
         return out
 
     def hinting(self, rule: str, hint: str) -> 'Refused':
@@ -259,14 +259,14 @@ class BudgetExceeded(Refused):
         out = type(self)(self.rule, self.numbers, self.command, self.line, '%s needs at least %s steps, and %s are left; none of its jobs was '
                          'sent: %s' % (name, format(self.needed, ','), format(self.left, ','), MORE_STEPS))
         out.algorithm, out.said = name, 'fewer steps are left than the call needs'
-        out.args = (out._message(),)               # pylint: disable=protected-access  # of the same class
+        out.args = (out.message(),)
         return out
 
     def by(self, way: str) -> 'BudgetExceeded':
         """This refusal, with another way to more steps."""
         out = type(self)(self.rule, self.numbers, self.command, self.line, self.detail.replace(MORE_STEPS, way))
         out.algorithm, out.said = self.algorithm, self.said
-        out.args = (out._message(),)               # pylint: disable=protected-access  # of the same class
+        out.args = (out.message(),)
         return out
 
     @property

@@ -5,8 +5,6 @@ runs. A product that is too large is made by halves of the rows of its left oper
 """
 from __future__ import annotations
 
-# pylint: disable=protected-access  # a session and its matrices keep one another's books
-
 import contextlib
 from typing import TYPE_CHECKING, Callable, List, Optional, Sequence
 
@@ -51,7 +49,7 @@ def _words(rule: str, form: str, ops: Sequence[Operator], operands: Sequence['Ma
         what = 'multiplications' if form == 'product' else 'entries of both together'
         number = '' if calls is None else '%s %s, and ' % (format(calls, ','), what)
         return '%s%s is the most of a job%s: %s' % (number, format(MOST_TERMS, ','), '' if number else ' (%s)' % what, way)
-    length = sum(operands[0].session._length_of(op) for op in ops)
+    length = sum(operands[0].session.backend.length_of(op) for op in ops)
     reckoned = '' if calls is None else 'up to %s calls of %d instructions, which are %s steps, and ' % (
         format(calls, ','), length, format(calls * length, ','))
     return '%s%s is the most of a job: a shorter operator is cheaper, and %s' % (reckoned, format(MOST_PRICE, ','), way)

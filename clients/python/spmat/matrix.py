@@ -1,21 +1,21 @@
 """Matrices of a session: jobs on them, and masks. `io.exporters` has what they hold, `indexing` what stands in brackets."""
 from __future__ import annotations
 
-# a matrix asks others of its class for what callers need not see
-# pylint: disable=protected-access,invalid-unary-operand-type
+# pylint: disable=invalid-unary-operand-type
 
 import weakref
 from typing import TYPE_CHECKING, Any, Dict, NamedTuple, Optional, Sequence, Tuple, Union
 
 from . import job_limits, metadata
 from .display import html
-from .errors import NotMade, TooLarge, refusal
+from .errors import TooLarge, refusal
 from .indexing import Signs, picked
 from .io import coo, matrix_text
 from .mask import Mask, as_mask
 from .operators import Op as Op, Operator, READY, Semiring, binary, find, find_semiring, indexunary, unary
 
 if TYPE_CHECKING:
+    from ._client.handles import Handle
     from .session import Session
 
 Ring = Union[str, Semiring, Tuple[Op, Op]]
@@ -36,25 +36,22 @@ class Matrix(Signs):
     Refusals are raised where the method is called: DimensionMismatch (J5, J9), DomainMismatch (J4), OperatorRefused,
     BudgetExceeded, TooLarge (J7, J8), OutOfMemory. Wrong shapes and kinds are found here, before anything is sent."""
 
-    def __init__(self, session: 'Session', key: str, nrows: int, ncols: int, nvals: Optional[int], name: Optional[str] = None,
-                 price: Optional[int] = None) -> None:
-        self.session, self._key, self.name = session, key, name or key
-        self.nrows, self.ncols, self._price = nrows, ncols, price
-        self._most = matrix_text.MOST_SIDE if nvals is None else nvals       # entries, at most
-        self.steps: Optional[int] = None
+    def __init__(self, session: 'Session', handle: 'Handle', shape: Tuple[int, int], name: Optional[str] = None) -> None:
+        self.session, self.handle = session, handle
+        self.nrows, self.ncols = shape
         self.notes = metadata.NOTHING
-        self._nvals = nvals
-        self._lost: Optional[BaseException] = None
-        self._transposed: Optional['weakref.ref[Matrix]'] = None
-        self.kept: Dict[str, Any] = {}                     # what algorithms found out about it
+        self.kept: Dict[str, Any] = {}             # what algorithms found out about it
+        key = handle.known_key
+        self.name = name or key
         if key:
-            session._hold(self)
+            session.backend.hold(self, key)
 
     def __reduce__(self) -> Any:
         raise TypeError('a matrix belongs to its session, and can not be pickled: pickle to_text() or to_coo()')
 
     def __repr__(self) -> str:
-        state = 'never made' if self._lost is not None else 'queued: .wait() runs it' if self._nvals is None else '%d entries' % self._nvals
+        known = self.handle
+        state = 'never made' if known.lost is not None else 'queued: .wait() runs it' if known.waits else '%d entries' % (known.nvals or 0)
         source = '; ' + self.notes.source if self.notes.source else ''
         return '<Matrix %s %dx%d, %s%s>' % (self.name, self.nrows, self.ncols, state, source)
 
@@ -69,19 +66,19 @@ class Matrix(Signs):
     @property
     def waits(self) -> bool:
         """Whether this is the result of a job that hasn't run."""
-        return self._nvals is None and self._lost is None
+        return self.handle.waits
 
     @property
     def nvals(self) -> int:
         """The number of entries. Runs the queue where this matrix waits; nothing is sent otherwise."""
         self.wait()
-        assert self._nvals is not None
-        return self._nvals
+        assert self.handle.nvals is not None
+        return self.handle.nvals
 
     def wait(self) -> 'Matrix':
         """This matrix, once it is there: runs the queue where it waits. In python-graphblas `wait`, and `new` of an expression."""
         self._check_usable()
-        if self.waits:
+        if self.handle.waits:
             self.session.run()
             self._check_usable()
         return self
@@ -90,32 +87,19 @@ class Matrix(Signs):
 
     def _check_usable(self) -> None:
         """Raises Closed where the session has ended, and NotMade where the run of this matrix was refused."""
-        self.session.connection.check_open()
-        self._check_made()
-
-    def _check_made(self) -> None:
-        """Raises NotMade where the run of this matrix was refused."""
-        if self._lost is not None:
-            raise NotMade('this matrix was never made: its run was refused (%s)' % self._lost) from self._lost
-
-    def _settle(self, nvals: int, steps: int) -> None:
-        """The session's word that the job ran."""
-        self._nvals, self._most, self.steps = nvals, nvals, steps
-
-    def _priced(self, price: int) -> None:
-        """The session's word of the most steps that the job can take."""
-        self._price = price
+        self.session.backend.check_usable(self.handle)
 
     @property
     def price(self) -> Optional[int]:
         """Of a job's result the most steps that the job could take; None of another matrix. A job that waits to be sent is sent."""
-        if self._price is None and self.waits:
-            self.session._flush()
-        return self._price
+        if self.handle.price is None and self.handle.waits:
+            self.session.backend.flush()
+        return self.handle.price
 
-    def _lose(self, cause: BaseException) -> None:
-        """The session's word that the run was refused."""
-        self._lost = cause
+    @property
+    def steps(self) -> Optional[int]:
+        """Of a job's result the steps that the job took; None until it ran, and of another matrix."""
+        return self.handle.steps
 
     @property
     def S(self) -> Mask:
@@ -210,15 +194,11 @@ class Matrix(Signs):
         where = as_mask(mask)
         if where is not None:
             _check_mask(where, job.shape)
-        cut = where.matrix._structure(where.value) if where is not None and not where.complement else None
+        cut = structure(where) if where is not None and not where.complement else None
         inner = None if where is not None and where.complement else name
-        made = self.session._submit(job.form, job.ops, job.operands, job.shape, job.thunk, cut, inner)
+        made = self.session.backend.submit(job.form, job.ops, job.operands, job.shape, job.thunk, cut, inner)
         made.notes = job.told if cut is None else metadata.masked(job.told, cut.notes)
         return made.without(~where, name=name) if where is not None and where.complement else made
-
-    def _structure(self, value: bool) -> 'Matrix':
-        """A matrix whose structure is this mask's."""
-        return self.select(indexunary.nonzero) if value else self
 
     def _check_shape(self, form: str, other: 'Matrix', shape: Tuple[int, Optional[int]]) -> None:
         if not isinstance(other, Matrix):
@@ -252,14 +232,14 @@ class Matrix(Signs):
     def T(self) -> 'Matrix':
         """The transpose. No job: the text comes to the client and goes back, so it runs the queue where this matrix waits, and
         costs as much as reading and writing it. While the transpose is held, asking again costs nothing."""
-        held = self._transposed() if self._transposed is not None else None
+        held: Optional['Matrix'] = self.handle.transposed() if self.handle.transposed is not None else None
         if held is None:
             from .pricing import estimates, lower_bounds  # which want matrices
             if estimates.stays_here():
                 return lower_bounds.turned(self)
             held = self.session.from_text(matrix_text.swapped(self.to_text()))
             held.notes = metadata.turned(self.notes)
-            held._transposed, self._transposed = weakref.ref(self), weakref.ref(held)
+            held.handle.transposed, self.handle.transposed = weakref.ref(self), weakref.ref(held)
         return held
 
     def diag(self) -> 'Matrix':
@@ -290,7 +270,7 @@ class Matrix(Signs):
         if where.complement:
             return self.dup(mask=~where, name=name)
         _check_mask(where, self.shape)
-        other = where.matrix._structure(where.value)
+        other = structure(where)
         if self.waits or other.waits:
             self.session.run()
         here, there = self.apply(unary.one), other.apply(unary.zero)
@@ -310,7 +290,7 @@ class Matrix(Signs):
         inside = other if accum is None else self.ewise_add(other, accum)
         if where is None:
             return inside if accum is not None else other.dup(name=name)
-        where = Mask(where.matrix._structure(where.value), complement=where.complement)
+        where = Mask(structure(where), complement=where.complement)
         if replace:
             return inside.dup(mask=where, name=name)
         outside = self.without(where)
@@ -329,7 +309,13 @@ class Matrix(Signs):
     def to_text(self) -> bytes:
         """The canonical Matrix Market text: coordinate integer general, entries by ascending row and column. Runs the queue where
         this matrix waits, as all else does that tells what it holds."""
-        return self.session._text_of(self)
+        return self.session.backend.read(self)
+
+
+def structure(mask: Mask) -> Matrix:
+    """A matrix whose structure is this mask's, whether it is complemented or not."""
+    matrix: Matrix = mask.matrix
+    return matrix.select(indexunary.nonzero) if mask.value else matrix
 
 
 class _Job(NamedTuple):

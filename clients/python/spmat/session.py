@@ -1,18 +1,15 @@
 """Sessions: matrices in, jobs, the queue, the budget."""
 from __future__ import annotations
 
-# pylint: disable=protected-access  # a session and its matrices keep one another's books
+from typing import TYPE_CHECKING, Any, Dict, List, Optional, Tuple, Type, Union
 
-import itertools
-import re
-from typing import TYPE_CHECKING, Any, Callable, Dict, List, NamedTuple, Optional, Sequence, Tuple, Union
-
-from ._client.connection import Address, Connection, MOST_STEPS, Progress, Reply, Sent, Turn
+from ._client.backend import Backend
+from ._client.connection import Connection, MOST_STEPS, Progress
 from ._client.deferred_upload import Kept
-from ._client.handles import Names
-from ._client.job_queue import (Budget as Budget, Job, JobResult as JobResult, Most, QUEUE, Queue, Run, most_of)  # pylint: disable=unused-import
-from ._client.pipeline import Later, Outbox
+from ._client.handles import Handle
+from ._client.job_queue import Budget as Budget, JobResult as JobResult, Run  # pylint: disable=unused-import
 from ._client.server_program import Program
+from ._client.transport import Address
 from .errors import OperatorRefused, Refused, TextRefused, refusal
 from .io import coo, matrix_market, matrix_text
 from .io.graph_files import Layout, Request, name_of
@@ -25,16 +22,9 @@ from .pricing import estimates
 if TYPE_CHECKING:
     import ssl
 
-MOST_OPERATOR = 262_144                            # bytes of an operator's body
 KEPT_ONES = 4                                      # rows of ones that a session keeps, of one length each
 CODE_RULES = ('V1', 'V2', 'V3', 'V4', 'V5', 'V6')   # of code that stands for no program
 LONG = 1 << 20                                     # longer ones are not kept
-
-
-class Uploaded(NamedTuple):
-    """An operator that the server has: its name there, and its instructions."""
-    name: str
-    instructions: int
 
 
 class Session(Sources[Matrix]):
@@ -54,6 +44,8 @@ class Session(Sources[Matrix]):
 
     `runs`, `jobs` and `connection.commands` count what was sent."""
 
+    _backend_type: Type[Backend] = Backend
+
     def __init__(self, steps: float = MOST_STEPS, workers: int = 1, program: Optional[Program] = None,
                  progress: Optional[Progress] = None) -> None:
         self._begin(Connection.to_child(steps, workers, program, progress), shared=False)
@@ -68,17 +60,12 @@ class Session(Sources[Matrix]):
         where the server has as many sessions as it serves. `timeout` in seconds; where it passes amid a command the session is
         closed."""
         session = cls.__new__(cls)
-        session._begin(Connection.to_server(Address(host, port, tls), timeout, progress), shared=True)
+        Session._begin(session, Connection.to_server(Address(host, port, tls), timeout, progress), shared=True)
         return session
 
     def _begin(self, connection: Connection, shared: bool) -> None:
         self.connection = connection
-        self.jobs = 0
-        self._turns = Turn(connection)
-        self._names = Names()
-        self._outbox = Outbox(connection)
-        self._queue = Queue(self._outbox, self._names, shared)
-        self._operators: Dict[Operator, Uploaded] = {}
+        self.backend = self._backend_type(self, connection, shared)
         self._ones: Dict[int, Matrix] = {}
         self.budget()                              # says at once where there is no session
 
@@ -92,12 +79,17 @@ class Session(Sources[Matrix]):
         raise TypeError('a session belongs to the process that opened it, and can not be pickled')
 
     def __repr__(self) -> str:
-        return '<Session, %s>' % ('%d jobs wait' % len(self._queue) if self.connection.ended is None else 'ended')
+        return '<Session, %s>' % ('%d jobs wait' % len(self.backend.queue) if self.connection.ended is None else 'ended')
 
     @property
     def runs(self) -> int:
         """How many runs were asked for."""
-        return self._queue.runs
+        return self.backend.queue.runs
+
+    @property
+    def jobs(self) -> int:
+        """How many jobs were asked for."""
+        return self.backend.jobs
 
     def close(self) -> None:
         """Ends the session. Its matrices are gone; jobs that wait are not run."""
@@ -105,43 +97,10 @@ class Session(Sources[Matrix]):
 
     def budget(self) -> Budget:
         """What the budget holds. No run."""
-        with self._turn():
-            told = Budget(*map(int, self._command('budget').words[1:4]))
-            self._queue.note_budget(told.left, told.reserved)
+        with self.backend.turn():
+            told = Budget(*map(int, self.backend.command('budget').words[1:4]))
+            self.backend.queue.note_budget(told.left, told.reserved)
             return told
-
-    # -- one command
-
-    def _turn(self) -> Turn:
-        """One thread at a time, and no Ctrl-C amid."""
-        return self._turns
-
-    def _sweep(self) -> None:
-        """Overwrites large matrices that nobody holds, as no command forgets one."""
-        if self._names.dropped:
-            for name in self._names.settle(self._queue.names()):
-                self._outbox.put(Later(Sent('matrix ' + name, matrix_text.EMPTY), lambda _: None, lambda _: None, matters=False))
-
-    def _command(self, line: str, body: Optional[bytes] = None, near: Any = None) -> Reply:
-        self._sweep()
-        reply = self._exchange(Sent(line, body, near))
-        assert reply is not None
-        return reply
-
-    def _exchange(self, last: Optional[Sent] = None, late: Optional[Callable[[Reply], object]] = None) -> Optional[Reply]:
-        """Sends what waits to be sent, and one command more, whose reply `late` gets where Ctrl-C comes before it."""
-        many = self._queue.running
-        if many:
-            self.connection.tell('jobs', 0, many)
-        reply = self._outbox.exchange(last, late)
-        if many:
-            self.connection.tell('jobs', many, many)
-        return reply
-
-    def _flush(self) -> None:
-        """Sends the jobs that wait to be sent, so that their prices are known. No run but those that stand behind them."""
-        with self._turn():
-            self._exchange()
 
     # -- matrices in
 
@@ -152,32 +111,23 @@ class Session(Sources[Matrix]):
         text = text.encode() if isinstance(text, str) else bytes(text)
         if len(text) > matrix_text.MOST_TEXT:
             raise refusal('S7', detail='the text has %d bytes' % len(text))
-        with self._turn():
-            self._sweep()
-            key = self._names.take(name)
+        backend = self.backend
+        with backend.turn():
+            backend.sweep()
+            key = backend.names.take(name)
             try:
-                reply = self._command('matrix ' + key, text, lambda rule, at: matrix_text.line_at(text, at))
+                reply = backend.command('matrix ' + key, text, lambda rule, at: matrix_text.line_at(text, at))
             except BaseException:
-                self._names.give_back(key)
+                backend.names.give_back(key)
                 raise
             nrows, ncols, nvals = map(int, reply.words[1:4])
-            self._names.bound(key, nrows, nvals)
-            return Matrix(self, key, nrows, ncols, nvals, name=name)
+            backend.names.bound(key, nrows, nvals)
+            return Matrix(self, Handle(key, nvals), (nrows, ncols), name)
 
     def keep(self, entries: Triples) -> Matrix:
         """A matrix of entries by ascending row and column, which aren't looked at. The client keeps them; they are sent when a job
         wants them."""
         return Kept(self, entries)
-
-    def _send(self, kept: Kept, entries: Triples) -> str:
-        """Sends the entries of a matrix that is kept, with the next command; its name."""
-        with self._turn():
-            key, text = self._names.take(), matrix_text.write(entries, ones=True)
-            self._outbox.put(Later(Sent('matrix ' + key, text), lambda _: None, kept._lose))
-            self._names.bound(key, entries.nrows, len(entries.rows))
-            if self._outbox.is_full:
-                self._exchange()
-            return key
 
     def _from(self, triples: Triples, dup_op: DupOp = None, name: Optional[str] = None) -> Matrix:
         return self._of_triples(self._folded(triples, dup_op), False, name)
@@ -249,7 +199,7 @@ class Session(Sources[Matrix]):
 
     def ones(self, ncols: int) -> Matrix:
         """A row of ones, which folds columns. The session keeps those of the last few lengths, but for very long ones."""
-        with self._turn():
+        with self.backend.turn():
             row = self._ones.pop(ncols, None) or self.full(1, ncols)
             if ncols <= LONG and not isinstance(row, estimates.Stand):
                 self._ones[ncols] = row
@@ -260,73 +210,23 @@ class Session(Sources[Matrix]):
     # -- matrices out
 
     def _named(self) -> Dict[str, Matrix]:
-        return self._names.named()
+        return self.backend.names.named()
 
     def _tell(self, what: str, done: int, of: int) -> None:
         self.connection.tell(what, done, of)
 
-    def _text_of(self, matrix: Matrix) -> bytes:
-        """The canonical text of a matrix."""
-        with self._turn():
-            matrix._check_usable()
-            estimates.check_read()
-            if matrix.waits:
-                self._queue.run_later()
-            try:
-                body = self._command('show ' + matrix._key).body
-            except Refused as refused:
-                raise self._outbox.refused or refused
-            if self._outbox.refused is not None:
-                raise self._outbox.refused
-            return body
-
-    def _hold(self, matrix: Matrix) -> None:
-        """Takes the matrix's name back when it is collected."""
-        self._names.hold(matrix, matrix._key)
-
     # -- operators
-
-    def _upload(self, op: Operator) -> str:
-        """The name of an operator in this session. It is uploaded at its first use; what the server refuses is OperatorRefused."""
-        if not isinstance(op, Operator):
-            raise TypeError('expected an operator, such as spmat.binary.plus, got %r' % (op,))
-        with self._turn():
-            return self._uploaded(op).name
-
-    def _uploaded(self, op: Operator) -> Uploaded:
-        if op not in self._operators:
-            if len(op.body) > MOST_OPERATOR:
-                raise refusal('S7', detail='the operator has %d bytes' % len(op.body))
-            name = self._operator_name(op)
-            try:
-                reply = self._command('%s %s %s' % ('op' if op.text is None else 'asm', name, op.kind), op.body, op.line_at)
-            except OperatorRefused as refused:
-                raise diagnostics.mended(op, refused) from None
-            self._operators[op] = Uploaded(name, int(reply.words[-1]))
-        return self._operators[op]
-
-    def _length_of(self, op: Operator) -> int:
-        """The number of an operator's instructions, the most steps that a call takes."""
-        with self._turn():
-            return self._uploaded(op).instructions
-
-    def _operator_name(self, op: Operator) -> str:
-        """The operator's own name where the server takes it and no other has it, else a number."""
-        taken = {uploaded.name for uploaded in self._operators.values()}
-        if op.name and op.name not in taken and re.fullmatch('[A-Za-z0-9_]{1,32}', op.name):
-            return op.name
-        return next(name for name in map('f{}'.format, itertools.count(len(taken) + 1)) if name not in taken)
 
     def dis(self, op: Operator) -> str:
         """An operator as assembly text, a line for each instruction, however it was made."""
-        with self._turn():
-            return ''.join(line + '\n' for line in self._command('dis ' + self._upload(op)).lines)
+        with self.backend.turn():
+            return ''.join(line + '\n' for line in self.backend.command('dis ' + self.backend.upload(op).name).lines)
 
     def types(self, op: Operator) -> List[str]:
         """What the verifier knows before each instruction, a line each: its slot, and for R0 to R10 `u` (unset on some path), `n`
         (a number), `p` with a distance (a place in the stack), `m` (set differently); or its slot and `-` where no path leads."""
-        with self._turn():
-            return self._command('types ' + self._upload(op)).lines
+        with self.backend.turn():
+            return self.backend.command('types ' + self.backend.upload(op).name).lines
 
     def check(self, op: Operator) -> diagnostics.Check:
         """What the verifier says of an operator: whether it is accepted, the instructions with what R0 to R10 hold before each, and
@@ -344,64 +244,14 @@ class Session(Sources[Matrix]):
         """Runs the jobs that wait. Matrix methods do it where they need a result. Where the run is refused (OutOfMemory,
         NoThread) the queue is empty all the same, and each result of it raises NotMade from then on."""
         estimates.check_read()
-        with self._turn():
+        backend, queue = self.backend, self.backend.queue
+        with backend.turn():
             self.connection.settle()
-            if not len(self._queue) and not self._queue.running:
+            if not len(queue) and not queue.running:
                 return Run()
-            self._queue.run_later()
-            self._sweep()
-            self._exchange()
-            if self._outbox.refused is not None:
-                raise self._outbox.refused
-            return self._queue.results()
-
-    def _submit(self, form: str, ops: Sequence[Operator], operands: Sequence[Matrix], shape: Tuple[int, int],
-               thunk: Optional[int] = None, mask: Optional[Matrix] = None, name: Optional[str] = None) -> Matrix:
-        """Queues a job of one of the protocol's forms with a structural mask; the matrix methods use it. A job takes the versions
-        that its names have when it is submitted, so an operand or mask that waits makes the queue run first. So does a full
-        queue, and a budget that is too small while jobs wait: then what they don't take comes back, and the job is sent once
-        more.
-
-        A job that can be refused by nothing but want of memory, as what is known of its operands' entries tells, is sent with the next
-        command that needs an answer, and so is the run before it; any other at once."""
-        with self._turn():
-            needed = [*operands] + ([mask] if mask is not None else [])
-            for matrix in needed:
-                if matrix.session is not self:
-                    if matrix.is_traced:           # a step of a loop asks
-                        return matrix.session._submit(form, ops, operands, shape, thunk, mask, name)
-                    raise ValueError('a matrix of another session')
-                matrix._check_made()
-            asked = estimates.asked()
-            if asked is not None:
-                return asked.foresee(self, form, ops, operands, mask, shape)
-            sent = [self._operators.get(op) or self._uploaded(op) for op in ops]
-            words = [op.name for op in sent] + [matrix._key for matrix in operands] + ([str(thunk)] if thunk is not None else [])
-            words += ['mask', mask._key] if mask is not None else []
-            if len(self._queue) >= QUEUE or self._queue.has(needed):
-                self._queue.run_later()
-            job = self._handed_in(form, words, most_of(form, sum(op.instructions for op in sent), operands, mask, shape), name)
-            result = Matrix(self, job.name, shape[0], shape[1], None, name=name, price=job.price)
-            result._most = job.most.entries
-            job.bind(result)
-            self.jobs += 1
-            return result
-
-    def _handed_in(self, form: str, words: List[str], most: Most, name: Optional[str]) -> Job:
-        """A job that is handed in, now or with the next command."""
-        job = Job(self._names.take(name), form, most)
-        line = ' '.join([form, job.name, *words])
-        if self._queue.is_sure(most):
-            self._queue.add_later(job, line)
-            if self._outbox.is_full or self._queue.is_long:
-                self._exchange()
-                self._sweep()                      # so that a loop of jobs uses the names of what nobody holds again
-            return job
-        try:
-            with estimates.told():
-                self._queue.add_now(job, line, self._exchange)
-        except BaseException:
-            if not self.connection.owes:
-                self._names.give_back(job.name)
-            raise
-        return job
+            queue.run_later()
+            backend.sweep()
+            self.connection.exchange()
+            if self.connection.refused is not None:
+                raise self.connection.refused
+            return queue.results()

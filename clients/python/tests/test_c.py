@@ -194,7 +194,7 @@ class Values(unittest.TestCase):
         self.assertEqual(op, same)
         copied = pickle.loads(pickle.dumps(op))
         self.assertEqual((op, op.name), (copied, copied.name))
-        self.assertEqual(self.session._upload(op), self.session._upload(copied))
+        self.assertEqual(self.session.backend.upload(op), self.session.backend.upload(copied))
 
 
 REFUSED = [

@@ -81,7 +81,7 @@ class Needs(unittest.TestCase):
 
     def refused(self, G, name, needed):
         """With one step less than it needs a call is refused, and says why."""
-        with mock.patch.object(G.session._queue, 'ceiling', needed - 1), self.assertRaises(spmat.BudgetExceeded) as caught:
+        with mock.patch.object(G.session.backend.queue, 'ceiling', needed - 1), self.assertRaises(spmat.BudgetExceeded) as caught:
             CALLS[name](G)
         fault = caught.exception
         self.assertEqual((fault.algorithm, fault.needed, fault.left), (name, needed, needed - 1))
@@ -144,12 +144,12 @@ class Counted(support.InSession):
             ready = getattr(spmat, kind)
             for name in ready:
                 size = lower_bounds.size_of(ready[name])
-                self.assertEqual(size.length, self.s._length_of(ready[name]), name)
+                self.assertEqual(size.length, self.s.backend.length_of(ready[name]), name)
                 self.assertLessEqual(size.shortest, size.length)
         code = spmat.code('unary', 'bf10000000000000' '1500010000000000' '0700000001000000' '9500000000000000')
         for op in (spmat.asm('unary', 'wide r0, 5\njeq64 r1, 7, 2\nadd64 r0, 1\nadd64 r0, 2\nexit\n'), code):
             size = lower_bounds.size_of(op)
-            self.assertEqual((size.length, size.shortest), (self.s._length_of(op), 3))
+            self.assertEqual((size.length, size.shortest), (self.s.backend.length_of(op), 3))
         A = self.s.from_coo([0, 0], [0, 1], [0, 5])
         self.assertEqual(A.apply(code).wait().steps, 3 + 4)
         with self.assertRaises(spmat.pricing.estimates.Unforeseen):
@@ -201,7 +201,7 @@ class Counted(support.InSession):
         """A product that is made by parts needs no more than the largest of them is priced at."""
         column, row = self.s.full(5000, 1), self.s.full(1, 5000)
         needed = lower_bounds.needed_by(lambda: column.mxm(row, 'plus_times', parts=True))
-        self.assertEqual(needed, (1 << 23) * sum(self.s._length_of(op) for op in (spmat.binary.plus, spmat.binary.times)))
+        self.assertEqual(needed, (1 << 23) * sum(self.s.backend.length_of(op) for op in (spmat.binary.plus, spmat.binary.times)))
 
 
 class Chains(support.InSession):
@@ -250,7 +250,7 @@ class Chains(support.InSession):
             spent = needed = 0
             for stand, made in zip(stands, self.chain(matrices, seed)):
                 self.assertLessEqual(stand.least, made.wait().nvals, seed)
-                self.assertGreaterEqual(stand._most, made.nvals, seed)
+                self.assertGreaterEqual(stand.handle.most, made.nvals, seed)
                 needed, spent = max(needed, spent + made.price), spent + made.steps
             self.assertLessEqual(sure.needed, needed, seed)
             self.assertLessEqual(sure.steps, spent, seed)
@@ -285,13 +285,13 @@ class Sessions(unittest.TestCase):
         with spmat.Session(steps=1000) as session:
             A = session.full(3, 3)
             waits = A.apply('one')
-            self.assertEqual(session._queue.ceiling, 1000)
+            self.assertEqual(session.backend.queue.ceiling, 1000)
             waits.wait()
-            self.assertEqual(session._queue.ceiling, 1000 - 18)
+            self.assertEqual(session.backend.queue.ceiling, 1000 - 18)
             self.assertEqual(session.budget().left, 1000 - 18)
             waits = A.apply('one')
             self.assertLess(session.budget().left, 1000 - 18)
-            self.assertEqual(session._queue.ceiling, 1000 - 18)
+            self.assertEqual(session.backend.queue.ceiling, 1000 - 18)
 
     def test_loops(self):
         """A price of a loop makes no round, and has those jobs that its first one has."""

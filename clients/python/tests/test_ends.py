@@ -11,8 +11,7 @@ import unittest
 
 import support  # noqa: F401 (finds the program)
 import spmat
-from spmat._client.connection import Sent
-from spmat._client.pipeline import Later
+from spmat._client.commands import Command
 
 ENVIRONMENT = dict(os.environ, PYTHONPATH=os.path.dirname(os.path.dirname(os.path.abspath(spmat.__file__))))
 
@@ -241,7 +240,7 @@ class Interrupts(unittest.TestCase):
                 self.assertEqual([job.steps for job in done], [2] * len(jobs))
                 self.assertEqual(len(jobs), 3 if command == 'apply' else 2)
                 self.assertEqual((B.nvals, C.steps, A.to_coo(arrays=False)[2]), (1, 2, [5]))
-                self.assertNotIn(C._key, [name for name in jobs if name != C._key])
+                self.assertNotIn(C.handle.key, [name for name in jobs if name != C.handle.key])
 
     def test_amid_sending(self):
         """Put off until the command stands; what is sent whole is answered."""
@@ -298,7 +297,7 @@ class Interrupts(unittest.TestCase):
             raise TimeoutError('an alarm')
         with spmat.Session() as s:
             B = s.full(2, 2).apply('ainv')
-            s._outbox.put(Later(Sent('budget'), noted, lambda _: None))
+            s.connection.put(Command('budget', done=noted))
             with self.assertRaisesRegex(TimeoutError, 'an alarm'):
                 s.budget()
             for ask in (s.budget, s.run, lambda: B.nvals):

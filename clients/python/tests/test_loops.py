@@ -194,11 +194,11 @@ class Rounds(support.InSession):
             loop = search(self.s, PATH)
             loop.run(spmat.empty('front'))
         self.assertEqual(texts(held), want)
-        count = self.s._names._count
+        count = self.s.backend.names._count
         for _ in range(10):
             search(self.s, PATH).run(spmat.empty('front'))
             gc.collect()
-        self.assertLessEqual(self.s._names._count, count + 12)
+        self.assertLessEqual(self.s.backend.names._count, count + 12)
 
     def test_jobs_between_trips(self):
         """What `each` queues is run, and is not mistaken for a round's."""

@@ -34,11 +34,11 @@ class Versions(unittest.TestCase):
         with spmat.Session() as s:
             A = s.from_triples([(0, 0, 1)])
             B = A.apply('ainv').wait()
-            key = B._key
+            key = B.handle.key
             del B
             gc.collect()
             C = A.apply('plus', right=6)
-            self.assertEqual(C._key, key)
+            self.assertEqual(C.handle.key, key)
             self.assertEqual(C.apply('identity').to_dict(), {(0, 0): 7})
 
 
@@ -48,13 +48,13 @@ class UsedAgain(unittest.TestCase):
     def test_not_while_a_job_waits(self):
         with spmat.Session() as s:
             A = s.from_triples([(0, 0, 1), (1, 1, 2)])
-            key = A.apply('ainv')._key                      # nobody holds it, and its job waits
+            key = A.apply('ainv').handle.key                      # nobody holds it, and its job waits
             gc.collect()
             B = s.from_triples([(0, 1, 5)], 2, 2)
-            self.assertNotEqual(B._key, key)
+            self.assertNotEqual(B.handle.key, key)
             s.run()
             self.assertEqual(B.to_dict(), {(0, 1): 5})
-            self.assertEqual(s.from_triples([(0, 0, 3)])._key, key)
+            self.assertEqual(s.from_triples([(0, 0, 3)]).handle.key, key)
 
     def test_names_do_not_grow(self):
         with spmat.Session(steps=100_000) as s:
@@ -68,7 +68,7 @@ class UsedAgain(unittest.TestCase):
                 with self.assertRaises(spmat.BudgetExceeded):
                     s.full(30, 1).apply(dear)
             held = [A] + [s.from_triples([(0, 0, k)]) for k in range(8)]
-            self.assertLess(max(int(matrix._key[1:]) for matrix in held), 120)          # those of the commands that go together
+            self.assertLess(max(int(matrix.handle.key[1:]) for matrix in held), 120)          # those of the commands that go together
 
     def test_collecting_sends_nothing(self):
         with spmat.Session() as s:
@@ -82,7 +82,7 @@ class UsedAgain(unittest.TestCase):
         with spmat.Session() as s:
             A = s.from_triples([(0, 0, 1)], name='A')
             B = s.from_triples([(0, 0, 2)], name='A')      # one name for two: the server has two all the same
-            self.assertEqual((A.name, B.name, A._key), ('A', 'A', 'A'))
+            self.assertEqual((A.name, B.name, A.handle.key), ('A', 'A', 'A'))
             self.assertEqual((A.to_dict(), B.to_dict()), ({(0, 0): 1}, {(0, 0): 2}))
             self.assertEqual(s.from_triples([(0, 0, 3)], name='no name at all, and far too long for one').nvals, 1)
 
@@ -99,7 +99,7 @@ class Overwritten(unittest.TestCase):
         with spmat.Session() as s:
             A, B = s.from_triples([], n, 1), s.from_triples([(0, 0, 1)], n, 1)
             C = B.apply('ainv').wait()
-            self.assertEqual((A._key, B._key, C._key), ('_1', '_2', '_3'))
+            self.assertEqual((A.handle.key, B.handle.key, C.handle.key), ('_1', '_2', '_3'))
             del A, C
             gc.collect()
             s.budget()

@@ -1,10 +1,14 @@
 """Commands of a session with their whole replies.
 
-A `Connection` sends commands and reads their replies before it sends more, so neither side waits for the other with full pipes. Ctrl-C
-while replies are awaited leaves the session as it is: they are owed, read before more is sent, and given to who asked for them. Whatever
-else comes between a command and the whole of its reply (a timeout, a fault of a callback, a second Ctrl-C while commands are being sent)
-ends the session, since commands and replies would be out of step from then on; a child that was started here is then killed, as nothing
-cancels a batch.
+A `Connection` sends commands and reads their replies before it sends more, so neither side waits for the other with full pipes. What can
+hardly be refused waits to be sent with the next command, so that a loop of jobs and runs takes one trip for many. Where something is
+refused all the same, what was sent behind it may have used names that stand for older matrices: all of that is lost, and says so when it
+is looked at.
+
+A command that Ctrl-C interrupts is simply still pending: its reply is read before more is sent, and then it is done. Whatever else comes
+between a command and the whole of its reply (a timeout, a fault of a callback, a second Ctrl-C while commands are being sent) ends the
+session, since commands and replies would be out of step from then on; a child that was started here is then killed, as nothing cancels a
+batch.
 """
 from __future__ import annotations
 
@@ -14,34 +18,23 @@ import socket
 import sys
 import threading
 import weakref
-from typing import Any, Callable, Deque, List, NamedTuple, Optional, Sequence, Tuple, Type, Union
+from typing import Any, Callable, Deque, List, Optional, Sequence, Tuple, Type, Union
 
 from ..errors import Closed, Near, Refused, SpmatError, refusal_of
 from ..io.coo import whole
-from .prefetch import Ahead
-from .replies import Incoming, PIECE, Reply
+from .commands import Command, CommandBatch, WORDS_WITH_BODY
+from .replies import Incoming, PIECE, Raw, Reply
 from .server_program import Program, program_words
 from .sigint import Guard
 from .transport import Address, Child, Socket
 
-__all__ = ['Address', 'Ahead', 'Answer', 'Connection', 'MOST_STEPS', 'MOST_WORKERS', 'Progress', 'Reply', 'Sent', 'WORDS_WITH_BODY']
 MOST_STEPS = 1 << 62
 MOST_WORKERS = 64
-WORDS_WITH_BODY = {'matrix': 2, 'asm': 3, 'op': 3}
+MOST_WAITING = 200                                 # commands, whose replies fit into a pipe
+MOST_BYTES = 1 << 22                               # of commands that wait
 ENDS = ('S5', 'S6', 'S7', 'busy')
 
 Progress = Callable[[str, int, int], None]
-Channel = Union[Child, Socket]
-Answer = Union[Reply, Refused]
-Late = Callable[[List[Answer]], None]
-"""Hears of the answers that were owed: fewer than commands where the session ended before."""
-
-
-class Sent(NamedTuple):
-    """A command: its line, without the length of its body; the body, where it has one; and what gives the line at a place of it."""
-    line: str
-    body: Optional[bytes] = None
-    near: Optional[Near] = None
 
 
 def checked_settings(steps: float, workers: float) -> Tuple[int, int]:
@@ -64,7 +57,10 @@ class Connection:
         self.guard = Guard()
         self._channel = channel
         self.incoming = Incoming(self._fill, self._fault, lambda done, of: self.tell('received', done, of))
-        self._owed: Deque[Union[_Owed, Ahead]] = collections.deque()
+        self.refused: Optional[Refused] = None     # the first refusal of the last exchange that mattered
+        self._waiting: List[Command] = []          # to be sent
+        self._bytes = 0
+        self._pending: Deque[Union[Command, CommandBatch]] = collections.deque()      # sent, and not answered
         self._owner = os.getpid()
         self._ended: Optional[str] = None
         self._amid = False
@@ -116,67 +112,81 @@ class Connection:
     def command(self, line: str, body: Optional[bytes] = None, near: Optional[Near] = None) -> Reply:
         """Sends a command, with the length of its body where it has one, and reads the whole reply. Raises Refused for `no ..` and
         Closed where the session has ended. `near` gives the line that stands at a place of the body, for the refusal's words."""
-        answer = self.exchange([Sent(line, body, near)])[0]
-        if isinstance(answer, Refused):
-            raise answer
-        return answer
+        reply = self.exchange(Command(line, body, near))
+        assert reply is not None
+        return reply
 
-    def exchange(self, commands: Sequence[Sent], late: Optional[Late] = None) -> List[Answer]:
-        """Sends commands in one go, and reads the reply of each: those that are refused are answered by the exception. Fewer answers
-        where one of them ended the session. The replies to all commands but the last have to be short, as none is read before all is
-        sent. KeyboardInterrupt while they are awaited leaves them owed: they are read before more is sent, and given to `late`."""
-        for command in commands:
-            _check_form(command)
+    def put(self, command: Command) -> None:
+        """One command more that waits to be sent with the next. Its reply has to be short, as none is read before all is sent."""
+        self._waiting.append(command)
+        self._bytes += len(command.line) + len(command.body or b'')
+
+    @property
+    def waiting(self) -> int:
+        """How many commands wait to be sent."""
+        return len(self._waiting)
+
+    @property
+    def is_full(self) -> bool:
+        """Whether it is time to send what waits."""
+        return len(self._waiting) >= MOST_WAITING or self._bytes >= MOST_BYTES
+
+    def exchange(self, last: Optional[Command] = None) -> Optional[Reply]:
+        """Sends what waits and one command more in one go, and reads the reply of each; that of the last. Raises what the last is refused
+        by, and Closed where the session ends before all are answered. KeyboardInterrupt while replies are awaited leaves what isn't
+        answered pending."""
         with self.lock, self.guard:
+            if last is None and not self._waiting and not self._pending:
+                return None
+            jobs = sum(command.jobs for command in self._waiting)
+            if jobs:
+                self.tell('jobs', 0, jobs)
             self._enter()
             try:
-                self._settle()
-                self.commands += len(commands)
-                self._send(commands)
-                if self._ended is not None:
-                    return []
-                owed = _Owed(commands, [], late)
-                self._owed.append(owed)
-                self._read()
-                return owed.answers
-            except BaseException as fault:
-                if not self._owed:
-                    self.end(_words_of(fault), kill=True)
-                raise
+                self.refused = None
+                self._read_pending()
+                self.check_open()
+                sent, self._waiting, self._bytes = self._waiting, [], 0
+                if last is not None:
+                    sent.append(last)
+                self._send_all(sent)
+                self._read_pending()
             finally:
                 self._amid = False
+            if self._ended is not None and any(command.answer is None for command in sent):
+                self.check_open()
+            answer = last.answer if last is not None else None
+            if isinstance(answer, Refused):
+                raise answer
+            if jobs:
+                self.tell('jobs', jobs, jobs)
+            return answer
 
-    def post(self, ahead: Ahead) -> None:
+    def post(self, batch: CommandBatch) -> None:
         """Sends commands whose replies nobody waits for: `collect` takes them, or whoever sends next. Replies of any length may come;
         two such at a time, of half a pipe's bytes each, never make both sides wait."""
         with self.lock, self.guard:
             self._enter()
             try:
-                self.commands += ahead.commands
-                self._send_text(ahead.text)
-                self._owed.append(ahead)
+                self.commands += batch.commands
+                self._send_text(batch.text)
+                self._pending.append(batch)
             except BaseException as fault:
                 self.end(_words_of(fault), kill=True)
                 raise
             finally:
                 self._amid = False
 
-    def collect(self, ahead: Ahead) -> bytes:
-        """The replies to commands that were posted. KeyboardInterrupt leaves them owed. Closed where they never come."""
+    def collect(self, batch: CommandBatch) -> bytes:
+        """The replies to commands that were posted. KeyboardInterrupt leaves them pending. Closed where they never come."""
         with self.lock, self.guard:
-            while ahead.replies is None:
+            while batch.replies is None:
                 self._enter()
                 try:
-                    owed = self._owed[0]
-                    self._read()
-                    owed.hear()
-                except BaseException as fault:
-                    if not self._owed:
-                        self.end(_words_of(fault), kill=True)
-                    raise
+                    self._read_first()
                 finally:
                     self._amid = False
-            return ahead.replies
+            return batch.replies
 
     def _enter(self) -> None:
         """A command begins. Raises Closed where the session has ended, and SpmatError amid another command."""
@@ -188,7 +198,11 @@ class Connection:
     @property
     def owes(self) -> bool:
         """Whether replies are still to come, of commands that were interrupted or posted."""
-        return bool(self._owed)
+        return bool(self._pending)
+
+    def owes_to(self, command: Command) -> bool:
+        """Whether this command was sent, and its reply is still to come."""
+        return command in self._pending
 
     @property
     def received(self) -> int:
@@ -196,43 +210,52 @@ class Connection:
         return self.incoming.received
 
     def settle(self) -> None:
-        """Waits for the replies of commands that were interrupted or posted, where any are owed."""
-        self.exchange([])
+        """Waits for the replies of commands that were interrupted or posted, where any are pending."""
+        with self.lock, self.guard:
+            self._enter()
+            try:
+                self._read_pending()
+            finally:
+                self._amid = False
 
-    def _read(self) -> None:
-        """Reads the replies that are owed first. KeyboardInterrupt leaves them owed; what else comes makes all that is owed lost."""
-        owed = self._owed[0]
+    def _read_pending(self) -> None:
+        """Reads the replies to all that is pending, in order, and does what they say."""
+        while self._pending:
+            self._read_first()
+
+    def _read_first(self) -> None:
+        """The same of what is pending first. KeyboardInterrupt leaves it so; what else comes ends the session."""
+        first = self._pending[0]
         try:
-            owed.read(self)
+            reply = first.read(self.incoming)
         except KeyboardInterrupt:
             raise
-        except BaseException:
-            self._drop(owed)
-            while self._owed:
-                self._owed.popleft().hear()
+        except BaseException as fault:
+            self.end(_words_of(fault), kill=True, cause=fault)
             raise
-        self._drop(owed)
+        if not self._pending:                      # a callback has ended the session
+            return
+        self._pending.popleft()
+        try:
+            self._note(first, reply)
+        except BaseException:                      # of a signal's handler, say: what stands behind it isn't noted
+            self.end('an exception came while its replies were noted', kill=True)
+            raise
 
-    def _drop(self, owed: Union['_Owed', Ahead]) -> None:
-        """These aren't owed any more; where the session ended by their answer they weren't already."""
-        if self._owed and self._owed[0] is owed:
-            self._owed.popleft()
-
-    def _settle(self) -> None:
-        """Reads the replies that are owed, and hands them to whom they concern."""
-        while self._owed:
-            owed = self._owed[0]
-            try:
-                self._read()
-            finally:
-                if not self._owed or self._owed[0] is not owed:
-                    owed.hear()
-            self.check_open()
-
-    def answer(self, command: Sent) -> Answer:
-        """The answer that comes next, to this command."""
-        raw = self.incoming.next()
-        return raw.reply() or self._refused(raw.first, command.line, command.near)
+    def _note(self, first: Union[Command, CommandBatch], reply: Union[Raw, bytes]) -> None:
+        """Does what a reply says."""
+        if isinstance(first, CommandBatch):
+            assert isinstance(reply, bytes)
+            first.replies = reply
+            return
+        assert isinstance(reply, Raw)
+        answer = first.answer = reply.reply() or self._refused(reply.first, first)
+        if not isinstance(answer, Refused):
+            first.done(answer)
+            return
+        first.lost(answer)
+        if first.matters and self.refused is None:
+            self.refused = answer
 
     def _fill(self, into: bytearray) -> bool:
         """Appends what comes next; whether anything did."""
@@ -250,20 +273,21 @@ class Connection:
     def _fault(self) -> str:
         return self._channel.fault(self.incoming.received > 0)
 
-    def end(self, why: str, kill: bool = False) -> None:
-        """Marks the session as ended, and closes its channel."""
+    def end(self, why: str, kill: bool = False, cause: Optional[BaseException] = None) -> None:
+        """Marks the session as ended, and closes its channel. What is pending is lost, by this cause."""
         with self.lock:
             if self._ended is None:
                 self._ended = why
                 self._last.detach()
                 self._channel.close(kill)
-                while self._owed:
-                    self._owed.popleft().hear()
+                while self._pending:
+                    self._pending.popleft().lost(cause or SpmatError('the session ended before it was answered'))
 
     def quit(self) -> None:
         """Ends the session in good order, or at once where a reply is owed; nothing where it has ended already."""
         with self.lock:
-            if self._owed:
+            self._waiting = []                     # which isn't sent any more
+            if self._pending:
                 self.end('it was closed while a reply was awaited', kill=True)
             if self._ended is None and os.getpid() == self._owner:
                 try:
@@ -272,11 +296,22 @@ class Connection:
                     pass
             self.end('it was closed')              # nothing where the interpreter has closed the channel already
 
-    def _send(self, commands: Sequence[Sent]) -> None:
+    def _send_all(self, commands: Sequence[Command]) -> None:
+        """Sends commands, which are pending then. What comes meanwhile ends the session."""
+        self.commands += len(commands)
+        self._pending.extend(commands)
+        try:
+            self._send(commands)
+        except BaseException as fault:
+            self.end(_words_of(fault), kill=True, cause=fault)
+            raise
+
+    def _send(self, commands: Sequence[Command]) -> None:
         """Small commands together, large bodies by pieces."""
         try:
             small: List[bytes] = []
-            for line, body, _ in commands:
+            for command in commands:
+                line, body = command.line, command.body
                 small.append(line.encode() + b'\n' if body is None else b'%s %d\n' % (line.encode(), len(body)))
                 if body is not None and len(body) < PIECE:
                     small += [body, b'\n']
@@ -313,14 +348,11 @@ class Connection:
         if self.progress is not None:
             self.progress(what, done, of)
 
-    def _refused(self, reply: str, line: str, near: Optional[Near]) -> Refused:
-        if not reply.startswith('no '):
-            self.end('the reply is none of spmat: `%.200s`' % reply, kill=True)
-            self.check_open()
-        refused = refusal_of(reply, line, near)
-        words = line.split()
+    def _refused(self, reply: str, command: Command) -> Refused:
+        refused = refusal_of(reply, command.line, command.near)
+        words = command.line.split()
         if refused.rule in ENDS or (refused.rule == 'S2' and len(words) != WORDS_WITH_BODY.get(words[0], len(words))):
-            self.end('it was answered `%s`' % reply)
+            self.end('it was answered `%s`' % reply, cause=refused)
         return refused
 
 
@@ -355,31 +387,6 @@ class Turn:
                 connection.guard.__exit__(kind, fault, trace)
             finally:
                 connection.lock.release()
-
-
-class _Owed(NamedTuple):
-    """Commands that were sent, the answers that have come, and who hears of them where they come late."""
-    commands: Sequence[Sent]
-    answers: List[Answer]
-    late: Optional[Late]
-
-    def read(self, connection: Connection) -> None:
-        """Takes the answers that haven't come yet."""
-        while connection.ended is None and len(self.answers) < len(self.commands):
-            self.answers.append(connection.answer(self.commands[len(self.answers)]))
-
-    def hear(self) -> None:
-        """The answers are there, or no more come."""
-        if self.late is not None:
-            self.late(self.answers)
-
-
-def _check_form(command: Sent) -> None:
-    words = command.line.split()
-    if '\n' in command.line or not words:
-        raise ValueError('a command is one line with words')
-    if (words[0] in WORDS_WITH_BODY) != (command.body is not None):
-        raise ValueError('`matrix`, `asm` and `op` have a body, and no other command')
 
 
 def _words_of(fault: BaseException) -> str:

@@ -1,13 +1,13 @@
 """Matrices that the client has the entries of, which are sent when a job first wants them."""
 from __future__ import annotations
 
-# pylint: disable=protected-access  # a session and its matrices keep one another's books
-
+import weakref
 from typing import TYPE_CHECKING, Any, Dict, List, Optional, Tuple
 
 from ..io import matrix_text
 from ..io.matrix_text import Triples
 from ..matrix import Matrix
+from .handles import Handle
 
 if TYPE_CHECKING:
     from ..session import Session
@@ -49,6 +49,24 @@ class Entries:
         return dict(zip(zip(rows, columns), values))
 
 
+class DeferredHandle(Handle):
+    """The handle of a matrix that is sent at the first use of its name, once."""
+
+    def __init__(self, kept: 'Kept', entries: Triples) -> None:
+        super().__init__('', len(entries.rows))
+        self._kept, self._entries = weakref.ref(kept), entries
+
+    @property
+    def key(self) -> str:
+        """The server's name of the matrix: it is sent where it wasn't."""
+        if not self._key:
+            kept = self._kept()
+            assert kept is not None
+            self._key = kept.session.backend.send(self._entries, self)
+            kept.session.backend.hold(kept, self._key)
+        return self._key
+
+
 class Kept(Entries, Matrix):
     """A matrix whose entries the client has, by ascending row and column. It has all of `Matrix`. Reading it asks nothing of the
     server, and it is sent at its first use in a job, once."""
@@ -56,17 +74,5 @@ class Kept(Entries, Matrix):
     is_named = False                               # its name says what it is
 
     def __init__(self, session: 'Session', entries: Triples) -> None:
-        self._entries, self._sent = entries, ''
-        super().__init__(session, '', entries.nrows, entries.ncols, len(entries.rows), name='of the client')
-
-    @property
-    def _key(self) -> str:
-        """The name that the server has it under: it is sent where it wasn't."""
-        if not self._sent:
-            self._sent = self.session._send(self, self._entries)
-            self.session._hold(self)
-        return self._sent
-
-    @_key.setter
-    def _key(self, key: str) -> None:
-        self._sent = key
+        self._entries = entries
+        super().__init__(session, DeferredHandle(self, entries), (entries.nrows, entries.ncols), 'of the client')

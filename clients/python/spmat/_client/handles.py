@@ -1,4 +1,4 @@
-"""Names of matrices in a session: which are held, which may be used again, which hold what nobody wants."""
+"""Handles of matrices: what a session knows of each, and which names the server has them under."""
 from __future__ import annotations
 
 import collections
@@ -6,8 +6,52 @@ import re
 import weakref
 from typing import Any, Deque, Dict, Iterator, Optional, Set, Tuple
 
+from ..errors import NotMade
+from ..io.matrix_text import MOST_SIDE
+
 SMALL = 65_536                                     # a dead matrix of more rows and entries than this is overwritten
 _NAME = re.compile('[A-Za-z0-9_]{1,32}')
+
+
+class Handle:
+    """What a session knows of a matrix: the name `key` that the server has it under, its entries `nvals` (None until its job ran), the
+    `most` that these can be, and of a job's result the price and the steps that the job took. `lost` says why it is never made."""
+
+    def __init__(self, key: str, nvals: Optional[int], most: Optional[int] = None) -> None:
+        self._key, self.nvals = key, nvals
+        self.most = MOST_SIDE if nvals is None and most is None else most if nvals is None else nvals
+        self.price: Optional[int] = None
+        self.steps: Optional[int] = None
+        self.lost: Optional[BaseException] = None
+        self.transposed: Optional['weakref.ref[Any]'] = None        # the matrix that is its transpose, while it is held
+
+    @property
+    def key(self) -> str:
+        """The server's name of the matrix."""
+        return self._key
+
+    @property
+    def known_key(self) -> str:
+        """The same, empty where the matrix wasn't sent."""
+        return self._key
+
+    @property
+    def waits(self) -> bool:
+        """Whether this is the result of a job that hasn't run."""
+        return self.nvals is None and self.lost is None
+
+    def check_made(self) -> None:
+        """Raises NotMade where the run of this matrix was refused."""
+        if self.lost is not None:
+            raise NotMade('this matrix was never made: its run was refused (%s)' % self.lost) from self.lost
+
+    def check_readable(self) -> None:
+        """Raises what reading the matrix would: NotMade where it is lost."""
+        self.check_made()
+
+    def ran(self, nvals: int, steps: int) -> None:
+        """The job ran."""
+        self.nvals, self.most, self.steps = nvals, nvals, steps
 
 
 class Names:

@@ -1,8 +1,6 @@
 """The queue of a session: jobs that wait, how many steps and entries they can have, and what runs settle."""
 from __future__ import annotations
 
-# pylint: disable=protected-access  # a session and its matrices keep one another's books
-
 import collections
 import copy
 import weakref
@@ -12,12 +10,10 @@ from ..display import html
 from ..errors import BudgetExceeded, Refused, SpmatError
 from ..io.matrix_text import MOST_SIDE
 from ..matrix import Matrix
-from .connection import Reply, Sent
-from .handles import Names
-from .pipeline import Later, Outbox
-
-Exchange = Callable[[Optional[Sent], Optional[Callable[[Reply], object]]], Optional[Reply]]
-"""Sends what waits and one command more; its reply, which is given to the function where it comes late."""
+from .commands import Command
+from .connection import Connection
+from .handles import Handle, Names
+from .replies import Reply
 
 QUEUE = 64                                         # jobs that may wait
 MOST_PRICE = 1 << 32
@@ -59,49 +55,45 @@ class Most(NamedTuple):
 
 def most_of(form: str, length: int, operands: Sequence[Matrix], mask: Optional[Matrix], shape: Tuple[int, int]) -> Most:
     """What a job with operators of so many instructions can come to, by what is known of its operands' entries."""
-    a = operands[0]._most
-    under = mask._most if mask is not None else MOST_SIDE
+    a = operands[0].handle.most
+    under = mask.handle.most if mask is not None else MOST_SIDE
     room = min(under, shape[0] * shape[1])
     if form == 'product':
-        terms = min(a * operands[1].ncols, operands[0].nrows * operands[1]._most)
+        terms = min(a * operands[1].ncols, operands[0].nrows * operands[1].handle.most)
         return Most(terms, terms * length, min(terms, room))
     if form == 'union':
-        b = operands[1]._most
+        b = operands[1].handle.most
         return Most(a + b, min(a, b, under) * length, min(a + b, room))
-    calls = min(a, operands[1]._most, under) if form == 'both' else a if form == 'reduce' else min(a, under)
+    calls = min(a, operands[1].handle.most, under) if form == 'both' else a if form == 'reduce' else min(a, under)
     return Most(0, calls * length, min(calls, room))
 
 
 class Job:
-    """A job that was handed in: its result, the name that it will have, and, once the server answered, its price, or why it is lost."""
+    """A job that was handed in: the name that its result will have, the result's handle, and its price once the server answered. Where the
+    job is refused, or lost, `cause` says why. `is_wanted` until whoever asked for it was interrupted: its result is nobody's then."""
 
     def __init__(self, name: str, form: str, most: Most) -> None:
         self.name, self.form, self.most = name, form, most
+        self.handle = Handle(name, None, most.entries)
         self.matrix: Callable[[], Optional[Matrix]] = lambda: None
-        self.price: Optional[int] = None
-        self.refused = False
+        self.refused, self.is_wanted = False, True
         self.cause: Optional[BaseException] = None
 
     def bind(self, matrix: Matrix) -> None:
         """The result, which the caller holds."""
         self.matrix = weakref.ref(matrix)
-        if self.cause is not None:
-            matrix._lose(self.cause)
 
     def lose(self, cause: BaseException) -> None:
         """The result is never made."""
-        self.cause = self.cause or without_frames(cause)
-        matrix = self.matrix()
-        if matrix is not None:
-            matrix._lose(self.cause)
+        self.cause = self.handle.lost = self.cause or without_frames(cause)
 
 
 class Queue:
     """Jobs that wait to be run, sent or not, and runs that wait to be sent. `left` is what the budget has for sure: all of it where
     nobody shares it. `ceiling` is what it can have at most, were all prices settled with nothing."""
 
-    def __init__(self, outbox: Outbox, names: Names, shared: bool) -> None:
-        self._outbox, self._names, self._shared = outbox, names, shared
+    def __init__(self, connection: Connection, names: Names, shared: bool) -> None:
+        self._connection, self._names, self.shared = connection, names, shared
         self._waiting: Dict[str, Job] = {}
         self._running: Deque[List[Job]] = collections.deque()      # in the order in which they will be answered
         self._results = Run()
@@ -127,7 +119,7 @@ class Queue:
 
     def has(self, matrices: Iterable[Matrix]) -> bool:
         """Whether one of these is a result that no run stands behind yet."""
-        return bool(self._waiting) and any(matrix._key in self._waiting for matrix in matrices)
+        return bool(self._waiting) and any(matrix.handle.key in self._waiting for matrix in matrices)
 
     @property
     def is_long(self) -> bool:
@@ -138,7 +130,7 @@ class Queue:
 
     def is_sure(self, most: Most) -> bool:
         """Whether a job can be refused by nothing but want of memory, so that it needn't be sent at once."""
-        enough = self.left - most.steps >= (AMPLE if self._shared else 0)
+        enough = self.left - most.steps >= (AMPLE if self.shared else 0)
         return enough and most.terms <= MOST_SIDE and most.steps <= MOST_PRICE
 
     def add_later(self, job: Job, line: str) -> None:
@@ -146,40 +138,43 @@ class Queue:
         self.left -= job.most.steps
         self._waiting[job.name] = job
         self._unknown += job.most.entries
-        self._outbox.put(Later(Sent(line), lambda reply: self._queued(job, reply), lambda cause: self._unqueued(job, cause)))
+        self._connection.put(Command(line, done=lambda reply: self._queued(job, reply), lost=lambda cause: self._unqueued(job, cause),
+                                     matters=True))
 
-    def add_now(self, job: Job, line: str, exchange: Exchange) -> None:
+    def add_now(self, job: Job, line: str) -> None:
         """Hands a job in. A budget that is too small while jobs wait gets back what these don't take, and the job is sent once more.
-        Where that is interrupted, the job is queued all the same, and its result is nobody's."""
-        def late(reply: Reply) -> None:
-            self._handed_in(job, reply)
-            self._names.drop(job.name)
+        Where that is interrupted, the job may be queued all the same."""
         try:
-            reply = exchange(Sent(line), late)
+            self._hand_in(job, line)
         except BudgetExceeded:
             if not self._waiting:
                 raise
             self.run_later()
-            exchange(None, None)
-            if self._outbox.refused is not None:
-                raise self._outbox.refused from None
-            reply = exchange(Sent(line), late)
-        assert reply is not None
-        self._handed_in(job, reply)
+            self._connection.exchange()
+            if self._connection.refused is not None:
+                raise self._connection.refused from None
+            self._hand_in(job, line)
+
+    def _hand_in(self, job: Job, line: str) -> None:
+        command = Command(line, done=lambda reply: self._handed_in(job, reply))
+        try:
+            self._connection.exchange(command)
+        except BaseException:
+            job.is_wanted = not self._connection.owes_to(command)
+            raise
 
     def _handed_in(self, job: Job, reply: Reply) -> None:
         self._waiting[job.name] = job
         self.left -= job.most.steps
         self._queued(job, reply)
+        if not job.is_wanted:
+            self._names.drop(job.name)
 
     def _queued(self, job: Job, reply: Reply) -> None:
-        job.price = int(reply.words[2])
-        self.left += job.most.steps - job.price
-        if self._outbox.refused is not None:
-            job.lose(self._outbox.refused)
-        matrix = job.matrix()
-        if matrix is not None:
-            matrix._priced(job.price)
+        price = job.handle.price = int(reply.words[2])
+        self.left += job.most.steps - price
+        if self._connection.refused is not None:
+            job.lose(self._connection.refused)
 
     def _unqueued(self, job: Job, cause: BaseException) -> None:
         job.refused = True
@@ -196,20 +191,21 @@ class Queue:
             self._waiting.clear()
             self._running.append(jobs)
             self.runs += 1
-            self._outbox.put(Later(Sent('run'), lambda reply: self._ran(jobs, reply), lambda cause: self._not_run(jobs, cause)))
+            self._connection.put(Command('run', done=lambda reply: self._ran(jobs, reply), lost=lambda cause: self._not_run(jobs, cause),
+                                         matters=True, jobs=len(jobs)))
 
     def _ran(self, jobs: List[Job], reply: Reply) -> None:
         self._results = Run()
         for job, line in zip([job for job in jobs if not job.refused], reply.lines):
             nrows, _, entries, steps = map(int, line.split()[1:5])
-            assert job.price is not None
-            self.left += job.price - steps
+            price = job.handle.price
+            assert price is not None
+            self.left += price - steps
             self.ceiling -= steps
             self._names.bound(job.name, nrows, entries)
-            matrix = job.matrix()
-            if matrix is not None and job.cause is None:
-                matrix._settle(entries, steps)
-            self._results.append(JobResult(matrix, job.form, job.price, steps))
+            if job.cause is None:
+                job.handle.ran(entries, steps)
+            self._results.append(JobResult(job.matrix(), job.form, price, steps))
         self._done(jobs)
 
     def _not_run(self, jobs: List[Job], cause: BaseException) -> None:

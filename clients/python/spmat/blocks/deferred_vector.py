@@ -62,10 +62,10 @@ class HeldVector(Entries, BlockMatrix):
 
     def whole(self) -> Any:
         """This vector as one piece, or the future of one, for all sessions."""
-        if self._whole is None:
+        if self.whole_piece is None:
             text = matrix_text.write(self._entries)
-            self._whole = self.sessions.share(Piece(Counts(*self.shape, self.nvals), text=text).marked())
-        return self._whole
+            self.whole_piece = self.sessions.share(Piece(Counts(*self.shape, self.nvals), text=text).marked())
+        return self.whole_piece
 
     def at_rows(self, cut: Cut) -> 'HeldVector':
         """The same vector, cut elsewhere."""

@@ -51,7 +51,7 @@ class BlockMatrix(Signs):
         self.nrows, self.ncols, self.name, self.notes = cut.nrows, ncols, name or 'in blocks', metadata.NOTHING
         self.holds: Tuple[Any, ...] = tuple(dict.fromkeys(holds))[-HELD:] if sessions.engine.forgets else ()
         self._counts: Optional[List[Counts]] = None
-        self._whole: Any = None
+        self.whole_piece: Any = None
         self._transposed: Optional['BlockMatrix'] = None
         self.kept: Dict[str, Any] = {}
         self.form = ''                             # of a job's result, as the protocol names it

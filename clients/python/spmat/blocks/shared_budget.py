@@ -10,6 +10,7 @@ from __future__ import annotations
 import threading
 from typing import Any, Dict, NamedTuple, Sequence, Tuple
 
+from .._client.backend import Backend
 from .._client.job_queue import AMPLE, Budget, MOST_PRICE, most_of
 from ..errors import BudgetExceeded, refusal
 from ..session import Session
@@ -68,15 +69,21 @@ class Ledger:
             raise refusal('S8', [price, self.budget.left])
 
 
-class Metered(Session):
-    """A session of a worker, whose jobs can be asked what they take at most without being queued."""
+class MeteredBackend(Backend):
+    """What submits the jobs of a worker's session, and can be asked what they take at most without queueing them."""
 
-    def _submit(self, form: str, ops: Sequence[Any], operands: Sequence[Any], shape: Tuple[int, int], *more: Any, **named: Any) -> Any:
+    def submit(self, form: str, ops: Sequence[Any], operands: Sequence[Any], shape: Tuple[int, int], *more: Any, **named: Any) -> Any:
         if not getattr(_asked, 'bound', False):
-            return super()._submit(form, ops, operands, shape, *more, **named)
+            return super().submit(form, ops, operands, shape, *more, **named)
         mask = named.get('mask', more[1] if len(more) > 1 else None)
-        length = sum(self._length_of(op) for op in ops)
+        length = sum(self.length_of(op) for op in ops)
         raise refusal('S8', [most_of(form, length, operands, mask, shape).steps, 0])
+
+
+class Metered(Session):
+    """A session of a worker."""
+
+    _backend_type = MeteredBackend
 
 
 def bound_of(function: Any, store: Any, args: Sequence[Any]) -> int:

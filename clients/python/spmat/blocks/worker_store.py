@@ -85,9 +85,10 @@ def _file_digest(path: str) -> bytes:
 class Piece:
     """A block, or a whole matrix: a matrix of the session where it was made, a text elsewhere. Pickling it takes the text out."""
 
-    def __init__(self, counts: Counts, matrix: Optional[Matrix] = None, text: Optional[bytes] = None) -> None:
+    def __init__(self, counts: Counts, matrix: Optional[Matrix] = None, text: Optional[bytes] = None,
+                 digest: Optional[bytes] = None) -> None:
         self.counts, self.matrix, self._text = counts, matrix, text
-        self._digest: Optional[bytes] = None
+        self._digest = digest
 
     def text(self) -> bytes:
         """The text, out of the session where it isn't here."""
@@ -139,9 +140,7 @@ class Piece:
 
 
 def _arrived(counts: Counts, text: bytes, digest: Optional[bytes]) -> Piece:
-    piece = Piece(counts, text=text)
-    piece._digest = digest                         # pylint: disable=protected-access  # of this module
-    return piece
+    return Piece(counts, text=text, digest=digest)
 
 
 class Before(NamedTuple):
@@ -228,9 +227,9 @@ class Store:
         return Store(replace(self.settings, steps=0, texts=False, version=None))
 
     def _note_spent(self) -> None:
-        queue = self.session._queue                # pylint: disable=protected-access  # which keeps the budget's books
-        if queue.left:
-            self._known = self.settings.steps - queue.left
+        left = self.session.backend.queue.left
+        if left:
+            self._known = self.settings.steps - left
 
     def end_if_stopped(self, patience: float) -> bool:
         """Ends a program that has used no processor for so many seconds while the reply to a command is awaited: it is stopped, or

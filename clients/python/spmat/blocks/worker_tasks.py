@@ -108,7 +108,7 @@ def of_edges(store: Store, bare: bool, shape: Tuple[int, int], parts: Sequence[f
     rows, at, values = columns[0] - 1, columns[1] - 1, columns[2] if not bare else columns[0] * 0 + 1
     triples = Triples(rows, at, values, *shape)
     if op is not None:
-        return store.piece(store.session._from(triples, op))   # pylint: disable=protected-access  # which folds as one session does
+        return store.piece(store.session.from_coo(*triples, dup_op=op))
     if weighted:
         again = first_repeated(triples)
         assert again is not None

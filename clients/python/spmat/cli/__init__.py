@@ -7,8 +7,6 @@ and `completion`. Results go to standard output, progress to standard error wher
 from __future__ import annotations
 
 import argparse
-import difflib
-import re
 import signal
 import sys
 from typing import Any, List, NoReturn, Optional
@@ -17,6 +15,7 @@ from .. import __version__
 from ..io.matrix_market import ENDINGS
 from . import algorithm_commands, completion, draw_commands, script_command, types_command
 from .exit_status import MEANINGS, PROGRAM, Status, finish
+from .grammar import Parser
 
 DESCRIPTION = 'Graph algorithms, pictures, operators and sessions of spmat, the job server for sparse integer matrices.'
 EPILOG = """examples:
@@ -35,26 +34,7 @@ from 1. `%%(prog)s COMMAND --help` tells more of each command. The server itself
 exit status:
 %s
 """
-SERVERS = ('run', 'serve')                         # words of the program spmat
 FORMER = 'run'                                     # what `script` is called where the program is `python3 -m spmat`
-
-
-class Parser(argparse.ArgumentParser):
-    """A grammar of words. What is wrong with them is told in one line; a word that is the server's as such."""
-
-    def error(self, message: str) -> NoReturn:
-        found = re.match(r"argument COMMAND: invalid choice: '([^']*)'", message)
-        if found:
-            message = self.no_command(found.group(1))
-        self.exit(Status.WORDS, '%s: %s (%s --help)\n' % (PROGRAM, message, self.prog))
-
-    def no_command(self, word: str) -> str:
-        """What is said of a word that is no command."""
-        if word in SERVERS:
-            return '`%s` is a command of the server, `spmat %s`; here `%s script FILE` runs a file of commands' % (word, word, self.prog)
-        names = next(tuple(action.choices or ()) for action in self._actions if action.dest == 'command')
-        near = difflib.get_close_matches(word.replace('_', '-'), names, 2)
-        return 'no command %s%s' % (word, ': did you mean %s?' % ' or '.join(near) if near else '')
 
 
 def epilog() -> str:

@@ -13,6 +13,7 @@ from .. import draw as pictures
 from ..matrix import Matrix
 from . import graph_options, output
 from .algorithm_table import ALGORITHMS, Algorithm, OPTIONS
+from .grammar import add_command
 from .session_options import add_session_options, open_session
 
 WIDTH = 100                                        # of descriptions
@@ -25,8 +26,7 @@ EXAMPLES = {'source': '--source 1', 'target': '--target 7', 'k': '--k 4', 'sourc
 def add_commands(commands: Any) -> None:
     """Adds a command for each algorithm."""
     for name, algorithm in ALGORITHMS.items():
-        command = commands.add_parser(name, help=algorithm.gives, description=description(algorithm),
-                                      formatter_class=argparse.RawDescriptionHelpFormatter, epilog=epilog(algorithm))
+        command = add_command(commands, name, algorithm.gives, description=description(algorithm), epilog=epilog(algorithm))
         graph_options.add_graph_options(command)
         for option in algorithm.options:
             grammar = dict(OPTIONS[option])

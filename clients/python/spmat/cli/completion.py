@@ -6,6 +6,7 @@ import shlex
 from typing import Any, Callable, Dict, Iterator, List, NamedTuple, Tuple
 
 from .exit_status import PROGRAM
+from .grammar import Parser, add_command
 
 EPILOG = """The packages install it. Elsewhere a line in the shell's own file does:
 
@@ -35,9 +36,8 @@ class Command(NamedTuple):
 
 def add_commands(commands: Any) -> None:
     """Adds the command, which knows all that were added before it."""
-    command = commands.add_parser('completion', help='what makes a shell complete these words', epilog=EPILOG,
-                                  description='Prints what makes a shell complete the words of spmat-graph.',
-                                  formatter_class=argparse.RawDescriptionHelpFormatter)
+    command = add_command(commands, 'completion', 'what makes a shell complete these words', epilog=EPILOG,
+                          description='Prints what makes a shell complete the words of spmat-graph.')
     command.add_argument('shell', choices=sorted(SHELLS), help='which shell')
     command.set_defaults(run=lambda options: run(options, commands), parser=command)
 
@@ -50,18 +50,17 @@ def run(options: argparse.Namespace, commands: Any) -> int:
 
 def grammar(commands: Any) -> Dict[str, Command]:
     """The commands of a parser, with their options."""
-    helps = {action.dest: action.help or '' for action in commands._get_subactions()}     # pylint: disable=protected-access  # argparse has no other list
-    return {name: command_of(parser, helps.get(name, '')) for name, parser in commands.choices.items()}
+    return {name: command_of(parser) for name, parser in commands.choices.items()}
 
 
-def command_of(parser: argparse.ArgumentParser, help: str) -> Command:           # pylint: disable=redefined-builtin  # as argparse calls it
+def command_of(parser: Parser) -> Command:
     """A command of its grammar."""
-    actions = parser._actions                      # pylint: disable=protected-access  # argparse has no other list
+    actions = parser.arguments
     options = [Option(tuple(action.option_strings), plain(action.help or ''), action.nargs != 0, tuple(action.choices or ()),
-                      action.metavar in FILES, isinstance(action, argparse._AppendAction))     # pylint: disable=protected-access
+                      action.metavar in FILES, parser.repeats(action))
                for action in actions if action.option_strings]
     first = next((action for action in actions if not action.option_strings), None)
-    return Command(help, options, tuple(first.choices or ()) if first is not None else (), first is not None and first.metavar in FILES)
+    return Command(parser.summary, options, tuple(first.choices or ()) if first is not None else (), first is not None and first.metavar in FILES)
 
 
 def plain(text: str) -> str:

@@ -8,6 +8,7 @@ from typing import Any, Callable
 from .. import draw
 from ..matrix import Matrix
 from . import graph_options, output
+from .grammar import add_command
 from .session_options import add_session_options, open_session
 
 SPY = """Up to 256 rows and columns each entry is a square. Above that it is the density in a raster, which the server counts.
@@ -23,10 +24,10 @@ example:
 
 def add_commands(commands: Any) -> None:
     """Adds both."""
-    spy = commands.add_parser('spy', help='a picture of where a matrix has its entries', epilog=SPY,
-                              description='Draws where a matrix has its entries.', formatter_class=argparse.RawDescriptionHelpFormatter)
-    graph = commands.add_parser('draw', help='a picture of a graph', epilog=DRAW, description='Draws a graph: its vertices, and a line or '
-                                'an arrow for each edge.', formatter_class=argparse.RawDescriptionHelpFormatter)
+    spy = add_command(commands, 'spy', 'a picture of where a matrix has its entries', epilog=SPY,
+                      description='Draws where a matrix has its entries.')
+    graph = add_command(commands, 'draw', 'a picture of a graph', epilog=DRAW,
+                        description='Draws a graph: its vertices, and a line or an arrow for each edge.')
     for command, picture, needs in ((spy, spied, graph_options.Needs(rectangular=True)), (graph, drawn, graph_options.Needs())):
         graph_options.add_graph_options(command)
         command.add_argument('--plot', metavar='FILE.png', required=True, help='where the picture goes; wants matplotlib')

@@ -14,6 +14,7 @@ from ..operators import Operator
 from . import graph_options
 from .exit_status import Ended, Status, reading, status_of
 from .output import Result, add_form_options, lines as lines_of
+from .grammar import add_command
 from .session_options import add_session_options, open_session
 
 EPILOG = """The lines of SCRIPT are the commands of docs/protocol.md, without the lengths of bodies, which are counted here:
@@ -47,9 +48,8 @@ class Command(NamedTuple):
 
 def add_commands(commands: Any, aliases: Sequence[str] = ()) -> None:
     """Adds the command, also by other names."""
-    command = commands.add_parser('script', aliases=aliases, help='the commands of a session, with files by name', epilog=EPILOG,
-                                  description='Runs the commands of a session, with files by name.',
-                                  formatter_class=argparse.RawDescriptionHelpFormatter)
+    command = add_command(commands, 'script', 'the commands of a session, with files by name', aliases=aliases, epilog=EPILOG,
+                          description='Runs the commands of a session, with files by name.')
     command.add_argument('script', metavar='SCRIPT', help='a file of commands, or - for standard input')
     command.add_argument('--keep-going', action='store_true', help='go on behind a refused command')
     add_form_options(command)

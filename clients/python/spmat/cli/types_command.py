@@ -9,6 +9,7 @@ from typing import Any, List
 from ..operators import KINDS, Operator, READY, asm, clang as from_c, code, dataflow, diagnostics
 from . import output
 from .exit_status import Ended, Status, reading
+from .grammar import add_command
 from .session_options import add_session_options, open_session
 
 EPILOG = """OPERATOR is a file of assembly text (.asm), of code in hexadecimal (.hex) or of C (.c), or a ready operator, as
@@ -23,9 +24,8 @@ examples:
 
 
 def add_commands(commands: Any) -> None:
-    command = commands.add_parser('types', help='an operator beside what the verifier knows', epilog=EPILOG,
-                                  description='Shows an operator beside what the verifier knows at each line.',
-                                  formatter_class=argparse.RawDescriptionHelpFormatter)
+    command = add_command(commands, 'types', 'an operator beside what the verifier knows', epilog=EPILOG,
+                          description='Shows an operator beside what the verifier knows at each line.')
     command.add_argument('operator', metavar='OPERATOR', help='a file, or KIND.NAME of a ready operator')
     command.add_argument('--kind', choices=KINDS, help='which operands a call has (wanted for .asm and .hex)')
     command.add_argument('--function', metavar='NAME', help='which function of a C file with several')

@@ -5,9 +5,6 @@ themselves. `run` stands only before a job that wants a result, so the last jobs
 """
 from __future__ import annotations
 
-# a session and its matrices keep one another's books
-# pylint: disable=protected-access
-
 import weakref
 from typing import TYPE_CHECKING, Dict, FrozenSet, Iterable, List, NamedTuple, Optional, Sequence, Set, Tuple
 
@@ -96,7 +93,7 @@ class Renderer:
 
     def __init__(self, session: 'Session', traced: Traced, show: Sequence[str]) -> None:
         self.traced = traced
-        self._ops = [[session._upload(op).encode() for op in job.ops] for job in traced.jobs]
+        self._ops = [[session.backend.upload(op).name.encode() for op in job.ops] for job in traced.jobs]
         self._templates: Dict[Tuple[Tuple[bytes, ...], FrozenSet[bytes], Tuple[Pending, ...]], Template] = {}
         self._labels: Dict[Value, List[str]] = {}
         for name, value in traced.out.items():
@@ -105,7 +102,7 @@ class Renderer:
         self._shown = {traced.out[name] for name in show if isinstance(traced.out[name], Made)}
         self.constants = _constants(traced)
         size = max((job.shape[0] + job.most.entries for job in traced.jobs), default=0)
-        self.names = OwnNames(session._names, size)
+        self.names = OwnNames(session.backend.names, size)
 
     def template(self, names: StateNames, held: FrozenSet[bytes], pending: Tuple[Pending, ...]) -> Template:
         """The commands of a round: `names` are those of the state, `held` those that it mustn't write."""
@@ -117,7 +114,7 @@ class Renderer:
     def key(self, value: Value, names: StateNames, made: Dict[int, bytes]) -> bytes:
         """The server's name of a value."""
         if isinstance(value, Matrix):
-            return value._key.encode()
+            return value.handle.key.encode()
         return names[value.name] if isinstance(value, Given) else made[value.job]
 
     def labels(self, job: int) -> Tuple[str, ...]:

@@ -5,13 +5,11 @@ state is there as it was.
 """
 from __future__ import annotations
 
-# a session and its matrices keep one another's books
-# pylint: disable=protected-access
-
 import collections
 from typing import TYPE_CHECKING, Deque, Dict, FrozenSet, List, NamedTuple, Optional, Sequence, Set, Tuple
 
-from .._client.connection import Ahead
+from .._client.commands import CommandBatch
+from .._client.handles import Handle
 from .._client.job_queue import AMPLE, MOST_PRICE
 from ..io.matrix_text import MOST_SIDE
 from ..matrix import Matrix
@@ -45,7 +43,7 @@ class Round(NamedTuple):
     bodies: Dict[str, Body]
 
 
-class Trip(Ahead):
+class Trip(CommandBatch):
     """Rounds that are sent together."""
 
     def __init__(self, start: Place, templates: List[Template], ends: Sequence[Counted], ends_shown: Sequence[Tuple[int, Tuple[str, ...]]],
@@ -111,7 +109,7 @@ class Trips:
         self.renderer = Renderer(session, traced, show)
         for matrix in [*state.values(), *self.renderer.constants]:
             matrix.wait()
-            assert matrix._key                     # what the client has is sent by this
+            assert matrix.handle.key                     # what the client has is sent by this
         self._given = {name: value.name for name, value in traced.out.items() if isinstance(value, Given)}
         self._fixed = {name: value.nvals for name, value in traced.out.items() if isinstance(value, Matrix)}
         self.shapes = {name: matrix.shape for name, matrix in state.items()}
@@ -136,24 +134,24 @@ class Trips:
     def bearable(self, rounds: int) -> int:
         """How many of so many rounds may go in one trip now, so that nothing in it can be refused for want of steps; 0 where that can't
         be said of one."""
-        queue = self.session._queue
-        left = queue.left - (AMPLE if queue._shared else 0)
+        queue = self.session.backend.queue
+        left = queue.left - (AMPLE if queue.shared else 0)
         sure = left // max(1, SPARE * self.steps) if left > 0 else 0
         return min(rounds, sure, MOST_ROUNDS if self.is_sure else MOST_UNSURE)
 
     def post(self, rounds: int) -> int:
         """Sends so many rounds, or fewer where their text is long; how many."""
         session = self.session
-        with session._turn():
+        with session.backend.turn():
             flush(session)
             trip = self._trip(rounds)
             if len(trip.text) > MOST_BYTES and len(trip.templates) > 1:
                 trip = self._trip(max(1, len(trip.templates) * MOST_BYTES // len(trip.text)))
             session.connection.post(trip)
-            session._queue.runs += trip.text.count(b'run\n')
-            session.jobs += len(trip.templates) * len(self.renderer.traced.jobs)
+            session.backend.queue.runs += trip.text.count(b'run\n')
+            session.backend.jobs += len(trip.templates) * len(self.renderer.traced.jobs)
             self.under_way.append(trip)
-            session._queue.left -= self.steps * len(trip.templates)
+            session.backend.queue.left -= self.steps * len(trip.templates)
             self.trips += 1
             return len(trip.templates)
 
@@ -217,8 +215,8 @@ class Trips:
         """What the budget has for sure, as the end of a trip says."""
         others = sum(len(trip.templates) for trip in self.under_way) - (len(self.under_way[0].templates) if self.under_way else 0)
         left, reserved = map(int, replies.rsplit(None, 3)[-3:-1])
-        self.session._queue.note_budget(left, reserved)
-        self.session._queue.left -= others * self.steps
+        self.session.backend.queue.note_budget(left, reserved)
+        self.session.backend.queue.left -= others * self.steps
 
     def accept(self, rounds: List[Round]) -> None:
         """The first trip under way is what the loop goes on from."""
@@ -240,7 +238,7 @@ class Trips:
     def matrices(self) -> State:
         """The state, as matrices that have their names from now on."""
         session, place = self.session, self.place
-        with session._turn():
+        with session.backend.turn():
             for name, key in place.names.items():
                 if key not in place.matrices:
                     place.matrices[key] = self._matrix(key, name, place)
@@ -249,13 +247,13 @@ class Trips:
     def _matrix(self, key: bytes, name: str, place: Place) -> Matrix:
         self.renderer.hand_over(key)
         rows, columns = self.shapes[name]
-        self.session._names.bound(key.decode(), rows, place.counts[name])
-        made = Matrix(self.session, key.decode(), rows, columns, place.counts[name], name=name)
+        self.session.backend.names.bound(key.decode(), rows, place.counts[name])
+        made = Matrix(self.session, Handle(key.decode(), place.counts[name]), (rows, columns), name)
         made.notes = self.renderer.traced.notes[name]
         return made
 
 
 def place_of(state: State, number: int) -> Place:
     """A place of matrices."""
-    names = {name: matrix._key.encode() for name, matrix in state.items()}
+    names = {name: matrix.handle.key.encode() for name, matrix in state.items()}
     return Place(number, names, {names[name]: matrix for name, matrix in state.items()}, {name: matrix.nvals for name, matrix in state.items()})

@@ -5,12 +5,10 @@ way in which a method could mean something else.
 """
 from __future__ import annotations
 
-# a session and its matrices keep one another's books
-# pylint: disable=protected-access
-
 import inspect
 from typing import TYPE_CHECKING, Any, Callable, Dict, List, Mapping, NamedTuple, NoReturn, Optional, Sequence, Tuple, Union, cast
 
+from .._client.handles import Handle
 from .._client.job_queue import Most, most_of
 from ..io.matrix_text import MOST_SIDE
 from ..matrix import Matrix
@@ -85,8 +83,7 @@ class TracedMatrix(Matrix):
     is_traced = True
 
     def __init__(self, tracer: 'Tracer', shape: Tuple[int, int], most: int, label: str) -> None:
-        super().__init__(cast('Session', tracer), '', shape[0], shape[1], None, name=label)
-        self._most = min(most, MOST_SIDE)
+        super().__init__(cast('Session', tracer), Handle('', None, min(most, MOST_SIDE)), shape, label)
 
     def _none(self) -> NoReturn:
         raise NotTraced(NO_ENTRIES % self.name)
@@ -129,21 +126,22 @@ class _Asked(NamedTuple):
 
 
 class Tracer:
-    """What traced matrices take for their session."""
+    """What traced matrices take for their session, and for what submits its jobs."""
 
     def __init__(self, session: 'Session') -> None:
         self.session = session
+        self.backend = self
         self.connection = session.connection
         self.asked: List[_Asked] = []
 
-    def _submit(self, form: str, ops: Sequence[Operator], operands: Sequence[Matrix], shape: Tuple[int, int],
-                thunk: Optional[int] = None, mask: Optional[Matrix] = None, name: Optional[str] = None) -> Matrix:
+    def submit(self, form: str, ops: Sequence[Operator], operands: Sequence[Matrix], shape: Tuple[int, int],
+               thunk: Optional[int] = None, mask: Optional[Matrix] = None, name: Optional[str] = None) -> Matrix:
         """Notes a job."""
         for matrix in [*operands, *([mask] if mask is not None else [])]:
             if cast(Any, matrix.session) not in (self, self.session):
                 raise ValueError('a matrix of another session, or of another loop')
-            matrix._check_made()
-        length = sum(self.session._length_of(op) for op in ops)
+            matrix.handle.check_made()
+        length = sum(self.session.backend.length_of(op) for op in ops)
         most = most_of(form, length, operands, mask, shape)
         made = TracedMatrix(self, shape, most.entries, name or 'the result of %s' % form)
         self.asked.append(_Asked(form, tuple(ops), tuple(operands), mask, thunk, made, most))
@@ -156,8 +154,9 @@ class Tracer:
         """A row of ones, of the session."""
         return self.session.ones(ncols)
 
-    def _length_of(self, op: Operator) -> int:
-        return self.session._length_of(op)
+    def length_of(self, op: Operator) -> int:
+        """The number of an operator's instructions, as the session has it."""
+        return self.session.backend.length_of(op)
 
     def __getattr__(self, name: str) -> Any:
         raise NotTraced('a step of a loop is traced, and asks for jobs alone: `%s` of the session is to be called before the loop' % name)

@@ -4,12 +4,9 @@ Where the client decides what is next, such a step is all that the server does i
 """
 from __future__ import annotations
 
-# a session and its matrices keep one another's books
-# pylint: disable=protected-access
-
 from typing import TYPE_CHECKING, Optional
 
-from .._client.connection import Ahead
+from .._client.commands import CommandBatch
 from ..io import matrix_text
 from ..io.matrix_text import Triples
 from ..matrix import Matrix
@@ -29,24 +26,25 @@ class Push:
     def __init__(self, graph: Matrix, ring: Semiring) -> None:
         session = graph.session
         self.session, self.graph = session, graph.wait()
-        self._names = OwnNames(session._names, graph.ncols)
+        self._names = OwnNames(session.backend.names, graph.ncols)
         self._row = self._names.free(set())
         made = self._names.free({self._row})
-        ops = [session._upload(op).encode() for op in (ring.add, ring.mul)]
-        self._rest = b'product %s %s %s %s\nrun\nshow %s\nbudget\n' % (made, b' '.join(ops), self._row, graph._key.encode(), made)
+        ops = [session.backend.upload(op).name.encode() for op in (ring.add, ring.mul)]
+        self._rest = b'product %s %s %s %s\nrun\nshow %s\nbudget\n' % (made, b' '.join(ops), self._row, graph.handle.key.encode(), made)
 
     def __call__(self, entries: Triples) -> Optional[Entries]:
         """The row that the product is: places and values. None where the server refuses the job, whatever for."""
         session = self.session
         text = matrix_text.write(_listed(entries), ones=True)
-        ahead = Ahead(b'matrix %s %d\n%s\n%s' % (self._row, len(text), text, self._rest), 5)
-        with session._turn():
+        batch = CommandBatch(b'matrix %s %d\n%s\n%s' % (self._row, len(text), text, self._rest), 5)
+        backend = session.backend
+        with backend.turn():
             flush(session)
-            session.connection.post(ahead)
-            session._queue.runs += 1
-            session.jobs += 1
-            replies = session.connection.collect(ahead)
-            session._queue.note_budget(*map(int, replies.rsplit(None, 3)[-3:-1]))
+            session.connection.post(batch)
+            backend.queue.runs += 1
+            backend.jobs += 1
+            replies = session.connection.collect(batch)
+            backend.queue.note_budget(*map(int, replies.rsplit(None, 3)[-3:-1]))
         at = replies.find(b'ok show ')
         head = replies if at < 0 else replies[:at]
         if at < 0 or head.startswith(b'no ') or b'\nno ' in head:
@@ -66,7 +64,8 @@ def _listed(entries: Triples) -> Triples:
 
 def flush(session: 'Session') -> None:
     """Sends and runs what waits in a session, so that no other run takes it for its own."""
-    if len(session._queue) or session._queue.running:
+    queue = session.backend.queue
+    if len(queue) or queue.running:
         session.run()
-    if len(session._outbox):
-        session._exchange()
+    if session.connection.waiting:
+        session.connection.exchange()

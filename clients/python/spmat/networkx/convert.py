@@ -2,7 +2,7 @@
 from __future__ import annotations
 
 # networkx calls these by the names of its own arguments, served or not
-# pylint: disable=unused-argument,protected-access
+# pylint: disable=unused-argument
 
 from typing import Any, Dict, Iterator, List, Optional, Set, Tuple
 

@@ -2,7 +2,7 @@
 from __future__ import annotations
 
 # _adj is what a networkx graph is, and its backends know one another by protected names
-# pylint: disable=protected-access,unused-argument
+# pylint: disable=unused-argument
 
 import itertools
 from typing import Any, Dict, Iterable, List, NamedTuple, Optional, Tuple
@@ -49,11 +49,12 @@ def sequence(items: Iterable[int], count: int) -> Any:
 
 def positions(graph: Any) -> Positions:
     """The positions of a graph, in the order of its adjacency."""
-    adjacency = graph._adj
+    adjacency = dict(graph.adjacency())
     nodes = list(graph)
     places = {node: at for at, node in enumerate(nodes)}
     # networkx 3.6: len() of a neighbourhood in a filtered view of a multigraph counts neighbours that iterating leaves out
-    lengths = list(map(len, adjacency.values() if isinstance(adjacency, dict) else map(list, adjacency.values())))
+    is_filtered = not set(map(type, adjacency.values())) <= {dict}
+    lengths = list(map(len, map(list, adjacency.values()) if is_filtered else adjacency.values()))
     ends: Iterable[Any] = itertools.chain.from_iterable(adjacency.values())
     if not (set(map(type, nodes)) <= {int} and nodes == list(range(len(nodes)))):
         ends = map(places.__getitem__, ends)
@@ -82,7 +83,7 @@ def _loops(rows: Any, columns: Any) -> List[int]:
 
 def edge_data(graph: Any) -> List[Any]:
     """The attributes at each entry: networkx' dict of an edge, or of a multigraph {key: dict}."""
-    return [data for near in graph._adj.values() for data in near.values()]
+    return [data for _, near in graph.adjacency() for data in near.values()]
 
 
 FOLDS: Dict[str, Any] = {'min': min, 'max': max, 'plus': sum}

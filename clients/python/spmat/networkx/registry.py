@@ -2,7 +2,7 @@
 from __future__ import annotations
 
 # _adj is what a networkx graph is, and its backends know one another by protected names
-# pylint: disable=protected-access,unused-argument
+# pylint: disable=unused-argument
 
 import functools
 import inspect
@@ -80,7 +80,7 @@ class Backend:
         """networkx' tests ask for scipy.sparse.sparray, which scipy has from 1.11 on."""
         import scipy.sparse
         if not hasattr(scipy.sparse, 'sparray'):
-            scipy.sparse.sparray = scipy.sparse._arrays._sparray
+            scipy.sparse.sparray = scipy.sparse.csr_array.__mro__[1]
 
 
 backend = Backend
@@ -138,15 +138,16 @@ def _little(name: str, graph: Any) -> Optional[str]:
 
 @functools.lru_cache(maxsize=None)
 def _signature(name: str) -> inspect.Signature:
-    return inspect.signature(nx.utils.backends._registered_algorithms[name].orig_func)     # pylint: disable=no-member
+    places = (nx, nx.algorithms.bipartite, nx.algorithms.dag)
+    return inspect.signature(next(vars(place)[name].orig_func for place in places if hasattr(vars(place).get(name), 'orig_func')))
 
 
 def _edges(graph: Any, enough: int) -> int:
     """The number of a graph's edges; of a large graph no more than that they are enough."""
-    if not hasattr(graph, '_adj'):
+    if not hasattr(graph, 'adjacency'):
         return int(graph.number_of_edges())
     ends = 0
-    for near in graph._adj.values():
+    for _, near in graph.adjacency():
         ends += len(near)
         if ends >= 2 * enough:
             break

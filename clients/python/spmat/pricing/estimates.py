@@ -1,14 +1,12 @@
 """What a call will cost, before it does any work; and what is said where a budget is too small for it."""
 from __future__ import annotations
 
-# a session and its matrices keep one another's books
-# pylint: disable=protected-access
-
 import contextlib
 import inspect
 import threading
 from typing import TYPE_CHECKING, Any, Callable, Dict, Iterator, List, NamedTuple, NoReturn, Optional, Sequence, Tuple
 
+from .._client.handles import Handle
 from .._client.job_queue import most_of
 from ..errors import BudgetExceeded
 from ..matrix import Matrix
@@ -80,14 +78,14 @@ class Price(Asked):
     def foresee(self, session: Session, form: str, ops: Sequence[Operator], operands: Sequence[Matrix], mask: Optional[Matrix],
                 shape: Tuple[int, int]) -> Matrix:
         """Notes the most that a job can take."""
-        length = sum(session._length_of(op) for op in ops)
+        length = sum(session.backend.length_of(op) for op in ops)
         most = most_of(form, length, operands, mask, shape)
         if form == 'product':
             terms = _terms(*operands)
             most = most._replace(terms=terms, steps=terms * length, entries=min(terms, most.entries))
         self.jobs.append(Foreseen(form, most.steps))
         made = stand(operands[0].session, shape, 0)
-        made._most = most.entries
+        made.handle.most = most.entries
         made.within = mask if mask is not None else operands[0] if form in ('apply', 'select', 'both') else None
         return made
 
@@ -100,6 +98,14 @@ class Unforeseen(Exception):
     """A result is wanted that isn't made."""
 
 
+class Foretold(Handle):
+    """The handle of a result that is only foreseen."""
+
+    def check_readable(self) -> NoReturn:
+        """It has no entries."""
+        raise Unforeseen()
+
+
 class Stand(Matrix):
     """What stands for the result of a job that is only foreseen. Its entries stand where `within` has some, if that is known, and at all
     of these places where `whole` is set; there are `least` at the least."""
@@ -108,9 +114,6 @@ class Stand(Matrix):
     whole = False
     least = 0
     turned: Optional[Matrix] = None                # the matrix whose transpose it is, if one is known
-
-    def _check_usable(self) -> NoReturn:
-        raise Unforeseen()
 
 
 def price(call: Callable[[], Any]) -> Price:
@@ -176,8 +179,8 @@ def granted(facts: Dict[str, Any]) -> Iterator[None]:
 
 def stand(session: Session, shape: Tuple[int, int], entries: int) -> Stand:
     """What stands for a matrix with so many entries."""
-    made = Stand(session, '', shape[0], shape[1], None, name='foreseen')
-    made._most = made.least = entries
+    made = Stand(session, Foretold('', None, entries), shape, 'foreseen')
+    made.least = entries
     return made
 
 
@@ -185,7 +188,7 @@ def _terms(first: Matrix, second: Matrix) -> int:
     """The most terms of a product: of matrices that are there their number, of others the most that what they stand within has."""
     a, b = _within(first), _within(second)
     if a is None or b is None:
-        return min(first._most * second.ncols, first.nrows * second._most)
+        return min(first.handle.most * second.ncols, first.nrows * second.handle.most)
     columns, rows = counted(a)[1], counted(b)[0]
     return sum(many * rows.get(k, 0) for k, many in columns.items())
 

@@ -5,9 +5,6 @@ the client knows them, an operator takes its shortest way, and what only a resul
 """
 from __future__ import annotations
 
-# a session and its matrices keep one another's books
-# pylint: disable=protected-access
-
 import functools
 from typing import TYPE_CHECKING, Any, Callable, Dict, List, NamedTuple, Optional, Sequence, Tuple, TypeVar, cast
 
@@ -58,7 +55,7 @@ class Certain(Asked):
         self.steps += least.steps
         many = operands if mask is None else [*operands, mask]
         made = stand(session, shape, max(least.entries, _chosen(ops[0], operands[0]) if form == 'select' and mask is None else 0))
-        made._most = most_of(form, 1, operands, mask, shape).entries
+        made.handle.most = most_of(form, 1, operands, mask, shape).entries
         if form in ('apply', 'union', 'both') and len({id(_root(matrix)) for matrix in many}) == 1:
             made.within, made.whole = operands[0], True
         return made
@@ -80,7 +77,7 @@ class Certain(Asked):
         size, first = sizes[0], operands[0]
         if form == 'reduce':
             rows = -(-_entries(first) // max(1, first.ncols))
-            calls = 0 if mask is not None else max(0, _entries(first) - min(first.nrows, first._most))
+            calls = 0 if mask is not None else max(0, _entries(first) - min(first.nrows, first.handle.most))
             return Least(calls * size.length, calls * size.shortest, rows if mask is None else 0)
         calls = _overlap(operands if mask is None else [*operands, mask])
         entries = {'select': 0, 'union': max(map(_entries, operands)) if mask is None else 0}.get(form, calls)
@@ -116,21 +113,21 @@ class Certain(Asked):
         """Whether one is known to be the transpose of the other, but for values."""
         if a is b:
             return a.directed is False or bool(a.kept.get('both ways')) or bool(self._taken.get((id(a), 'both ways'), (None, False))[1])
-        turned = a._transposed() if a._transposed is not None else None
+        turned = a.handle.transposed() if a.handle.transposed is not None else None
         return turned is b or a.kept.get('transpose') is b or b.kept.get('transpose') is a or getattr(b, 'turned', None) is a
 
 
 def turned(matrix: Matrix) -> Matrix:
     """What stands for a transpose."""
     made = stand(matrix.session, (matrix.ncols, matrix.nrows), _entries(matrix))
-    made._most, made.turned = matrix._most, _root(matrix)
+    made.handle.most, made.turned = matrix.handle.most, _root(matrix)
     made.notes = matrix.notes
     return made
 
 
 def _entries(matrix: Matrix) -> int:
     """The entries at the least."""
-    return matrix.least if isinstance(matrix, Stand) else matrix._nvals or 0
+    return matrix.least if isinstance(matrix, Stand) else matrix.handle.nvals or 0
 
 
 def _root(matrix: Matrix) -> Matrix:
@@ -188,8 +185,8 @@ def guarded(function: F) -> F:
 
 
 def _check_budget(graph: Matrix, function: Callable[..., Any], args: Tuple[Any, ...], named: Dict[str, Any]) -> None:
-    left = graph.session._queue.ceiling
-    if left >= AN_ENTRY * (graph._most + sum(graph.shape) + 1) or any(hasattr(one, '__next__') for one in (*args, *named.values())):
+    left = graph.session.backend.queue.ceiling
+    if left >= AN_ENTRY * (graph.handle.most + sum(graph.shape) + 1) or any(hasattr(one, '__next__') for one in (*args, *named.values())):
         return
     try:
         needed = needed_by(lambda: function(*args, **named))

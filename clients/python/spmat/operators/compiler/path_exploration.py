@@ -3,9 +3,9 @@ False. What a way knows, by answers and by ranges, answers later questions: a lo
 """
 from __future__ import annotations
 
+import inspect
 import linecache
 import os
-import sys
 from types import FrameType
 from typing import Callable, Dict, List, NamedTuple, Optional, Sequence, Tuple
 
@@ -45,7 +45,7 @@ class Path:
     def fault(self, text: str) -> CompileError:
         """What is wrong, to be raised. It counts also where the function catches it."""
         if self.refused is None:
-            self.refused, self.line = CompileError(text), line_of(sys._getframe(1))  # pylint: disable=protected-access
+            self.refused, self.line = CompileError(text), line_of(inspect.currentframe())
         return self.refused
 
     # -- questions
@@ -89,7 +89,7 @@ class Path:
         expected, answer = self.plan[len(self.taken)] if len(self.taken) < len(self.plan) else (c, True)
         if expected is not c:
             raise Impure
-        self.lines.append(line_of(sys._getframe(2)))  # pylint: disable=protected-access
+        self.lines.append(line_of(inspect.currentframe()))
         self.taken.append((c, answer))
         self._learn(c, answer)
         return answer

@@ -1,0 +1,56 @@
+"""What is sent to a server: a command with what is done with its reply or its loss, and batches of commands whose replies are read as one."""
+from __future__ import annotations
+
+from typing import Any, Callable, Optional, Union
+
+from ..errors import Closed, Near, Refused
+from .replies import Incoming, Raw, Reply
+
+WORDS_WITH_BODY = {'matrix': 2, 'asm': 3, 'op': 3}
+
+Answer = Union[Reply, Refused]
+
+
+def _ignore(_: object) -> None:
+    pass
+
+
+class Command:
+    """A command: its line, without the length of its body; the body, where it has one; and what gives the line at a place of it. `done` gets
+    its reply, and `lost` the reason where there is none: its refusal, or the end of the session. Of one that `matters` a refusal makes
+    everything behind it doubtful. `jobs` is how many jobs it runs. `answer` is there once it was answered."""
+
+    __slots__ = ('line', 'body', 'near', 'done', 'lost', 'matters', 'jobs', 'answer')
+
+    def __init__(self, line: str, body: Optional[bytes] = None, near: Optional[Near] = None, *, done: Callable[[Reply], Any] = _ignore,
+                 lost: Callable[[BaseException], Any] = _ignore, matters: bool = False, jobs: int = 0) -> None:
+        words = line.split(None, 1)
+        if '\n' in line or not words:
+            raise ValueError('a command is one line with words')
+        if (words[0] in WORDS_WITH_BODY) != (body is not None):
+            raise ValueError('`matrix`, `asm` and `op` have a body, and no other command')
+        self.line, self.body, self.near = line, body, near
+        self.done, self.lost, self.matters, self.jobs = done, lost, matters, jobs
+        self.answer: Optional[Answer] = None
+
+    def read(self, incoming: Incoming) -> Raw:
+        """The next reply as it came. Closed where it is none."""
+        raw = incoming.next()
+        if raw.words[:1] != ['ok'] and not raw.first.startswith('no '):
+            raise Closed('the reply is none of spmat: `%.200s`' % raw.first)
+        return raw
+
+
+class CommandBatch:
+    """Commands whose replies are read as one; the last is `budget`. `replies` has them, once they are there."""
+
+    def __init__(self, text: bytes, commands: int) -> None:
+        self.text, self.commands = text, commands
+        self.replies: Optional[bytes] = None
+
+    def read(self, incoming: Incoming) -> bytes:
+        """All replies, up to that of `budget`."""
+        return incoming.through(b'ok budget ')
+
+    def lost(self, cause: BaseException) -> None:
+        """They never come. Whoever collects them hears that the session has ended."""
