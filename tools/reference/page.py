@@ -50,8 +50,9 @@ def member(kind: Any, name: str, of: str) -> str:
 
 
 def public(kind: Any) -> List[str]:
-    """The members of a class that users call."""
-    names = [name for name in sorted(dir(kind)) if (name == '__getitem__' or not name.startswith('_')) and name not in subjects.INNER]
+    """The members of a class that users call, each by its first name."""
+    names = [name for name in sorted(dir(kind)) if (name == '__getitem__' or not name.startswith('_'))
+             and getattr(getattr(kind, name), '__name__', name) == name]
     return [name for name in names
             if inspect.getdoc(getattr(kind, name)) and (callable(getattr(kind, name)) or isinstance(inspect.getattr_static(kind, name), property))]
 

@@ -9,14 +9,14 @@ class Subject(NamedTuple):
 
 
 SESSION = (
-    Subject('Open, run, close', ('connect', 'run', 'runs', 'budget', 'close')),
-    Subject('Build a matrix', ('from_edgelist', 'from_coo', 'from_triples', 'from_dense', 'from_text', 'full', 'identity', 'adopt')),
+    Subject('Open, run, close', ('connect', 'run', 'runs', 'jobs', 'budget', 'close')),
+    Subject('Build a matrix', ('from_edgelist', 'from_coo', 'from_triples', 'from_dense', 'from_text', 'full', 'ones', 'identity', 'adopt')),
     Subject('Convert from other libraries', ('from_networkx', 'from_pandas_edgelist', 'from_scipy_sparse')),
     Subject('Read and save files', ('read_graph', 'read_edgelist', 'mmread', 'save', 'load')),
     Subject('Look at an operator', ('check', 'dis', 'types')),
 )
 MATRIX = (
-    Subject('Shape, names and state', ('shape', 'nvals', 'nodes', 'row_nodes', 'column_nodes', 'directed', 'index', 'price', 'wait')),
+    Subject('Shape, names and state', ('shape', 'nvals', 'nodes', 'row_nodes', 'column_nodes', 'directed', 'index', 'price', 'steps', 'wait', 'waits')),
     Subject('Apply and select', ('apply', 'select', '__getitem__')),
     Subject('Element-wise operations', ('ewise_add', 'ewise_mult', 'isequal')),
     Subject('Products', ('mxm', 'mxv', 'vxm')),
@@ -43,9 +43,6 @@ ALGORITHM_MODULES = {
 }
 PICTURES = ('spy', 'degree_histogram', 'levels')
 BLOCKS = ('Sessions', 'Threads', 'Dask')
-# What sessions and matrices do for one another: no user calls it by name.
-INNER = {'keep', 'ones', 'new', 'waits', 'made', 'submit', 'cut_as', 'results', 'new_file', 'job', 'masked', 'check_shape', 'counts',
-         'read_text', 'in_one_place', 'is_named', 'is_traced', 'notes'}
 OTHERS = 'Others'
 
 

@@ -15,7 +15,7 @@ from typing import TYPE_CHECKING, Any, Dict, List
 
 if TYPE_CHECKING:
     from . import algorithms, draw
-    from ._client.job_queue import JobResult
+    from ._client.job_queue import Budget, JobResult
     from .errors import (BudgetExceeded, Busy, Closed, CompileError, DimensionMismatch, DomainMismatch, NoThread, NotMade,
                          NotSettled, OperatorRefused, OutOfMemory, ReadError, Refused, SpmatError, TextRefused, TooLarge)
     from .loops import Loop, empty, loop, steady
@@ -27,7 +27,7 @@ if TYPE_CHECKING:
     from .operators.compiler.symbolic_operands import cdiv, cmod, rsh, udiv, ult, umod, where
     from .operators.explanation import code_of, explain
     from .pricing.estimates import price
-    from .session import Budget, Session
+    from .session import Session
 
 
 def _version() -> str:
@@ -49,7 +49,7 @@ _PLACES: Dict[str, str] = {name: module for module, names in {
     'operators.clang': 'c',
     'errors': 'BudgetExceeded Busy Closed CompileError DimensionMismatch DomainMismatch NoThread NotMade NotSettled OperatorRefused '
               'OutOfMemory ReadError Refused SpmatError TextRefused TooLarge',
-    '_client.job_queue': 'JobResult',
+    '_client.job_queue': 'Budget JobResult',
     'loops': 'Loop empty loop steady',
     'mask': 'Mask',
     'matrix': 'Matrix bipartite',
@@ -58,7 +58,7 @@ _PLACES: Dict[str, str] = {name: module for module, names in {
     'operators.explanation': 'code_of explain',
     'pricing.estimates': 'price',
     'loops.fixpoint': 'fixpoint',
-    'session': 'Budget Session'}.items() for name in names.split()}
+    'session': 'Session'}.items() for name in names.split()}
 
 
 def __getattr__(name: str) -> Any:

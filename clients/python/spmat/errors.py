@@ -20,6 +20,7 @@ here once, in the words of docs/protocol.md and docs/bpf.md.
 """
 from __future__ import annotations
 
+import copy
 from typing import Any, Callable, Dict, Optional, Sequence, Tuple, Type
 
 SENTENCES: Dict[str, str] = {
@@ -151,6 +152,7 @@ class Refused(SpmatError):
         super().__init__(self.message())
 
     def message(self) -> str:
+        """What is said of it, as `str` gives it."""
         text = '%s: %s' % (self.rule, self.said or self.sentence)
         if self.rule in ('memory', 'thread') and self.numbers:
             text = text.replace('so many steps', '%d steps' % self.numbers[0])
@@ -324,3 +326,11 @@ def form_of(command: str) -> str:
     if word in COMMANDS:
         return 'it is written `%s`%s' % (COMMANDS[word], '; KIND is unary, binary or index' if 'KIND' in COMMANDS[word] else '')
     return 'commands are ' + ', '.join(COMMANDS)
+
+
+def without_frames(fault: BaseException) -> BaseException:
+    """The same exception without the frames that it came through, which would keep their matrices."""
+    try:
+        return copy.copy(fault).with_traceback(None)
+    except Exception:                              # pylint: disable=broad-exception-caught  # of whatever can't be copied
+        return SpmatError('%s: %s' % (type(fault).__name__, fault))

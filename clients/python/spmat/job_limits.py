@@ -6,16 +6,18 @@ runs. A product that is too large is made by halves of the rows of its left oper
 from __future__ import annotations
 
 import contextlib
-from typing import TYPE_CHECKING, Callable, List, Optional, Sequence
+from typing import TYPE_CHECKING, Callable, List, Optional, Sequence, TypeVar
 
 from .errors import Refused, SpmatError, TooLarge
+from .limits import MOST_PRICE, MOST_SIDE
 from .operators import Operator
 
 if TYPE_CHECKING:
+    from .algorithms.protocols import GraphMatrix
     from .matrix import Matrix
 
-MOST_TERMS = 16_777_216
-MOST_PRICE = 4_294_967_296
+M = TypeVar('M', bound='GraphMatrix')
+
 BY_PARTS = {'product': 'mxm(.., parts=True) makes it by parts of the rows', 'apply': '', 'select': '', 'reduce': '',
             'union': '', 'both': ''}
 SMALLER = 'select() some rows with "rowle" and "rowgt", and do them one after the other; spmat.blocks does so over several sessions'
@@ -48,17 +50,14 @@ def _words(rule: str, form: str, ops: Sequence[Operator], operands: Sequence['Ma
     if rule == 'J7':
         what = 'multiplications' if form == 'product' else 'entries of both together'
         number = '' if calls is None else '%s %s, and ' % (format(calls, ','), what)
-        return '%s%s is the most of a job%s: %s' % (number, format(MOST_TERMS, ','), '' if number else ' (%s)' % what, way)
+        return '%s%s is the most of a job%s: %s' % (number, format(MOST_SIDE, ','), '' if number else ' (%s)' % what, way)
     length = sum(operands[0].session.backend.length_of(op) for op in ops)
     reckoned = '' if calls is None else 'up to %s calls of %d instructions, which are %s steps, and ' % (
         format(calls, ','), length, format(calls * length, ','))
     return '%s%s is the most of a job: a shorter operator is cheaper, and %s' % (reckoned, format(MOST_PRICE, ','), way)
 
 
-Half = Callable[['Matrix'], 'Matrix']
-
-
-def in_parts(first: 'Matrix', job: Half) -> 'Matrix':
+def in_parts(first: M, job: Callable[[M], M]) -> M:
     """What a job gives, which makes each row of its result of the same row of `first`; where that is too large, by halves of the rows,
     joined by a union. TooLarge where one row is too dear, or the whole result has more entries than a matrix may have."""
     try:
@@ -69,11 +68,11 @@ def in_parts(first: 'Matrix', job: Half) -> 'Matrix':
     return _halves(first, job, 0, first.nrows)
 
 
-def _halves(first: 'Matrix', job: Half, start: int, end: int) -> 'Matrix':
+def _halves(first: M, job: Callable[[M], M], start: int, end: int) -> M:
     """Both halves, each by its halves where it is too large. They are joined at once: each part has 8 bytes for every row of the whole,
     and so no more parts are held at a time than halvings lead to one."""
     middle = (start + end) // 2
-    parts: List['Matrix'] = []
+    parts: List[M] = []
     for op, low, high in (('rowle', start, middle), ('rowgt', middle, end)):
         rows = first.select(op, middle - 1)
         try:

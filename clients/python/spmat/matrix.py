@@ -12,7 +12,7 @@ from .errors import TooLarge, refusal
 from .indexing import Signs, picked
 from .io import coo, matrix_text
 from .mask import Mask, as_mask
-from .operators import Op as Op, Operator, READY, Semiring, binary, find, find_semiring, indexunary, unary
+from .operators import Op, Operator, READY, Semiring, binary, find, find_semiring, indexunary, unary
 
 if TYPE_CHECKING:
     from ._client.handles import Handle
@@ -41,7 +41,7 @@ class Matrix(Signs):
         self.nrows, self.ncols = shape
         self.notes = metadata.NOTHING
         self.kept: Dict[str, Any] = {}             # what algorithms found out about it
-        key = handle.known_key
+        key = '' if handle.is_deferred else handle.key
         self.name = name or key
         if key:
             session.backend.hold(self, key)

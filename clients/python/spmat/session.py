@@ -3,11 +3,11 @@ from __future__ import annotations
 
 from typing import TYPE_CHECKING, Any, Dict, List, Optional, Tuple, Type, Union
 
+from . import limits
 from ._client.backend import Backend
-from ._client.connection import Connection, MOST_STEPS, Progress
-from ._client.deferred_upload import Kept
+from ._client.connection import Connection, Progress
 from ._client.handles import Handle
-from ._client.job_queue import Budget as Budget, JobResult as JobResult, Run  # pylint: disable=unused-import
+from ._client.job_queue import Budget, Run
 from ._client.server_program import Program
 from ._client.transport import Address
 from .errors import OperatorRefused, Refused, TextRefused, refusal
@@ -15,6 +15,7 @@ from .io import coo, matrix_market, matrix_text
 from .io.graph_files import Layout, Request, name_of
 from .io.importers import DupOp, Sources
 from .io.matrix_text import Triples
+from .limits import MOST_STEPS
 from .matrix import Matrix
 from .operators import Operator, diagnostics, find
 from .pricing import estimates
@@ -109,7 +110,7 @@ class Session(Sources[Matrix]):
         TextRefused names the line; `mmread` reads other texts too."""
         estimates.check_read()
         text = text.encode() if isinstance(text, str) else bytes(text)
-        if len(text) > matrix_text.MOST_TEXT:
+        if len(text) > limits.MOST_TEXT:
             raise refusal('S7', detail='the text has %d bytes' % len(text))
         backend = self.backend
         with backend.turn():
@@ -123,11 +124,6 @@ class Session(Sources[Matrix]):
             nrows, ncols, nvals = map(int, reply.words[1:4])
             backend.names.bound(key, nrows, nvals)
             return Matrix(self, Handle(key, nvals), (nrows, ncols), name)
-
-    def keep(self, entries: Triples) -> Matrix:
-        """A matrix of entries by ascending row and column, which aren't looked at. The client keeps them; they are sent when a job
-        wants them."""
-        return Kept(self, entries)
 
     def _from(self, triples: Triples, dup_op: DupOp = None, name: Optional[str] = None) -> Matrix:
         return self._of_triples(self._folded(triples, dup_op), False, name)
@@ -188,7 +184,7 @@ class Session(Sources[Matrix]):
     def full(self, nrows: int, ncols: int, value: int = 1, *, name: Optional[str] = None) -> Matrix:
         """A matrix with one value everywhere."""
         nrows, ncols = coo.side(nrows, 0, 'nrows'), coo.side(ncols, 0, 'ncols')
-        if nrows * ncols > matrix_text.MOST_SIDE:
+        if nrows * ncols > limits.MOST_SIDE:
             raise refusal('M4', detail='%d entries' % (nrows * ncols))
         return estimates.stood(self, (nrows, ncols), nrows * ncols) or self._from(coo.full(nrows, ncols, value), name=name)
 

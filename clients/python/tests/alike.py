@@ -79,6 +79,7 @@ METHODS = {
     'notes': [lambda g, mask: list(g.G.notes)],
     'nvals': [lambda g, mask: [g.G.nvals, g.G.apply('one').nvals]],
     'price': [lambda g, mask: [g.G.price, g.G.apply('one').price, g.G.mxm(g.G).price, g.A.T.price]],
+    'steps': [lambda g, mask: [(lambda made: (made.wait(), made.steps)[1])(g.G.apply('one')), g.A.T.steps]],
     'reduce_columnwise': [lambda g, mask: g.G.reduce_columnwise(MINUS), lambda g, mask: g.G.reduce_columnwise('plus', mask=g.R.S)],
     'reduce_rowwise': [lambda g, mask: g.G.reduce_rowwise(MINUS), lambda g, mask: g.G.reduce_rowwise('max', mask=~g.C.V)],
     'reduce_scalar': [lambda g, mask: [g.G.reduce_scalar(op) for op in ('plus', 'first', 'second', 'max')], lambda g, mask: g.A.select('rowgt', 99).reduce_scalar()],
@@ -197,7 +198,6 @@ SESSIONS = {
     'from_triples': [lambda s: s.from_triples([(0, 1, 5), (3, 0, 2)]), lambda s: s.from_triples([(0, 1, 5), (0, 1, 2)])],
     'full': [lambda s: s.full(5, 2, -3), lambda s: s.full(0, 3)],
     'identity': [lambda s: s.identity(6, 4)],
-    'keep': [lambda s: s.keep(spmat.io.matrix_text.Triples([0, 1, 3], [1, 0, 2], [4, 5, 6], 4, 4)).ewise_add(s.identity(4))],
     'load': [_saved],
     'save': [_saved],
     'mmread': [lambda s: _file(TEXT, s.mmread), lambda s: _file(SYMMETRIC, s.mmread), lambda s: _file(PATTERN, s.mmread), lambda s: _file(DENSE, s.mmread),
@@ -209,7 +209,6 @@ SESSIONS = {
     'read_edgelist': [lambda s: _file(EDGES, lambda path: s.read_edgelist(path, dup_op='plus'), 'graph.csv'), lambda s: _file(EDGES, s.read_edgelist, 'graph.csv')],
     'read_graph': [lambda s: _file(EDGES, lambda path: s.read_graph(path, directed=False, dup_op='minus'), 'graph.csv'), lambda s: _file(TEXT, s.read_graph),
                    lambda s: _file(REPEATS, lambda path: s.read_graph(path, dup_op='plus')), lambda s: _file(REPEATS, s.read_graph)],
-    'read_text': [lambda s: s.read_text('graph.csv', EDGES, dup_op='plus'), lambda s: s.read_text('graph.mtx', SYMMETRIC)],
     'run': [lambda s: _run(s)],
     'types': [lambda s: s.types(MINUS)],
 }

@@ -7,6 +7,7 @@ import unittest
 
 from support import InSession, needs
 import spmat
+from spmat import limits
 from spmat.io import matrix_text
 
 
@@ -35,11 +36,11 @@ class Numpy(InSession):
         rows, columns, values = numpy.array([0, 99999, 7]), numpy.array([12345678, 0, 9]), numpy.array([0, -10, 2 ** 62])
         triples = matrix_text.Triples(rows, columns, values, 100000, 12345679)
         long = matrix_text.write(triples)
-        before, matrix_text.MOST_TEXT = matrix_text.MOST_TEXT, len(long) - 1
+        before, limits.MOST_TEXT = limits.MOST_TEXT, len(long) - 1
         try:
             short = matrix_text.write(triples)
         finally:
-            matrix_text.MOST_TEXT = before
+            limits.MOST_TEXT = before
         self.assertEqual(short.split(b'\n')[2:], [b'1 12345679 +0', b'100000 1 -10', b'8 10 +4611686018427387904', b''])
         self.assertLess(len(short), len(long))
         self.assertTrue(self.s.from_text(short).isequal(self.s.from_text(long)))

@@ -9,7 +9,7 @@ import unittest
 
 import support
 import spmat
-from spmat import algorithms, blocks
+from spmat import algorithms, blocks, limits
 from spmat.blocks import shared_budget
 
 PACKAGE = os.path.join(support.TOP, 'clients', 'python')
@@ -102,7 +102,7 @@ class AsOne(unittest.TestCase):
 
     def test_an_ample_budget_is_not_looked_at(self):
         """Until so much was granted that it might not be ample any more: then it is asked what was spent."""
-        ledger = shared_budget.Ledger(shared_budget.AMPLE + 3 * shared_budget.MOST_PRICE)
+        ledger = shared_budget.Ledger(shared_budget.AMPLE + 3 * limits.MOST_PRICE)
         self.assertTrue(ledger.is_ample)
         ledger.grant(4)
         self.assertEqual((ledger.is_ample, ledger.is_granted), (False, True))

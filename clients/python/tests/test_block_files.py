@@ -43,13 +43,13 @@ class Files(unittest.TestCase):
         self.one = spmat.Session()
         self.addCleanup(self.one.close)
         self.by_workers = []
-        read = parallel_read.matrix_market
+        read = parallel_read.read_matrix_market
 
         def noted(*args):
             made = read(*args)
             self.by_workers.append(made is not None)
             return made
-        patched = mock.patch.object(parallel_read, 'matrix_market', noted)
+        patched = mock.patch.object(parallel_read, 'read_matrix_market', noted)
         patched.start()
         self.addCleanup(patched.stop)
 
@@ -190,7 +190,7 @@ class Files(unittest.TestCase):
             with open(self.path, 'rb') as file:
                 self.assertIsNone(parallel_read.seen(s, file))
             with mock.patch.object(parallel_read, 'LEAST', len(text) + 1):
-                self.assertIsNone(parallel_read.matrix_market(s, self.path, matrix_market.Values(), None, None))
+                self.assertIsNone(parallel_read.read_matrix_market(s, self.path, matrix_market.Values(), None, None))
         self.assertEqual(self.by_workers, [False, False])
 
 

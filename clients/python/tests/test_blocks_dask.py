@@ -191,7 +191,7 @@ class Dask(unittest.TestCase):
                 path = os.path.join(folder, 'graph.mtx')
                 with open(path, 'wb') as file:
                     file.write(text)
-                with self.sessions(folder=folder if given else None) as s, mock.patch.object(blocks.pieces, 'spool_of', side_effect=AssertionError):
+                with self.sessions(folder=folder if given else None) as s, mock.patch.object(blocks.chunked_input, 'spool_of', side_effect=AssertionError):
                     self.assertEqual(s.mmread(path).to_text(), text)
                 self.assertEqual(os.listdir(folder), ['graph.mtx'])
 

@@ -4,14 +4,15 @@ import random
 import unittest
 from unittest import mock
 
+import alike
 import graphs
 import support
 import spmat
 from spmat import algorithms
 from spmat.pricing import lower_bounds
 
-# A call of each algorithm.
-CALLS = {
+# Calls of algorithms; of any other that of `alike`.
+OWN = {
     'all_pairs': algorithms.all_pairs, 'betweenness': algorithms.betweenness, 'bipartite_sides': algorithms.bipartite_sides,
     'bfs_levels': lambda G: algorithms.bfs_levels(G, 0), 'bfs_parents': lambda G: algorithms.bfs_parents(G, 0),
     'closeness': algorithms.closeness, 'clustering': algorithms.clustering, 'common_neighbours': algorithms.common_neighbours,
@@ -31,6 +32,7 @@ CALLS = {
     'strongly_connected_components': algorithms.strongly_connected_components, 'topological_levels': algorithms.topological_levels,
     'transitive_closure': algorithms.transitive_closure, 'triangle_count': algorithms.triangle_count, 'triangles': algorithms.triangles,
     'undirected': algorithms.undirected}
+CALLS = {**{name: calls[0] for name, calls in alike.ALGORITHMS.items() if name in algorithms.__all__}, **OWN}
 # What a search does first depends on where it begins; small graphs are looked at whole for strong components, and labels are read first.
 UNKNOWN = {'bfs_levels', 'bfs_parents', 'has_path', 'shortest_path', 'shortest_paths', 'shared_neighbours', 'strongly_connected_components', 'modularity'}
 FACTS = ('both ways', 'loops', 'extremes')         # those that aren't matrices of a session
@@ -214,7 +216,7 @@ class Chains(support.InSession):
         def some(nrows, ncols):
             places = [(i, j) for i in range(nrows) for j in range(ncols) if random_.random() < random_.choice((.2, .8, 1))]
             if random_.random() < .3:
-                return self.s.keep(spmat.io.matrix_text.Triples([i for i, _ in places], [j for _, j in places], [1] * len(places), nrows, ncols))
+                return self.s.backend.keep(spmat.io.matrix_text.Triples([i for i, _ in places], [j for _, j in places], [1] * len(places), nrows, ncols))
             return self.s.from_triples([(i, j, random_.randrange(3)) for i, j in places], nrows, ncols)
         made = [some(n, n), some(n, n), some(n, 1), some(1, n), self.s.full(n, n), self.s.full(n, 1), self.s.identity(n)]
         both = some(n, n)

@@ -16,7 +16,7 @@ from command_line import PACKAGE, CommandLine
 from spmat import algorithms
 from spmat.cli import parser
 from spmat.cli.algorithm_commands import description
-from spmat.cli.algorithm_table import ALGORITHMS
+from spmat.cli.algorithm_table import COMMANDS
 from spmat.cli.completion import SHELLS, grammar
 from spmat.cli.error_wording import spoken
 from spmat.cli.exit_status import Status
@@ -42,9 +42,9 @@ class Words(CommandLine):
 
     def test_every_algorithm(self):
         public = {name for name in algorithms.__all__ if name not in NO_COMMAND}
-        self.assertEqual(public - {algorithm.function.__name__ for algorithm in ALGORITHMS.values()}, set())
-        for name, algorithm in ALGORITHMS.items():
-            self.assertIn(algorithm.function.__name__.replace('_', '-'), (name, name.replace('in-', '')))
+        self.assertEqual(public - {command.algorithm.function.__name__ for command in COMMANDS.values()}, set())
+        for name, command in COMMANDS.items():
+            self.assertIn(command.algorithm.function.__name__.replace('_', '-'), (name, name.replace('in-', '')))
 
     def test_results_have_names(self):
         for words, want in (
@@ -77,9 +77,9 @@ class Words(CommandLine):
         self.assertEqual((done.returncode, done.stdout), (0, b'ok budget 7 0 0\n'))
 
     def test_help_speaks_no_python(self):
-        for name, algorithm in ALGORITHMS.items():
+        for name, command in COMMANDS.items():
             with self.subTest(name=name):
-                told = description(algorithm)
+                told = description(command.algorithm)
                 self.assertGreater(len(told.split()), 5)
                 self.assertNotRegex(told, r'progress|check=|ValueError|\bNone\b|`GT|G\.T|as a column| $')
 

@@ -291,6 +291,25 @@ class Interrupts(unittest.TestCase):
             finally:
                 signal.signal(signal.SIGINT, before)
 
+    def test_what_waits_is_sent_later(self):
+        """Ctrl-C while the reply to an earlier command is awaited leaves what waits to be sent, and the earlier one pending."""
+        tried = []
+
+        class Slow(Command):
+            def read(self, incoming):
+                if not tried:
+                    tried.append(1)
+                    raise KeyboardInterrupt
+                return super().read(incoming)
+        with spmat.Session() as s:
+            B = s.full(2, 2).apply('ainv')
+            slow = Slow('budget')
+            s.connection._send_all([slow])
+            with self.assertRaises(KeyboardInterrupt):
+                B.wait()
+            self.assertEqual((s.connection.owes, slow.answer, s.connection.ended), (True, None, None))
+            self.assertEqual((B.nvals, slow.answer.words[0], s.connection.owes), (4, 'budget', False))
+
     def test_exception_while_replies_are_noted(self):
         """One that a handler of another signal raises ends the session, as what stands behind it was never noted."""
         def noted(_):

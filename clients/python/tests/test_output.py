@@ -75,8 +75,8 @@ class EveryCommand(command_line.CommandLine):
     def test_algorithms(self):
         words = {'k': ['--k', '2'], 'sources': ['--source', 'a'], 'pair': ['--pair', 'a', 'd'],
                  'target': ['--target', 'd']}
-        for name, algorithm in algorithm_table.ALGORITHMS.items():
-            more = [word for option in algorithm.options for word in words.get(option, [])]
+        for name, command in algorithm_table.COMMANDS.items():
+            more = [word for option in command.algorithm.options for word in words.get(option, [])]
             graph = 'path.csv' if name in ('topological-levels', 'longest-paths', 'bipartite-sides') else 'graph.csv'
             fields, objects, rows, plain = self.forms(name, graph, *more, '--quiet')
             between = '\t' if any(' ' in cell for row in rows for cell in row) else ' '

@@ -112,7 +112,7 @@ class Files(unittest.TestCase):
         seen = []
         written = spmat.io.matrix_text.write
         with mock.patch.object(chunked_input, 'PIECE', 4096), \
-                mock.patch.object(chunked_input.market, 'write', lambda triples: seen.append(len(triples.rows)) or written(triples)):
+                mock.patch.object(chunked_input.matrix_text, 'write', lambda triples: seen.append(len(triples.rows)) or written(triples)):
             X = self.many.mmread(io.BytesIO(text_of(a, 300, 300, shuffled)))
         self.assertEqual(seen[:3], [counts.nvals for counts in X.counts()])
         self.assertLess(max(seen), len(a) / 3 + 40)
@@ -121,7 +121,7 @@ class Files(unittest.TestCase):
         """The number of entries, and the bytes of a text, are limited for each block alone."""
         a = entries(4, 90, 90, 800)
         text = text_of(a, 90, 90)
-        with mock.patch.object(spmat.io.matrix_text, 'MOST_SIDE', 500), mock.patch.object(spmat.io.matrix_text, 'MOST_TEXT', 9000):
+        with mock.patch.multiple(spmat.limits, MOST_SIDE=500, MOST_TEXT=9000):
             X = self.many.mmread(io.BytesIO(text))
             self.assertEqual(X.nvals, len(a))
             with self.assertRaisesRegex(spmat.TooLarge, 'M4'):

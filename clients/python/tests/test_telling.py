@@ -9,7 +9,7 @@ import support
 import spmat
 from spmat import blocks, job_limits
 from spmat.errors import refusal
-from spmat.operators import assembly, dataflow, diagnostics
+from spmat.operators import assembly, dataflow
 
 LEFT_UNSET = '''; r6 is set on one way alone
 mov64 r3, r1
@@ -233,7 +233,6 @@ class Names(unittest.TestCase):
         found = dir(spmat.semiring)
         self.assertIn('min_plus', found)
         self.assertEqual(sum('_' in name and not name.startswith('_') for name in found), len(list(spmat.binary)) ** 2)
-        self.assertIn('telling', diagnostics.__name__)
 
 
 if __name__ == '__main__':

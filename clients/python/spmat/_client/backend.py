@@ -8,22 +8,22 @@ import itertools
 import re
 from typing import TYPE_CHECKING, Any, Dict, List, NamedTuple, Optional, Sequence, Tuple
 
-from ..errors import OperatorRefused, Refused, refusal
+from ..errors import OperatorRefused, Refused, refusal, without_frames
 from ..io import matrix_text
 from ..io.matrix_text import Triples
+from ..limits import MOST_OPERATOR, QUEUE
 from ..matrix import Matrix
 from ..operators import Operator, diagnostics
 from ..pricing import estimates
 from .commands import Command
 from .connection import Connection, Turn
+from .deferred_upload import Kept
 from .handles import Handle, Names
-from .job_queue import Job, Most, QUEUE, Queue, most_of
+from .job_queue import Job, Most, Queue, most_of
 from .replies import Reply
 
 if TYPE_CHECKING:
     from ..session import Session
-
-MOST_OPERATOR = 262_144                            # bytes of an operator's body
 
 
 class Uploaded(NamedTuple):
@@ -65,10 +65,15 @@ class Backend:
 
     # -- matrices
 
+    def keep(self, entries: Triples) -> Matrix:
+        """A matrix of entries by ascending row and column, which aren't looked at. The client keeps them; they are sent when a job
+        wants them."""
+        return Kept(self.session, entries)
+
     def send(self, entries: Triples, handle: Handle) -> str:
         """Sends the entries of a matrix that the client keeps, with the next command; its name."""
         def lost(cause: BaseException) -> None:
-            handle.lost = cause
+            handle.lost = without_frames(cause)
         with self.turn():
             key, text = self.names.take(), matrix_text.write(entries, ones=True)
             self.connection.put(Command('matrix ' + key, text, lost=lost, matters=True))
@@ -151,7 +156,8 @@ class Backend:
                     if matrix.is_traced:           # a step of a loop asks
                         return matrix.session.backend.submit(form, ops, operands, shape, thunk, mask, name)
                     raise ValueError('a matrix of another session')
-                matrix.handle.check_made()
+                if matrix.handle.lost is not None:
+                    matrix.handle.check_made()
             asked = estimates.asked()
             if asked is not None:
                 return asked.foresee(self.session, form, ops, operands, mask, shape)

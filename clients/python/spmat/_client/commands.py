@@ -1,11 +1,13 @@
 """What is sent to a server: a command with what is done with its reply or its loss, and batches of commands whose replies are read as one."""
 from __future__ import annotations
 
-from typing import Any, Callable, Optional, Union
+from typing import Any, Callable, List, Optional, Union
 
 from ..errors import Closed, Near, Refused
 from .replies import Incoming, Raw, Reply
 
+MOST_WAITING = 200                                 # commands, whose replies fit into a pipe
+MOST_BYTES = 1 << 22                               # of commands that wait
 WORDS_WITH_BODY = {'matrix': 2, 'asm': 3, 'op': 3}
 
 Answer = Union[Reply, Refused]
@@ -41,6 +43,34 @@ class Command:
         return raw
 
 
+class Outgoing:
+    """Commands that wait to be sent with the next."""
+
+    def __init__(self) -> None:
+        self.commands: List[Command] = []
+        self._bytes = 0
+
+    def put(self, command: Command) -> None:
+        """One command more."""
+        self.commands.append(command)
+        self._bytes += len(command.line) + len(command.body or b'')
+
+    @property
+    def is_full(self) -> bool:
+        """Whether it is time to send them."""
+        return len(self.commands) >= MOST_WAITING or self._bytes >= MOST_BYTES
+
+    @property
+    def jobs(self) -> int:
+        """How many jobs they run."""
+        return sum(command.jobs for command in self.commands)
+
+    def taken(self) -> List[Command]:
+        """All of them, which wait no more."""
+        commands, self.commands, self._bytes = self.commands, [], 0
+        return commands
+
+
 class CommandBatch:
     """Commands whose replies are read as one; the last is `budget`. `replies` has them, once they are there."""
 
@@ -52,5 +82,5 @@ class CommandBatch:
         """All replies, up to that of `budget`."""
         return incoming.through(b'ok budget ')
 
-    def lost(self, cause: BaseException) -> None:
+    def lost(self, _: BaseException) -> None:
         """They never come. Whoever collects them hears that the session has ended."""

@@ -22,16 +22,13 @@ from typing import Any, Callable, Deque, List, Optional, Sequence, Tuple, Type, 
 
 from ..errors import Closed, Near, Refused, SpmatError, refusal_of
 from ..io.coo import whole
-from .commands import Command, CommandBatch, WORDS_WITH_BODY
+from ..limits import MOST_STEPS, MOST_WORKERS
+from .commands import Command, CommandBatch, Outgoing, WORDS_WITH_BODY
 from .replies import Incoming, PIECE, Raw, Reply
 from .server_program import Program, program_words
 from .sigint import Guard
-from .transport import Address, Child, Socket
+from .transport import Address, Channel, Child, Socket
 
-MOST_STEPS = 1 << 62
-MOST_WORKERS = 64
-MOST_WAITING = 200                                 # commands, whose replies fit into a pipe
-MOST_BYTES = 1 << 22                               # of commands that wait
 ENDS = ('S5', 'S6', 'S7', 'busy')
 
 Progress = Callable[[str, int, int], None]
@@ -58,8 +55,7 @@ class Connection:
         self._channel = channel
         self.incoming = Incoming(self._fill, self._fault, lambda done, of: self.tell('received', done, of))
         self.refused: Optional[Refused] = None     # the first refusal of the last exchange that mattered
-        self._waiting: List[Command] = []          # to be sent
-        self._bytes = 0
+        self._waiting = Outgoing()
         self._pending: Deque[Union[Command, CommandBatch]] = collections.deque()      # sent, and not answered
         self._owner = os.getpid()
         self._ended: Optional[str] = None
@@ -118,27 +114,26 @@ class Connection:
 
     def put(self, command: Command) -> None:
         """One command more that waits to be sent with the next. Its reply has to be short, as none is read before all is sent."""
-        self._waiting.append(command)
-        self._bytes += len(command.line) + len(command.body or b'')
+        self._waiting.put(command)
 
     @property
     def waiting(self) -> int:
         """How many commands wait to be sent."""
-        return len(self._waiting)
+        return len(self._waiting.commands)
 
     @property
     def is_full(self) -> bool:
         """Whether it is time to send what waits."""
-        return len(self._waiting) >= MOST_WAITING or self._bytes >= MOST_BYTES
+        return self._waiting.is_full
 
     def exchange(self, last: Optional[Command] = None) -> Optional[Reply]:
         """Sends what waits and one command more in one go, and reads the reply of each; that of the last. Raises what the last is refused
         by, and Closed where the session ends before all are answered. KeyboardInterrupt while replies are awaited leaves what isn't
         answered pending."""
         with self.lock, self.guard:
-            if last is None and not self._waiting and not self._pending:
+            if last is None and not self._waiting.commands and not self._pending:
                 return None
-            jobs = sum(command.jobs for command in self._waiting)
+            jobs = self._waiting.jobs
             if jobs:
                 self.tell('jobs', 0, jobs)
             self._enter()
@@ -146,7 +141,7 @@ class Connection:
                 self.refused = None
                 self._read_pending()
                 self.check_open()
-                sent, self._waiting, self._bytes = self._waiting, [], 0
+                sent = self._waiting.taken()
                 if last is not None:
                     sent.append(last)
                 self._send_all(sent)
@@ -286,7 +281,7 @@ class Connection:
     def quit(self) -> None:
         """Ends the session in good order, or at once where a reply is owed; nothing where it has ended already."""
         with self.lock:
-            self._waiting = []                     # which isn't sent any more
+            self._waiting.taken()                  # which isn't sent any more
             if self._pending:
                 self.end('it was closed while a reply was awaited', kill=True)
             if self._ended is None and os.getpid() == self._owner:

@@ -52,7 +52,10 @@ class Entries:
 class DeferredHandle(Handle):
     """The handle of a matrix that is sent at the first use of its name, once."""
 
+    is_deferred = True
+
     def __init__(self, kept: 'Kept', entries: Triples) -> None:
+        self._key = ''
         super().__init__('', len(entries.rows))
         self._kept, self._entries = weakref.ref(kept), entries
 
@@ -65,6 +68,10 @@ class DeferredHandle(Handle):
             self._key = kept.session.backend.send(self._entries, self)
             kept.session.backend.hold(kept, self._key)
         return self._key
+
+    @key.setter
+    def key(self, key: str) -> None:
+        self._key = key
 
 
 class Kept(Entries, Matrix):

@@ -7,7 +7,7 @@ import weakref
 from typing import Any, Deque, Dict, Iterator, Optional, Set, Tuple
 
 from ..errors import NotMade
-from ..io.matrix_text import MOST_SIDE
+from ..limits import MOST_SIDE
 
 SMALL = 65_536                                     # a dead matrix of more rows and entries than this is overwritten
 _NAME = re.compile('[A-Za-z0-9_]{1,32}')
@@ -17,23 +17,15 @@ class Handle:
     """What a session knows of a matrix: the name `key` that the server has it under, its entries `nvals` (None until its job ran), the
     `most` that these can be, and of a job's result the price and the steps that the job took. `lost` says why it is never made."""
 
+    is_deferred = False                            # the matrix is sent when its name is asked for
+
     def __init__(self, key: str, nvals: Optional[int], most: Optional[int] = None) -> None:
-        self._key, self.nvals = key, nvals
-        self.most = MOST_SIDE if nvals is None and most is None else most if nvals is None else nvals
+        self.key, self.nvals = key, nvals
+        self.most: int = nvals if nvals is not None else MOST_SIDE if most is None else most
         self.price: Optional[int] = None
         self.steps: Optional[int] = None
         self.lost: Optional[BaseException] = None
         self.transposed: Optional['weakref.ref[Any]'] = None        # the matrix that is its transpose, while it is held
-
-    @property
-    def key(self) -> str:
-        """The server's name of the matrix."""
-        return self._key
-
-    @property
-    def known_key(self) -> str:
-        """The same, empty where the matrix wasn't sent."""
-        return self._key
 
     @property
     def waits(self) -> bool:

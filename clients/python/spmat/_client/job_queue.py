@@ -2,21 +2,18 @@
 from __future__ import annotations
 
 import collections
-import copy
 import weakref
 from typing import Callable, Deque, Dict, Iterable, List, NamedTuple, Optional, Sequence, Set, Tuple
 
 from ..display import html
-from ..errors import BudgetExceeded, Refused, SpmatError
-from ..io.matrix_text import MOST_SIDE
+from ..errors import BudgetExceeded, Refused, without_frames
+from ..limits import MOST_PRICE, MOST_SIDE
 from ..matrix import Matrix
 from .commands import Command
 from .connection import Connection
 from .handles import Handle, Names
 from .replies import Reply
 
-QUEUE = 64                                         # jobs that may wait
-MOST_PRICE = 1 << 32
 AMPLE = 1 << 56                                    # steps that clients of one server don't take from one another within a day
 
 
@@ -222,11 +219,3 @@ class Queue:
         """What the last run settled."""
         results, self._results = self._results, Run()
         return results
-
-
-def without_frames(fault: BaseException) -> BaseException:
-    """The same exception without the frames that it came through, which would keep their matrices."""
-    try:
-        return copy.copy(fault).with_traceback(None)
-    except Exception:                              # pylint: disable=broad-exception-caught  # of whatever can't be copied
-        return SpmatError('%s: %s' % (type(fault).__name__, fault))

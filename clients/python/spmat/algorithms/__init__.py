@@ -10,77 +10,47 @@ changed: so a round costs what these vertices' edges do. While many change at a 
 
 What a graph has to be is looked at where it is first asked, by a job or two, and kept with the matrix. Else a ValueError says what to do;
 `check=False` leaves it out.
-
-| Function | What it gives | LAGraph |
-|---|---|---|
-| `degrees(G)` | edges that leave each vertex | `LAGraph_Cached_OutDegree` |
-| `triangle_count(G)`, `triangles(G)` | triangles, in all and at each vertex | `LAGr_TriangleCount` |
-| `clustering(G)` | local clustering | `LAGraph_lcc` |
-| `bfs_levels(G, source)`, `bfs_parents(G, source)` | breadth-first search | `LAGr_BreadthFirstSearch` |
-| `connected_components(G)` | the least vertex of each one's component | `LAGr_ConnectedComponents` |
-| `sssp(W, source)`, `all_pairs(W)` | lengths of shortest paths | `LAGr_SingleSourceShortestPath` |
-| `path_lengths(W, sources)` | lengths from some vertices to all | |
-| `shortest_path(G, source, target)`, `k_shortest_paths(G, source, target, k)` | the vertices of a shortest path, or of the k shortest | |
-| `shortest_paths(G, source)`, `has_path(G, source, target)` | a tree of shortest paths; whether there is one | |
-| `transitive_closure(G)` | what can be reached | |
-| `strongly_connected_components(G)` | the least vertex of each one's strong component | |
-| `topological_levels(G)`, `longest_paths(W)` | an order of a graph without cycles, or its cycle | |
-| `eccentricity(G)`, `diameter(G)` | the greatest distances | |
-| `distance_counts(G)` | how many vertices are how far | |
-| `common_neighbours(G)`, `jaccard(G)` | of pairs that share a neighbour | |
-| `shared_neighbours(G, firsts, seconds)` | of pairs that are given | |
-| `squares(G)` | cycles of four edges at each vertex | |
-| `bipartite_sides(G)` | two sides without an edge inside one | |
-| `k_truss(G, k)`, `k_core(G, k)`, `core_numbers(G)` | dense parts | `LAGraph_KTruss`, `LAGraph_KCore` |
-| `k_hop(G, k, sources)` | what lies within k edges of each source | |
-| `betweenness(G)` | shortest paths through each vertex, in fixed point | `LAGr_Betweenness` |
-| `closeness(G)`, `eigenvector(G)`, `katz(G)`, `hits(G)` | which vertices matter, in fixed point, with how far off it may be | |
-| `minimum_spanning_forest(W)` | by Boruvka's algorithm | `LAGraph_msf` |
-| `label_propagation(G)` | communities | `LAGraph_cdlp` |
-| `louvain(G)`, `modularity(G, labels)` | communities of great modularity; that of any | |
-| `pagerank(G)` | ranks in fixed point | `LAGr_PageRank` |
-| `maximal_independent_set(G)` | by Luby's algorithm | `LAGraph_MaximalIndependentSet` |
 """
-import inspect
+# by their own names again, so that type checkers take them for exported
+# pylint: disable=useless-import-alias
 
 from ..pricing.lower_bounds import guarded
-from .all_pairs_paths import all_pairs, path_lengths, transitive_closure
-from .betweenness_centrality import betweenness
-from .bfs import bfs_levels, bfs_parents
-from .bipartite import bipartite_sides
-from .centrality import Centrality, closeness, eigenvector, hits, katz
-from .components import connected_components, maximal_independent_set
-from .core_decomposition import core_numbers, k_core
-from .distance_measures import Bounds, diameter, distance_counts, eccentricity
-from .label_propagation_communities import label_propagation
-from .louvain_communities import Communities, louvain, modularity
-from .multi_source_bfs import k_hop
-from .neighbour_similarity import common_neighbours, jaccard, shared_neighbours, squares
-from .page_rank import pagerank
-from .protocols import GraphMatrix
-from .shortest_path_trees import NoPath, Path, PathTree, has_path, k_shortest_paths, shortest_path, shortest_paths
-from .single_source_paths import sssp
-from .spanning_forest import minimum_spanning_forest
-from .strong_components import strongly_connected_components
-from .topological_order import CycleError, longest_paths, topological_levels
-from .triangle_counts import clustering, degrees, triangle_count, triangles
-from .truss import k_truss
-from .utils import Progress, undirected
+from .all_pairs_paths import all_pairs as all_pairs, path_lengths as path_lengths, transitive_closure as transitive_closure
+from .betweenness_centrality import betweenness as betweenness
+from .bfs import bfs_levels as bfs_levels, bfs_parents as bfs_parents
+from .bipartite import bipartite_sides as bipartite_sides
+from .centrality import Centrality as Centrality, closeness as closeness, eigenvector as eigenvector, hits as hits, katz as katz
+from .components import connected_components as connected_components, maximal_independent_set as maximal_independent_set
+from .core_decomposition import core_numbers as core_numbers, k_core as k_core
+from .distance_measures import (Bounds as Bounds, diameter as diameter, distance_counts as distance_counts,
+                                eccentricity as eccentricity)
+from .label_propagation_communities import label_propagation as label_propagation
+from .louvain_communities import Communities as Communities, louvain as louvain, modularity as modularity
+from .multi_source_bfs import k_hop as k_hop
+from .neighbour_similarity import (common_neighbours as common_neighbours, jaccard as jaccard,
+                                   shared_neighbours as shared_neighbours, squares as squares)
+from .page_rank import pagerank as pagerank
+from .protocols import GraphMatrix as GraphMatrix
+from .registry import ALGORITHMS, table
+from .shortest_path_trees import (NoPath as NoPath, Path as Path, PathTree as PathTree, has_path as has_path,
+                                  k_shortest_paths as k_shortest_paths, shortest_path as shortest_path,
+                                  shortest_paths as shortest_paths)
+from .single_source_paths import sssp as sssp
+from .spanning_forest import minimum_spanning_forest as minimum_spanning_forest
+from .strong_components import strongly_connected_components as strongly_connected_components
+from .topological_order import CycleError as CycleError, longest_paths as longest_paths, topological_levels as topological_levels
+from .triangle_counts import clustering as clustering, degrees as degrees, triangle_count as triangle_count, triangles as triangles
+from .truss import k_truss as k_truss
+from .utils import Progress as Progress, undirected as undirected
 
-__all__ = ['all_pairs', 'betweenness', 'bfs_levels', 'bfs_parents', 'bipartite_sides', 'Bounds', 'Centrality', 'closeness',
-           'clustering', 'common_neighbours', 'Communities', 'connected_components', 'core_numbers', 'CycleError', 'degrees',
-           'diameter', 'distance_counts', 'eccentricity', 'eigenvector', 'GraphMatrix', 'has_path', 'hits', 'jaccard', 'k_core',
-           'k_hop', 'k_shortest_paths', 'k_truss', 'katz', 'label_propagation', 'longest_paths', 'louvain',
-           'maximal_independent_set', 'minimum_spanning_forest', 'modularity', 'NoPath', 'pagerank', 'Path', 'path_lengths',
-           'PathTree', 'Progress', 'shared_neighbours', 'shortest_path', 'shortest_paths', 'squares', 'sssp',
-           'strongly_connected_components', 'topological_levels', 'transitive_closure', 'triangle_count', 'triangles', 'undirected']
+TYPES = ('Bounds', 'Centrality', 'Communities', 'CycleError', 'GraphMatrix', 'NoPath', 'Path', 'PathTree', 'Progress')
 
-
-for _name in __all__:                              # so that each looks at the budget before its first job
-    if inspect.isfunction(globals()[_name]):
-        globals()[_name] = guarded(globals()[_name])
+_NAMES = sorted([*TYPES, *ALGORITHMS], key=str.lower)
+__doc__ = '%s\n%s\n' % (__doc__, '\n'.join(table()))
+# each algorithm looks at the budget before its first job; type checkers know the imports above
+globals().update({name: guarded(one.function) for name, one in ALGORITHMS.items()}, __all__=_NAMES)
 
 
 def __dir__() -> list[str]:
     """What is offered after a dot: the algorithms, and not the modules that they stand in."""
-    return sorted(__all__)
+    return sorted(_NAMES)

@@ -5,11 +5,12 @@ from collections import Counter
 from typing import Any, NamedTuple, Sequence, Tuple
 
 from ..errors import refusal
-from ..io.matrix_text import MOST_SIDE
+from ..limits import MOST_SIDE
 from ..matrix import Matrix
 from ..operators import Operator, Semiring, asm, binary
 from .graph_properties import extremes
 from .protocols import M
+from .registry import algorithm
 from .single_source_paths import CYCLE
 from .utils import Progress, loops, order, places, product, tell
 
@@ -90,6 +91,7 @@ def _check_room(W: Matrix) -> None:
         raise refusal('J7', detail='%d pairs of vertices have a path: path_lengths takes some sources at a time' % pairs)
 
 
+@algorithm('lengths of shortest paths between all', values=True)
 def all_pairs(W: Matrix, progress: Progress = None) -> Matrix:
     """The length of the shortest path from each vertex (the row) to each (the column); no entry where no path leads. An entry's
     value is the length of its edge, and may be negative.
@@ -137,6 +139,7 @@ def _by_squaring(W: Matrix, progress: Progress) -> Matrix:
     return lengths
 
 
+@algorithm('lengths of shortest paths from some vertices', 'sources', values=True)
 def path_lengths(W: Matrix, sources: Sequence[Any], progress: Progress = None) -> Matrix:
     """The length of the shortest path from each of some vertices, a row for each in their order, to each vertex (the column); no
     entry where no path leads. Sources and the vertices that they reach make up to 16,777,216 entries; lengths along a path stay
@@ -165,6 +168,7 @@ def lengths_from(start: M, reach: Tuple[M, int], progress: Progress = None) -> M
     return _spread(start, start, near, BY_LENGTH, progress, start.ncols // edges + 2).apply('arsh', right=1)
 
 
+@algorithm('which vertices reach which', plot='spy')
 def transitive_closure(G: Matrix, progress: Progress = None) -> Matrix:
     """An entry 1 from each vertex (the row) to each (the column) that a path of at least one edge leads to.
 

@@ -9,6 +9,7 @@ from .frontier import Tally, read
 from .graph_properties import extremes, is_both_ways, is_transpose, transpose_of
 from .multi_source_bfs import Batch, REACHED, vertices
 from .protocols import M
+from .registry import algorithm
 from .utils import Progress, beside, product, tell
 
 PATHS = Semiring(binary.plus, binary.first)
@@ -59,6 +60,10 @@ class Tight(Generic[M]):
         return product(product(shares, self._edges.heads, REACHED, self._tight), self._edges.tails, PATHS, counts)
 
 
+@algorithm('shortest paths through each vertex', 'sources', 'weighted', scale=SCALE, ranked=True,
+           says='How many shortest paths between two other vertices go through each vertex: for each two vertices '
+                'the share of their shortest paths. Of an undirected graph each two vertices count once. With '
+                '--source only paths from these count. With --weighted values of edges are lengths, 1 or more.')
 def betweenness(G: M, sources: Optional[Iterable[Any]] = None, tolerance: float = 1e-3, scale: int = SCALE,
                 progress: Progress = None, *, weighted: bool = False) -> M:
     """How many shortest paths between two other vertices go through each vertex, as a column in units of 1/scale (2^-20): for each two

@@ -9,6 +9,7 @@ from . import server_side_search
 from .frontier import Columns, FEW, Fronts, Lines, Rows, Tally, Vector, ones_like
 from .graph_properties import is_both_ways, transpose_of
 from .protocols import M, Numbers
+from .registry import algorithm
 from .utils import Progress, beside, order, places, tell
 
 REACHED = Semiring(binary.any, binary.first)
@@ -146,6 +147,7 @@ def _fresh(told: Tally, got: Vector) -> Vector:
     return Vector([i for i, _ in kept], [value for _, value in kept])
 
 
+@algorithm('edges from a vertex to each other one', 'source', plot='levels')
 def bfs_levels(G: M, source: Sources, GT: Optional[M] = None, progress: Progress = None, *, depth: Optional[int] = None,
                target: Any = None, check: bool = True) -> M:
     """How many edges lead from the source to each vertex, as a column: 0 at the source; no entry where no path leads. Of several
@@ -170,6 +172,7 @@ def bfs_levels(G: M, source: Sources, GT: Optional[M] = None, progress: Progress
     return beside(G, run_search(fronts_of(G, GT, check), search, False).column(G, NONE))
 
 
+@algorithm('the tree of a breadth-first search', 'source', are_vertices=True)
 def bfs_parents(G: M, source: Sources, GT: Optional[M] = None, progress: Progress = None, *, depth: Optional[int] = None,
                 target: Any = None, check: bool = True) -> M:
     """From which vertex a breadth-first search comes to each one, as a column: of several the least; at a source itself; no entry

@@ -8,11 +8,13 @@ from ..operators import asm
 from .bfs import bfs_levels
 from .components import connected_components
 from .graph_properties import transpose_of
+from .registry import algorithm
 from .utils import Progress, beside, column, nothing, order
 
 IS_ODD = asm('unary', 'mov64 r0, r1\nand64 r0, 1\nexit\n', 'is_odd')
 
 
+@algorithm('two sides without an edge inside one')
 def bipartite_sides(G: Matrix, GT: Optional[Matrix] = None, progress: Progress = None, *, check: bool = True) -> Matrix:
     """A side, 0 or 1, for each vertex, as a column: each edge leads from one side to the other. The least vertex of each component
     is on side 0.

@@ -14,6 +14,7 @@ from .distance_measures import distance_counts
 from .frontier import Columns, FEW, Lines, Tally, Vector
 from .graph_properties import extremes
 from .protocols import M, Numbers
+from .registry import algorithm
 from .utils import Progress, beside, order, tell
 
 ONE = 1 << 40
@@ -135,6 +136,9 @@ def _check(scale: int, rounds: int) -> None:
         raise ValueError('a scale is 1 to 2^52, and rounds are 1 or more')
 
 
+@algorithm('how near each vertex is to those that reach it', scale=ONE, ranked=True,
+           says='How near each vertex is to those that reach it: of r of n vertices, at distances that add up to d, '
+                '(r - 1)/d times (r - 1)/(n - 1).')
 def closeness(G: Matrix, GT: Optional[Matrix] = None, scale: int = ONE, progress: Progress = None, *, check: bool = True) -> 'Centrality[Matrix]':
     """How near each vertex is to those that reach it, in units of 1/scale (2^-40): of r of n vertices that reach it (itself too), at
     distances that add up to d, (r - 1)/d times (r - 1)/(n - 1), which is 0 where none does. `error` is what rounding takes: one unit.
@@ -196,6 +200,9 @@ def _iterated(step: Callable[[Numbers], Numbers], start: Numbers, tolerance: flo
     raise ValueError('%d rounds, and numbers still change by more than %g: give more rounds= or a greater tolerance=' % (rounds, tolerance))
 
 
+@algorithm('eigenvector centrality', 'tolerance', 'weighted', scale=ONE, ranked=True,
+           says='Numbers of which each is in proportion to the sum of those of the vertices that lead to it, whose '
+                'squares add up to 1.')
 def eigenvector(G: M, GT: Optional[M] = None, tolerance: float = 1e-6, scale: int = ONE, rounds: int = ROUNDS, progress: Progress = None, *,
                 weighted: bool = False, check: bool = True) -> 'Centrality[M]':
     """The eigenvector centrality of each vertex, in units of 1/scale (2^-40): numbers of which each is in proportion to the sum of those of
@@ -230,6 +237,9 @@ def _dot(first: Numbers, second: Numbers) -> float:
     return float(sum(x * y for x, y in zip(first, second)))
 
 
+@algorithm('Katz centrality', 'alpha', 'weighted', scale=ONE, ranked=True,
+           says='Numbers of which each is 1 and alpha times the sum of those of the vertices that lead to it, '
+                'divided so that the squares add up to 1.')
 def katz(G: M, alpha: float = 0.1, beta: float = 1.0, GT: Optional[M] = None, tolerance: float = 1e-9, scale: int = ONE,
          rounds: int = ROUNDS, progress: Progress = None, *, weighted: bool = False, normalized: bool = True, check: bool = True) -> 'Centrality[M]':
     """The Katz centrality of each vertex, in units of 1/scale (2^-40): beta, and alpha times the sum of the numbers of the vertices that
@@ -290,6 +300,9 @@ def _farthest(first: Numbers, second: Numbers) -> int:
     return int(abs(first - second).max()) if is_array(first) else max((abs(x - y) for x, y in zip(first, second)), default=0)
 
 
+@algorithm('hubs and authorities', 'authorities', 'weighted', scale=ONE, ranked=True,
+           says='An authority\'s number is in proportion to those of the hubs that lead to it, a hub\'s to those of '
+                'the authorities that it leads to.')
 def hits(G: M, GT: Optional[M] = None, tolerance: float = 1e-8, scale: int = ONE, rounds: int = ROUNDS, progress: Progress = None, *,
          weighted: bool = False, check: bool = True) -> Tuple['Centrality[M]', 'Centrality[M]']:
     """Hubs and authorities (HITS), in units of 1/scale (2^-40): an authority's number is in proportion to those of the hubs that lead to it,

@@ -12,6 +12,7 @@ from .frontier import Columns, FEW, Lines, Rows, Vector, ones_like
 from .graph_properties import check_undirected, found, is_both_ways, transpose_of
 from .protocols import M, Numbers
 from .random_vector import drawn
+from .registry import BOTH_WAYS, algorithm
 from .utils import Progress, beside, order, tell
 
 THERE = Semiring(binary.first, binary.zero)      # "one of them is a neighbour", marked 0
@@ -170,6 +171,7 @@ class Neighbours(Generic[M]):
         return some
 
 
+@algorithm("the least vertex of each one's component", are_vertices=True)
 def connected_components(G: M, GT: Optional[M] = None, progress: Progress = None, *, check: bool = True) -> M:
     """The least vertex of each one's component, as a column; edges lead both ways (of a directed graph: the weak components).
 
@@ -199,9 +201,10 @@ def connected_components(G: M, GT: Optional[M] = None, progress: Progress = None
         if goes_on:
             number += 1
             tell(progress, 'round', number)
-    return beside(G, G.session.keep(labels.column()))
+    return beside(G, G.session.backend.keep(labels.column()))
 
 
+@algorithm('vertices of which no two are neighbours', 'seed', wanted=BOTH_WAYS)
 def maximal_independent_set(G: M, seed: int = 0, progress: Progress = None, *, check: bool = True) -> M:
     """Vertices of which no two are neighbours, and to which no other can be added, as a column of ones. The graph is undirected;
     loops don't count. The seed decides which of the sets it is.

@@ -13,6 +13,7 @@ from .bfs import Unseen, fronts_of, is_large
 from .frontier import Columns, Tally, Vector, ones_like, zeros_like
 from .graph_properties import check_undirected
 from .protocols import M, Numbers
+from .registry import WITHOUT_LOOPS, algorithm
 from .server_side_search import is_ample
 from .triangle_counts import degrees
 from .utils import Progress, beside, order, product, tell
@@ -90,6 +91,7 @@ class Peeling(Generic[M]):
         return out
 
 
+@algorithm('vertices with k neighbours or more', 'k', wanted=WITHOUT_LOOPS, ranked=True)
 def k_core(G: M, k: int, progress: Progress = None, *, check: bool = True) -> M:
     """The vertices of the largest part of an undirected graph without loops in which each has at least k neighbours, as a column;
     the value is the number of them. With k = 0 these are all vertices.
@@ -115,6 +117,7 @@ def k_core(G: M, k: int, progress: Progress = None, *, check: bool = True) -> M:
     return beside(G, Columns(G, G).put(Vector(at, peeling.left.of(at))))
 
 
+@algorithm('the greatest k of a core with each vertex', wanted=WITHOUT_LOOPS, ranked=True)
 def core_numbers(G: M, progress: Progress = None, *, check: bool = True) -> M:
     """The greatest k for each vertex of an undirected graph without loops with which it is in the k-core, as a column; 0 for a vertex
     without neighbours.
@@ -153,8 +156,8 @@ def _among(graph: M, at: Numbers) -> M:
     many, own = len(at), _own(at)
     if many == graph.nrows:
         return graph
-    wide = graph.session.keep(Triples(own, at, ones_like(at), many, graph.nrows))
-    tall = graph.session.keep(Triples(at, own, ones_like(at), graph.nrows, many))
+    wide = graph.session.backend.keep(Triples(own, at, ones_like(at), many, graph.nrows))
+    tall = graph.session.backend.keep(Triples(at, own, ones_like(at), graph.nrows, many))
     return product(product(wide, graph, 'any_pair'), tall, 'any_pair')
 
 
@@ -166,7 +169,7 @@ def _on_the_loop(peeling: Peeling[M], k: int, cores: Tally) -> None:
     session, many, begun = graph.session, len(at), peeling.number
     gaps: Numbers = degrees_now - k if matrix_text.is_array(degrees_now) else [degree - k for degree in degrees_now]
     row = Triples(zeros_like(at), _own(at), gaps, 1, many)
-    start = State({'gap': session.keep(row), 'level': session.full(1, 1, k)})
+    start = State({'gap': session.backend.keep(row), 'level': session.full(1, 1, k)})
 
     def step(s: State) -> Dict[str, Any]:
         rise = s.gap.reduce_rowwise('min').apply('max', right=0)

@@ -7,14 +7,15 @@ from __future__ import annotations
 
 from typing import Callable, List, NamedTuple, Optional
 
+from ..limits import MOST_SIDE
 from ..matrix import Matrix
 from ..operators import Semiring, asm, binary
 from .bfs import bfs_levels
 from .graph_properties import transpose_of
+from .registry import algorithm
 from .utils import Progress, column, nothing, order, tell
 
 WORD = 64
-MOST_PRODUCT = 1 << 24          # multiplications of one job
 MOST_WORDS = 32                 # words at a vertex: more make the matrices larger, and nothing faster
 NEW = asm('binary', 'mov64 r0, r2\nxor64 r0, -1\nand64 r0, r1\nexit\n', 'new_bits')
 MOVED = Semiring(binary.bor, binary.second)
@@ -52,7 +53,7 @@ class Bounds(NamedTuple):
 
 def _words(count: int, entries: int) -> int:
     """Words at a vertex in one batch: as many as one job can push."""
-    return max(1, min(-(-count // WORD), MOST_PRODUCT // max(1, entries), MOST_WORDS))
+    return max(1, min(-(-count // WORD), MOST_SIDE // max(1, entries), MOST_WORDS))
 
 
 def _searches(G: Matrix, GT: Matrix, visit: Visit, progress: Progress) -> None:
@@ -76,6 +77,8 @@ def _searches(G: Matrix, GT: Matrix, visit: Visit, progress: Progress) -> None:
         tell(progress, 'batch', first // batch + 1, -(-count // batch))
 
 
+@algorithm('how many vertices are how far from each', fields=('node', 'distance', 'vertices'),
+           says='How many vertices are how far from each: vertex, number of edges, number of vertices.')
 def distance_counts(G: Matrix, GT: Optional[Matrix] = None, progress: Progress = None, *, check: bool = True) -> List[Matrix]:
     """How many vertices are how far: column k - 1 has at each vertex the number of those from which the shortest path to it has k
     edges; no entry where there are none. For those that it leads to hand in the transpose first, and G behind it.
@@ -102,6 +105,7 @@ def distance_counts(G: Matrix, GT: Optional[Matrix] = None, progress: Progress =
     return found
 
 
+@algorithm('edges from each vertex to the farthest one', ranked=True)
 def eccentricity(G: Matrix, GT: Optional[Matrix] = None, progress: Progress = None, *, check: bool = True) -> Matrix:
     """The number of edges of the longest of the shortest paths that begin at each vertex, as a column; no entry where none does.
     A vertex that doesn't reach all others has the greatest distance to one that it reaches (networkx refuses such graphs).
@@ -118,6 +122,7 @@ def eccentricity(G: Matrix, GT: Optional[Matrix] = None, progress: Progress = No
     return found[0]
 
 
+@algorithm('edges between the two that are farthest apart')
 def diameter(G: Matrix, GT: Optional[Matrix] = None, searches: Optional[int] = None, progress: Progress = None, *,
              check: bool = True) -> Bounds:
     """The number of edges of the longest of all shortest paths, as bounds: without `searches` exact, by `eccentricity`, else what

@@ -90,7 +90,7 @@ class Rows(Lines[M]):
         return super().pushed(front, ring) if got is None else Vector(got.places, got.values)
 
     def put(self, vector: Vector) -> M:
-        return self.graph.session.keep(Triples(zeros_like(vector.at), vector.at, vector.values, 1, self.count))
+        return self.graph.session.backend.keep(Triples(zeros_like(vector.at), vector.at, vector.values, 1, self.count))
 
     def all(self, value: int) -> M:
         return self.graph.session.full(1, self.count, value)
@@ -113,7 +113,7 @@ class Columns(Lines[M]):
         self.transpose = transpose
 
     def put(self, vector: Vector) -> M:
-        return self.graph.session.keep(Triples(vector.at, zeros_like(vector.at), vector.values, self.count, 1))
+        return self.graph.session.backend.keep(Triples(vector.at, zeros_like(vector.at), vector.values, self.count, 1))
 
     def all(self, value: int) -> M:
         return self.graph.session.full(self.count, 1, value)
@@ -242,6 +242,6 @@ class Tally:
             import numpy
             view = self.view()
             at = numpy.arange(count) if missing is None else numpy.flatnonzero(view != missing)
-            return like.session.keep(Triples(at, at * 0, view[at], count, 1))
+            return like.session.backend.keep(Triples(at, at * 0, view[at], count, 1))
         places: List[int] = [i for i, number in enumerate(self.numbers) if missing is None or number != missing]
-        return like.session.keep(Triples(places, [0] * len(places), [self.numbers[i] for i in places], count, 1))
+        return like.session.backend.keep(Triples(places, [0] * len(places), [self.numbers[i] for i in places], count, 1))

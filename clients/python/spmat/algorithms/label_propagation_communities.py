@@ -7,11 +7,13 @@ from ..operators import asm
 from .frontier import Columns, FEW, Vector
 from .graph_properties import check_undirected
 from .protocols import M, Numbers
+from .registry import BOTH_WAYS, algorithm
 from .utils import Progress, beside, order, product, tell
 
 ROUNDS = 10
 
 
+@algorithm('communities, by a vertex of each', 'rounds', are_vertices=True, wanted=BOTH_WAYS)
 def label_propagation(G: M, rounds: int = ROUNDS, progress: Progress = None, *, check: bool = True) -> M:
     """The community of each vertex of an undirected graph, as a column of labels; a label is a vertex. Each vertex begins with itself
     as its label, and in each round all take the label that most of their neighbours have, of several the least. It ends when no label
@@ -35,7 +37,7 @@ def label_propagation(G: M, rounds: int = ROUNDS, progress: Progress = None, *, 
     own: Numbers = list(range(count)) if numpy is None else numpy.arange(count)
     labels, columns = own, Columns(G, G)
     for number in range(1, rounds + 1):
-        have = G.session.keep(Triples(own, labels, [1] * count if numpy is None else own * 0 + 1, count, count))
+        have = G.session.backend.keep(Triples(own, labels, [1] * count if numpy is None else own * 0 + 1, count, count))
         got = columns.get(product(graph, have, 'plus_pair').apply(best, right=0).reduce_rowwise('max'))
         before, labels = labels, _taken(labels, got, count)
         tell(progress, 'round', number, rounds)

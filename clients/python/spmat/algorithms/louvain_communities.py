@@ -8,6 +8,7 @@ from typing import Any, Dict, Generic, List, NamedTuple, Tuple
 from ..io.matrix_text import Triples
 from .graph_properties import check_undirected, extremes, has_loops, is_both_ways
 from .protocols import M
+from .registry import BOTH_WAYS, algorithm
 from .utils import Progress, beside, order, product, tell
 
 BATCHES = 4                                        # parts of the vertices that decide one after the other
@@ -57,8 +58,8 @@ def _gathered(graph: M, labels: List[int], many: int) -> M:
     """The graph whose vertices are the communities: values of edges between two of them added."""
     own = list(range(len(labels)))
     at = sorted(own, key=lambda i: (labels[i], i))
-    gather = graph.session.keep(Triples([labels[i] for i in at], at, [1] * len(at), many, len(labels)))
-    spread = graph.session.keep(Triples(own, labels, [1] * len(labels), len(labels), many))
+    gather = graph.session.backend.keep(Triples([labels[i] for i in at], at, [1] * len(at), many, len(labels)))
+    spread = graph.session.backend.keep(Triples(own, labels, [1] * len(labels), len(labels), many))
     return product(product(gather, graph, 'plus_second'), spread, 'plus_first')
 
 
@@ -68,6 +69,7 @@ def _numbered(labels: List[int]) -> Tuple[List[int], int]:
     return [places.setdefault(label, len(places)) for label in labels], len(places)
 
 
+@algorithm('how many more edges lie within communities than by chance', command=False)
 def modularity(G: M, labels: M, resolution: float = 1.0, *, weighted: bool = False) -> float:
     """The modularity of communities: the share of edges that lie inside one, less the share that would if edges were drawn at random
     between vertices of the same degrees, times the resolution. `labels` is a column with any number for each vertex' community.
@@ -116,7 +118,7 @@ def _level(graph: Any, chance: random.Random, resolution: float) -> _Level:
     size = max(1, -(-count // BATCHES))
     vertices = [sorted(own[first:first + size]) for first in range(0, count, size)]
     rows = graph.select('offdiag')
-    parts = [graph.session.keep(Triples(list(range(len(some))), some, [1] * len(some), len(some), count)).mxm(rows, 'any_second')
+    parts = [graph.session.backend.keep(Triples(list(range(len(some))), some, [1] * len(some), len(some), count)).mxm(rows, 'any_second')
              for some in vertices]
     weights = _sums(graph.reduce_rowwise('plus'), count)
     return _Level(parts, vertices, weights, sum(weights), resolution)
@@ -128,7 +130,7 @@ def _sweep(level: _Level, labels: List[int], sums: List[int]) -> int:
     moved, count, scale = 0, len(labels), level.resolution / level.total
     own = list(range(count))
     for part, vertices in zip(level.parts, level.vertices):
-        have = part.session.keep(Triples(own, list(labels), [1] * count, count, count))
+        have = part.session.backend.keep(Triples(own, list(labels), [1] * count, count, count))
         near: List[List[Tuple[int, int]]] = [[] for _ in vertices]
         for i, label, weight in zip(*product(part, have, 'plus_first').to_coo(arrays=False)):
             near[i].append((label, weight))
@@ -161,6 +163,9 @@ def _settled(level: _Level, graph: Any) -> Tuple[List[int], int, float]:
     return best
 
 
+@algorithm('communities of great modularity, by a vertex of each', 'resolution', 'seed', 'weighted', are_vertices=True,
+           wanted=BOTH_WAYS,
+           says='Communities by Louvain\'s method; their modularity is told on standard error.')
 def louvain(G: M, resolution: float = 1.0, seed: int = 0, progress: Progress = None, *, weighted: bool = False,
             check: bool = True) -> 'Communities[M]':
     """Communities of an undirected graph whose modularity is great, by Louvain's method, with that modularity. A greater resolution gives
@@ -192,5 +197,5 @@ def louvain(G: M, resolution: float = 1.0, seed: int = 0, progress: Progress = N
         graph = _gathered(graph, numbers, many)
     first: Dict[int, int] = {}
     least_of = [first.setdefault(label, i) for i, label in enumerate(labels)]
-    column = G.session.keep(Triples(list(range(count)), [0] * count, least_of, count, 1))
+    column = G.session.backend.keep(Triples(list(range(count)), [0] * count, least_of, count, 1))
     return Communities(beside(G, column), found, number)

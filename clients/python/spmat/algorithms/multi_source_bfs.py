@@ -9,6 +9,7 @@ from ..loops.pipelined_rounds import Round
 from ..operators import Semiring, binary
 from .graph_properties import is_both_ways
 from .protocols import M
+from .registry import algorithm
 from .server_side_search import ANY_NEXT
 from .utils import Progress, order, places, product, tell
 
@@ -96,6 +97,9 @@ class Hops(Generic[M]):
         return near
 
 
+@algorithm('the vertices within k edges of some', 'k', 'sources',
+           says='Which vertices lie within k edges of each source (of all vertices without --source): source, '
+                'vertex, number of edges; 0 at the source itself.')
 def k_hop(G: M, k: int, sources: Optional[Iterable[Any]] = None, progress: Progress = None) -> M:
     """Which vertices lie within k edges of each source: a row for each source in their order (of all vertices without `sources`), whose
     entries are the numbers of edges; 0 at the source.

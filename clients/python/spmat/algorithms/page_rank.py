@@ -11,6 +11,7 @@ from .bfs import lines_of
 from .frontier import Columns, FEW, Lines, Vector
 from .graph_properties import extremes, found, is_both_ways
 from .protocols import GraphMatrix, M, Numbers
+from .registry import algorithm
 from .triangle_counts import degrees
 from .utils import Progress, beside, order, tell
 
@@ -58,11 +59,7 @@ class System(Generic[M]):
         self.lines, self.out, self.point = lines, out, point
         self.ring = Semiring(binary.plus, binary.times if weighted else binary.first)
         self.spread = asm('binary', 'mov64 r0, r1\nlsh64 r0, %d\ndiv64 r0, r2\nexit\n' % SPARE)
-        self.join = asm('binary', 'mov64 r0, r2\n%sadd64 r0, r1\nexit\n' % self._damped())
-
-    def _damped(self) -> str:
-        """Code that makes of the shares in R0 what they add to a rank."""
-        return 'rsh64 r0, %d\nmul64 r0, %d\ndiv64 r0, %d\n' % (SPARE, self.point.parts, self.point.whole)
+        self.join = asm('binary', 'mov64 r0, r2\n%sadd64 r0, r1\nexit\n' % point.damped())
 
     def start(self, given: Vector) -> M:
         """The shares of ranks to begin with."""
@@ -75,7 +72,7 @@ class System(Generic[M]):
     def turn(self, flow: M, base: int) -> M:
         """The next shares, of those vertices alone that something comes to; each gets `base` anyhow."""
         return flow.ewise_mult(self.out, asm('binary', 'mov64 r0, r1\n%swide r3, %d\nadd64 r0, r3\nlsh64 r0, %d\ndiv64 r0, r2\nexit\n'
-                                             % (self._damped(), base, SPARE)))
+                                             % (self.point.damped(), base, SPARE)))
 
     def turn_all(self, flow: M, bases: M) -> M:
         """The next shares of all vertices, of which each gets its own base."""
@@ -225,6 +222,7 @@ def kept_tolerance(count: int, weight: int, point: Point, tolerance: float, scal
     return tolerance - flows - result
 
 
+@algorithm('the PageRank of each vertex', 'damping', 'tolerance', scale=ONE, ranked=True)
 def pagerank(G: M, GT: Optional[M] = None, damping: float = 0.85, tolerance: float = 1e-6, scale: Optional[int] = None,
              progress: Progress = None, *, weighted: bool = False, personalization: Optional[Weights] = None,
              dangling: Optional[Weights] = None, check: bool = True) -> M:
@@ -292,6 +290,6 @@ def _column(G: M, ranks: Numbers, scale: int) -> M:
         import numpy
         values = numpy.rint(ranks * (scale / float(ranks.sum()))).astype(numpy.int64)
         at = numpy.arange(count)
-        return beside(G, G.session.keep(Triples(at, at * 0, values, count, 1)))
+        return beside(G, G.session.backend.keep(Triples(at, at * 0, values, count, 1)))
     times = scale / float(sum(ranks))
-    return beside(G, G.session.keep(Triples(list(range(count)), [0] * count, [round(rank * times) for rank in ranks], count, 1)))
+    return beside(G, G.session.backend.keep(Triples(list(range(count)), [0] * count, [round(rank * times) for rank in ranks], count, 1)))

@@ -11,6 +11,13 @@ M = TypeVar('M', bound='GraphMatrix')
 S = TypeVar('S', covariant=True)
 
 
+class GraphBackend(Protocol[S]):
+    """What sends matrices."""
+
+    def keep(self, entries: Triples) -> S:
+        """A matrix of entries by ascending row and column that the client has, which need not be looked at."""
+
+
 class GraphSession(Protocol[S]):
     """What makes matrices."""
 
@@ -23,8 +30,9 @@ class GraphSession(Protocol[S]):
     def identity(self, n: int, value: int = ...) -> S:
         """A square matrix with one value on its diagonal."""
 
-    def keep(self, entries: Triples) -> S:
-        """A matrix of entries by ascending row and column that the client has, which need not be looked at."""
+    @property
+    def backend(self) -> GraphBackend[S]:
+        """What sends them."""
 
 
 class GraphMatrix(Protocol):

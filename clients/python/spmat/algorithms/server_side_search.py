@@ -54,9 +54,9 @@ def _row(graph: Matrix, at: Numbers, values: Numbers) -> Matrix:
     if matrix_text.is_array(at):
         import numpy
         ranks = numpy.argsort(at, kind='stable')
-        return graph.session.keep(Triples(at * 0, at[ranks], values[ranks], 1, graph.nrows))
+        return graph.session.backend.keep(Triples(at * 0, at[ranks], values[ranks], 1, graph.nrows))
     pairs = sorted(zip(at, values))
-    return graph.session.keep(Triples([0] * len(pairs), [i for i, _ in pairs], [x for _, x in pairs], 1, graph.nrows))
+    return graph.session.backend.keep(Triples([0] * len(pairs), [i for i, _ in pairs], [x for _, x in pairs], 1, graph.nrows))
 
 
 def _joined(first: Numbers, second: Numbers) -> Numbers:

@@ -12,6 +12,7 @@ from .bfs import LEAST, NONE, Search, bfs_levels, lines_of, run_search, search_o
 from .frontier import Columns, FEW, Lines, Tally, Vector
 from .graph_properties import extremes, transpose_of
 from .protocols import M
+from .registry import algorithm
 from .single_source_paths import sssp
 from .utils import Progress, beside, order, product
 
@@ -52,7 +53,7 @@ class PathTree(Generic[M]):
         self._far = _by_vertex(lengths)
         self.source = _named(graph, source)
         zeros = [0] * len(lengths.at) if not matrix_text.is_array(lengths.at) else lengths.at * 0
-        self.lengths = beside(graph, graph.session.keep(Triples(lengths.at, zeros, lengths.values, graph.nrows, 1)))
+        self.lengths = beside(graph, graph.session.backend.keep(Triples(lengths.at, zeros, lengths.values, graph.nrows, 1)))
         self.predecessors = beside(graph, parents.column(graph, NONE))
 
     def __repr__(self) -> str:
@@ -151,10 +152,13 @@ def _longer(bits: int, edge_first: bool) -> Operator:
 
 def _tight(graph: M, lengths: Vector) -> M:
     """The edges that stand on shortest paths: those as long as the difference of their ends."""
-    far = graph.session.keep(Triples(lengths.at, lengths.at, lengths.values, graph.nrows, graph.nrows))
+    far = graph.session.backend.keep(Triples(lengths.at, lengths.at, lengths.values, graph.nrows, graph.nrows))
     return product(product(far, graph, LENGTHEN), far, IS_SUM).select('nonzero')
 
 
+@algorithm('the vertices of a shortest path', 'source', 'target', 'weighted', plot='route', fields=('node', 'length'),
+           says='The vertices of a shortest path from one vertex to another, in order, with how far along it each '
+                'is.')
 def shortest_path(G: M, source: Any, target: Any, GT: Optional[M] = None, progress: Progress = None, *, weighted: bool = False,
                   check: bool = True) -> Path:
     """A shortest path from one vertex to another: its vertices in order, with their `lengths` along it. Its length is the number of its
@@ -185,6 +189,9 @@ def shortest_path(G: M, source: Any, target: Any, GT: Optional[M] = None, progre
     return _path(G, _walk(_parents(lines_of(G, GT, check, True), start, lengths, True), start, end), far)
 
 
+@algorithm('a shortest path to each vertex, as a tree', 'source', 'weighted', fields=('node', 'length', 'predecessor'),
+           says='A shortest path to each vertex that is reached: vertex, length, and the vertex before it; that is '
+                'the source itself there.')
 def shortest_paths(G: M, source: Any, GT: Optional[M] = None, progress: Progress = None, *, weighted: bool = False,
                    cutoff: Optional[int] = None, check: bool = True) -> 'PathTree[M]':
     """A shortest path from one vertex to each that it reaches, as a tree: `.path(target)` is one of them, `.lengths` and `.predecessors`
@@ -201,6 +208,8 @@ def shortest_paths(G: M, source: Any, GT: Optional[M] = None, progress: Progress
     return PathTree(G, at, lengths, _parents(lines_of(G, GT, check, weighted), at, lengths, weighted))
 
 
+@algorithm('whether a path leads from one vertex to another', 'source', 'target', fields=('has_path',),
+           says='Prints yes where a path leads from one vertex to another, else no.')
 def has_path(G: M, source: Any, target: Any, GT: Optional[M] = None, *, check: bool = True) -> bool:
     """Whether a path leads from one vertex to another. It costs what `bfs_levels` costs up to the target. networkx: `has_path`. Raises
     ValueError where one of them is no vertex."""
@@ -251,6 +260,9 @@ class Spurs(Generic[M]):
         return None
 
 
+@algorithm('the k shortest paths', 'source', 'target', 'k', 'weighted', fields=('path', 'node', 'length'),
+           says='The k shortest paths that pass no vertex twice, a line for each vertex: the number of its path, '
+                'from 1, the vertex, and how far along the path it is.')
 def k_shortest_paths(G: M, source: Any, target: Any, k: int, GT: Optional[M] = None, *, weighted: bool = False,
                      check: bool = True) -> List[Path]:
     """The k shortest paths from one vertex to another that pass no vertex twice, the shortest first; fewer where there are fewer. Lengths

@@ -10,6 +10,7 @@ from .bfs import fronts_of, joined
 from .frontier import Lines, Tally, Vector
 from .graph_properties import extremes
 from .protocols import GraphMatrix, M, Numbers
+from .registry import algorithm
 from .utils import Progress, beside, order, tell
 
 CYCLE = 'a cycle of negative length: paths along it have no least length'
@@ -232,6 +233,7 @@ def _width(W: GraphMatrix, least: int, most: int) -> int:
     return max(1, WIDE * most * W.nrows // max(1, W.nvals))
 
 
+@algorithm('lengths of shortest paths from a vertex', 'source', values=True)
 def sssp(W: M, source: Any, WT: Optional[M] = None, progress: Progress = None, *, cutoff: Optional[int] = None,
          target: Any = None, check: bool = True) -> M:
     """The length of the shortest path from the source to each vertex, as a column: 0 at the source; no entry where no path leads.

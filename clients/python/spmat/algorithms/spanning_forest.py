@@ -9,6 +9,7 @@ from ..operators import asm
 from .frontier import FEW, zeros_like
 from .graph_properties import check_undirected, extremes, found, is_transpose
 from .protocols import GraphMatrix, M, Numbers
+from .registry import BOTH_WAYS, algorithm
 from .utils import Progress, order, product, tell
 
 LIGHTEST = ('min', 'first')
@@ -49,6 +50,10 @@ def _encoded(W: M, code: Code) -> M:
     return W.apply(asm('index', text), right=0)
 
 
+@algorithm('the lightest edges that join what is joined', wanted=BOTH_WAYS, values=True,
+           says='The edges of a minimum spanning forest of an undirected graph, each once, with their weights, which '
+                'may be negative. Of edges of one weight the one with the lesser vertices is taken. Loops don\'t '
+                'count. --both-ways takes each edge of a list both ways.')
 def minimum_spanning_forest(W: M, progress: Progress = None, *, check: bool = True) -> M:
     """The edges of a minimum spanning forest of an undirected graph, both ways, with their weights, which may be negative. Of edges of
     one weight the one with the lesser vertices is taken. Loops don't count.
@@ -84,7 +89,7 @@ def minimum_spanning_forest(W: M, progress: Progress = None, *, check: bool = Tr
         left = _shrunk(left, chosen.rows, met, many)
         number += 1
         tell(progress, 'round', number)
-    return W.session.keep(_both_ways(taken, code, by_numpy))
+    return W.session.backend.keep(_both_ways(taken, code, by_numpy))
 
 
 def _chosen(left: M, code: Code, label: Numbers, by_numpy: bool) -> Chosen:
@@ -150,14 +155,14 @@ def _shrunk_label(label: Numbers, rows: Numbers, met: Numbers, count: int) -> Nu
 def _shrunk(left: M, rows: Numbers, met: Numbers, many: int) -> M:
     """The graph with one vertex for each component, and the lightest edge between each two."""
     ones = zeros_like(rows) + 1 if matrix_text.is_array(rows) else [1] * len(rows)
-    tall = left.session.keep(Triples(rows, met, ones, left.nrows, many))
+    tall = left.session.backend.keep(Triples(rows, met, ones, left.nrows, many))
     if matrix_text.is_array(rows):
         import numpy
         ranks = numpy.argsort(met, kind='stable')
-        wide = left.session.keep(Triples(met[ranks], rows[ranks], ones, many, left.nrows))
+        wide = left.session.backend.keep(Triples(met[ranks], rows[ranks], ones, many, left.nrows))
     else:
         pairs = sorted(zip(met, rows))
-        wide = left.session.keep(Triples([k for k, _ in pairs], [row for _, row in pairs], ones, many, left.nrows))
+        wide = left.session.backend.keep(Triples([k for k, _ in pairs], [row for _, row in pairs], ones, many, left.nrows))
     return product(wide, product(left, tall, LIGHTEST), ('min', 'second')).select('offdiag', 0)
 
 

@@ -11,6 +11,7 @@ from .frontier import FEW, zeros_like
 from .graph_properties import found, transpose_of
 from .protocols import Numbers
 from .random_vector import drawn
+from .registry import algorithm
 from .tarjan import strong_components
 from .topological_order import levelled
 from .utils import Progress, beside, column, loops, nothing, order, product, settle, tell, until_as_many
@@ -82,6 +83,7 @@ class Parts:
         return Triples(at, zeros_like(at), self.label, self.count, 1)
 
 
+@algorithm("the least vertex of each one's strong component", are_vertices=True)
 def strongly_connected_components(G: Matrix, GT: Optional[Matrix] = None, progress: Progress = None, *,
                                   check: bool = True) -> Matrix:
     """The least vertex of each one's strongly connected component, as a column: two vertices are in one where a path leads from
@@ -116,7 +118,7 @@ def strongly_connected_components(G: Matrix, GT: Optional[Matrix] = None, progre
         at, labels = strong_components(rows, columns)
         parts.close(at, labels)
         tell(progress, 'round', number + 1)
-    return beside(G, G.session.keep(parts.column()))
+    return beside(G, G.session.backend.keep(parts.column()))
 
 
 def _around(G: Matrix, GT: Optional[Matrix], parts: Parts) -> None:
@@ -157,7 +159,7 @@ def _reaching(G: Matrix, GT: Optional[Matrix], middle: int, parts: Parts) -> Num
 def _pulled(G: Matrix, middle: int, parts: Parts) -> Optional[Numbers]:
     """The same against the edges, None where that takes too many rounds. A round looks at all edges, until an eighth of the vertices is seen;
     then at those of the others alone, which are a mask."""
-    front = seen = G.session.keep(Triples([middle], [0], [1], G.nrows, 1))
+    front = seen = G.session.backend.keep(Triples([middle], [0], [1], G.nrows, 1))
     unseen: Optional[Matrix] = None
     for _ in range(PULLS):
         if unseen is None:
@@ -183,7 +185,7 @@ def _without(some: Matrix, gone: Matrix) -> Matrix:
 def _inside(G: Matrix, parts: Parts) -> Matrix:
     """The edges between two vertices of one part whose components aren't known."""
     at = parts.left()
-    keep = G.session.keep(parts.diagonal(at))
+    keep = G.session.backend.keep(parts.diagonal(at))
     return product(product(keep, G, 'any_first'), keep, 'any_minus').select('valueeq', 0).apply('one')
 
 
@@ -207,7 +209,7 @@ def _within(G: Matrix, keep: Matrix) -> Matrix:
 
 
 def _less(left: Matrix, gone: Numbers) -> Matrix:
-    away = left.session.keep(Triples(gone, zeros_like(gone), zeros_like(gone), left.nrows, 1))
+    away = left.session.backend.keep(Triples(gone, zeros_like(gone), zeros_like(gone), left.nrows, 1))
     return left.ewise_add(away, 'second').select('nonzero')
 
 

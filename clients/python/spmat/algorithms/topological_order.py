@@ -12,8 +12,9 @@ from .bfs import NONE
 from .frontier import Tally
 from .graph_properties import extremes
 from .protocols import Numbers
+from .registry import algorithm
 from .single_source_paths import MOST, WRAPS
-from .utils import Progress, nothing, order, tell
+from .utils import Progress, beside, nothing, order, tell
 
 # An edge takes one from what the vertex that it leads to still waits for.
 TAKEN = Semiring(binary.plus, asm('binary', 'mov64 r0, -1\nexit\n', 'minus_one'))
@@ -98,6 +99,7 @@ def levelled(G: Matrix, progress: Progress = None) -> Levels:
     return levels
 
 
+@algorithm('levels of a graph without cycles')
 def topological_levels(G: Matrix, progress: Progress = None) -> Matrix:
     """The number of edges of the longest path that ends at each vertex of a directed graph without cycles, as a column: an edge
     leads from a lower level to a higher one, so vertices by ascending levels are in a topological order.
@@ -110,13 +112,14 @@ def topological_levels(G: Matrix, progress: Progress = None) -> Matrix:
     """
     count = order(G)
     if count == 0:
-        return nothing(G)
+        return beside(G, nothing(G))
     levels = levelled(G, progress)
     if levels.count < count:
         raise CycleError(_cycle(G, levels.found()))
-    return levels.tally.column(G, None)
+    return beside(G, levels.tally.column(G, None))
 
 
+@algorithm('lengths of longest paths in a graph without cycles', values=True, ranked=True)
 def longest_paths(W: Matrix, progress: Progress = None, *, check: bool = True) -> Matrix:
     """The length of the longest path that ends at each vertex of a directed graph without cycles, as a column. An entry's value is the
     length of its edge; a path may begin anywhere, so no length is below 0.
@@ -128,7 +131,7 @@ def longest_paths(W: Matrix, progress: Progress = None, *, check: bool = True) -
     """
     count = order(W)
     if count == 0:
-        return nothing(W)
+        return beside(W, nothing(W))
     may_wrap = check and count * extremes(W)[1] > MOST
     order_ = Order(W)
     levels = Levels(order_, progress)
@@ -150,7 +153,7 @@ def longest_paths(W: Matrix, progress: Progress = None, *, check: bool = True) -
         loop.rounds(empty('front'), count + 1, heard)
     if levels.count < count:
         raise CycleError(_cycle(W, levels.found()))
-    return levels.tally.column(W, None)
+    return beside(W, levels.tally.column(W, None))
 
 
 def _cycle(G: Matrix, levelled_: Numbers) -> List[int]:

@@ -9,11 +9,13 @@ from ..loops import Loop, State, Until
 from ..loops.pipelined_rounds import Round
 from .graph_properties import check_undirected
 from .protocols import M
+from .registry import WITHOUT_LOOPS, algorithm
 from .utils import Progress, order, product, tell
 
 ANEW = 4                                           # where a quarter of the edges fall, triangles are counted anew
 
 
+@algorithm('edges that stand in k - 2 triangles or more', 'k', plot='spy', wanted=WITHOUT_LOOPS)
 def k_truss(G: M, k: int, progress: Progress = None, *, check: bool = True) -> M:
     """The edges of the largest part of an undirected graph without loops in which each edge stands in at least k - 2 triangles; the
     value of an edge is the number of them. With k = 2 these are all edges, and 0 stands at one in no triangle.

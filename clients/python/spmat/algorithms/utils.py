@@ -9,6 +9,7 @@ from ..operators import asm
 from ..pricing.estimates import asked
 from .graph_properties import found
 from .protocols import GraphMatrix, M, Ring
+from .registry import algorithm
 
 Progress = Optional[Callable[[str, int, int], None]]
 """Called as a session's `progress` is: with a word ('level' or 'round'), the number of those that have ended, and of how
@@ -57,7 +58,7 @@ def column(like: M, value: int) -> M:
 
 def nothing(like: M) -> M:
     """A column without entries."""
-    return like.session.keep(Triples([], [], [], like.nrows, 1))
+    return like.session.backend.keep(Triples([], [], [], like.nrows, 1))
 
 
 def loops(like: M, value: int) -> M:
@@ -117,6 +118,7 @@ def settle(step: Callable[[M], M], start: M, progress: Progress = None, most: Op
         older, last = last, new
 
 
+@algorithm('the graph without directions, weights and loops', command=False)
 def undirected(graph: M, GT: Optional[M] = None) -> M:
     """The graph without its directions, weights and loops: an entry 1 at (i, j) and (j, i) for each edge between two vertices.
 

@@ -15,6 +15,7 @@ import os
 import tempfile
 from typing import Any, BinaryIO, Callable, Iterable, Iterator, List, NamedTuple, Optional, Tuple
 
+from .. import limits
 from ..errors import Refused, refusal
 from ..io import compression, coo, matrix_market, matrix_text
 from ..io.graph_files import name_of
@@ -75,10 +76,10 @@ class Spooled(abc.ABC):
         than a session takes."""
         for block, triples in enumerate(self.blocks(cut)):
             triples = triples if fold is None else fold(triples)
-            if len(triples.rows) > matrix_text.MOST_SIDE:
+            if len(triples.rows) > limits.MOST_SIDE:
                 raise refusal('M4', detail='%d entries in %s' % (len(triples.rows), cut.label(block)))
             text = matrix_text.write(triples)
-            if len(text) > matrix_text.MOST_TEXT:
+            if len(text) > limits.MOST_TEXT:
                 raise refusal('S7', detail='the text of %s has %d bytes' % (cut.label(block), len(text)))
             yield text
 
@@ -311,7 +312,7 @@ class _File:
         if len(fields) != 3 or not all(field.isdigit() for field in fields):
             raise self._refused('M3', self._number, line)
         nrows, ncols, count = map(int, fields)
-        if max(nrows, ncols) > matrix_text.MOST_SIDE:
+        if max(nrows, ncols) > limits.MOST_SIDE:
             raise self._refused('M4', self._number, line)
         if self._kind.symmetry != 'general' and nrows != ncols:
             raise self._refused('M12', self._number, line)

@@ -6,13 +6,13 @@ import contextlib
 import time
 import uuid
 import warnings
-from typing import Any, Callable, Dict, List, Optional, Sequence
+from typing import Any, Callable, Dict, List, Optional, Sequence, cast
 
-from ..errors import Closed
+from ..errors import Closed, without_frames
 from . import dask_scheduler, worker_tasks
 from .dask_direct_calls import Call, Direct
 from .dask_worker_exit import leave
-from .errors import AtBlock, without_frames
+from .errors import AtBlock
 from .executor import Engine, Progress, Version
 from .worker_store import Settings, close_store, program_stopped, store_of, version_of
 
@@ -91,7 +91,7 @@ class Dask(Engine):
             return self._gathered(settings, list(futures), progress)
         except AtBlock as at:
             at.__traceback__ = None                # the client keeps the exception, whose frames would keep the futures
-            raise AtBlock(at.label, without_frames(at.fault)) from None
+            raise AtBlock(at.label, cast(Exception, without_frames(at.fault))) from None
         except Exception as fault:
             fault.__traceback__ = None
             failed = [label for future, label in zip(futures, labels) if future.status in ('error', 'cancelled', 'lost')]

@@ -1,7 +1,6 @@
 """Errors that name the block in which they came."""
 from __future__ import annotations
 
-import copy
 from typing import Any, Tuple
 
 from ..errors import BudgetExceeded, Refused, SpmatError
@@ -39,14 +38,6 @@ def named(label: str, fault: BaseException) -> Exception:
     if isinstance(fault, (ValueError, TypeError, VersionMismatch)):
         return fault
     return BlockFailed('%s: %s%s' % (label, type(fault).__name__, ': %s' % fault if str(fault) else ''), label)
-
-
-def without_frames(fault: Exception) -> Exception:
-    """The same exception without the frames that it came through."""
-    try:
-        return copy.copy(fault).with_traceback(None)
-    except Exception:                              # pylint: disable=broad-exception-caught  # of whatever can't be copied
-        return SpmatError('%s: %s' % (type(fault).__name__, fault))
 
 
 def worded(fault: Refused, block: str) -> Refused:

@@ -35,7 +35,7 @@ def push(graph: 'BlockMatrix', front: Vector, ring: Semiring) -> Vector:
 def pull(transpose: 'BlockMatrix', front: Vector, ring: Semiring) -> Vector:
     """The same, by the rows of the transpose; `ring` has its MUL turned round."""
     entries = Triples(front.at, zeros_like(front.at), front.values, transpose.nrows, 1)
-    column: Any = transpose.session.keep(entries)
+    column: Any = transpose.session.backend.keep(entries)
     works = [Work(k, transpose.cut.label(k), worker_tasks.pulled, (transpose.futures[k], column.whole(), ring))
              for k, (first, end) in enumerate(transpose.cut.ranges()) if first < end]
     return _joined(transpose.sessions.results(transpose.sessions.batch(works), [work.label for work in works]))

@@ -6,6 +6,7 @@ import os
 import uuid
 from typing import TYPE_CHECKING, Any, Callable, Iterable, Iterator, List, Optional, Sequence, Tuple, Union
 
+from .. import limits
 from ..errors import Refused, TextRefused, refusal
 from ..io import coo, matrix_market, matrix_text
 from ..io.graph_files import Request, name_of
@@ -25,6 +26,21 @@ if TYPE_CHECKING:
     from .sessions import Sessions
 
 SMALL = 1 << 16                                    # bytes of a text that goes with its task, where another would lie in a file
+
+
+class Sender:
+    """What keeps entries for several sessions until they are sent."""
+
+    def __init__(self, sessions: 'Sessions') -> None:
+        self._sessions = sessions
+
+    def keep(self, entries: Triples) -> BlockMatrix:
+        """A matrix of entries by ascending row and column, which aren't looked at. The client keeps those of a vector; they are sent
+        when a job wants them."""
+        if 1 not in (entries.nrows, entries.ncols):
+            return self._sessions.from_coo(*entries)
+        cut = self._sessions.cut_for(entries.nrows, None) or row_partition.evenly(entries.nrows, self._sessions.blocks)
+        return HeldVector(self._sessions, entries, cut)
 
 
 class Inputs(Sources[BlockMatrix]):
@@ -55,7 +71,7 @@ class Inputs(Sources[BlockMatrix]):
     def from_text(self, text: Union[bytes, str], name: Optional[str] = None) -> BlockMatrix:
         """A matrix from a Matrix Market text as a session reads it; see `Session.from_text`. TextRefused names the line."""
         text = text.encode() if isinstance(text, str) else bytes(text)
-        if len(text) > matrix_text.MOST_TEXT:
+        if len(text) > limits.MOST_TEXT:
             raise refusal('S7', detail='the text has %d bytes' % len(text))
         if matrix_market.is_plain(text):
             try:
@@ -73,7 +89,7 @@ class Inputs(Sources[BlockMatrix]):
         than a block is held; it may be larger than one session takes. `array` files, which are small, are read at once. `values`,
         `scale` and `dup_op` are as for `Session.mmread`. What is refused names the file and the line. `progress('read', done, of)` is
         called after each piece, with bytes. In python-graphblas `io.mmread`."""
-        made = None if dup_op is not None else parallel_read.matrix_market(self, source, matrix_market.Values(values, scale), cut, name)
+        made = None if dup_op is not None else parallel_read.read_matrix_market(self, source, matrix_market.Values(values, scale), cut, name)
         if made is not None:
             return made
         start = source.tell() if hasattr(source, 'read') and hasattr(source, 'seekable') and source.seekable() else None
@@ -91,7 +107,7 @@ class Inputs(Sources[BlockMatrix]):
         """The matrix of a file, or of a folder of lists or parquet, by the workers where they see it."""
         layout = request.layout
         asked = parallel_edgelist.Asked(request.directed is not False, request.bipartite, dup_op, name)
-        made = None if dup_op is not None or request.format not in (None, 'mtx') else parallel_read.matrix_market(
+        made = None if dup_op is not None or request.format not in (None, 'mtx') else parallel_read.read_matrix_market(
             self, path, matrix_market.Values(layout.values, layout.scale), None, name)
         if made is None and request.format in (None, 'edges', 'csv', 'tsv', 'parquet'):
             made = parallel_edgelist.of_file(self, path, request, asked)
@@ -169,13 +185,6 @@ class Inputs(Sources[BlockMatrix]):
                 return self._spooled(held, None, name)
             except TextRefused as fault:
                 raise (duplicate_positions.of_triples(folded, fault) if fault.rule == 'M8' else fault) from None
-
-    def keep(self, entries: Triples) -> BlockMatrix:
-        """A matrix of entries by ascending row and column, which aren't looked at. The client keeps those of a vector; they are sent
-        when a job wants them."""
-        if 1 not in (entries.nrows, entries.ncols):
-            return self._from(entries)
-        return HeldVector(self.itself(), entries, self._cut(entries.nrows, None))
 
     def share(self, piece: Piece) -> Any:
         """A piece that has its text, as tasks of all places take it: by Dask from one worker, which the others get it from."""

@@ -11,8 +11,8 @@ from ..errors import SpmatError, refusal
 from ..indexing import Signs, picked
 from ..io import coo
 from ..mask import Mask, as_mask
-from ..matrix import Op, Ring, _of_kind, applied
-from ..operators import Semiring, binary, find_semiring, indexunary
+from ..matrix import Ring, _of_kind, applied
+from ..operators import Op, Semiring, binary, find_semiring, indexunary
 from . import frontier, html, matrix_products, one_job_each, repartition, row_partition, unsupported, worker_tasks
 from .row_partition import Cut
 from .shared_budget import Work

@@ -5,7 +5,7 @@ from __future__ import annotations
 # masks are turned
 # pylint: disable=invalid-unary-operand-type
 
-from typing import TYPE_CHECKING, Any, Callable, Optional
+from typing import TYPE_CHECKING, Callable, Optional
 
 from .. import job_limits
 from ..mask import Mask
@@ -55,6 +55,4 @@ def updated(matrix: 'BlockMatrix', inside: 'BlockMatrix', where: Mask, replace: 
 
 def in_parts(matrix: 'BlockMatrix', call: Callable[['BlockMatrix'], 'BlockMatrix']) -> 'BlockMatrix':
     """A product by parts of the rows of all blocks."""
-    job: Any = call
-    made: Any = job_limits.in_parts(matrix, job)  # type: ignore[arg-type]
-    return made  # type: ignore[no-any-return]
+    return job_limits.in_parts(matrix, call)

@@ -8,6 +8,7 @@ from __future__ import annotations
 import os
 from typing import TYPE_CHECKING, Any, List, NamedTuple, Optional, Sequence, Tuple
 
+from .. import limits
 from ..errors import ReadError, Refused, refusal
 from ..io import edgelist_numpy, edgelist_text, matrix_text
 from ..io.edgelist_matrix import FOLDS
@@ -158,7 +159,7 @@ def _vertices(names: Sequence[List[Any]]) -> Optional[_Vertices]:
         every = edgelist_partitions.merged(column)
         if every is None:
             return None
-        if len(every) > matrix_text.MOST_SIDE:
+        if len(every) > limits.MOST_SIDE:
             raise refusal('M4', detail='%d vertices' % len(every))
         nodes = Nodes(every.tolist() if matrix_text.is_array(every) else every)
         found.append(nodes)

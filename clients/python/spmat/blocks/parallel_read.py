@@ -45,7 +45,7 @@ def seen(sessions: 'Inputs', source: Any) -> Optional[Seen]:
     return Seen(path, stamp) if all(one == stamp for one in told.values()) else None
 
 
-def matrix_market(sessions: 'Inputs', source: Any, values: matrix_market.Values, given: Optional[Sequence[int]], name: Optional[str]) -> Optional[BlockMatrix]:
+def read_matrix_market(sessions: 'Inputs', source: Any, values: matrix_market.Values, given: Optional[Sequence[int]], name: Optional[str]) -> Optional[BlockMatrix]:
     """The matrix of a Matrix Market file that workers read; None where it is for the caller's process to read, and to refuse."""
     file = seen(sessions, source)
     if file is None:

@@ -10,6 +10,7 @@ import bisect
 import itertools
 from typing import Any, Iterable, Iterator, List, NamedTuple, Sequence, Tuple
 
+from .. import limits
 from ..errors import refusal
 from ..io import matrix_text
 
@@ -111,8 +112,8 @@ def text_of(nrows: int, ncols: int, parts: Sequence[Tuple[bytes, int]]) -> bytes
     """One text of lines and their numbers. TooLarge where it is longer, or has more entries, than a session takes."""
     count, size = sum(part[1] for part in parts), sum(len(part[0]) for part in parts)
     first = head(nrows, ncols, count)
-    if count > matrix_text.MOST_SIDE:
+    if count > limits.MOST_SIDE:
         raise refusal('M4', detail='%d entries' % count)
-    if len(first) + size > matrix_text.MOST_TEXT:
+    if len(first) + size > limits.MOST_TEXT:
         raise refusal('S7', detail='the text has %d bytes' % (len(first) + size))
     return b''.join([first, *(part[0] for part in parts)])

@@ -10,19 +10,18 @@ import tempfile
 import weakref
 from typing import Any, Callable, Dict, Iterable, List, Optional, Sequence, Tuple, Union
 
-from .._client.connection import MOST_STEPS, MOST_WORKERS
-from .._client.job_queue import JobResult, Run
+from .._client.job_queue import Budget, JobResult, Run
 from .._client.server_program import Program
 from ..errors import BudgetExceeded, SpmatError
 from ..io import coo
+from ..limits import MOST_STEPS, MOST_WORKERS
 from ..operators import Op, Operator, diagnostics, find
 from ..pricing import estimates
-from ..session import Budget
 from . import unsupported, worker_tasks
 from .dask_direct_calls import Call
 from .errors import AtBlock, VersionMismatch, in_all, named
 from .executor import Engine, Progress
-from .importers import Inputs
+from .importers import Inputs, Sender
 from .matrix import BlockMatrix
 from .row_partition import Cut
 from .shared_budget import Ledger, Work
@@ -94,7 +93,11 @@ class Sessions(Inputs):
         if self._spool is not None:
             self._spool.cleanup()
 
+    backend: Sender                                # made when it is asked for: these are copied for each cut
+
     def __getattr__(self, name: str) -> Any:
+        if name == 'backend':
+            return Sender(self)
         raise AttributeError(unsupported.words('Session', name, self))
 
     def spool(self) -> Optional[str]:

@@ -11,8 +11,9 @@ import threading
 from typing import Any, Dict, NamedTuple, Sequence, Tuple
 
 from .._client.backend import Backend
-from .._client.job_queue import AMPLE, Budget, MOST_PRICE, most_of
+from .._client.job_queue import AMPLE, Budget, most_of
 from ..errors import BudgetExceeded, refusal
+from ..limits import MOST_PRICE
 from ..session import Session
 
 _asked = threading.local()

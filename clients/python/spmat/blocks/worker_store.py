@@ -19,10 +19,10 @@ import weakref
 from dataclasses import dataclass, field, replace
 from typing import Any, Dict, Iterator, List, NamedTuple, Optional, Tuple
 
-from .._client.connection import MOST_STEPS
 from .._client.job_queue import Budget
 from .._client.server_program import Program, program_words
 from ..errors import Closed
+from ..limits import MOST_STEPS
 from ..matrix import Matrix
 from .dask_worker_exit import leave
 from .errors import VersionMismatch

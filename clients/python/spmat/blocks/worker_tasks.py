@@ -10,6 +10,7 @@ from __future__ import annotations
 import bisect
 from typing import Any, Callable, Dict, List, Optional, Sequence, Tuple
 
+from .._client.job_queue import Budget
 from ..algorithms.frontier import Vector, read as vector_of, zeros_like
 from ..display import html
 from ..errors import NotMade, TextRefused
@@ -17,7 +18,6 @@ from ..io import coo, matrix_text, parse_integers
 from ..io.matrix_text import Triples
 from ..mask import Mask
 from ..operators import Operator, Semiring, binary, diagnostics
-from ..session import Budget
 from . import chunked_input, edgelist_partitions, file_ranges, row_partition
 from .duplicate_positions import first_repeated
 from .errors import AtBlock
@@ -160,7 +160,7 @@ def given(store: Store, piece: Piece) -> Piece:
 
 def pushed(store: Store, block: Piece, front: Vector, ring: Semiring) -> Vector:
     """What comes to each vertex along the edges of a block that leave some vertices: the vertices, and a value for each."""
-    row = store.session.keep(Triples(zeros_like(front.at), front.at, front.values, 1, block.counts.nrows))
+    row = store.session.backend.keep(Triples(zeros_like(front.at), front.at, front.values, 1, block.counts.nrows))
     return vector_of(row.mxm(store.matrix(block), ring).to_text(), 1)
 
 

@@ -10,9 +10,10 @@ import textwrap
 from typing import Any, Callable, Iterable
 
 from .. import draw as pictures
+from ..algorithms.registry import Algorithm
 from ..matrix import Matrix
 from . import graph_options, output
-from .algorithm_table import ALGORITHMS, Algorithm, OPTIONS
+from .algorithm_table import COMMANDS, Command, OPTIONS
 from .grammar import add_command
 from .session_options import add_session_options, open_session
 
@@ -25,7 +26,8 @@ EXAMPLES = {'source': '--source 1', 'target': '--target 7', 'k': '--k 4', 'sourc
 
 def add_commands(commands: Any) -> None:
     """Adds a command for each algorithm."""
-    for name, algorithm in ALGORITHMS.items():
+    for name, called in COMMANDS.items():
+        algorithm = called.algorithm
         command = add_command(commands, name, algorithm.gives, description=description(algorithm), epilog=epilog(algorithm))
         graph_options.add_graph_options(command)
         for option in algorithm.options:
@@ -35,7 +37,7 @@ def add_commands(commands: Any) -> None:
         if algorithm.plot:
             command.add_argument('--plot', metavar='FILE.png', help='a picture of the result; wants matplotlib')
         add_session_options(command)
-        command.set_defaults(run=functools.partial(run, algorithm), parser=command)
+        command.set_defaults(run=functools.partial(run, called), parser=command)
 
 
 def description(algorithm: Algorithm) -> str:
@@ -44,7 +46,7 @@ def description(algorithm: Algorithm) -> str:
     first = [COLUMN.sub('', sentence) for sentence in paragraphs[0] if not PYTHONIC.search(sentence)]
     costs = [sentence for paragraph in paragraphs[1:] for sentence in paragraph if COSTS.match(sentence) and not PYTHONIC.search(sentence)]
     begin = [algorithm.gives[0].upper() + algorithm.gives[1:] + '.']
-    return '\n\n'.join(textwrap.fill(' '.join(told), WIDTH) for told in (algorithm.tells or first or begin, costs) if told)
+    return '\n\n'.join(textwrap.fill(' '.join(told), WIDTH) for told in ([algorithm.says] if algorithm.says else first or begin, costs) if told)
 
 
 def sentences(paragraph: str) -> Iterable[str]:
@@ -65,14 +67,15 @@ def epilog(algorithm: Algorithm) -> str:
     return '%s\n\nexample:\n  %%(prog)s graph.mtx%s' % (printed, ' ' + words if words else '')
 
 
-def run(algorithm: Algorithm, options: argparse.Namespace) -> int:
+def run(command: Command, options: argparse.Namespace) -> int:
     """Reads the graph, computes, writes the result and draws it."""
+    algorithm = command.algorithm
     if getattr(options, 'plot', None):
         pictures.check(options.plot)
     graph_options.check_output(options)
     with graph_options.progress_of(options) as progress, open_session(options, progress) as session:
         graph = graph_options.read_graph(session, options, graph_options.Needs(algorithm.wanted, algorithm.values or getattr(options, 'weighted', False)))
-        result = algorithm.call(graph, options, progress)
+        result = command.call(graph, options, progress)
         if isinstance(result, Matrix):
             result.notes = result.notes._replace(rows=result.notes.rows or graph.notes.rows,
                                                  columns=graph.notes.columns if result.ncols > 1 else None)

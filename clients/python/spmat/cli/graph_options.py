@@ -3,7 +3,6 @@ from __future__ import annotations
 
 import argparse
 import contextlib
-import enum
 import heapq
 import operator
 import os
@@ -11,8 +10,10 @@ import sys
 from typing import Any, Callable, Iterable, Iterator, List, NamedTuple, Optional, TextIO, Tuple
 
 from ..algorithms import undirected
+from ..algorithms.registry import Wanted
 from ..errors import ReadError
 from ..io import matrix_market
+from ..io.compression import Loaded
 from ..io.graph_files import FORMATS, Layout, Request, format_of
 from ..matrix import Matrix, bipartite
 from ..metadata import Nodes
@@ -23,13 +24,6 @@ from .output import Result, add_form_options, named
 BAR = 30        # characters of a progress bar
 UNDIRECTED = ': --undirected takes the graph without directions, weights and loops'
 BOTH_WAYS = ', --both-ways each edge both ways with its value'
-
-
-class Wanted(enum.Enum):
-    """Which graphs an algorithm is for: of others its result would mean nothing."""
-    ANY = 'any'
-    BOTH_WAYS = 'each edge leads both ways'
-    WITHOUT_LOOPS = 'each edge leads both ways, and none from a vertex to itself'
 
 
 def add_graph_options(command: argparse.ArgumentParser) -> None:
@@ -125,7 +119,9 @@ def read_graph(session: Session, options: argparse.Namespace, needs: Needs) -> M
         text = matrix_market.load(sys.stdin.buffer if options.graph == '-' else options.graph)
     if not text.strip():
         raise ReadError(file, None, 'it is empty')
-    graph = session.read_text(file, text, request_of(options, text, needs), options.dup_op)
+    request = request_of(options, text, needs)
+    graph = session.read_graph(Loaded(file, text), request.format, directed=request.directed, bipartite=request.bipartite,
+                               dup_op=options.dup_op, nodelist=request.nodelist, **request.layout._asdict())
     if graph.notes.source and not options.quiet:
         print(graph.notes.source, file=sys.stderr)             # which columns were taken, so that a wrong guess is seen
     name_vertices(graph, 1 if format_of(text) == 'mtx' else 0)

@@ -6,7 +6,8 @@ import os
 import sys
 from typing import IO, Any, Iterator, List, NamedTuple, Optional, Sequence, Set, Tuple
 
-from .._client.connection import Reply, WORDS_WITH_BODY
+from .._client.commands import WORDS_WITH_BODY
+from .._client.replies import Reply
 from ..errors import Refused
 from ..io import matrix_market, matrix_text
 from ..io.graph_files import Request, format_of, read

@@ -5,9 +5,10 @@ import argparse
 import os
 from typing import TYPE_CHECKING, Optional
 
-from .._client.connection import MOST_STEPS, MOST_WORKERS, Progress
+from .._client.connection import Progress
 from .._client.transport import Address
 from ..io.coo import whole_of_word
+from ..limits import MOST_STEPS, MOST_WORKERS
 from ..session import Session
 from .exit_status import Ended, Status
 

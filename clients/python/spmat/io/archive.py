@@ -11,10 +11,10 @@ import zipfile
 from typing import Any, Dict, Iterable, List, Mapping, Optional, Tuple
 
 from ..errors import ReadError, refusal
+from ..limits import MOST_TEXT
 from ..metadata import Nodes, Notes
 from .exporters import Held
 from .file_writers import replacing
-from .matrix_text import MOST_TEXT
 
 CONTENTS = 'matrices.json'
 VERSION = 1

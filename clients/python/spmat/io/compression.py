@@ -65,6 +65,14 @@ def name_of(source: Any) -> str:
     return name if isinstance(name, str) else 'the text'
 
 
+class Loaded(io.BytesIO):
+    """The bytes of a file that was read already, under its name."""
+
+    def __init__(self, name: str, data: bytes) -> None:
+        super().__init__(data)
+        self.name = name
+
+
 @contextlib.contextmanager
 def opened(source: Any) -> Iterator[IO[bytes]]:
     """A path, or a file that is open in binary, unpacked as it is read. ReadError where it can't be unpacked, or is a folder."""

@@ -7,7 +7,8 @@ import operator
 from typing import Any, Callable, Dict, Iterable, List, Optional, Sequence, Tuple
 
 from ..errors import Refused, refusal
-from .matrix_text import FEW, MOST_SIDE, Triples, find_numpy, is_array
+from ..limits import MOST_SIDE
+from .matrix_text import FEW, Triples, find_numpy, is_array
 
 LEAST, MOST = -1 << 63, (1 << 63) - 1
 DUP_OP = 'dup_op= folds the values of a position that repeats'

@@ -9,10 +9,11 @@ import re
 from typing import Any, List, NamedTuple, NoReturn, Optional, Tuple
 
 from ..errors import ReadError, refusal
+from ..limits import MOST_SIDE
 from .edgelist_matrix import Edges
 from .integer_values import scaled_array, whole_values
 from .matrix_market import even_lines
-from .matrix_text import FEW, MOST_SIDE, find_numpy, line_at
+from .matrix_text import FEW, find_numpy, line_at
 
 ARCS = {'sp': b'a', 'max': b'a', 'edge': b'e', 'edges': b'e', 'col': b'e'}
 PASSED = (b'c', b'n', b'x', b'd', b'v')             # comments, and what is told of single vertices

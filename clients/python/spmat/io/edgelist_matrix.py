@@ -8,10 +8,11 @@ from __future__ import annotations
 from typing import Any, Callable, Dict, List, NamedTuple, NoReturn, Optional, Sequence, Tuple
 
 from ..errors import refusal
+from ..limits import MOST_SIDE
 from ..metadata import Nodes, Notes
 from . import coo, matrix_market
 from .factorize import Coded, ascending, factorized
-from .matrix_text import FEW, MOST_SIDE, Triples, find_numpy, is_array
+from .matrix_text import FEW, Triples, find_numpy, is_array
 
 FOLDS = 'dup_op= folds them: "plus", "min", "max", "first", ..'
 

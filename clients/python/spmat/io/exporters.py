@@ -111,9 +111,13 @@ class Held(Written):
 
     def to_list(self, missing: Any = None) -> List[Any]:
         """The values of a column or a row, `missing` where there is no entry. DimensionMismatch for another shape."""
-        out = [missing] * self._length('a column or a row')
-        for i, j, value in self.to_triples():
-            out[i if self.ncols == 1 else j] = value
+        count = self._length('a column or a row')
+        rows, columns, values = self.to_coo(arrays=False)
+        if len(values) == count:
+            return list(values)
+        out = [missing] * count
+        for at, value in zip(rows if self.ncols == 1 else columns, values):
+            out[at] = value
         return out
 
     def by_node(self) -> Dict[Any, int]:

@@ -148,10 +148,7 @@ class Sources(abc.ABC, Generic[Made]):
         return {}
 
     def _read(self, path: Any, request: Request, dup_op: DupOp, name: Optional[str]) -> Made:
-        return self.read_text(name_of(path), matrix_market.load(path), request, dup_op, name)
-
-    def read_text(self, file: str, text: bytes, request: Request = Request(), dup_op: DupOp = None, name: Optional[str] = None) -> Made:
-        """The matrix of the bytes of a file; `file` is what errors call it. `read_graph` is this with a path."""
+        file, text = name_of(path), matrix_market.load(path)
         if check_format(file, text, request.format) == 'mtx':
             return self._market(file, text, request, dup_op, name)
         return self._graph(read(file, text, request, dup_op is not None, self._tell), dup_op, name)

@@ -10,11 +10,12 @@ import decimal
 from typing import Any, Dict, Iterator, List, NamedTuple, Optional, Tuple
 
 from ..errors import Refused, refusal
+from ..limits import MOST_SIDE
 from ..metadata import Notes
 from . import compression
 from .coo import LEAST
 from .integer_values import NOT_WHOLE, check_scale, scaled_array, whole_of
-from .matrix_text import FEW, MOST_SIDE, Triples, find_numpy, is_array, line_at
+from .matrix_text import FEW, Triples, find_numpy, is_array, line_at
 
 FIELDS = {'integer': 'integer', 'unsigned-integer': 'integer', 'pattern': 'pattern', 'real': 'real', 'double': 'real',
           'complex': 'complex'}

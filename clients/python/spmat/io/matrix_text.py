@@ -9,14 +9,13 @@ import functools
 import sys
 from typing import Any, Iterator, List, NamedTuple, Optional, Tuple
 
+from .. import limits
 from . import parse_integers
 
 BANNER = b'%%MatrixMarket matrix coordinate integer general\n'
 HEAD_LINES = 2                                     # lines before the first entry in a text of ours
 PATTERN = b'%%MatrixMarket matrix coordinate pattern general\n'
 EMPTY = BANNER + b'0 0 0\n'
-MOST_SIDE = 16_777_216
-MOST_TEXT = 268_435_456
 FEW = 1 << 16                                      # shorter texts are read without numpy, which takes longer to import
 _LINES = 1 << 15                                   # lines that are written at a time, so that their table stays in a cache
 
@@ -53,7 +52,7 @@ def write(triples: Triples, ones: bool = False, symmetric: bool = False) -> byte
     head = (PATTERN if bare else BANNER) + b'%d %d %d\n' % (nrows, ncols, len(rows))
     head = head.replace(b'general', b'symmetric') if symmetric else head
     if is_array(rows):
-        return head + _written(rows, columns, None if bare else values, MOST_TEXT - len(head))
+        return head + _written(rows, columns, None if bare else values, limits.MOST_TEXT - len(head))
     if bare:
         line = b'%d %d\n'
         return head + b''.join([line % (i + 1, j + 1) for i, j in zip(rows, columns)])

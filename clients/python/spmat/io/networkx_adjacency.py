@@ -6,10 +6,11 @@ import operator
 from typing import Any, Callable, Dict, Iterator, List, NamedTuple, NoReturn, Optional, Sequence, Tuple
 
 from ..errors import refusal
+from ..limits import MOST_SIDE
 from ..metadata import Nodes, Notes
 from .coo import LEAST, MOST, checked, whole
 from .integer_values import Rounding, check_scale, scaled_one
-from .matrix_text import FEW, MOST_SIDE, Triples, find_numpy
+from .matrix_text import FEW, Triples, find_numpy
 
 Neighbours = Dict[Any, Any]
 
@@ -18,6 +19,19 @@ class Asked(NamedTuple):
     """What a caller asks beside: whether it folds parallel edges, and what weights are multiplied by before they are rounded."""
     folds: bool = False
     scale: Optional[float] = None
+
+
+def neighbourhoods(graph: Any) -> Dict[Any, Neighbours]:
+    """The neighbours of each node, in the graph's order. Views of networkx may count others than they give, so what they give is copied."""
+    return {node: many if type(many) is dict else dict(many.items()) for node, many in graph.adjacency()}
+
+
+def row_numbers(counts: List[int]) -> Any:
+    """Each row's number, as often as the row has entries: an array of numpy where it is there, else a list."""
+    numpy = find_numpy()
+    if numpy is None:
+        return [row for row, count in enumerate(counts) for _ in range(count)]
+    return numpy.repeat(numpy.arange(len(counts), dtype=numpy.int64), counts)
 
 
 def triples_of(graph: Any, weight: Optional[str], nodelist: Optional[Sequence[Any]], asked: Asked = Asked()) -> Tuple[Triples, Notes]:
@@ -30,7 +44,7 @@ def triples_of(graph: Any, weight: Optional[str], nodelist: Optional[Sequence[An
     if callable(weight):
         raise TypeError('weight is the name of an edge attribute, or None for ones; what a function gives for each edge has to be put '
                         'into an attribute first: networkx.set_edge_attributes(G, values, "w"), and weight="w"')
-    near = dict(graph.adjacency())
+    near = neighbourhoods(graph)
     nodes = Nodes(near if nodelist is None else nodelist)
     _check_nodes(nodes, near)
     blocks = _blocks(near, nodes, nodelist is not None)
@@ -59,12 +73,11 @@ def _check_nodes(nodes: Nodes, near: Dict[Any, Neighbours]) -> None:
 
 
 def _blocks(near: Dict[Any, Neighbours], nodes: Nodes, some: bool) -> List[Neighbours]:
-    """The neighbours of each node, among `nodes` where these are not all. Views of networkx may count others than they give, so what
-    they give is copied."""
+    """The neighbours of each node, among `nodes` where these are not all."""
     places = nodes.places
     if some:
         return [{end: held for end, held in near[node].items() if end in places} for node in nodes]
-    return [many if type(many) is dict else dict(many.items()) for many in near.values()]
+    return list(near.values())
 
 
 def _each_once(blocks: List[Neighbours], weighted: bool) -> _Rows:
@@ -98,7 +111,7 @@ def _triples(rows: _Rows, nodes: Nodes, weight: Optional[str], rounding: Roundin
     if numpy is None:
         firsts = [row for row, count in enumerate(rows.counts) for _ in range(count)]
         return checked(firsts, ends, values, len(nodes), len(nodes))
-    firsts = numpy.repeat(numpy.arange(len(nodes), dtype=numpy.int64), rows.counts)
+    firsts = row_numbers(rows.counts)
     values = values if weight is None else numpy.fromiter(values, numpy.int64, len(values))
     return checked(firsts, numpy.fromiter(ends, numpy.int64, len(ends)), values, len(nodes), len(nodes))
 

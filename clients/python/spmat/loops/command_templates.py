@@ -8,7 +8,7 @@ from __future__ import annotations
 import weakref
 from typing import TYPE_CHECKING, Dict, FrozenSet, Iterable, List, NamedTuple, Optional, Sequence, Set, Tuple
 
-from .._client.job_queue import QUEUE
+from ..limits import QUEUE
 from ..matrix import Matrix
 from .tracing import Given, Made, Traced, TracedJob, Value
 

@@ -10,8 +10,8 @@ from typing import TYPE_CHECKING, Deque, Dict, FrozenSet, List, NamedTuple, Opti
 
 from .._client.commands import CommandBatch
 from .._client.handles import Handle
-from .._client.job_queue import AMPLE, MOST_PRICE
-from ..io.matrix_text import MOST_SIDE
+from .._client.job_queue import AMPLE
+from ..limits import MOST_PRICE, MOST_SIDE
 from ..matrix import Matrix
 from .command_templates import Counted, Pending, Renderer, StateNames, Template, run_of
 from .round_results import Body

@@ -10,7 +10,7 @@ from typing import TYPE_CHECKING, Any, Callable, Dict, List, Mapping, NamedTuple
 
 from .._client.handles import Handle
 from .._client.job_queue import Most, most_of
-from ..io.matrix_text import MOST_SIDE
+from ..limits import MOST_SIDE
 from ..matrix import Matrix
 from ..metadata import Notes
 from ..operators import Operator

@@ -11,8 +11,9 @@ import networkx as nx
 from networkx import NetworkXError, NetworkXPointlessConcept
 
 from .. import algorithms
-from ..io.matrix_text import MOST_SIDE
+from ..limits import MOST_SIDE
 from ..matrix import Matrix
+from .backend_info import MUCH, PRODUCTS, WALK
 from .components import all_reached, connected
 from .registry import SIGNED, SIMPLE_UNDIRECTED, Terms, UNDIRECTED, serves
 from .single_source_lengths import Lengths, NEGATIVE, check_method, divided, from_one, lengths, need
@@ -72,22 +73,22 @@ def _pairs(G: SpmatGraph, parts: Blocks, first: Optional[Tuple[int, Matrix]], mo
         first = next(parts, None)
 
 
-@serves()
+@serves(pays=PRODUCTS)
 def all_pairs_shortest_path_length(G: SpmatGraph, cutoff: Any = None) -> Iterator[Tuple[Any, Lengths]]:
     return pairs(G, cutoff=cutoff, whole=math.ceil)    # by edges a cutoff of 2.5 is one of 3 in networkx, by weights one of 2
 
 
-@serves()
+@serves(pays=MUCH)
 def all_pairs_dijkstra_path_length(G: SpmatGraph, cutoff: Any = None, weight: Any = 'weight') -> Iterator[Tuple[Any, Lengths]]:
     return pairs(G, weight, cutoff)
 
 
-@serves(SIGNED)
+@serves(SIGNED, pays=MUCH)
 def all_pairs_bellman_ford_path_length(G: SpmatGraph, weight: Any = 'weight') -> Iterator[Tuple[Any, Lengths]]:
     return pairs(G, weight, signed=True)
 
 
-@serves(SIGNED)
+@serves(SIGNED, pays=MUCH)
 def floyd_warshall(G: SpmatGraph, weight: Any = 'weight') -> Dict[Any, Dict[Any, Any]]:
     never = float('inf')
     try:
@@ -96,7 +97,7 @@ def floyd_warshall(G: SpmatGraph, weight: Any = 'weight') -> Dict[Any, Dict[Any,
         raise NotImplementedError('a cycle of negative length, which networkx passes over') from None
 
 
-@serves()
+@serves(pays=WALK)
 def shortest_path_length(G: SpmatGraph, source: Any = None, target: Any = None, weight: Any = None,
                          method: str = 'dijkstra') -> Any:
     check_method(method)
@@ -109,7 +110,7 @@ def shortest_path_length(G: SpmatGraph, source: Any = None, target: Any = None, 
     return from_one(G, source, target, weight, signed)
 
 
-@serves(SIMPLE_UNDIRECTED)
+@serves(SIMPLE_UNDIRECTED, pays=MUCH)
 def power(G: SpmatGraph, k: int) -> Any:
     if k <= 0:
         raise ValueError('k must be a positive integer')
@@ -148,7 +149,7 @@ def length_sums(G: SpmatGraph, weight: Any, signed: bool = False) -> Tuple[List[
 METHODS = (None, 'unweighted', 'dijkstra', 'bellman-ford', 'floyd-warshall', 'floyd-warshall-numpy')
 
 
-@serves()
+@serves(pays=MUCH)
 def average_shortest_path_length(G: SpmatGraph, weight: Any = None, method: Optional[str] = None) -> float:
     if method not in METHODS:
         raise ValueError('method not supported: %s' % method)
@@ -168,7 +169,7 @@ def _totals(G: SpmatGraph, weight: Any, signed: bool = False) -> List[int]:
     return (distance_sums(G) if weight is None else length_sums(G, weight, signed))[1]
 
 
-@serves()
+@serves(pays=MUCH)
 def wiener_index(G: SpmatGraph, weight: Any = None) -> float:
     if not len(G):
         raise NetworkXPointlessConcept('Connectivity is undefined for the null graph.')
@@ -179,7 +180,7 @@ def wiener_index(G: SpmatGraph, weight: Any = None) -> float:
     return length if G.is_directed() else total / (2 * (unit or 1))
 
 
-@serves()
+@serves(pays=MUCH)
 def closeness_centrality(G: SpmatGraph, u: Any = None, distance: Any = None, wf_improved: bool = True) -> Any:
     if u is not None:
         need(G, u, 'Source %s is not in G')
@@ -196,7 +197,7 @@ def _closeness(reached: int, total: float, count: int, wf_improved: bool) -> flo
     return found * ((reached - 1.0) / (count - 1)) if wf_improved else found
 
 
-@serves()
+@serves(pays=MUCH)
 def harmonic_centrality(G: SpmatGraph, nbunch: Any = None, distance: Any = None, sources: Any = None) -> Dict[Any, Any]:
     wanted, starts = set(G.nbunch_iter(nbunch)), set(G.nbunch_iter(sources))
     found: Dict[Any, Any] = dict.fromkeys(wanted, 0)
@@ -213,7 +214,7 @@ def harmonic_centrality(G: SpmatGraph, nbunch: Any = None, distance: Any = None,
     return found
 
 
-@serves(UNDIRECTED)
+@serves(UNDIRECTED, pays=MUCH)
 def global_efficiency(G: SpmatGraph) -> float:
     n = len(G)
     shares = sum((counts.reduce_scalar('plus') or 0) / level
@@ -231,7 +232,7 @@ def eccentricities(G: SpmatGraph, weight: Any) -> Lengths:
         raise NetworkXError('Found infinite path length because the ' + (
             'digraph is not strongly connected' if G.is_directed() else 'graph is not connected'))
     if weight is None:
-        return dict(zip(G, G.dense(algorithms.eccentricity(G.A, G.AT, check=False))))
+        return dict(zip(G, algorithms.eccentricity(G.A, G.AT, check=False).to_list(0)))
     found: List[int] = []
     for _, far in blocks(G, weight):
         found.extend(far.reduce_rowwise('max').to_list(0))
@@ -245,7 +246,7 @@ def _given(arguments: Mapping[str, Any]) -> Optional[str]:
     return 'some nodes, if not all are reached, of a directed graph' if v is not None and graph.is_directed() else None
 
 
-@serves(Terms(unless=_given))
+@serves(Terms(unless=_given), pays=MUCH)
 def eccentricity(G: SpmatGraph, v: Any = None, sp: Any = None, weight: Any = None) -> Any:
     nodes = list(G.nbunch_iter(v))
     if v is None:
@@ -257,12 +258,12 @@ def eccentricity(G: SpmatGraph, v: Any = None, sp: Any = None, weight: Any = Non
     return found[v] if v in G else {node: found[node] for node in nodes}
 
 
-@serves()
+@serves(pays=MUCH)
 def diameter(G: SpmatGraph, e: Any = None, usebounds: bool = False, weight: Any = None) -> Any:
     return max((eccentricities(G, weight) if e is None else e).values())
 
 
-@serves()
+@serves(pays=MUCH)
 def radius(G: SpmatGraph, e: Any = None, usebounds: bool = False, weight: Any = None) -> Any:
     return min((eccentricities(G, weight) if e is None else e).values())
 
@@ -271,12 +272,12 @@ def _some_node(arguments: Mapping[str, Any]) -> Optional[str]:
     return None if len(arguments['G']) else 'no node'
 
 
-@serves(Terms(unless=_some_node))
+@serves(Terms(unless=_some_node), pays=MUCH)
 def periphery(G: SpmatGraph, e: Any = None, usebounds: bool = False, weight: Any = None) -> List[Any]:
     return _those(eccentricities(G, weight) if e is None else e, max)
 
 
-@serves(Terms(unless=_some_node))
+@serves(Terms(unless=_some_node), pays=MUCH)
 def center(G: SpmatGraph, e: Any = None, usebounds: bool = False, weight: Any = None) -> List[Any]:
     return _those(eccentricities(G, weight) if e is None else e, min)
 

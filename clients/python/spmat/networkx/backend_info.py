@@ -2,6 +2,8 @@
 here, and nothing else of spmat."""
 from __future__ import annotations
 
+import os
+import re
 from typing import Any, Dict, NamedTuple
 
 DEFAULTS: Dict[str, Any] = {'program': '', 'connect': '', 'steps': 0, 'workers': 0, 'least_edges': -1, 'scale': 0}
@@ -35,29 +37,22 @@ KNOWN = Pays(NEVER, 10_000)
 # What networkx has at hand, or where it ends early.
 LITTLE = Pays(NEVER, NEVER)
 
-SERVED: Dict[str, Pays] = {name: pays for pays, names in ((MUCH, '''
-    all_pairs_bellman_ford_path_length all_pairs_dijkstra_path_length average_clustering average_shortest_path_length
-    betweenness_centrality center closeness_centrality clustering diameter eccentricity floyd_warshall generalized_degree
-    global_efficiency harmonic_centrality overall_reciprocity periphery power radius reciprocity square_clustering transitive_closure
-    transitivity triangles wiener_index'''), (PRODUCTS, '''
-    all_pairs_shortest_path_length k_core k_truss number_of_walks pagerank s_metric transitive_closure_dag transitive_reduction'''),
-    (WEIGHTS, '''
-    average_neighbor_degree bellman_ford_path_length is_branching is_forest maximum_spanning_edges maximum_spanning_tree
-    minimum_spanning_edges minimum_spanning_tree multi_source_dijkstra_path_length negative_edge_cycle
-    dijkstra_predecessor_and_distance multi_source_dijkstra multi_source_dijkstra_path single_source_bellman_ford
-    bellman_ford_predecessor_and_distance single_source_bellman_ford_path single_source_dijkstra single_source_dijkstra_path
-    single_source_bellman_ford_path_length single_source_dijkstra_path_length'''), (ROUNDS, '''
-    attracting_components core_number dag_longest_path_length is_semiconnected k_corona k_crust k_shell maximal_independent_set
-    number_strongly_connected_components onion_layers strongly_connected_components'''), (WALK, '''
-    ancestors bfs_layers connected_components descendants is_connected is_weakly_connected node_connected_component
-    number_connected_components number_weakly_connected_components shortest_path_length single_source_shortest_path_length
-    single_target_shortest_path_length weakly_connected_components'''), (KNOWN, '''
-    all_shortest_paths bellman_ford_path degree_centrality dijkstra_path dijkstra_path_length in_degree_centrality predecessor
-    single_source_shortest_path single_target_shortest_path is_arborescence is_tree isolates number_of_isolates
-    number_of_selfloops out_degree_centrality'''), (LITTLE, '''
-    bidirectional_dijkstra bidirectional_shortest_path color common_neighbor_centrality descendants_at_distance efficiency ego_graph has_cycle has_path is_bipartite
-    is_directed_acyclic_graph is_dominating_set is_k_regular is_regular is_strongly_connected is_tournament jaccard_coefficient
-    node_boundary preferential_attachment shortest_path''')) for name in names.split()}
+CLASSES = {'MUCH': MUCH, 'PRODUCTS': PRODUCTS, 'WEIGHTS': WEIGHTS, 'ROUNDS': ROUNDS, 'WALK': WALK, 'KNOWN': KNOWN, 'LITTLE': LITTLE}
+DECORATED = re.compile(r'^@serves\((?:.*, )?pays=([A-Z]+)\)\ndef (\w+)\(', re.M)
+
+
+def _served() -> Dict[str, Pays]:
+    """What the decorators of the modules beside this one say. They are read and not run: that would import all of spmat and numpy."""
+    found: Dict[str, Pays] = {}
+    folder = os.path.dirname(os.path.abspath(__file__))
+    for name in sorted(os.listdir(folder)):
+        if name.endswith('.py'):
+            with open(os.path.join(folder, name), encoding='utf-8') as file:
+                found.update((function, CLASSES[pays]) for pays, function in DECORATED.findall(file.read()))
+    return found
+
+
+SERVED = _served()
 """Each function, and when it pays."""
 
 

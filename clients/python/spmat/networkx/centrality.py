@@ -8,6 +8,7 @@ from typing import Any, Dict, Mapping, Optional
 
 from .. import algorithms
 from ..algorithms.page_rank import ONE
+from .backend_info import MUCH, PRODUCTS
 from .registry import Terms, serves
 from .spmat_graph import SpmatGraph
 
@@ -39,7 +40,7 @@ def _by_place(G: SpmatGraph, given: Optional[Mapping[Any, Any]]) -> Optional[Dic
     return found
 
 
-@serves(Terms(unless=_odd))
+@serves(Terms(unless=_odd), pays=PRODUCTS)
 def pagerank(G: SpmatGraph, alpha: float = 0.85, personalization: Any = None, max_iter: int = ROUNDS, tol: float = 1.0e-6,
              nstart: Any = None, weight: Any = 'weight', dangling: Any = None) -> Dict[Any, float]:
     if not len(G):
@@ -52,7 +53,7 @@ def pagerank(G: SpmatGraph, alpha: float = 0.85, personalization: Any = None, ma
                                     personalization=_by_place(G, personalization), dangling=_by_place(G, dangling))
     except ValueError as fault:                    # a damping of more digits, or a tolerance that whole numbers don't keep
         raise NotImplementedError(str(fault)) from fault
-    return {node: value / ONE for node, value in zip(G, G.dense(found))}
+    return {node: value / ONE for node, value in zip(G, found.to_list(0))}
 
 
 PATHS = 1 << 30                                    # units of a path in which betweenness is counted, where the nodes leave room
@@ -70,7 +71,7 @@ def _other_paths(arguments: Mapping[str, Any]) -> Optional[str]:
     return None
 
 
-@serves(Terms(unless=_other_paths))
+@serves(Terms(unless=_other_paths), pays=MUCH)
 def betweenness_centrality(G: SpmatGraph, k: Any = None, normalized: bool = True, weight: Any = None, endpoints: bool = False,
                            seed: Any = None) -> Dict[Any, float]:
     count = len(G)
@@ -86,4 +87,4 @@ def betweenness_centrality(G: SpmatGraph, k: Any = None, normalized: bool = True
         raise NotImplementedError(str(fault)) from fault
     ways = 1 if G.is_directed() else 2             # each two nodes were counted in both orders
     share = 1 / ((count - 1) * (count - 2)) if normalized else 1 / ways
-    return {node: many / unit * share for node, many in zip(G, G.dense(found))}
+    return {node: many / unit * share for node, many in zip(G, found.to_list(0))}

@@ -11,6 +11,7 @@ from networkx import NetworkXNotImplemented
 
 from .. import algorithms
 from ..algorithms.utils import product
+from .backend_info import MUCH
 from .degree import one_or_all
 from .registry import Terms, UNDIRECTED, serves
 from .spmat_graph import SpmatGraph
@@ -22,7 +23,7 @@ def _no_multigraph(G: SpmatGraph) -> None:
 
 
 def _twice_triangles(G: SpmatGraph) -> List[int]:
-    return [2 * found for found in G.dense(algorithms.triangles(G.near, check=False))]
+    return [2 * found for found in algorithms.triangles(G.near, check=False).to_list(0)]
 
 
 def _simple_degree(G: SpmatGraph) -> List[int]:
@@ -33,14 +34,14 @@ def _simple_degree(G: SpmatGraph) -> List[int]:
     return found
 
 
-@serves(UNDIRECTED)
+@serves(UNDIRECTED, pays=MUCH)
 def triangles(G: SpmatGraph, nodes: Any = None) -> Any:
     if nodes is not None:
         _no_multigraph(G)
-    return one_or_all(G, nodes, G.dense(algorithms.triangles(G.near, check=False)))
+    return one_or_all(G, nodes, algorithms.triangles(G.near, check=False).to_list(0))
 
 
-@serves(UNDIRECTED)
+@serves(UNDIRECTED, pays=MUCH)
 def transitivity(G: SpmatGraph) -> float:
     _no_multigraph(G)
     closed = 6 * algorithms.triangle_count(G.simple, check=False)
@@ -51,7 +52,7 @@ def _weighted(arguments: Mapping[str, Any]) -> Optional[str]:
     return None if arguments['weight'] is None else 'weights are folded by cube roots'
 
 
-@serves(Terms(unless=_weighted))
+@serves(Terms(unless=_weighted), pays=MUCH)
 def clustering(G: SpmatGraph, nodes: Any = None, weight: Any = None) -> Any:
     _no_multigraph(G)
     if G.is_directed():
@@ -64,13 +65,13 @@ def _directed_clustering(G: SpmatGraph) -> List[float]:
     """Triangles in which each side counts once for each direction that it has: the diagonal of a cube."""
     back = G.AT.select('offdiag') if G.loops else G.AT
     ways = G.simple.ewise_add(back, 'plus')
-    three = G.dense(product(ways, ways, 'plus_times', ways).ewise_mult(ways, 'times').reduce_rowwise('plus'))
-    total = G.dense(ways.reduce_rowwise('plus'))
-    both = G.dense(G.simple.ewise_mult(back, 'pair').reduce_rowwise('plus'))
+    three = product(ways, ways, 'plus_times', ways).ewise_mult(ways, 'times').reduce_rowwise('plus').to_list(0)
+    total = ways.reduce_rowwise('plus').to_list(0)
+    both = G.simple.ewise_mult(back, 'pair').reduce_rowwise('plus').to_list(0)
     return [t / ((d * (d - 1) - 2 * b) * 2) if t else 0 for t, d, b in zip(three, total, both)]
 
 
-@serves(Terms(unless=_weighted))
+@serves(Terms(unless=_weighted), pays=MUCH)
 def average_clustering(G: SpmatGraph, nodes: Any = None, weight: Any = None, count_zeros: bool = True) -> float:
     shares: List[float] = list(clustering(G, nodes).values())
     if not count_zeros:
@@ -78,7 +79,7 @@ def average_clustering(G: SpmatGraph, nodes: Any = None, weight: Any = None, cou
     return sum(shares) / len(shares)
 
 
-@serves(UNDIRECTED)
+@serves(UNDIRECTED, pays=MUCH)
 def generalized_degree(G: SpmatGraph, nodes: Any = None) -> Any:
     _no_multigraph(G)
     rows, _, values = product(G.simple, G.simple, 'plus_pair', G.simple).to_coo(arrays=False)
@@ -91,11 +92,11 @@ def generalized_degree(G: SpmatGraph, nodes: Any = None) -> Any:
     return one_or_all(G, nodes, found)
 
 
-@serves(UNDIRECTED)
+@serves(UNDIRECTED, pays=MUCH)
 def square_clustering(G: SpmatGraph, nodes: Any = None) -> Any:
     A, d, closed = G.simple, _simple_degree(G), _twice_triangles(G)
-    squares = G.dense(algorithms.squares(A, check=False))
-    next_to = G.dense(A.mxv(algorithms.degrees(A), 'plus_second'))
+    squares = algorithms.squares(A, check=False).to_list(0)
+    next_to = A.mxv(algorithms.degrees(A), 'plus_second').to_list(0)
     shares: List[float] = []
     for s, n, near, t in zip(squares, d, next_to, closed):
         potential = (n - 1) * near - n * (n - 1) - t - s

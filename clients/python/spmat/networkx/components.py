@@ -8,6 +8,7 @@ from networkx import NetworkXError
 from .. import algorithms
 from ..io import matrix_text
 from ..matrix import Matrix
+from .backend_info import KNOWN, LITTLE, ROUNDS, WALK, WEIGHTS
 from .degree import degree, need_nodes
 from .process_session import session
 from .registry import DIRECTED, UNDIRECTED, serves
@@ -16,12 +17,12 @@ from .spmat_graph import SpmatGraph
 
 def labels(G: SpmatGraph) -> List[int]:
     """The least index of each one's component, edges leading both ways; kept with the graph."""
-    return G.kept('labels', lambda: G.dense(algorithms.connected_components(G.A, G.both, check=False)))
+    return G.kept('labels', lambda: algorithms.connected_components(G.A, G.both, check=False).to_list(0))
 
 
 def strong_labels(G: SpmatGraph) -> List[int]:
     """The least index of each one's strong component; kept with the graph."""
-    return G.kept('strong labels', lambda: G.dense(algorithms.strongly_connected_components(G.A, G.AT, check=False)))
+    return G.kept('strong labels', lambda: algorithms.strongly_connected_components(G.A, G.AT, check=False).to_list(0))
 
 
 def parts(G: SpmatGraph, found: List[int]) -> List[Set[Any]]:
@@ -51,40 +52,40 @@ def connected(G: SpmatGraph) -> bool:
     return not any(labels(G))                      # all of them are node 0's
 
 
-@serves(UNDIRECTED)
+@serves(UNDIRECTED, pays=WALK)
 def connected_components(G: SpmatGraph) -> Iterator[Set[Any]]:
     return iter(parts(G, labels(G)))
 
 
-@serves(UNDIRECTED)
+@serves(UNDIRECTED, pays=WALK)
 def number_connected_components(G: SpmatGraph) -> int:
     return len(set(labels(G)))
 
 
-@serves(UNDIRECTED)
+@serves(UNDIRECTED, pays=WALK)
 def is_connected(G: SpmatGraph) -> bool:
     need_nodes(G)
     return connected(G)
 
 
-@serves(UNDIRECTED)
+@serves(UNDIRECTED, pays=WALK)
 def node_connected_component(G: SpmatGraph, n: Any) -> Set[Any]:
     found = labels(G)
     mine = found[G.index[n]]
     return {node for node, label in zip(G.nodes, found) if label == mine}
 
 
-@serves(DIRECTED)
+@serves(DIRECTED, pays=WALK)
 def weakly_connected_components(G: SpmatGraph) -> Iterator[Set[Any]]:
     return iter(parts(G, labels(G)))
 
 
-@serves(DIRECTED)
+@serves(DIRECTED, pays=WALK)
 def number_weakly_connected_components(G: SpmatGraph) -> int:
     return len(set(labels(G)))
 
 
-@serves(DIRECTED)
+@serves(DIRECTED, pays=WALK)
 def is_weakly_connected(G: SpmatGraph) -> bool:
     need_nodes(G)
     return connected(G)
@@ -105,19 +106,19 @@ def condensed(G: SpmatGraph) -> Tuple[List[Set[Any]], Matrix]:
     return parts(G, found), between.select('offdiag')
 
 
-@serves(DIRECTED)
+@serves(DIRECTED, pays=ROUNDS)
 def strongly_connected_components(G: SpmatGraph) -> Iterator[Set[Any]]:
     found, between = condensed(G)
     level: List[int] = algorithms.topological_levels(between).to_list()
     return iter([found[at] for at in sorted(range(len(found)), key=level.__getitem__, reverse=True)])
 
 
-@serves(DIRECTED)
+@serves(DIRECTED, pays=ROUNDS)
 def number_strongly_connected_components(G: SpmatGraph) -> int:
     return len(set(strong_labels(G)))
 
 
-@serves(DIRECTED)
+@serves(DIRECTED, pays=LITTLE)
 def is_strongly_connected(G: SpmatGraph) -> bool:
     need_nodes(G)
     return all_reached(G)
@@ -131,7 +132,7 @@ def all_reached(G: SpmatGraph) -> bool:
     return there.nvals == len(G) and algorithms.bfs_levels(G.AT, 0, check=False).nvals == len(G)
 
 
-@serves(DIRECTED)
+@serves(DIRECTED, pays=ROUNDS)
 def is_semiconnected(G: SpmatGraph) -> bool:
     need_nodes(G)
     found, between = condensed(G)
@@ -139,7 +140,7 @@ def is_semiconnected(G: SpmatGraph) -> bool:
     return longest == len(found) - 1               # a path by way of all components
 
 
-@serves(DIRECTED)
+@serves(DIRECTED, pays=ROUNDS)
 def attracting_components(G: SpmatGraph) -> Iterator[Set[Any]]:
     found, between = condensed(G)
     leaves = set(between.reduce_rowwise('first').to_coo(arrays=False)[0])
@@ -148,24 +149,24 @@ def attracting_components(G: SpmatGraph) -> Iterator[Set[Any]]:
 
 # -- trees
 
-@serves()
+@serves(pays=KNOWN)
 def is_tree(G: SpmatGraph) -> bool:
     need_nodes(G, 'G has no nodes.')
     return G.number_of_edges() == len(G) - 1 and connected(G)
 
 
-@serves()
+@serves(pays=WEIGHTS)
 def is_forest(G: SpmatGraph) -> bool:
     need_nodes(G, 'G has no nodes.')
     return G.number_of_edges() < len(G) and G.number_of_edges() == len(G) - len(set(labels(G)))
 
 
-@serves(DIRECTED)
+@serves(DIRECTED, pays=KNOWN)
 def is_arborescence(G: SpmatGraph) -> bool:
     return is_tree(G) and max(degree(G, back=True)) <= 1
 
 
-@serves(DIRECTED)
+@serves(DIRECTED, pays=WEIGHTS)
 def is_branching(G: SpmatGraph) -> bool:
     return is_forest(G) and max(degree(G, back=True)) <= 1
 
@@ -175,7 +176,7 @@ def colours(G: SpmatGraph) -> Dict[Any, int]:
     if G.loops:
         raise NetworkXError('Graph is not bipartite.')
     try:
-        side = G.dense(algorithms.bipartite_sides(G.A, G.AT, check=False))
+        side = algorithms.bipartite_sides(G.A, G.AT, check=False).to_list(0)
     except ValueError:
         raise NetworkXError('Graph is not bipartite.') from None
     first: Dict[int, int] = {}
@@ -185,12 +186,12 @@ def colours(G: SpmatGraph) -> Dict[Any, int]:
     return {node: 1 - (one ^ first[label]) if label in first else 0 for node, one, label in zip(G.nodes, side, labels(G))}
 
 
-@serves()
+@serves(pays=LITTLE)
 def color(G: SpmatGraph) -> Dict[Any, int]:
     return colours(G)
 
 
-@serves()
+@serves(pays=LITTLE)
 def is_bipartite(G: SpmatGraph) -> bool:
     try:
         colours(G)

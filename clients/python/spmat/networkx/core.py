@@ -11,6 +11,7 @@ from networkx import NetworkXNotImplemented, NetworkXUnfeasible
 from .. import algorithms
 from ..algorithms.core_decomposition import Peeling
 from ..algorithms.utils import product, until_as_many
+from .backend_info import LITTLE, PRODUCTS, ROUNDS
 from .convert import copied
 from .registry import SIMPLE, SIMPLE_UNDIRECTED, UNDIRECTED, serves
 from .spmat_graph import SpmatGraph
@@ -33,7 +34,7 @@ def cores(G: SpmatGraph) -> List[int]:
 
 def _cores(G: SpmatGraph) -> List[int]:
     if not G.is_directed():
-        return G.dense(algorithms.core_numbers(G.A, check=False))
+        return algorithms.core_numbers(G.A, check=False).to_list(0)
     near = G.A.ewise_add(G.AT, 'plus')             # each k's peeling goes on from that of k - 1
     core, k, left = [0] * len(G), 0, G.full()
     while left.nvals:
@@ -44,7 +45,7 @@ def _cores(G: SpmatGraph) -> List[int]:
     return core
 
 
-@serves(SIMPLE)
+@serves(SIMPLE, pays=ROUNDS)
 def core_number(G: SpmatGraph) -> Cores:
     return dict(zip(G, cores(G)))
 
@@ -57,14 +58,14 @@ def _part(G: SpmatGraph, core: Optional[Cores], k: Optional[int], keep: Callable
     return copied(G, {node for node in found if keep(node, wanted, found)})
 
 
-@serves(SIMPLE)
+@serves(SIMPLE, pays=PRODUCTS)
 def k_core(G: SpmatGraph, k: Optional[int] = None, core_number: Optional[Cores] = None) -> Any:
     if core_number is None and k is not None and k >= 1 and not G.is_directed() and not G.loops:
         return copied(G, set(G.by_node(algorithms.k_core(G.A, k, check=False))))
     return _part(G, core_number, k, lambda v, k, core: core[v] >= k)
 
 
-@serves(SIMPLE)
+@serves(SIMPLE, pays=ROUNDS)
 def k_shell(G: SpmatGraph, k: Optional[int] = None, core_number: Optional[Cores] = None) -> Any:
     return _part(G, core_number, k, lambda v, k, core: core[v] == k)
 
@@ -73,12 +74,12 @@ def _below_greatest(values: Iterable[int]) -> int:
     return max(values) - 1
 
 
-@serves(SIMPLE)
+@serves(SIMPLE, pays=ROUNDS)
 def k_crust(G: SpmatGraph, k: Optional[int] = None, core_number: Optional[Cores] = None) -> Any:
     return _part(G, core_number, k, lambda v, k, core: core[v] <= k, _below_greatest)
 
 
-@serves(SIMPLE)
+@serves(SIMPLE, pays=ROUNDS)
 def k_corona(G: SpmatGraph, k: int, core_number: Optional[Cores] = None) -> Any:
     core: Cores = dict(zip(G, cores(G))) if core_number is None else core_number
     inside = G.spots([v for v in core if core[v] >= k])
@@ -86,7 +87,7 @@ def k_corona(G: SpmatGraph, k: int, core_number: Optional[Cores] = None) -> Any:
     return _part(G, core, k, lambda v, k, core: core[v] == k == near.get(v, 0))
 
 
-@serves(SIMPLE_UNDIRECTED)
+@serves(SIMPLE_UNDIRECTED, pays=PRODUCTS)
 def k_truss(G: SpmatGraph, k: int) -> Any:
     _check_loops(G)
     left = algorithms.k_truss(G.A, k, check=False) if k >= 3 else G.A
@@ -95,7 +96,7 @@ def k_truss(G: SpmatGraph, k: int) -> Any:
     return copied(G, {nodes[i] for i in rows}, (rows, columns))
 
 
-@serves(SIMPLE_UNDIRECTED)
+@serves(SIMPLE_UNDIRECTED, pays=ROUNDS)
 def onion_layers(G: SpmatGraph) -> Dict[Any, int]:
     _check_loops(G, 'contains')
     peeling = Peeling(G.A, None)
@@ -110,7 +111,7 @@ def onion_layers(G: SpmatGraph) -> Dict[Any, int]:
             found.update((G.nodes[i], layer) for i in fallen)
 
 
-@serves()
+@serves(pays=LITTLE)
 def is_dominating_set(G: SpmatGraph, nbunch: Any) -> bool:
     some = {node for node in nbunch if node in G}
     if not some:
@@ -119,7 +120,7 @@ def is_dominating_set(G: SpmatGraph, nbunch: Any) -> bool:
     return row.ewise_add(row.mxm(G.A, 'any_pair'), 'any').nvals == len(G)
 
 
-@serves()
+@serves(pays=LITTLE)
 def node_boundary(G: SpmatGraph, nbunch1: Any, nbunch2: Any = None) -> Set[Any]:
     inside = {node for node in nbunch1 if node in G}
     if not inside:
@@ -128,7 +129,7 @@ def node_boundary(G: SpmatGraph, nbunch1: Any, nbunch2: Any = None) -> Set[Any]:
     return edge if nbunch2 is None else edge & set(nbunch2)
 
 
-@serves(UNDIRECTED)
+@serves(UNDIRECTED, pays=ROUNDS)
 def maximal_independent_set(G: SpmatGraph, nodes: Any = None, seed: Any = None) -> List[Any]:
     chosen = set(nodes) if nodes else {seed.choice(G.nodes)}
     if not chosen.issubset(G.index):

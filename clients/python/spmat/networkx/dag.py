@@ -12,6 +12,7 @@ from networkx import NetworkXError, NetworkXUnfeasible
 from .. import algorithms
 from ..algorithms.utils import product
 from ..matrix import Matrix
+from .backend_info import LITTLE, MUCH, PRODUCTS, ROUNDS
 from .convert import copied
 from .process_session import session
 from .registry import DIRECTED, Terms, serves
@@ -30,14 +31,14 @@ def cyclic(G: SpmatGraph) -> bool:
         return True
 
 
-@serves()
+@serves(pays=LITTLE)
 def has_cycle(G: SpmatGraph) -> bool:
     if not G.is_directed():
         raise NetworkXError('Topological sort not defined on undirected graphs.')
     return cyclic(G)
 
 
-@serves()
+@serves(pays=LITTLE)
 def is_directed_acyclic_graph(G: SpmatGraph) -> bool:
     return G.is_directed() and not cyclic(G)
 
@@ -53,7 +54,7 @@ def _with_edges(G: SpmatGraph, matrix: Matrix) -> Any:
     return closed
 
 
-@serves()
+@serves(pays=MUCH)
 def transitive_closure(G: SpmatGraph, reflexive: Any = False) -> Any:
     if reflexive not in {None, True, False}:
         raise NetworkXError('Incorrect value for the parameter `reflexive`')
@@ -69,14 +70,14 @@ def _in_order(arguments: Mapping[str, Any]) -> Optional[str]:
     return None if arguments['topo_order'] is None else 'an order that is given decides what is closed'
 
 
-@serves(Terms(undirected=False, unless=_in_order))
+@serves(Terms(undirected=False, unless=_in_order), pays=PRODUCTS)
 def transitive_closure_dag(G: SpmatGraph, topo_order: Any = None) -> Any:
     if cyclic(G):
         raise NetworkXUnfeasible(UNFEASIBLE)
     return _with_edges(G, algorithms.transitive_closure(G.A))
 
 
-@serves(DIRECTED)
+@serves(DIRECTED, pays=PRODUCTS)
 def transitive_reduction(G: SpmatGraph) -> Any:
     if cyclic(G):
         raise NetworkXError('Directed Acyclic Graph required for transitive_reduction')
@@ -88,7 +89,7 @@ def transitive_reduction(G: SpmatGraph) -> Any:
     return reduced
 
 
-@serves()
+@serves(pays=PRODUCTS)
 def number_of_walks(G: SpmatGraph, walk_length: int) -> Dict[Any, Dict[Any, int]]:
     if walk_length < 0:
         raise ValueError('`walk_length` cannot be negative: %s' % walk_length)
@@ -103,7 +104,7 @@ def _one_edge_each(arguments: Mapping[str, Any]) -> Optional[str]:
     return 'parallel edges' if arguments['G'].is_multigraph() else 'no node' if not len(arguments['G']) else None
 
 
-@serves(Terms(undirected=False, unless=_one_edge_each, negative=True))
+@serves(Terms(undirected=False, unless=_one_edge_each, negative=True), pays=ROUNDS)
 def dag_longest_path_length(G: SpmatGraph, weight: Any = 'weight', default_weight: Any = 1) -> Any:
     try:
         far = algorithms.longest_paths(G.matrix(weight, default_weight, 'max')).reduce_scalar('max') or 0

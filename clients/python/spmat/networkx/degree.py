@@ -10,6 +10,7 @@ from networkx import NetworkXError, NetworkXPointlessConcept
 
 from ..io import matrix_text
 from ..matrix import Matrix
+from .backend_info import KNOWN, LITTLE, MUCH, PRODUCTS, WEIGHTS
 from .registry import DIRECTED, Terms, UNDIRECTED, serves
 from .spmat_graph import SpmatGraph
 
@@ -37,9 +38,9 @@ def degree(G: SpmatGraph, back: bool = False) -> List[int]:
     """Degrees by index, those that come in where `back` is set: of an undirected graph loops count twice. The conversion knows
     the edges that leave a node, and where edges lead; parallel ones are one job."""
     if back and G.is_directed():
-        found = G.dense_row(G.many().reduce_columnwise('plus')) if G.parallel else _came(G)
+        found = G.many().reduce_columnwise('plus').to_list(0) if G.parallel else _came(G)
     else:
-        found = list(G.at.lengths) if not G.parallel else G.dense(G.many().reduce_rowwise('plus'))
+        found = list(G.at.lengths) if not G.parallel else G.many().reduce_rowwise('plus').to_list(0)
     if not G.is_directed():
         for i, many in G.loops.items():
             found[i] += many
@@ -70,52 +71,52 @@ def _centrality(G: SpmatGraph, degrees: List[int]) -> Dict[Any, Any]:
     return dict(zip(G, [d * share for d in degrees]))
 
 
-@serves()
+@serves(pays=KNOWN)
 def degree_centrality(G: SpmatGraph) -> Dict[Any, Any]:
     return _centrality(G, total_degree(G))
 
 
-@serves(DIRECTED)
+@serves(DIRECTED, pays=KNOWN)
 def in_degree_centrality(G: SpmatGraph) -> Dict[Any, Any]:
     return _centrality(G, degree(G, back=True))
 
 
-@serves(DIRECTED)
+@serves(DIRECTED, pays=KNOWN)
 def out_degree_centrality(G: SpmatGraph) -> Dict[Any, Any]:
     return _centrality(G, degree(G))
 
 
-@serves()
+@serves(pays=KNOWN)
 def isolates(G: SpmatGraph) -> Iterator[Any]:
     return iter([node for node, d in zip(G, total_degree(G)) if d == 0])
 
 
-@serves()
+@serves(pays=KNOWN)
 def number_of_isolates(G: SpmatGraph) -> int:
     return total_degree(G).count(0)
 
 
-@serves()
+@serves(pays=LITTLE)
 def is_regular(G: SpmatGraph) -> bool:
     need_nodes(G, 'Graph has no nodes.')
     return len(set(degree(G))) == 1 and (not G.is_directed() or len(set(degree(G, back=True))) == 1)
 
 
-@serves(UNDIRECTED)
+@serves(UNDIRECTED, pays=LITTLE)
 def is_k_regular(G: SpmatGraph, k: int) -> bool:
     return all(d == k for d in degree(G))
 
 
-@serves()
+@serves(pays=KNOWN)
 def number_of_selfloops(G: SpmatGraph) -> int:
     return sum(G.loops.values())
 
 
-@serves(UNDIRECTED)
+@serves(UNDIRECTED, pays=PRODUCTS)
 def s_metric(G: SpmatGraph) -> float:
     near, d = degree(G), degree(G)
     column = G.column(d)
-    flow = G.dense(G.many().mxv(column, 'plus_times').ewise_mult(column, 'times'))
+    flow = G.many().mxv(column, 'plus_times').ewise_mult(column, 'times').to_list(0)
     return float((sum(flow) + sum(near[i] ** 2 * many for i, many in G.loops.items())) // 2)
 
 
@@ -128,7 +129,7 @@ def _sides(arguments: Mapping[str, Any]) -> Optional[str]:
     return None
 
 
-@serves(Terms(unless=_sides, negative=True))
+@serves(Terms(unless=_sides, negative=True), pays=WEIGHTS)
 def average_neighbor_degree(G: SpmatGraph, source: str = 'out', target: str = 'out', nodes: Any = None,
                             weight: Any = None) -> Dict[Any, Any]:
     if not G.is_directed() and (source, target) != ('out', 'out'):
@@ -139,7 +140,7 @@ def average_neighbor_degree(G: SpmatGraph, source: str = 'out', target: str = 'o
     ways: List[Matrix] = [G.matrix(weight, back=back) for back, side in ((False, 'out'), (True, 'in')) if side in source]
     found = [0] * len(G)
     for way in ways:
-        for i, near in enumerate(G.dense(way.mxv(column(target_degree), 'plus_times'))):
+        for i, near in enumerate(way.mxv(column(target_degree), 'plus_times').to_list(0)):
             found[i] += near
     own = _side_degree(G, source) if weight is None else _weighted_degree(G, weight)
     return {node: found[i] / own[i] if own[i] else 0.0 for node, i in ((node, G.index[node]) for node in G.nbunch_iter(nodes))}
@@ -151,9 +152,9 @@ def _side_degree(G: SpmatGraph, side: str) -> List[int]:
 
 def _weighted_degree(G: SpmatGraph, weight: Any) -> List[int]:
     """The weights at each node of an undirected graph, those of loops twice."""
-    found = G.dense(G.matrix(weight).reduce_rowwise('plus'))
+    found = G.matrix(weight).reduce_rowwise('plus').to_list(0)
     if G.loops:
-        loops = G.dense(G.matrix(weight).diag())
+        loops = G.matrix(weight).diag().to_list(0)
         found = [a + b for a, b in zip(found, loops)]
     return found
 
@@ -163,18 +164,18 @@ def _simply_directed(arguments: Mapping[str, Any]) -> Optional[str]:
     return None if graph.is_directed() and not graph.is_multigraph() else 'of a DiGraph alone'
 
 
-@serves(Terms(unless=_simply_directed))
+@serves(Terms(unless=_simply_directed), pays=MUCH)
 def overall_reciprocity(G: SpmatGraph) -> float:
     if not G.entries:
         raise NetworkXError('Not defined for empty graphs')
     return G.simple.ewise_mult(G.AT, 'pair').nvals / G.entries
 
 
-@serves(Terms(unless=_simply_directed))
+@serves(Terms(unless=_simply_directed), pays=MUCH)
 def reciprocity(G: SpmatGraph, nodes: Any = None) -> Any:
     if nodes is None:
         return overall_reciprocity(G)
-    both = G.dense(G.A.ewise_mult(G.AT, 'pair').reduce_rowwise('plus'))
+    both = G.A.ewise_mult(G.AT, 'pair').reduce_rowwise('plus').to_list(0)
     shares = {v: 2 * both[i] / d if d else None for i, (v, d) in enumerate(zip(G, total_degree(G)))}
     if nodes in G:
         if shares[nodes] is None:
@@ -183,7 +184,7 @@ def reciprocity(G: SpmatGraph, nodes: Any = None) -> Any:
     return {node: shares[node] for node in G.nbunch_iter(nodes)}
 
 
-@serves(Terms(unless=_simply_directed))
+@serves(Terms(unless=_simply_directed), pays=LITTLE)
 def is_tournament(G: SpmatGraph) -> bool:
     n = len(G)
     return not G.loops and G.entries == n * (n - 1) // 2 and G.A.ewise_mult(G.AT, 'pair').nvals == 0

@@ -1,13 +1,11 @@
 """A networkx graph as numbers: positions of its edges and whole values of an edge attribute, by one walk of the adjacency each."""
 from __future__ import annotations
 
-# _adj is what a networkx graph is, and its backends know one another by protected names
-# pylint: disable=unused-argument
-
 import itertools
 from typing import Any, Dict, Iterable, List, NamedTuple, Optional, Tuple
 
 from ..io import coo, matrix_text
+from ..io.networkx_adjacency import neighbourhoods, row_numbers
 from . import process_session, weight_scaling
 
 
@@ -49,29 +47,19 @@ def sequence(items: Iterable[int], count: int) -> Any:
 
 def positions(graph: Any) -> Positions:
     """The positions of a graph, in the order of its adjacency."""
-    adjacency = dict(graph.adjacency())
+    adjacency = neighbourhoods(graph)
     nodes = list(graph)
     places = {node: at for at, node in enumerate(nodes)}
-    # networkx 3.6: len() of a neighbourhood in a filtered view of a multigraph counts neighbours that iterating leaves out
-    is_filtered = not set(map(type, adjacency.values())) <= {dict}
-    lengths = list(map(len, map(list, adjacency.values()) if is_filtered else adjacency.values()))
+    lengths = list(map(len, adjacency.values()))
     ends: Iterable[Any] = itertools.chain.from_iterable(adjacency.values())
     if not (set(map(type, nodes)) <= {int} and nodes == list(range(len(nodes)))):
         ends = map(places.__getitem__, ends)
     columns = sequence(ends, sum(lengths))
     counts = [len(keys) for near in adjacency.values() for keys in near.values()] if graph.is_multigraph() else None
-    rows = _repeated(lengths)
+    rows = row_numbers(lengths)
     found = _loops(rows, columns)
     loops = dict.fromkeys(found, 1) if counts is None else {i: len(adjacency[nodes[i]][nodes[i]]) for i in found}
     return Positions(nodes, places, lengths, rows, columns, counts if counts and max(counts) > 1 else None, loops)
-
-
-def _repeated(lengths: List[int]) -> Any:
-    """Each row's number, as often as it has entries."""
-    numpy = matrix_text.find_numpy()
-    if numpy is not None:
-        return numpy.repeat(numpy.arange(len(lengths), dtype=numpy.int64), lengths)
-    return [row for row, many in enumerate(lengths) for _ in range(many)]
 
 
 def _loops(rows: Any, columns: Any) -> List[int]:
@@ -83,7 +71,7 @@ def _loops(rows: Any, columns: Any) -> List[int]:
 
 def edge_data(graph: Any) -> List[Any]:
     """The attributes at each entry: networkx' dict of an edge, or of a multigraph {key: dict}."""
-    return [data for _, near in graph.adjacency() for data in near.values()]
+    return [data for near in neighbourhoods(graph).values() for data in near.values()]
 
 
 FOLDS: Dict[str, Any] = {'min': min, 'max': max, 'plus': sum}

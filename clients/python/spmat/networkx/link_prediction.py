@@ -9,6 +9,7 @@ from typing import Any, Callable, Dict, Iterable, Iterator, List, Optional, Tupl
 import networkx as nx
 
 from .. import algorithms
+from .backend_info import LITTLE
 from .degree import degree
 from .process_session import session
 from .registry import SIMPLE_UNDIRECTED, serves
@@ -64,7 +65,7 @@ def _scored(G: SpmatGraph, ebunch: Optional[Iterable[Pair]], score: Score) -> It
     return _absent(G, score) if ebunch is None else _given(G, _checked(G, ebunch), score)
 
 
-@serves(SIMPLE_UNDIRECTED)
+@serves(SIMPLE_UNDIRECTED, pays=LITTLE)
 def jaccard_coefficient(G: SpmatGraph, ebunch: Optional[Iterable[Pair]] = None) -> Iterator[Tuple[Any, Any, Any]]:
     degrees, loops = list(G.at.lengths), G.loops
     near = G.A.to_dict() if loops else {}
@@ -85,7 +86,7 @@ def _far(G: SpmatGraph, sources: List[int]) -> Dict[Tuple[int, int], int]:
     return {(sources[i], j): value for i, j, value in zip(rows, columns, values)}
 
 
-@serves(SIMPLE_UNDIRECTED)
+@serves(SIMPLE_UNDIRECTED, pays=LITTLE)
 def common_neighbor_centrality(G: SpmatGraph, ebunch: Optional[Iterable[Pair]] = None,
                                alpha: float = 0.8) -> Iterator[Tuple[Any, Any, Any]]:
     pairs = None if ebunch is None else _checked(G, ebunch)
@@ -100,7 +101,7 @@ def common_neighbor_centrality(G: SpmatGraph, ebunch: Optional[Iterable[Pair]] =
     return _scored(G, pairs, score)
 
 
-@serves(SIMPLE_UNDIRECTED)
+@serves(SIMPLE_UNDIRECTED, pays=LITTLE)
 def preferential_attachment(G: SpmatGraph, ebunch: Optional[Iterable[Pair]] = None) -> Iterator[Tuple[Any, Any, Any]]:
     d = degree(G)
     if ebunch is None:

@@ -9,9 +9,9 @@ from typing import Any, Dict, NamedTuple, Optional, Tuple
 
 import networkx as nx
 
-from .._client.connection import MOST_STEPS
 from .._client.server_program import Program
 from ..errors import SpmatError
+from ..limits import MOST_STEPS
 from ..session import Session
 from .backend_info import DEFAULTS
 from .settings import checked

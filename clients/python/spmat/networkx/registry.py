@@ -1,7 +1,7 @@
 """The entry point networkx.backends: the functions that are served, and what of them can and should be run."""
 from __future__ import annotations
 
-# _adj is what a networkx graph is, and its backends know one another by protected names
+# networkx calls these by its own arguments
 # pylint: disable=unused-argument
 
 import functools
@@ -13,7 +13,7 @@ import networkx as nx
 
 from .. import errors
 from . import process_session
-from .backend_info import NEVER, SERVED
+from .backend_info import NEVER, Pays
 from .convert import convert_from_nx, convert_to_nx, fold_of, held, odd_graph, read_values
 from .spmat_graph import BOUND, SpmatGraph
 from .weight_scaling import FRACTIONS
@@ -46,6 +46,7 @@ SIMPLE = Terms(multigraph=False)
 SIMPLE_UNDIRECTED = Terms(directed=False, multigraph=False)
 SIGNED = Terms(negative=True)
 _terms: Dict[str, Terms] = {}
+_pays: Dict[str, Pays] = {}
 
 
 class Backend:
@@ -86,10 +87,10 @@ class Backend:
 backend = Backend
 
 
-def serves(terms: Terms = ANY) -> Callable[[Function], Function]:
-    """Makes a function one of the backend's. What the server has no room for is NotImplementedError, upon which networkx does the
-    work itself; a budget that is used up is BudgetExceeded. Where there is no session it is NoSession, a RuntimeError, but for calls that
-    networkx hands over by itself: these it does."""
+def serves(terms: Terms = ANY, *, pays: Pays) -> Callable[[Function], Function]:
+    """Makes a function one of the backend's, which is handed over from so many edges on. What the server has no room for is
+    NotImplementedError, upon which networkx does the work itself; a budget that is used up is BudgetExceeded. Where there is no session it is
+    NoSession, a RuntimeError, but for calls that networkx hands over by itself: these it does."""
     def register(function: Function) -> Function:
         name = function.__name__
 
@@ -105,9 +106,14 @@ def serves(terms: Terms = ANY) -> Callable[[Function], Function]:
                 process_session.warn(str(fault))
                 raise NotImplementedError('%s: %s' % (name, fault)) from fault
         setattr(Backend, name, staticmethod(served))
-        _terms[name] = terms
+        _terms[name], _pays[name] = terms, pays
         return function
     return register
+
+
+def served() -> Dict[str, Pays]:
+    """All functions, and when they pay."""
+    return dict(_pays)
 
 
 def _answer(name: str, call: Callable[[], Any]) -> Any:
@@ -129,7 +135,7 @@ def _little(name: str, graph: Any) -> Optional[str]:
     """Why it doesn't pay to hand a call over, in words; None where it does."""
     least = process_session.setting('least_edges')
     if least < 0:
-        least = SERVED[name].first if held(graph) is None else SERVED[name].again
+        least = _pays[name].first if held(graph) is None else _pays[name].again
     if least == NEVER:
         return 'networkx has it at hand, or ends early'
     many = _edges(graph, least)

@@ -49,12 +49,12 @@ def _connect(value: Any) -> str:
 
 
 def _steps(value: Any) -> int:
-    from .._client.connection import MOST_STEPS
+    from ..limits import MOST_STEPS
     return _within('steps', value, 0, MOST_STEPS, '0 (as many as there can be) to 2^62, also 1e9')
 
 
 def _workers(value: Any) -> int:
-    from .._client.connection import MOST_WORKERS
+    from ..limits import MOST_WORKERS
     return _within('workers', value, 0, MOST_WORKERS, '0 (one for each processor) to %d' % MOST_WORKERS)
 
 

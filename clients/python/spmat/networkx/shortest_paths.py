@@ -14,6 +14,7 @@ from networkx import NetworkXNoPath, NetworkXUnbounded
 
 from ..io import matrix_text
 from ..matrix import Matrix
+from .backend_info import KNOWN, LITTLE, WEIGHTS
 from .registry import SIGNED, Terms, serves
 from .single_source_lengths import NEGATIVE, check_method, check_weights, level_column, need, shortest
 from .spmat_graph import SpmatGraph
@@ -132,19 +133,19 @@ def between(G: SpmatGraph, source: Any, target: Any, query: Query, said: str) ->
 
 # -- by edges
 
-@serves()
+@serves(pays=KNOWN)
 def single_source_shortest_path(G: SpmatGraph, source: Any, cutoff: Any = None) -> Paths:
     need(G, source, 'Source %s not in G')
     return paths_of(G, search(G, [source], Query(cutoff=cutoff)), [source])
 
 
-@serves()
+@serves(pays=KNOWN)
 def single_target_shortest_path(G: SpmatGraph, target: Any, cutoff: Any = None) -> Paths:
     need(G, target, 'Target %s not in G')
     return paths_of(G, search(G, [target], Query(cutoff=cutoff, back=True)), [target], forth=False)
 
 
-@serves()
+@serves(pays=LITTLE)
 def bidirectional_shortest_path(G: SpmatGraph, source: Any, target: Any) -> List[Any]:
     need(G, source, 'Source %s is not in G')
     need(G, target, 'Target %s is not in G')
@@ -155,7 +156,7 @@ def _quoted(node: Any) -> str:
     return str(node).replace('%', '%%')
 
 
-@serves()
+@serves(pays=KNOWN)
 def predecessor(G: SpmatGraph, source: Any, target: Any = None, cutoff: Any = None, return_seen: Any = None) -> Any:
     need(G, source, 'Source %s not in G')
     found = search(G, [source], Query(cutoff=max(1, cutoff) if cutoff else None))
@@ -173,7 +174,7 @@ def _longest(cutoff: Any) -> Any:
     return cutoff if cutoff is None or math.isinf(cutoff) else math.floor(cutoff)
 
 
-@serves()
+@serves(pays=WEIGHTS)
 def multi_source_dijkstra(G: SpmatGraph, sources: Any, target: Any = None, cutoff: Any = None, weight: Any = 'weight') -> Any:
     if not sources:
         raise ValueError('sources must not be empty')
@@ -193,36 +194,36 @@ def multi_source_dijkstra(G: SpmatGraph, sources: Any, target: Any = None, cutof
     return found.length(at), paths_of(G, found, starts)[target]
 
 
-@serves()
+@serves(pays=WEIGHTS)
 def multi_source_dijkstra_path(G: SpmatGraph, sources: Any, cutoff: Any = None, weight: Any = 'weight') -> Paths:
     paths: Paths = multi_source_dijkstra(G, sources, cutoff=cutoff, weight=weight)[1]
     return paths
 
 
-@serves()
+@serves(pays=WEIGHTS)
 def single_source_dijkstra(G: SpmatGraph, source: Any, target: Any = None, cutoff: Any = None, weight: Any = 'weight') -> Any:
     return multi_source_dijkstra(G, [source], target, cutoff, weight)
 
 
-@serves()
+@serves(pays=WEIGHTS)
 def single_source_dijkstra_path(G: SpmatGraph, source: Any, cutoff: Any = None, weight: Any = 'weight') -> Paths:
     return multi_source_dijkstra_path(G, [source], cutoff, weight)
 
 
-@serves()
+@serves(pays=KNOWN)
 def dijkstra_path(G: SpmatGraph, source: Any, target: Any, weight: Any = 'weight') -> List[Any]:
     path: List[Any] = multi_source_dijkstra(G, [source], target, weight=weight)[1]
     return path
 
 
-@serves()
+@serves(pays=WEIGHTS)
 def dijkstra_predecessor_and_distance(G: SpmatGraph, source: Any, cutoff: Any = None, weight: Any = 'weight') -> Any:
     need(G, source, 'Node %s is not found in the graph')
     found = search(G, [source], Query(weight, cutoff=cutoff if weight is not None else _longest(cutoff)))
     return predecessors_of(G, found), lengths_of(G, found)
 
 
-@serves()
+@serves(pays=LITTLE)
 def bidirectional_dijkstra(G: SpmatGraph, source: Any, target: Any, weight: Any = 'weight') -> Tuple[Any, List[Any]]:
     need(G, source, 'Source %s is not in G')
     need(G, target, 'Target %s is not in G')
@@ -231,7 +232,7 @@ def bidirectional_dijkstra(G: SpmatGraph, source: Any, target: Any, weight: Any 
     return between(G, source, target, Query(weight), 'No path between %s and %%s.' % _quoted(source))
 
 
-@serves(SIGNED)
+@serves(SIGNED, pays=WEIGHTS)
 def single_source_bellman_ford(G: SpmatGraph, source: Any, target: Any = None, weight: Any = 'weight') -> Any:
     need(G, source, 'Node %s is not found in the graph' if source == target else 'Source %s not in G')
     if source == target:
@@ -242,13 +243,13 @@ def single_source_bellman_ford(G: SpmatGraph, source: Any, target: Any = None, w
     return lengths_of(G, found), paths_of(G, found, [source])
 
 
-@serves(SIGNED)
+@serves(SIGNED, pays=WEIGHTS)
 def single_source_bellman_ford_path(G: SpmatGraph, source: Any, weight: Any = 'weight') -> Paths:
     paths: Paths = single_source_bellman_ford(G, source, weight=weight)[1]
     return paths
 
 
-@serves(SIGNED)
+@serves(SIGNED, pays=KNOWN)
 def bellman_ford_path(G: SpmatGraph, source: Any, target: Any, weight: Any = 'weight') -> List[Any]:
     path: List[Any] = single_source_bellman_ford(G, source, target, weight)[1]
     return path
@@ -258,7 +259,7 @@ def _one_target(arguments: Mapping[str, Any]) -> Optional[str]:
     return 'one target, of which networkx gives more' if arguments['target'] is not None else None
 
 
-@serves(Terms(negative=True, unless=_one_target))
+@serves(Terms(negative=True, unless=_one_target), pays=WEIGHTS)
 def bellman_ford_predecessor_and_distance(G: SpmatGraph, source: Any, target: Any = None, weight: Any = 'weight',
                                           heuristic: bool = False) -> Any:
     need(G, source, 'Node %s is not found in the graph')
@@ -274,7 +275,7 @@ def _between_all(arguments: Mapping[str, Any]) -> Optional[str]:
     return 'paths between all nodes' if arguments['source'] is None and arguments['target'] is None else None
 
 
-@serves(Terms(negative=True, unless=_between_all))
+@serves(Terms(negative=True, unless=_between_all), pays=LITTLE)
 def shortest_path(G: SpmatGraph, source: Any = None, target: Any = None, weight: Any = None, method: str = 'dijkstra') -> Any:
     check_method(method)
     signed = method == 'bellman-ford'
@@ -288,7 +289,7 @@ def shortest_path(G: SpmatGraph, source: Any = None, target: Any = None, weight:
     return paths_of(G, found, [node], forth=source is not None)
 
 
-@serves(SIGNED)
+@serves(SIGNED, pays=KNOWN)
 def all_shortest_paths(G: SpmatGraph, source: Any, target: Any, weight: Any = None, method: str = 'dijkstra') -> Iterator[List[Any]]:
     return _all_paths(G, source, target, weight, method)
 

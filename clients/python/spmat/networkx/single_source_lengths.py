@@ -16,6 +16,7 @@ from ..algorithms.utils import loops, settle
 from ..errors import NotSettled
 from ..io import matrix_text
 from ..matrix import Matrix
+from .backend_info import KNOWN, LITTLE, WALK, WEIGHTS
 from .components import labels
 from .convert import copied
 from .degree import need_node
@@ -111,13 +112,13 @@ def shortest(G: SpmatGraph, sources: Sequence[Any], weight: Any, back: bool, tar
 
 # -- by edges
 
-@serves()
+@serves(pays=WALK)
 def single_source_shortest_path_length(G: SpmatGraph, source: Any, cutoff: Any = None) -> Lengths:
     need(G, source, 'Source %s is not in G')
     return levels(G, [source], cutoff)
 
 
-@serves()
+@serves(pays=WALK)
 def single_target_shortest_path_length(G: SpmatGraph, target: Any, cutoff: Any = None) -> Lengths:
     need(G, target, 'Target %s is not in G')
     return levels(G, [target], cutoff, back=True)
@@ -131,17 +132,17 @@ def _others(G: SpmatGraph, source: Any, back: bool) -> Set[Any]:
     return found
 
 
-@serves()
+@serves(pays=WALK)
 def descendants(G: SpmatGraph, source: Any) -> Set[Any]:
     return _others(G, source, False)
 
 
-@serves()
+@serves(pays=WALK)
 def ancestors(G: SpmatGraph, source: Any) -> Set[Any]:
     return _others(G, source, True)
 
 
-@serves()
+@serves(pays=WALK)
 def bfs_layers(G: SpmatGraph, sources: Any) -> Iterator[List[Any]]:
     sources = [sources] if sources in G else list(sources)
     for source in sources:
@@ -152,7 +153,7 @@ def bfs_layers(G: SpmatGraph, sources: Any) -> Iterator[List[Any]]:
     return iter(list(layers.values()))
 
 
-@serves()
+@serves(pays=LITTLE)
 def descendants_at_distance(G: SpmatGraph, source: Any, distance: int) -> Set[Any]:
     need_node(G, source)
     if distance < 0 or distance != int(distance):
@@ -167,7 +168,7 @@ def _both_ways(arguments: Mapping[str, Any]) -> Optional[str]:
     return None
 
 
-@serves(Terms(unless=_both_ways))
+@serves(Terms(unless=_both_ways), pays=LITTLE)
 def ego_graph(G: SpmatGraph, n: Any, radius: Any = 1, center: bool = True, undirected: bool = False, distance: Any = None) -> Any:
     if distance is not None:
         need(G, n)
@@ -183,7 +184,7 @@ def ego_graph(G: SpmatGraph, n: Any, radius: Any = 1, center: bool = True, undir
     return part
 
 
-@serves()
+@serves(pays=LITTLE)
 def has_path(G: SpmatGraph, source: Any, target: Any) -> bool:
     for node in (source, target):
         need(G, node, 'Node %s is not in G')
@@ -192,7 +193,7 @@ def has_path(G: SpmatGraph, source: Any, target: Any) -> bool:
     return length_to(G, source, target, None) is not None
 
 
-@serves(UNDIRECTED)
+@serves(UNDIRECTED, pays=LITTLE)
 def efficiency(G: SpmatGraph, u: Any, v: Any) -> float:
     for node in (u, v):
         need(G, node, 'Node %s is not in G')
@@ -202,13 +203,13 @@ def efficiency(G: SpmatGraph, u: Any, v: Any) -> float:
 
 # -- by weights
 
-@serves()
+@serves(pays=WEIGHTS)
 def single_source_dijkstra_path_length(G: SpmatGraph, source: Any, cutoff: Any = None, weight: Any = 'weight') -> Lengths:
     need(G, source)
     return lengths(G, [source], weight, cutoff=cutoff)
 
 
-@serves()
+@serves(pays=WEIGHTS)
 def multi_source_dijkstra_path_length(G: SpmatGraph, sources: Any, cutoff: Any = None, weight: Any = 'weight') -> Lengths:
     if not sources:
         raise ValueError('sources must not be empty')
@@ -217,13 +218,13 @@ def multi_source_dijkstra_path_length(G: SpmatGraph, sources: Any, cutoff: Any =
     return lengths(G, list(sources), weight, cutoff=cutoff)
 
 
-@serves(SIGNED)
+@serves(SIGNED, pays=WEIGHTS)
 def single_source_bellman_ford_path_length(G: SpmatGraph, source: Any, weight: Any = 'weight') -> Lengths:
     need(G, source, 'Source %s not in G')
     return lengths(G, [source], weight, signed=True)
 
 
-@serves()
+@serves(pays=KNOWN)
 def dijkstra_path_length(G: SpmatGraph, source: Any, target: Any, weight: Any = 'weight') -> Any:
     need(G, source)
     if source == target:
@@ -234,7 +235,7 @@ def dijkstra_path_length(G: SpmatGraph, source: Any, target: Any, weight: Any = 
     return far
 
 
-@serves(SIGNED)
+@serves(SIGNED, pays=WEIGHTS)
 def bellman_ford_path_length(G: SpmatGraph, source: Any, target: Any, weight: Any = 'weight') -> Any:
     need(G, source, 'Source %s not in G')
     if source == target:
@@ -245,7 +246,7 @@ def bellman_ford_path_length(G: SpmatGraph, source: Any, target: Any, weight: An
     return far
 
 
-@serves(SIGNED)
+@serves(SIGNED, pays=WEIGHTS)
 def negative_edge_cycle(G: SpmatGraph, weight: Any = 'weight', heuristic: bool = True) -> bool:
     if not G.entries or weight is None or G.values(weight).least >= 0:
         return False

@@ -8,6 +8,7 @@ from typing import Any, Iterator, List, Mapping, NamedTuple, Optional, Tuple
 
 from .. import algorithms
 from ..io import matrix_text
+from .backend_info import WEIGHTS
 from .process_session import session
 from .registry import Terms, serves
 from .spmat_graph import SpmatGraph
@@ -79,23 +80,23 @@ def _kruskal(arguments: Mapping[str, Any]) -> Optional[str]:
 TERMS = Terms(directed=False, multigraph=False, negative=True, unless=_kruskal)
 
 
-@serves(TERMS)
+@serves(TERMS, pays=WEIGHTS)
 def minimum_spanning_edges(G: SpmatGraph, algorithm: str = 'kruskal', weight: Any = 'weight', keys: bool = True, data: bool = True,
                            ignore_nan: bool = False) -> Iterator[Tuple[Any, ...]]:
     return iter(list(_edges(G, weight, True, data)))
 
 
-@serves(TERMS)
+@serves(TERMS, pays=WEIGHTS)
 def maximum_spanning_edges(G: SpmatGraph, algorithm: str = 'kruskal', weight: Any = 'weight', keys: bool = True, data: bool = True,
                            ignore_nan: bool = False) -> Iterator[Tuple[Any, ...]]:
     return iter(list(_edges(G, weight, False, data)))
 
 
-@serves(TERMS)
+@serves(TERMS, pays=WEIGHTS)
 def minimum_spanning_tree(G: SpmatGraph, weight: Any = 'weight', algorithm: str = 'kruskal', ignore_nan: bool = False) -> Any:
     return _tree(G, weight, True)
 
 
-@serves(TERMS)
+@serves(TERMS, pays=WEIGHTS)
 def maximum_spanning_tree(G: SpmatGraph, weight: Any = 'weight', algorithm: str = 'kruskal', ignore_nan: bool = False) -> Any:
     return _tree(G, weight, False)

@@ -9,6 +9,7 @@ from .. import algorithms
 from ..io import matrix_text
 from ..matrix import Matrix
 from ..metadata import Notes
+from ..session import Session
 from . import graph_arrays
 from .graph_arrays import Key, Positions, Values
 from .process_session import session
@@ -135,10 +136,14 @@ class SpmatGraph:
 
     def made(self, key: Any, make: Callable[[], Matrix]) -> Matrix:
         """A matrix that is kept as long as its session lives."""
+        return self._kept(key, lambda _: make())
+
+    def _kept(self, key: Any, make: Callable[[Session], Matrix]) -> Matrix:
+        """The same, made in the session that is given."""
         now = session()
         held = self._matrices.get(key)
         if held is None or held.session is not now:
-            self._matrices[key] = held = make()
+            self._matrices[key] = held = make(now)
         return held
 
     def kept(self, key: str, make: Callable[[], List[int]]) -> List[int]:
@@ -147,14 +152,14 @@ class SpmatGraph:
             self._answers[key] = make()
         return self._answers[key]
 
-    def _sent(self, values: Any, back: bool) -> Matrix:
+    def _sent(self, now: Session, values: Any, back: bool) -> Matrix:
         rows, columns = (self.at.columns, self.at.rows) if back else (self.at.rows, self.at.columns)
         if matrix_text.is_array(rows) and self.entries < FEW:
             rows, columns = rows.tolist(), columns.tolist()
             values = values.tolist() if matrix_text.is_array(values) else values
         elif matrix_text.is_array(rows) and isinstance(values, list):
             values = graph_arrays.sequence(values, self.entries)
-        made = session().from_coo(rows, columns, values, len(self), len(self))
+        made = now.from_coo(rows, columns, values, len(self), len(self))
         made.notes = Notes(directed=self.is_directed())
         return made
 
@@ -162,9 +167,9 @@ class SpmatGraph:
         """The adjacency matrix: at (i, j) 1, or an edge attribute of the edges from node i to node j; `back` turns edges round."""
         back = back and self._directed
         if weight is None:
-            return self.made((None, back), lambda: self._sent(1, back))
+            return self._kept((None, back), lambda now: self._sent(now, 1, back))
         key = (*graph_arrays.key_of(weight, default, fold if self._multigraph else None), back)
-        return self.made(key, lambda: self._sent(self.values(weight, default, fold).many, back))
+        return self._kept(key, lambda now: self._sent(now, self.values(weight, default, fold).many, back))
 
     @property
     def A(self) -> Matrix:
@@ -180,7 +185,7 @@ class SpmatGraph:
         """How many edges lead from i to j."""
         if not self.parallel:
             return self.matrix(back=back)
-        return self.made(('many', back and self._directed), lambda: self._sent(self.at.counts, back and self._directed))
+        return self._kept(('many', back and self._directed), lambda now: self._sent(now, self.at.counts, back and self._directed))
 
     @property
     def both(self) -> Optional[Matrix]:
@@ -221,23 +226,6 @@ class SpmatGraph:
         return session().full(len(self), 1, value)
 
     # -- results
-
-    def dense(self, column: Matrix, missing: int = 0) -> List[int]:
-        """A column's values by index."""
-        rows, _, values = column.to_coo(arrays=False)
-        if len(rows) == len(self):
-            return list(values)
-        out = [missing] * len(self)
-        for i, value in zip(rows, values):
-            out[i] = value
-        return out
-
-    def dense_row(self, row: Matrix, missing: int = 0) -> List[int]:
-        """A row's values by index."""
-        out = [missing] * len(self)
-        for j, value in zip(*row.to_coo(arrays=False)[1:]):
-            out[j] = value
-        return out
 
     def by_node(self, column: Matrix) -> Dict[Any, int]:
         """A column as {node: value}."""

@@ -224,11 +224,11 @@ def told() -> Iterator[None]:
 
 def _algorithm() -> str:
     """The function of `spmat.algorithms` that was called, whatever it calls itself; nothing where there is none."""
-    from .. import algorithms
+    from ..algorithms.registry import ALGORITHMS
     frame, found = inspect.currentframe(), ''
     while frame is not None:
         name = frame.f_code.co_name
-        if frame.f_globals.get('__name__', '').startswith('spmat.algorithms.') and name in algorithms.__all__:
+        if frame.f_globals.get('__name__', '').startswith('spmat.algorithms.') and name in ALGORITHMS:
             found = name
         frame = frame.f_back
     return found

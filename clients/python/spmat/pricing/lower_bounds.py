@@ -8,9 +8,9 @@ from __future__ import annotations
 import functools
 from typing import TYPE_CHECKING, Any, Callable, Dict, List, NamedTuple, Optional, Sequence, Tuple, TypeVar, cast
 
-from .._client.job_queue import MOST_PRICE, most_of
+from .._client.job_queue import most_of
 from ..errors import BudgetExceeded
-from ..job_limits import MOST_TERMS
+from ..limits import MOST_PRICE, MOST_SIDE
 from ..matrix import Matrix
 from ..operators import Operator, dataflow, indexunary
 from .estimates import Asked, Stand, Unforeseen, asked, asking, counted, stand
@@ -91,7 +91,7 @@ class Certain(Asked):
         if not is_open and (mask is None or _root(mask) is not _root(a)):
             return Least(0, 0, 0)
         length = add.length + mul.length
-        price = min(terms, min(MOST_TERMS, MOST_PRICE // length) // 2) * length        # by parts the largest has more than half of the most
+        price = min(terms, min(MOST_SIDE, MOST_PRICE // length) // 2) * length        # by parts the largest has more than half of the most
         if not is_open:
             return Least(price, 0, 0)
         entries = most_of('product', 1, operands, None, shape).entries

@@ -1,0 +1,73 @@
+"""The list of algorithms, which their modules fill: `@algorithm(..)` above a function makes it one of `spmat.algorithms`, a row of the table
+that its help begins with, and a command of the command line."""
+from __future__ import annotations
+
+import enum
+import inspect
+import re
+from typing import Any, Callable, Dict, Iterator, List, NamedTuple, Optional, Sequence, Tuple, TypeVar
+
+F = TypeVar('F', bound=Callable[..., Any])
+
+
+class Wanted(enum.Enum):
+    """Which graphs an algorithm is for: of others its result would mean nothing."""
+    ANY = 'any'
+    BOTH_WAYS = 'each edge leads both ways'
+    WITHOUT_LOOPS = 'each edge leads both ways, and none from a vertex to itself'
+
+
+BOTH_WAYS, WITHOUT_LOOPS = Wanted.BOTH_WAYS, Wanted.WITHOUT_LOOPS
+
+
+class Algorithm(NamedTuple):
+    """An algorithm: its function, and what it gives in a few words. Then what the command line has to know: the options beside those of
+    every graph, what a value is counted in (1 where it is a whole number), whether a value is a vertex, what draws the result, which graphs
+    it is for, whether their values count, whether the greatest values can be asked for alone, the fields of a row of a list, and what the
+    command says of itself where that isn't what the function says."""
+    function: Callable[..., Any]
+    gives: str
+    options: Sequence[str]
+    scale: int = 1
+    are_vertices: bool = False
+    plot: Optional[str] = None
+    wanted: Wanted = Wanted.ANY
+    values: bool = False
+    ranked: bool = False
+    fields: Sequence[str] = ()
+    says: str = ''
+    command: bool = True
+
+    @property
+    def parameters(self) -> List[str]:
+        """The names of what the function takes."""
+        return list(inspect.signature(self.function).parameters)
+
+    @property
+    def elsewhere(self) -> str:
+        """Its name in LAGraph, empty where it has none there."""
+        found = re.search(r'LAGraph:\s+`(\w+)`', inspect.getdoc(self.function) or '')
+        return found.group(1) if found else ''
+
+
+ALGORITHMS: Dict[str, Algorithm] = {}
+
+
+def algorithm(gives: str, *options: str, **more: Any) -> Callable[[F], F]:
+    """Puts a function on the list; see `Algorithm` for what may be said of it."""
+    def register(function: F) -> F:
+        ALGORITHMS[function.__name__] = Algorithm(function, gives, options, **more)
+        return function
+    return register
+
+
+def table() -> Iterator[str]:
+    """The lines of a table of all algorithms."""
+    yield from ('| Function | What it gives | LAGraph |', '|---|---|---|')
+    for name, one in sorted(ALGORITHMS.items()):
+        yield '| `%s(%s)` | %s | %s |' % (name, ', '.join(required(one.function)), one.gives, '`%s`' % one.elsewhere if one.elsewhere else '')
+
+
+def required(function: Callable[..., Any]) -> Tuple[str, ...]:
+    """The parameters that have to be given."""
+    return tuple(name for name, one in inspect.signature(function).parameters.items() if one.default is one.empty)
