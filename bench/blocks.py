@@ -153,7 +153,7 @@ def of_scipy(held):
     yield 'components', lambda: int(csgraph.connected_components(made['A'], False)[0])
     yield 'pagerank', ranks
     yield 'triangles', triangles
-    yield 'sssp', lambda: int(csgraph.dijkstra(made['W'], indices=source).max())
+    yield 'sssp', lambda: int(numpy.ma.masked_invalid(csgraph.dijkstra(made['W'], indices=source)).sum())     # of those that are reached
 
 
 @contextlib.contextmanager
