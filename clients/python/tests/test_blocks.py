@@ -322,6 +322,21 @@ class Refusals(unittest.TestCase):
         with self.assertRaises(FileNotFoundError):
             blocks.Sessions(2, program='/no/such/program')
 
+    def test_matrices_that_are_cut_elsewhere_are_of_the_same_sessions(self):
+        """A loop takes them together, whatever objects tell how they are cut; it takes none of other sessions."""
+        with blocks.Sessions(2) as s, blocks.Sessions(2) as t:
+            A = s.from_triples([(0, 0, 1), (1, 0, 2), (2, 0, 3), (3, 0, 4)], 4, 1)
+            B, C = A.recut([0, 1, 4]), t.from_triples([(0, 0, 1)], 4, 1)
+            of_a, of_b = A.session, B.session      # both are held, so that neither is where the other was
+            self.assertIsNot(of_a, of_b)
+            self.assertEqual((of_a, hash(of_a)), (of_b, hash(of_b)))
+            self.assertNotEqual(of_a, C.session)
+            loop = spmat.loop(lambda state: {'a': state.a.ewise_mult(state.b, 'minus')}, {'a': A, 'b': B})
+            loop.advance(1)
+            self.assertEqual(loop.state.a.to_list(), [0, 0, 0, 0])
+            with self.assertRaisesRegex(ValueError, 'of one session, and here of 2'):
+                spmat.loop(lambda state: {'a': state.a}, {'a': A, 'c': C})
+
     def test_pickling(self):
         import pickle
         with blocks.Sessions(2) as s:

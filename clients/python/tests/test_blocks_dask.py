@@ -53,6 +53,49 @@ def use_program(path):
     os.environ['SPMAT'] = path
 
 
+class Answering:
+    """What `Dask` asks of a client: workers that answer as it is told."""
+
+    def __init__(self, *answers):
+        self.answers, self.waits = list(answers), 0
+
+    def scheduler_info(self):
+        return {'workers': {'a': None, 'b': None}}
+
+    def run(self, *_, **__):
+        return self.answers.pop(0)
+
+    def wait_for_workers(self, *_, **__):
+        self.waits += 1
+
+
+class Unreached(unittest.TestCase):
+    """Workers that are lost while all are asked, as Dask's client tells of them: a connection that failed is a value among the answers."""
+
+    def told(self, *answers):
+        client = Answering(*answers)
+        try:
+            return blocks.Dask(client).everywhere(None, worker_tasks.budget), client.waits
+        finally:
+            self.assertEqual(client.answers, [])
+
+    def test_the_others_tell(self):
+        self.assertEqual(self.told({'a': OSError('Timed out trying to connect'), 'b': 7}), ({'b': 7}, 0))
+        self.assertEqual(self.told({'a': 5, 'b': ConnectionResetError(104, 'reset')}), ({'a': 5}, 0))
+
+    def test_those_that_come_for_them_are_asked(self):
+        self.assertEqual(self.told({'a': OSError('closed'), 'b': OSError('closed')}, {'c': 3}), ({'c': 3}, 1))
+
+    def test_none_answers(self):
+        with self.assertRaisesRegex(TimeoutError, 'each was lost, 5 times'):
+            self.told(*[{'a': OSError('closed')}] * 5)
+
+    def test_what_is_wrong_is_raised(self):
+        for fault in (ValueError('wrong'), FileNotFoundError(2, 'no program')):
+            with self.assertRaises(type(fault)):
+                self.told({'a': 1, 'b': fault})
+
+
 @support.needs('distributed')
 class Page(unittest.TestCase):
     def test_the_cluster_of_the_page(self):

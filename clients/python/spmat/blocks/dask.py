@@ -22,6 +22,7 @@ QUICK = .001                                       # seconds for which the clien
 LOOK = 1.0                                         # seconds after which it is looked at what holds results up
 WITHOUT = 60.0                                     # seconds without any worker, after which nobody waits for one
 TIMES = 10                                         # so many times what its kin took, a part is done again elsewhere
+TRIES = 5                                          # so often workers are asked, where all are lost meanwhile
 
 
 class Dask(Engine):
@@ -144,10 +145,24 @@ class Dask(Engine):
         return list(self._client.compute(list(delayed)))
 
     def everywhere(self, settings: Settings, function: Callable[..., Any], *args: Any) -> Dict[str, Any]:
-        return dict(self._client.run(_apart, _on_worker, settings, 'a session', function, list(args)))
+        return self._run(_on_worker, settings, 'a session', function, list(args))
 
     def versions(self, settings: Settings) -> Dict[str, Version]:
-        return dict(self._client.run(_apart, version_of, settings.program))
+        return self._run(version_of, settings.program)
+
+    def _run(self, function: Callable[..., Any], *args: Any) -> Dict[str, Any]:
+        """What a function gives at each worker that answers. A worker that is lost meanwhile tells nothing; where all are, those are asked
+        that come for them."""
+        for _ in range(TRIES):
+            told: Dict[str, Any] = self._client.run(_apart, function, *args, on_error='return')
+            heard = {worker: value for worker, value in told.items() if not _is_lost(value)}
+            for value in heard.values():
+                if isinstance(value, Exception):
+                    raise value
+            if heard or not told:
+                return heard
+            self._client.wait_for_workers(1, timeout=WITHOUT)
+        raise TimeoutError('no worker of the cluster answers: each was lost, %d times' % TRIES)
 
     def close(self, settings: Settings) -> None:
         self._client.run(_apart, close_store, settings, on_error='ignore')
@@ -201,6 +216,11 @@ class _Watch:
             self._ended = True
             for address in self._engine.on_scheduler(dask_scheduler.doing, [future.key for future in waiting]):
                 self._engine.on_scheduler(dask_scheduler.give_up, address)
+
+
+def _is_lost(told: Any) -> bool:
+    """Whether this is what Dask's client has of a worker that it doesn't reach: an OSError, which has no number unless the system gave it."""
+    return isinstance(told, ConnectionError) or (isinstance(told, OSError) and told.errno is None)
 
 
 def _on_worker(settings: Settings, label: str, function: Callable[..., Any], args: Sequence[Any]) -> Any:

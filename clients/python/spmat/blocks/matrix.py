@@ -265,7 +265,7 @@ class BlockMatrix(Signs):
     def _check_sessions(self, other: Any) -> None:
         if not isinstance(other, BlockMatrix):
             raise TypeError('expected a matrix in blocks, got %r' % (other,))
-        if other.sessions.settings.token != self.sessions.settings.token:
+        if other.sessions != self.sessions:
             raise ValueError('a matrix of other sessions')
 
     # -- products and folds

@@ -115,6 +115,13 @@ class Sessions(Inputs):
         out.cut = cut
         return out
 
+    def __eq__(self, other: object) -> bool:
+        """Whether they are the same sessions, wherever they cut new matrices."""
+        return isinstance(other, Sessions) and other.settings.token == self.settings.token
+
+    def __hash__(self) -> int:
+        return hash(self.settings.token)
+
     # -- what is told
 
     def budgets(self) -> Dict[str, Budget]:

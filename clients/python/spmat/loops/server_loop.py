@@ -277,7 +277,7 @@ def _checked(state: Mapping[str, Any]) -> State:
     for name, matrix in state.items():
         if not hasattr(type(matrix), 'mxm') or isinstance(matrix, TracedMatrix):
             raise TypeError('%r of the state is no matrix of a session, but %s' % (name, type(matrix).__name__))
-    sessions = {id(matrix.session) if matrix.in_one_place else matrix.session.settings.token for matrix in state.values()}
+    sessions = {matrix.session for matrix in state.values()}
     if len(sessions) > 1:
         raise ValueError('the matrices of a state are of one session, and here of %d' % len(sessions))
     return State(state)
