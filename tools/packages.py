@@ -41,6 +41,7 @@ PACKAGES = (
     Package('socat', 'a socket file in front of a server', program='socat'),
     Package('strace', 'a socket file in front of a server', program='strace'),
     Package('systemd', 'units', program='systemd-analyze'),
+    Package('zsh', 'completion by zsh', program='zsh'),
 )
 
 
