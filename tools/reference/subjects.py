@@ -35,7 +35,7 @@ OPERATORS = (
 # The modules of spmat.algorithms under their subjects: an algorithm is shown where its module is.
 ALGORITHM_MODULES = {
     'Degrees, triangles, undirected graphs': ('protocols', 'utils', 'triangle_counts'),
-    'Searches and shortest paths': ('bfs', 'single_source_paths', 'shortest_path_trees', 'all_pairs_paths', 'multi_source_bfs', 'distance_measures'),
+    'Searches and shortest paths': ('bfs', 'single_source_paths', 'shortest_path_trees', 'all_pairs_lengths', 'multi_source_bfs', 'distance_measures'),
     'Components, orders and trees': ('components', 'strong_components', 'bipartite', 'topological_order', 'spanning_forest'),
     'Centrality': ('page_rank', 'betweenness_centrality', 'centrality'),
     'Communities and dense parts': ('label_propagation_communities', 'louvain_communities', 'core_decomposition', 'truss'),

@@ -15,7 +15,7 @@ from typing import TYPE_CHECKING, Any, Dict, List
 
 if TYPE_CHECKING:
     from . import algorithms, draw
-    from ._client.job_queue import Budget, JobResult
+    from ._client.pending_jobs import Budget, JobResult
     from .errors import (BudgetExceeded, Busy, Closed, CompileError, DimensionMismatch, DomainMismatch, NoThread, NotMade,
                          NotSettled, OperatorRefused, OutOfMemory, ReadError, Refused, SpmatError, TextRefused, TooLarge)
     from .loops import Loop, empty, loop, steady
@@ -26,7 +26,7 @@ if TYPE_CHECKING:
     from .operators.clang import c
     from .operators.compiler.symbolic_operands import cdiv, cmod, rsh, udiv, ult, umod, where
     from .operators.explanation import code_of, explain
-    from .pricing.estimates import price
+    from .pricing.upper_bounds import price
     from .session import Session
 
 
@@ -49,14 +49,14 @@ _PLACES: Dict[str, str] = {name: module for module, names in {
     'operators.clang': 'c',
     'errors': 'BudgetExceeded Busy Closed CompileError DimensionMismatch DomainMismatch NoThread NotMade NotSettled OperatorRefused '
               'OutOfMemory ReadError Refused SpmatError TextRefused TooLarge',
-    '_client.job_queue': 'Budget JobResult',
+    '_client.pending_jobs': 'Budget JobResult',
     'loops': 'Loop empty loop steady',
     'mask': 'Mask',
     'matrix': 'Matrix bipartite',
     'operators': 'Operator Semiring asm binary code indexunary select semiring unary',
     'operators.compiler.symbolic_operands': 'cdiv cmod rsh udiv ult umod where',
     'operators.explanation': 'code_of explain',
-    'pricing.estimates': 'price',
+    'pricing.upper_bounds': 'price',
     'loops.fixpoint': 'fixpoint',
     'session': 'Session'}.items() for name in names.split()}
 

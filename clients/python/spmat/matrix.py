@@ -234,8 +234,8 @@ class Matrix(Signs):
         costs as much as reading and writing it. While the transpose is held, asking again costs nothing."""
         held: Optional['Matrix'] = self.handle.transposed() if self.handle.transposed is not None else None
         if held is None:
-            from .pricing import estimates, lower_bounds  # which want matrices
-            if estimates.stays_here():
+            from .pricing import lower_bounds, upper_bounds  # which want matrices
+            if upper_bounds.stays_here():
                 return lower_bounds.turned(self)
             held = self.session.from_text(matrix_text.swapped(self.to_text()))
             held.notes = metadata.turned(self.notes)

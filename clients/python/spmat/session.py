@@ -7,7 +7,7 @@ from . import limits
 from ._client.backend import Backend
 from ._client.connection import Connection, Progress
 from ._client.handles import Handle
-from ._client.job_queue import Budget, Run
+from ._client.pending_jobs import Budget, Run
 from ._client.server_program import Program
 from ._client.transport import Address
 from .errors import OperatorRefused, Refused, TextRefused, refusal
@@ -18,7 +18,7 @@ from .io.matrix_text import Triples
 from .limits import MOST_STEPS
 from .matrix import Matrix
 from .operators import Operator, diagnostics, find
-from .pricing import estimates
+from .pricing import upper_bounds
 
 if TYPE_CHECKING:
     import ssl
@@ -108,7 +108,7 @@ class Session(Sources[Matrix]):
     def from_text(self, text: Union[bytes, str], name: Optional[str] = None) -> Matrix:
         """A matrix from a Matrix Market text that the server reads as it is: coordinate, integer or pattern, general or symmetric.
         TextRefused names the line; `mmread` reads other texts too."""
-        estimates.check_read()
+        upper_bounds.check_read()
         text = text.encode() if isinstance(text, str) else bytes(text)
         if len(text) > limits.MOST_TEXT:
             raise refusal('S7', detail='the text has %d bytes' % len(text))
@@ -133,7 +133,7 @@ class Session(Sources[Matrix]):
 
     def _of_triples(self, triples: Triples, symmetric: bool, name: Optional[str]) -> Matrix:
         try:
-            return estimates.stood(self, triples[3:], len(triples.rows)) or self.from_text(matrix_text.write(triples, ones=True, symmetric=symmetric), name)
+            return upper_bounds.stood(self, triples[3:], len(triples.rows)) or self.from_text(matrix_text.write(triples, ones=True, symmetric=symmetric), name)
         except TextRefused as refused:
             if refused.rule != 'M8' or refused.at is None:
                 raise
@@ -186,18 +186,18 @@ class Session(Sources[Matrix]):
         nrows, ncols = coo.side(nrows, 0, 'nrows'), coo.side(ncols, 0, 'ncols')
         if nrows * ncols > limits.MOST_SIDE:
             raise refusal('M4', detail='%d entries' % (nrows * ncols))
-        return estimates.stood(self, (nrows, ncols), nrows * ncols) or self._from(coo.full(nrows, ncols, value), name=name)
+        return upper_bounds.stood(self, (nrows, ncols), nrows * ncols) or self._from(coo.full(nrows, ncols, value), name=name)
 
     def identity(self, n: int, value: int = 1, *, name: Optional[str] = None) -> Matrix:
         """A square matrix with one value on its diagonal."""
         at = coo.indices(coo.side(n, 0, 'n'))
-        return estimates.stood(self, (n, n), n) or self._from(coo.checked(at, at, value, n, n), name=name)
+        return upper_bounds.stood(self, (n, n), n) or self._from(coo.checked(at, at, value, n, n), name=name)
 
     def ones(self, ncols: int) -> Matrix:
         """A row of ones, which folds columns. The session keeps those of the last few lengths, but for very long ones."""
         with self.backend.turn():
             row = self._ones.pop(ncols, None) or self.full(1, ncols)
-            if ncols <= LONG and not isinstance(row, estimates.Stand):
+            if ncols <= LONG and not isinstance(row, upper_bounds.Stand):
                 self._ones[ncols] = row
             while len(self._ones) > KEPT_ONES:
                 del self._ones[next(iter(self._ones))]
@@ -239,7 +239,7 @@ class Session(Sources[Matrix]):
     def run(self) -> Run:
         """Runs the jobs that wait. Matrix methods do it where they need a result. Where the run is refused (OutOfMemory,
         NoThread) the queue is empty all the same, and each result of it raises NotMade from then on."""
-        estimates.check_read()
+        upper_bounds.check_read()
         backend, queue = self.backend, self.backend.queue
         with backend.turn():
             self.connection.settle()

@@ -195,8 +195,8 @@ class Algorithms(unittest.TestCase):
                     for function in functions:
                         both = graph.matrix(one), graph.matrix(many)
                         for matrix in both:                # what blocks alone want to know is found out by either
-                            algorithms.graph_properties.is_both_ways(matrix)
-                            algorithms.graph_properties.extremes(matrix)
+                            algorithms.cached_properties.is_both_ways(matrix)
+                            algorithms.cached_properties.extremes(matrix)
                         before = [one.budget().spent, many.budget().spent]
                         want, got = function(both[0], graph), function(both[1], graph)
                         with self.subTest(graph=graph.name, function=function.__name__, sessions=count):

@@ -154,7 +154,7 @@ class Counted(support.InSession):
             self.assertEqual((size.length, size.shortest), (self.s.backend.length_of(op), 3))
         A = self.s.from_coo([0, 0], [0, 1], [0, 5])
         self.assertEqual(A.apply(code).wait().steps, 3 + 4)
-        with self.assertRaises(spmat.pricing.estimates.Unforeseen):
+        with self.assertRaises(spmat.pricing.upper_bounds.Unforeseen):
             lower_bounds.size_of(spmat.asm('unary', 'mov64 r0, r1\nja 7\nexit\n'))
 
     def steps_of(self, call):
@@ -247,7 +247,7 @@ class Chains(support.InSession):
         for seed in range(200):
             matrices = self.matrices(random.Random(seed))
             sure = lower_bounds.Certain()
-            with spmat.pricing.estimates.asking(sure):
+            with spmat.pricing.upper_bounds.asking(sure):
                 stands = self.chain(matrices, seed)
             spent = needed = 0
             for stand, made in zip(stands, self.chain(matrices, seed)):
@@ -264,13 +264,13 @@ class Chains(support.InSession):
         G, sure = self.s.full(2, 2), lower_bounds.Certain()
 
         def refuse():
-            raise spmat.pricing.estimates.Unforeseen()
-        with spmat.pricing.estimates.asking(sure):
-            with self.assertRaises(spmat.pricing.estimates.Unforeseen):
+            raise spmat.pricing.upper_bounds.Unforeseen()
+        with spmat.pricing.upper_bounds.asking(sure):
+            with self.assertRaises(spmat.pricing.upper_bounds.Unforeseen):
                 sure.fact(G, 'both ways', refuse)
-            with spmat.pricing.estimates.granted({'both ways': True}):
+            with spmat.pricing.upper_bounds.granted({'both ways': True}):
                 self.assertIs(sure.fact(G, 'both ways', refuse), True)
-                with self.assertRaises(spmat.pricing.estimates.Unforeseen):
+                with self.assertRaises(spmat.pricing.upper_bounds.Unforeseen):
                     sure.fact(G, 'loops', refuse)
             self.assertIs(sure.fact(G, 'both ways', refuse), True)
             self.assertEqual(G.kept, {})

@@ -6,7 +6,7 @@ import graphs
 import support
 import spmat
 from spmat import algorithms
-from spmat.algorithms import graph_properties
+from spmat.algorithms import cached_properties
 
 UNDIRECTED_ALONE = ('triangle_count', 'triangles', 'clustering', 'k_core', 'core_numbers', 'k_truss', 'maximal_independent_set',
                     'label_propagation', 'minimum_spanning_forest')
@@ -51,32 +51,32 @@ class Checks(support.InSession):
         G = graphs.UNDIRECTED[3].matrix(self.session)
         algorithms.triangles(G)
         before = self.session.budget().spent
-        graph_properties.check_undirected(G, True)
+        cached_properties.check_undirected(G, True)
         self.assertEqual(self.session.budget().spent, before)
         known = self.session.from_triples([(0, 1, 1), (1, 0, 1)], 2, 2)
         known.notes = known.notes._replace(directed=False)            # as from_networkx notes it
-        graph_properties.check_undirected(known, True, loops=True)
+        cached_properties.check_undirected(known, True, loops=True)
         self.assertEqual(self.session.budget().spent, before)
 
     def test_both_ways(self):
         """Beside plain Python, on each graph, and on each with one edge less."""
         for graph in graphs.ALL:
             G = graph.matrix(self.session)
-            self.assertEqual(graph_properties.is_both_ways(G), all((j, i) in graph.edges for i, j in graph.edges), graph.name)
+            self.assertEqual(cached_properties.is_both_ways(G), all((j, i) in graph.edges for i, j in graph.edges), graph.name)
             if not graph.directed and graph.edges:
                 edges = dict(graph.edges)
                 del edges[max(edges)]
-                self.assertFalse(graph_properties.is_both_ways(graph._replace(edges=edges).matrix(self.session)), graph.name)
+                self.assertFalse(cached_properties.is_both_ways(graph._replace(edges=edges).matrix(self.session)), graph.name)
 
     def test_transposes(self):
         for graph in graphs.DIRECTED:
             G = graph.matrix(self.session)
-            self.assertTrue(graph_properties.is_transpose(G, G.T))
-            self.assertTrue(graph_properties.is_transpose(G, G.T, values=True))
-            self.assertTrue(graph_properties.is_transpose(G, G.T.apply('one')))
-            self.assertFalse(graph_properties.is_transpose(G, G.T.apply('plus', right=1), values=True))
-            self.assertFalse(graph_properties.is_transpose(G, G))
-            self.assertFalse(graph_properties.is_transpose(G, G.T.select('rowgt', 3)))
+            self.assertTrue(cached_properties.is_transpose(G, G.T))
+            self.assertTrue(cached_properties.is_transpose(G, G.T, values=True))
+            self.assertTrue(cached_properties.is_transpose(G, G.T.apply('one')))
+            self.assertFalse(cached_properties.is_transpose(G, G.T.apply('plus', right=1), values=True))
+            self.assertFalse(cached_properties.is_transpose(G, G))
+            self.assertFalse(cached_properties.is_transpose(G, G.T.select('rowgt', 3)))
 
     def test_in_blocks(self):
         """There the transpose is used, so it is looked at."""

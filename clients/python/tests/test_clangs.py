@@ -5,7 +5,7 @@ import unittest
 
 import support
 import spmat
-from spmat.operators import clang as compiling, clang_lowering
+from spmat.operators import clang as compiling, clang_compat
 from test_c import EDGES, WORDS, signed
 
 CLANGS = [name for name in ('clang-%d' % number for number in range(compiling.OLDEST, compiling.NEWEST + 1)) if shutil.which(name)]
@@ -115,8 +115,8 @@ class EachClang(unittest.TestCase):
     def test_several_at_once(self):
         """A vector of divisions isn't lowered; the line is named."""
         text = 'x\n  %3 = sdiv <2 x i64> %1, %2, !dbg !7\n!7 = !DILocation(line: 12, column: 3, scope: !1)\n'
-        with self.assertRaises(clang_lowering.Unmade) as caught:
-            clang_lowering.check(clang_lowering.lowered(text))
+        with self.assertRaises(clang_compat.Unmade) as caught:
+            clang_compat.check(clang_compat.lowered(text))
         self.assertEqual((caught.exception.what, caught.exception.line), ('a signed division', 12))
 
     def test_no_text(self):

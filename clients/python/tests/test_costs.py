@@ -9,7 +9,7 @@ import graphs
 import support
 import spmat
 from spmat import algorithms
-from spmat.algorithms import graph_properties
+from spmat.algorithms import cached_properties
 from spmat.algorithms.utils import column, loops, nothing, product
 
 
@@ -66,9 +66,9 @@ class Costs(unittest.TestCase):
             levels = max(graphs.levels(near, 0).values()) + 1
             rounds = {}
             told = lambda name: lambda word, number, of: rounds.__setitem__(name, number)
-            self.assertLessEqual(self.spent(algorithms.graph_properties.check_undirected, G, True), 18 * m + 5 * n)
-            self.assertEqual(self.spent(algorithms.graph_properties.check_undirected, G, True), 0)
-            self.assertLessEqual(self.spent(algorithms.graph_properties.extremes, G), 8 * m + 4 * n)
+            self.assertLessEqual(self.spent(algorithms.cached_properties.check_undirected, G, True), 18 * m + 5 * n)
+            self.assertEqual(self.spent(algorithms.cached_properties.check_undirected, G, True), 0)
+            self.assertLessEqual(self.spent(algorithms.cached_properties.extremes, G), 8 * m + 4 * n)
             for function, more, bound in (
                     (algorithms.degrees, (), lambda k: 5 * m),
                     (algorithms.triangle_count, (), lambda k: 9 * m + 5 * n + 5 * t),
@@ -106,7 +106,7 @@ class Costs(unittest.TestCase):
             W = self.session.from_coo(edges.i, edges.j, edges.w, edges.vertices, edges.vertices)
             near = collections.Counter(i for i, _ in places)
             source = max(range(edges.vertices), key=lambda i: (near[i], -i))
-            graph_properties.is_both_ways(G)
+            cached_properties.is_both_ways(G)
             for name, most in steps.items():
                 graph, more = (W if name == 'sssp' else G), {'k_core': (10,), 'connected_components': (G,)}.get(name, (source,))
                 self.assertLessEqual(self.spent(getattr(algorithms, name), graph, *more), most, name)
@@ -116,7 +116,7 @@ class Costs(unittest.TestCase):
         for number, source in ((1, 0), (3, 16), (4, 0)):
             graph = graphs.UNDIRECTED[number]
             G = graph.matrix(self.session)
-            graph_properties.is_both_ways(G)                  # which is looked at once where a transpose is handed in
+            cached_properties.is_both_ways(G)                  # which is looked at once where a transpose is handed in
             deepest = max(graphs.levels(graph.near(), source).values())
             for function, large in ((algorithms.bfs_levels, 3), (algorithms.bfs_parents, 4)):
                 told, runs = self.counted(function, G, source, G)
@@ -136,7 +136,7 @@ class Costs(unittest.TestCase):
         graph = graphs.undirected('path', count, [(i, i + 1) for i in range(count - 1)])
         with spmat.Session() as session:
             path = graph.matrix(session)
-            graph_properties.is_both_ways(path), graph_properties.extremes(path)
+            cached_properties.is_both_ways(path), cached_properties.extremes(path)
             for function, steps in ((algorithms.bfs_levels, 30), (algorithms.bfs_parents, 40), (algorithms.sssp, 300)):
                 before, told = session.budget().spent, []
                 self.assertEqual(function(path, 0, progress=lambda *now: told.append(now)).nvals, count)
@@ -226,7 +226,7 @@ class Costs(unittest.TestCase):
             changed = {j for j, length in reached.items() if j not in known or length < known[j]}
             known.update({j: reached[j] for j in changed})
         W = self.session.from_triples([(i, j, length) for (i, j), length in edges.items()], side * side, side * side)
-        graph_properties.extremes(W)
+        cached_properties.extremes(W)
         told = []
         self.assertLess(3 * self.spent(algorithms.sssp, W, 0, None, lambda *now: told.append(now)), 4 * pushed)
         self.assertLess(2 * len(told), 3 * rounds)

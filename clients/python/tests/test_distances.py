@@ -6,7 +6,7 @@ import graphs
 import support
 import spmat
 from spmat import algorithms
-from spmat.algorithms import all_pairs_paths, distance_measures
+from spmat.algorithms import all_pairs_lengths, distance_measures
 
 
 class Distances(support.InSession):
@@ -116,7 +116,7 @@ class Distances(support.InSession):
 
     def test_refused_before_it_begins(self):
         """A ring whose pairs are more than a matrix holds, and a graph of many that fits."""
-        with mock.patch.object(all_pairs_paths, 'MOST_SIDE', 100):
+        with mock.patch.object(all_pairs_lengths, 'MOST_SIDE', 100):
             runs = self.session.runs
             with self.assertRaisesRegex(spmat.TooLarge, '144 pairs.*path_lengths'):
                 algorithms.all_pairs(self.ring(12))

@@ -12,7 +12,7 @@ import support
 import spmat
 from spmat import blocks
 from spmat.io import matrix_text
-from spmat.loops import server_loop
+from spmat.loops import traced_loop
 
 NEXT = spmat.semiring('any', spmat.asm('binary', 'mov64 r0, r1\nadd64 r0, 1\nexit\n'))
 NAME = re.compile('_[0-9]+')                        # of the client, for a matrix
@@ -52,7 +52,7 @@ def by_hand(step, state, most):
     now = dict(state)
     for number in range(1, most + 1):
         try:
-            got = server_loop.of_two(step)(server_loop.State(now), number)
+            got = traced_loop.of_two(step)(traced_loop.State(now), number)
             for matrix in got.values():
                 matrix.wait()
         except spmat.Refused as fault:
@@ -121,7 +121,7 @@ class Rounds(support.InSession):
             self.assertIsNone(fault)
             self.assertEqual(texts(loop.state), texts(now))
             before = by_hand(step, start, rounds - 1)[0]
-            near = step(server_loop.State(before), rounds)['near']
+            near = step(traced_loop.State(before), rounds)['near']
             last = [(int(place), int(value)) for number, place, value in zip(*loop.shown['near']) if number == rounds]
             self.assertEqual(last, [(j, value) for _, j, value in near.to_triples()])
             self.assertEqual(len(loop.shown['least'].values), rounds)
@@ -259,7 +259,7 @@ class Rounds(support.InSession):
         for graph in graphs.UNDIRECTED[3:6]:
             step, state = lengths(self.s, graph)
             told = []
-            got = spmat.fixpoint(state['known'], lambda now: step(server_loop.State(known=now))['known'], progress=lambda *now: told.append(now))
+            got = spmat.fixpoint(state['known'], lambda now: step(traced_loop.State(known=now))['known'], progress=lambda *now: told.append(now))
             want = graphs.shortest(graph.edges, graph.near(), 0)
             self.assertEqual({i: length for (i, _), length in got.to_dict().items() if length < 1 << 39}, want)
             self.assertEqual([number for _, number, _ in told], list(range(1, len(told) + 1)))
@@ -292,7 +292,7 @@ class Refusals(unittest.TestCase):
             step, state = begin(s)
             spent, now = [], dict(state)
             for number in range(1, 12):
-                now = {'known': step(server_loop.State(now))['known'].wait()}
+                now = {'known': step(traced_loop.State(now))['known'].wait()}
                 s.run()
                 spent.append(s.budget().spent)
         tripped, seen = 0, set()

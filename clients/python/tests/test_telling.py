@@ -216,13 +216,13 @@ class Limits(Case):
 
 class Scripts(unittest.TestCase):
     def test_forms_of_commands(self):
-        from spmat.cli import script_command
+        from spmat.cli import session_script_command
         import argparse
         said = io.StringIO()
         options = argparse.Namespace(quiet=True, connect=None, steps=100, workers=1, program=None, keep_going=True,
                                      csv=False, json=False, tls=False, cacert=None, cert=None, key=None)
         with contextlib.redirect_stderr(said), contextlib.redirect_stdout(io.StringIO()):
-            script_command.run_lines(iter(['product P plus G G\n', 'reduce D\n', 'frobnicate\n']), '.', options)
+            session_script_command.run_lines(iter(['product P plus G G\n', 'reduce D\n', 'frobnicate\n']), '.', options)
         self.assertIn('it is written `product OUT ADD MUL A B [mask M]`', said.getvalue())
         self.assertIn('it is written `reduce OUT OP A [mask M]`', said.getvalue())
         self.assertIn('commands are matrix, asm, op', said.getvalue())

@@ -14,12 +14,12 @@ from ..io.matrix_text import Triples
 from ..limits import MOST_OPERATOR, QUEUE
 from ..matrix import Matrix
 from ..operators import Operator, diagnostics
-from ..pricing import estimates
+from ..pricing import upper_bounds
 from .commands import Command
 from .connection import Connection, Turn
 from .deferred_upload import Kept
 from .handles import Handle, Names
-from .job_queue import Job, Most, Queue, most_of
+from .pending_jobs import Job, Most, Queue, most_of
 from .replies import Reply
 
 if TYPE_CHECKING:
@@ -86,7 +86,7 @@ class Backend:
         """The canonical text of a matrix. Runs the queue where it waits."""
         with self.turn():
             self.check_usable(matrix.handle)
-            estimates.check_read()
+            upper_bounds.check_read()
             if matrix.handle.waits:
                 self.queue.run_later()
             try:
@@ -158,7 +158,7 @@ class Backend:
                     raise ValueError('a matrix of another session')
                 if matrix.handle.lost is not None:
                     matrix.handle.check_made()
-            asked = estimates.asked()
+            asked = upper_bounds.asked()
             if asked is not None:
                 return asked.foresee(self.session, form, ops, operands, mask, shape)
             sent = [self._operators.get(op) or self._uploaded(op) for op in ops]
@@ -183,7 +183,7 @@ class Backend:
                 self.sweep()                       # so that a loop of jobs uses the names of what nobody holds again
             return job
         try:
-            with estimates.told():
+            with upper_bounds.told():
                 self.queue.add_now(job, line)
         except BaseException:
             if job.is_wanted:

@@ -4,9 +4,9 @@ from __future__ import annotations
 from typing import Any, Callable, Generic, Iterable, List, NamedTuple, Optional, Tuple
 
 from ..operators import Semiring, asm, binary
-from .all_pairs_paths import lengths_from, reach_of
+from .all_pairs_lengths import lengths_from, reach_of
+from .cached_properties import extremes, is_both_ways, is_transpose, transpose_of
 from .frontier import Tally, read
-from .graph_properties import extremes, is_both_ways, is_transpose, transpose_of
 from .multi_source_bfs import Batch, REACHED, vertices
 from .protocols import M
 from .registry import algorithm

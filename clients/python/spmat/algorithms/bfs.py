@@ -6,8 +6,8 @@ from typing import Any, Generic, List, NamedTuple, Optional, Tuple
 from ..io import matrix_text
 from ..operators import Semiring, asm, binary
 from . import server_side_search
+from .cached_properties import is_both_ways, transpose_of
 from .frontier import Columns, FEW, Fronts, Lines, Rows, Tally, Vector, ones_like
-from .graph_properties import is_both_ways, transpose_of
 from .protocols import M, Numbers
 from .registry import algorithm
 from .utils import Progress, beside, order, places, tell

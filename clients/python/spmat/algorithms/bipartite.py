@@ -6,8 +6,8 @@ from typing import Optional
 from ..matrix import Matrix
 from ..operators import asm
 from .bfs import bfs_levels
+from .cached_properties import transpose_of
 from .components import connected_components
-from .graph_properties import transpose_of
 from .registry import algorithm
 from .utils import Progress, beside, column, nothing, order
 

@@ -10,9 +10,9 @@ from ..io.matrix_text import find_numpy, is_array
 from ..matrix import Matrix
 from ..operators import Semiring, binary
 from .bfs import lines_of
+from .cached_properties import extremes
 from .distance_measures import distance_counts
 from .frontier import Columns, FEW, Lines, Tally, Vector
-from .graph_properties import extremes
 from .protocols import M, Numbers
 from .registry import algorithm
 from .utils import Progress, beside, order, tell

@@ -8,8 +8,8 @@ from ..io import matrix_text
 from ..io.matrix_text import Triples
 from ..operators import Semiring, binary
 from .bfs import lines_of
+from .cached_properties import check_undirected, found, is_both_ways, transpose_of
 from .frontier import Columns, FEW, Lines, Rows, Vector, ones_like
-from .graph_properties import check_undirected, found, is_both_ways, transpose_of
 from .protocols import M, Numbers
 from .random_vector import drawn
 from .registry import BOTH_WAYS, algorithm

@@ -10,8 +10,8 @@ from ..loops import Loop, State, empty
 from ..loops.pipelined_rounds import Round
 from ..operators import Semiring, binary
 from .bfs import Unseen, fronts_of, is_large
+from .cached_properties import check_undirected
 from .frontier import Columns, Tally, Vector, ones_like, zeros_like
-from .graph_properties import check_undirected
 from .protocols import M, Numbers
 from .registry import WITHOUT_LOOPS, algorithm
 from .server_side_search import is_ample

@@ -11,7 +11,7 @@ from ..limits import MOST_SIDE
 from ..matrix import Matrix
 from ..operators import Semiring, asm, binary
 from .bfs import bfs_levels
-from .graph_properties import transpose_of
+from .cached_properties import transpose_of
 from .registry import algorithm
 from .utils import Progress, column, nothing, order, tell
 

@@ -20,8 +20,8 @@ from ..io.matrix_text import Triples
 from ..loops.vector_products import Push
 from ..matrix import Matrix
 from ..operators import Semiring, binary
-from ..pricing.estimates import asked
-from .graph_properties import found
+from ..pricing.upper_bounds import asked
+from .cached_properties import found
 from .protocols import M, Numbers
 
 FEW = 1024                                         # vectors of fewer entries are lists, which are quicker then

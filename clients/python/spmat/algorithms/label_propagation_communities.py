@@ -4,8 +4,8 @@ from __future__ import annotations
 from ..io.coo import whole
 from ..io.matrix_text import Triples, find_numpy
 from ..operators import asm
+from .cached_properties import check_undirected
 from .frontier import Columns, FEW, Vector
-from .graph_properties import check_undirected
 from .protocols import M, Numbers
 from .registry import BOTH_WAYS, algorithm
 from .utils import Progress, beside, order, product, tell

@@ -6,7 +6,7 @@ from fractions import Fraction
 from typing import Any, Dict, Generic, List, NamedTuple, Tuple
 
 from ..io.matrix_text import Triples
-from .graph_properties import check_undirected, extremes, has_loops, is_both_ways
+from .cached_properties import check_undirected, extremes, has_loops, is_both_ways
 from .protocols import M
 from .registry import BOTH_WAYS, algorithm
 from .utils import Progress, beside, order, product, tell

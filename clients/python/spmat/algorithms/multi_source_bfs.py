@@ -7,7 +7,7 @@ from ..errors import TooLarge
 from ..loops import Loop, State, empty
 from ..loops.pipelined_rounds import Round
 from ..operators import Semiring, binary
-from .graph_properties import is_both_ways
+from .cached_properties import is_both_ways
 from .protocols import M
 from .registry import algorithm
 from .server_side_search import ANY_NEXT

@@ -8,8 +8,8 @@ from ..io import matrix_text
 from ..io.matrix_text import Triples
 from ..operators import Semiring, asm, binary
 from .bfs import lines_of
+from .cached_properties import extremes, found, is_both_ways
 from .frontier import Columns, FEW, Lines, Vector
-from .graph_properties import extremes, found, is_both_ways
 from .protocols import GraphMatrix, M, Numbers
 from .registry import algorithm
 from .triangle_counts import degrees

@@ -7,15 +7,15 @@ from __future__ import annotations
 
 from typing import Any, List, NamedTuple, Optional, cast
 
-from .._client.job_queue import AMPLE
+from .._client.pending_jobs import AMPLE
 from ..io import matrix_text
 from ..io.matrix_text import Triples
 from ..loops import Loop, State, empty
 from ..loops.pipelined_rounds import Round
 from ..matrix import Matrix
 from ..operators import Semiring, asm, binary
+from .cached_properties import found, is_both_ways
 from .frontier import Lines, Rows, Tally
-from .graph_properties import found, is_both_ways
 from .protocols import GraphMatrix, Numbers
 from .utils import Progress, tell
 

@@ -9,8 +9,8 @@ from ..io.coo import whole
 from ..io.matrix_text import Triples
 from ..operators import Operator, Semiring, asm, binary
 from .bfs import LEAST, NONE, Search, bfs_levels, lines_of, run_search, search_of
+from .cached_properties import extremes, transpose_of
 from .frontier import Columns, FEW, Lines, Tally, Vector
-from .graph_properties import extremes, transpose_of
 from .protocols import M
 from .registry import algorithm
 from .single_source_paths import sssp

@@ -7,8 +7,8 @@ from ..io import matrix_text
 from ..operators import Semiring, asm, binary
 from . import server_side_search
 from .bfs import fronts_of, joined
+from .cached_properties import extremes
 from .frontier import Lines, Tally, Vector
-from .graph_properties import extremes
 from .protocols import GraphMatrix, M, Numbers
 from .registry import algorithm
 from .utils import Progress, beside, order, tell

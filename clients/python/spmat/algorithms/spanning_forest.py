@@ -6,8 +6,8 @@ from typing import Any, Dict, List, NamedTuple, Tuple
 from ..io import matrix_text
 from ..io.matrix_text import Triples
 from ..operators import asm
+from .cached_properties import check_undirected, extremes, found, is_transpose
 from .frontier import FEW, zeros_like
-from .graph_properties import check_undirected, extremes, found, is_transpose
 from .protocols import GraphMatrix, M, Numbers
 from .registry import BOTH_WAYS, algorithm
 from .utils import Progress, order, product, tell

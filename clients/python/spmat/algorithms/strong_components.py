@@ -7,8 +7,8 @@ from ..io import matrix_text
 from ..io.matrix_text import Triples
 from ..matrix import Matrix
 from .bfs import bfs_levels
+from .cached_properties import found, transpose_of
 from .frontier import FEW, zeros_like
-from .graph_properties import found, transpose_of
 from .protocols import Numbers
 from .random_vector import drawn
 from .registry import algorithm

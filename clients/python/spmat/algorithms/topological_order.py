@@ -9,8 +9,8 @@ from ..loops.pipelined_rounds import Round
 from ..matrix import Matrix
 from ..operators import Semiring, asm, binary
 from .bfs import NONE
+from .cached_properties import extremes
 from .frontier import Tally
-from .graph_properties import extremes
 from .protocols import Numbers
 from .registry import algorithm
 from .single_source_paths import MOST, WRAPS

@@ -7,7 +7,7 @@ from ..errors import TooLarge
 from ..io.coo import whole
 from ..loops import Loop, State, Until
 from ..loops.pipelined_rounds import Round
-from .graph_properties import check_undirected
+from .cached_properties import check_undirected
 from .protocols import M
 from .registry import WITHOUT_LOOPS, algorithm
 from .utils import Progress, order, product, tell

@@ -6,8 +6,8 @@ from typing import Any, Callable, List, Optional
 from ..errors import NotSettled
 from ..io.matrix_text import Triples
 from ..operators import asm
-from ..pricing.estimates import asked
-from .graph_properties import found
+from ..pricing.upper_bounds import asked
+from .cached_properties import found
 from .protocols import GraphMatrix, M, Ring
 from .registry import algorithm
 

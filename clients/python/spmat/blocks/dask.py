@@ -10,8 +10,8 @@ from typing import Any, Callable, Dict, List, Optional, Sequence, cast
 
 from ..errors import Closed, without_frames
 from . import dask_scheduler, worker_tasks
+from .dask_close_worker import leave
 from .dask_direct_calls import Call, Direct
-from .dask_worker_exit import leave
 from .errors import AtBlock
 from .executor import Engine, Progress, Version
 from .worker_store import Settings, close_store, program_stopped, store_of, version_of

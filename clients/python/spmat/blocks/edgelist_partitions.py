@@ -5,10 +5,10 @@ from __future__ import annotations
 from typing import Any, List, NamedTuple, Optional, Sequence, Tuple, Union
 
 from ..errors import ReadError
-from ..io import edgelist_numpy, edgelist_text, matrix_market, matrix_text, pandas, third_party_formats
+from ..io import edgelist_numpy, edgelist_text, graphml_gml_parquet, matrix_market, matrix_text, pandas
+from ..io.edge_values import Rounding
 from ..io.edgelist_header import Layout
 from ..io.factorize import Coded, ascending, factorized
-from ..io.integer_values import Rounding
 from ..io.matrix_text import Triples
 from . import file_ranges
 from .file_ranges import Part, Range
@@ -74,7 +74,7 @@ def read(source: Source, bipartite: bool) -> Optional[EdgePart]:
         edges = pandas.edges_of(frame, source.ends, source.value, None)
     elif source.parquet:
         with open(source.path, 'rb') as file:
-            edges = third_party_formats.table(source.path, file.read(), source.layout)
+            edges = graphml_gml_parquet.table(source.path, file.read(), source.layout)
     else:
         edges = edgelist_text.read(source.path, matrix_market.load(source.path), source.layout)
     return _numbered(edges.sources, edges.targets, edges.values, bipartite, edges.told)

@@ -14,8 +14,8 @@ from ..io.importers import DupOp, Sources
 from ..io.matrix_text import Triples
 from ..metadata import NOTHING
 from ..operators import Operator, find
-from . import chunked_input, duplicate_positions, parallel_edgelist, parallel_read, row_partition, worker_tasks
-from .deferred_vector import HeldVector
+from . import chunked_input, duplicate_errors, parallel_edgelist, parallel_read, row_partition, worker_tasks
+from .deferred_upload import HeldVector
 from .executor import Engine, Progress
 from .matrix import BlockMatrix
 from .row_partition import Cut
@@ -101,7 +101,7 @@ class Inputs(Sources[BlockMatrix]):
             except TextRefused as fault:
                 if fault.rule != 'M8':
                     raise
-                raise duplicate_positions.of_file(source, start, spool, self._cut(spool.nrows, spool, cut), fault).of_file(name_of(source)) from None
+                raise duplicate_errors.of_file(source, start, spool, self._cut(spool.nrows, spool, cut), fault).of_file(name_of(source)) from None
 
     def _read(self, path: Any, request: Request, dup_op: DupOp, name: Optional[str]) -> BlockMatrix:
         """The matrix of a file, or of a folder of lists or parquet, by the workers where they see it."""
@@ -184,7 +184,7 @@ class Inputs(Sources[BlockMatrix]):
             try:
                 return self._spooled(held, None, name)
             except TextRefused as fault:
-                raise (duplicate_positions.of_triples(folded, fault) if fault.rule == 'M8' else fault) from None
+                raise (duplicate_errors.of_triples(folded, fault) if fault.rule == 'M8' else fault) from None
 
     def share(self, piece: Piece) -> Any:
         """A piece that has its text, as tasks of all places take it: by Dask from one worker, which the others get it from."""

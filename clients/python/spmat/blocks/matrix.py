@@ -13,7 +13,7 @@ from ..io import coo
 from ..mask import Mask, as_mask
 from ..matrix import Ring, _of_kind, applied
 from ..operators import Op, Semiring, binary, find_semiring, indexunary
-from . import frontier, html, matrix_products, one_job_each, repartition, row_partition, unsupported, worker_tasks
+from . import composite_methods, frontier, html, matrix_products, repartition, row_partition, unsupported, worker_tasks
 from .row_partition import Cut
 from .shared_budget import Work
 from .worker_store import Counts
@@ -214,7 +214,7 @@ class BlockMatrix(Signs):
         """A method of Matrix at each block. The result has this matrix's rows and cut, and `told` is known of it without a mask."""
         width = self.ncols if ncols is None else ncols
         where = self._mask(mask, (self.nrows, width))
-        if not one_job_each.is_single(method, where) and self.sessions.is_metered:
+        if not composite_methods.is_single(method, where) and self.sessions.is_metered:
             return self._singly(method, others, args, ncols, told, where, name, options)
         there = [self, *(repartition.recut(other, self.cut) for other in others)]
         held = self.masked(where)
@@ -232,11 +232,11 @@ class BlockMatrix(Signs):
         assert where is not None
         if method == 'update':
             inside = others[0] if args[0] is None else self.ewise_add(others[0], args[0])
-            return one_job_each.updated(self, inside, where, options['replace'], name)
+            return composite_methods.updated(self, inside, where, options['replace'], name)
         if method == 'dup':
-            made = one_job_each.copied(self, where, name)
+            made = composite_methods.copied(self, where, name)
         else:
-            made = one_job_each.under(lambda cut, called: self.job(method, others, args, ncols, told=told, mask=cut, name=called), where, name)
+            made = composite_methods.under(lambda cut, called: self.job(method, others, args, ncols, told=told, mask=cut, name=called), where, name)
         made.notes = noted(told, where)
         return made
 

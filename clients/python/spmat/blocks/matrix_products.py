@@ -5,7 +5,7 @@ from typing import TYPE_CHECKING, Any, Iterable, List, NamedTuple, Optional
 
 from ..mask import Mask
 from ..operators import Operator, Semiring
-from . import one_job_each, repartition, worker_tasks
+from . import composite_methods, repartition, worker_tasks
 from .shared_budget import Work
 
 if TYPE_CHECKING:
@@ -24,9 +24,9 @@ def made(a: 'BlockMatrix', b: 'BlockMatrix', way: Way, associative: bool, name: 
     form = by_blocks if associative else with_whole
     if a.sessions.is_metered:
         if way.parts:
-            return one_job_each.in_parts(a, lambda rows: made(rows, b, way._replace(parts=False), associative, name))
-        if way.where is not None and not one_job_each.is_single('mxm', way.where):
-            return one_job_each.under(lambda cut, called: form(a, b, way._replace(where=cut), called), way.where, name)
+            return composite_methods.in_parts(a, lambda rows: made(rows, b, way._replace(parts=False), associative, name))
+        if way.where is not None and not composite_methods.is_single('mxm', way.where):
+            return composite_methods.under(lambda cut, called: form(a, b, way._replace(where=cut), called), way.where, name)
     return form(a, b, way, name)
 
 

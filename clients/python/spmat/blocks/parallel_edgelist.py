@@ -11,8 +11,8 @@ from typing import TYPE_CHECKING, Any, List, NamedTuple, Optional, Sequence, Tup
 from .. import limits
 from ..errors import ReadError, Refused, refusal
 from ..io import edgelist_numpy, edgelist_text, matrix_text
+from ..io.detect_format import check_format
 from ..io.edgelist_matrix import FOLDS
-from ..io.file_formats import check_format
 from ..io.graph_files import Request
 from ..io.importers import DupOp
 from ..metadata import Nodes, Notes
@@ -80,7 +80,7 @@ def _table(path: str, request: Request) -> Optional[edgelist_text.Table]:
 
 
 def _has_dictionaries(head: bytes, request: Request) -> bool:
-    from ..io.third_party_formats import has_dictionaries
+    from ..io.graphml_gml_parquet import has_dictionaries
     return request.layout.columns is None and has_dictionaries(head)
 
 

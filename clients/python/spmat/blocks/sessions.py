@@ -10,13 +10,13 @@ import tempfile
 import weakref
 from typing import Any, Callable, Dict, Iterable, List, Optional, Sequence, Tuple, Union
 
-from .._client.job_queue import Budget, JobResult, Run
+from .._client.pending_jobs import Budget, JobResult, Run
 from .._client.server_program import Program
 from ..errors import BudgetExceeded, SpmatError
 from ..io import coo
 from ..limits import MOST_STEPS, MOST_WORKERS
 from ..operators import Op, Operator, diagnostics, find
-from ..pricing import estimates
+from ..pricing import upper_bounds
 from . import unsupported, worker_tasks
 from .dask_direct_calls import Call
 from .errors import AtBlock, VersionMismatch, in_all, named
@@ -226,7 +226,7 @@ class Sessions(Inputs):
     def _check(self, price: int) -> None:
         """BudgetExceeded where jobs of this price together are above what is left, with what the algorithm wanted that asks for them."""
         try:
-            with estimates.told():
+            with upper_bounds.told():
                 self.ledger.check(price)
         except BudgetExceeded as fault:
             fault.block, fault.spent_in_all = '', self.ledger.budget.spent  # type: ignore[attr-defined]

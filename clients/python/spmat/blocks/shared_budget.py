@@ -11,7 +11,7 @@ import threading
 from typing import Any, Dict, NamedTuple, Sequence, Tuple
 
 from .._client.backend import Backend
-from .._client.job_queue import AMPLE, Budget, most_of
+from .._client.pending_jobs import AMPLE, Budget, most_of
 from ..errors import BudgetExceeded, refusal
 from ..limits import MOST_PRICE
 from ..session import Session

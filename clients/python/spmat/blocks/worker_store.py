@@ -19,12 +19,12 @@ import weakref
 from dataclasses import dataclass, field, replace
 from typing import Any, Dict, Iterator, List, NamedTuple, Optional, Tuple
 
-from .._client.job_queue import Budget
+from .._client.pending_jobs import Budget
 from .._client.server_program import Program, program_words
 from ..errors import Closed
 from ..limits import MOST_STEPS
 from ..matrix import Matrix
-from .dask_worker_exit import leave
+from .dask_close_worker import leave
 from .errors import VersionMismatch
 from .shared_budget import Metered
 

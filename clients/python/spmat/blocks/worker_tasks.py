@@ -10,7 +10,7 @@ from __future__ import annotations
 import bisect
 from typing import Any, Callable, Dict, List, Optional, Sequence, Tuple
 
-from .._client.job_queue import Budget
+from .._client.pending_jobs import Budget
 from ..algorithms.frontier import Vector, read as vector_of, zeros_like
 from ..display import html
 from ..errors import NotMade, TextRefused
@@ -19,7 +19,7 @@ from ..io.matrix_text import Triples
 from ..mask import Mask
 from ..operators import Operator, Semiring, binary, diagnostics
 from . import chunked_input, edgelist_partitions, file_ranges, row_partition
-from .duplicate_positions import first_repeated
+from .duplicate_errors import first_repeated
 from .errors import AtBlock
 from .shared_budget import bound_of, price_of
 from .worker_store import Counts, Piece, Store

@@ -13,7 +13,7 @@ from typing import TYPE_CHECKING, Any, Dict, List, NamedTuple, Optional, Sequenc
 from ..errors import SpmatError
 
 if TYPE_CHECKING:
-    from .._client.job_queue import Budget, JobResult
+    from .._client.pending_jobs import Budget, JobResult
     from ..io.exporters import Held
     from ..mask import Mask
     from ..matrix import Matrix

@@ -10,8 +10,8 @@ from typing import Any, List, NamedTuple, NoReturn, Optional, Tuple
 
 from ..errors import ReadError, refusal
 from ..limits import MOST_SIDE
+from .edge_values import scaled_array, whole_values
 from .edgelist_matrix import Edges
-from .integer_values import scaled_array, whole_values
 from .matrix_market import even_lines
 from .matrix_text import FEW, find_numpy, line_at
 

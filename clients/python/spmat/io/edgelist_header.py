@@ -9,7 +9,7 @@ from typing import List, NamedTuple, Optional, Sequence, Tuple, Union
 
 from ..errors import ReadError
 from . import column_names
-from .integer_values import is_missing
+from .edge_values import is_missing
 
 Column = Union[int, str]
 

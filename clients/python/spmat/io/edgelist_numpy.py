@@ -9,8 +9,8 @@ from __future__ import annotations
 import re
 from typing import Any, Iterator, List, NamedTuple, Optional, Sequence, Tuple, Type
 
+from .edge_values import MISSING, Rounding, is_missing, scaled_array
 from .factorize import Coded, first_seen
-from .integer_values import MISSING, Rounding, is_missing, scaled_array
 
 PIECE = 1 << 20                                    # bytes that are looked at together, so that their tables stay in a cache
 PAD = 32                                           # bytes before and behind, so that words may begin and end outside

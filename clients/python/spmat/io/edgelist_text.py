@@ -12,9 +12,9 @@ from typing import Any, Iterator, List, NamedTuple, Optional, Tuple
 
 from ..errors import ReadError
 from . import edgelist_numpy
+from .edge_values import Rounding, Wrong, is_missing, whole_values
 from .edgelist_header import Head, Layout, chosen, is_number
 from .edgelist_matrix import Edges
-from .integer_values import Rounding, Wrong, is_missing, whole_values
 from .matrix_text import FEW, find_numpy, line_at
 
 # What may part the fields. (Where commas are those of decimals, semicolons are in every line.)

@@ -6,11 +6,11 @@ from typing import Any, Dict, Generic, Iterable, Optional, Sequence, TypeVar
 
 from ..operators import Op
 from . import archive, coo, matrix_market, networkx_adjacency, pandas
+from .detect_format import check_format, from_edges
+from .edge_values import Rounding, scaled
 from .edgelist_header import Column
 from .exporters import Held
-from .file_formats import check_format, from_edges
 from .graph_files import Graph, How, Layout, Request, name_of, read
-from .integer_values import Rounding, scaled
 from .matrix_text import Triples
 
 Made = TypeVar('Made', bound=Held)

@@ -14,7 +14,7 @@ from ..limits import MOST_SIDE
 from ..metadata import Notes
 from . import compression
 from .coo import LEAST
-from .integer_values import NOT_WHOLE, check_scale, scaled_array, whole_of
+from .edge_values import NOT_WHOLE, check_scale, scaled_array, whole_of
 from .matrix_text import FEW, Triples, find_numpy, is_array, line_at
 
 FIELDS = {'integer': 'integer', 'unsigned-integer': 'integer', 'pattern': 'pattern', 'real': 'real', 'double': 'real',

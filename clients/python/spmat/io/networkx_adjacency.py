@@ -9,7 +9,7 @@ from ..errors import refusal
 from ..limits import MOST_SIDE
 from ..metadata import Nodes, Notes
 from .coo import LEAST, MOST, checked, whole
-from .integer_values import Rounding, check_scale, scaled_one
+from .edge_values import Rounding, check_scale, scaled_one
 from .matrix_text import FEW, Triples, find_numpy
 
 Neighbours = Dict[Any, Any]

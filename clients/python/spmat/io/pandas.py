@@ -4,9 +4,9 @@ from __future__ import annotations
 from typing import Any, Optional, Sequence, Tuple
 
 from .coo import whole
+from .edge_values import Rounding, check_scale, scaled_array, scaled_one
 from .edgelist_matrix import Edges, graph_of
 from .factorize import Coded
-from .integer_values import Rounding, check_scale, scaled_array, scaled_one
 
 __all__ = ['edges_of', 'graph_of']
 

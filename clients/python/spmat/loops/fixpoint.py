@@ -6,7 +6,7 @@ from typing import Any, Callable, Optional, TypeVar
 from ..algorithms.protocols import GraphMatrix
 from ..algorithms.utils import Progress, tell
 from ..errors import NotSettled
-from ..pricing.estimates import asked
+from ..pricing.upper_bounds import asked
 from . import Loop, NotAlike, NotTraced, State, Until
 
 M = TypeVar('M', bound=GraphMatrix)

@@ -10,7 +10,7 @@ from typing import TYPE_CHECKING, Deque, Dict, FrozenSet, List, NamedTuple, Opti
 
 from .._client.commands import CommandBatch
 from .._client.handles import Handle
-from .._client.job_queue import AMPLE
+from .._client.pending_jobs import AMPLE
 from ..limits import MOST_PRICE, MOST_SIDE
 from ..matrix import Matrix
 from .command_templates import Counted, Pending, Renderer, StateNames, Template, run_of

@@ -9,7 +9,7 @@ import inspect
 from typing import TYPE_CHECKING, Any, Callable, Dict, List, Mapping, NamedTuple, NoReturn, Optional, Sequence, Tuple, Union, cast
 
 from .._client.handles import Handle
-from .._client.job_queue import Most, most_of
+from .._client.pending_jobs import Most, most_of
 from ..limits import MOST_SIDE
 from ..matrix import Matrix
 from ..metadata import Notes

@@ -12,7 +12,7 @@ import fractions
 import math
 from typing import Any, Iterable, List, NamedTuple, Optional
 
-from ..io.integer_values import Rounding, check_scale, scaled_one
+from ..io.edge_values import Rounding, check_scale, scaled_one
 
 MOST_DIGITS = 9                                    # behind the point
 MOST_BITS = 40

@@ -1,6 +1,6 @@
 """Operators from C: clang compiles a function for BPF, and its code is cut out of the object file.
 
-clang 14 or above is wanted. From 18 on its `-mcpu=v4` has signed division; before that `clang_lowering` makes it of what `-mcpu=v3` has. What an
+clang 14 or above is wanted. From 18 on its `-mcpu=v4` has signed division; before that `clang_compat` makes it of what `-mcpu=v3` has. What an
 operator can't be is refused here, in words, before a server sees it: see `c`.
 """
 from __future__ import annotations
@@ -15,7 +15,7 @@ from dataclasses import dataclass, field
 from typing import List, NamedTuple, Optional, Tuple
 
 from ..errors import CompileError as CompileError  # pylint: disable=useless-import-alias
-from . import Operator, clang_lowering
+from . import Operator, clang_compat
 from .elf import Function, Malformed, ObjectFile, Types, lines
 
 OLDEST, NEWEST = 14, 29
@@ -88,7 +88,7 @@ def compiled(source: str, compiler: Compiler) -> bytes:
     with tempfile.TemporaryDirectory(prefix='spmat-c-') as folder:
         written = os.path.join(folder, 'operator.c')
         with open(written, 'w', encoding='utf-8') as file:
-            file.write((PREFACE if compiler.version >= SIGNED else PREFACE + clang_lowering.HELPERS) + '#line 1 "operator.c"\n' + source + '\n')
+            file.write((PREFACE if compiler.version >= SIGNED else PREFACE + clang_compat.HELPERS) + '#line 1 "operator.c"\n' + source + '\n')
         if compiler.version >= SIGNED:
             made = _run(compiler, ['-mcpu=v4', '-c', written], folder, 'operator.o')
         else:
@@ -114,17 +114,17 @@ def _without_signs(compiler: Compiler, source: str, folder: str) -> str:
         path = _run(compiler, ['-mcpu=v3', '-S', '-emit-llvm', path], folder, 'operator.%d.ll' % turn)
         with open(path, encoding='utf-8') as file:
             text = file.read()
-        if not clang_lowering.wanted(text):
+        if not clang_compat.wanted(text):
             break
         with open(path, 'w', encoding='utf-8') as file:
-            file.write(clang_lowering.lowered(text))
+            file.write(clang_compat.lowered(text))
     try:
-        clang_lowering.check(text)
-    except clang_lowering.Unmade as left:
+        clang_compat.check(text)
+    except clang_compat.Unmade as left:
         raise CompileError('clang %d has no code for %s%s: write it otherwise, or take clang %d or above. %s' % (
             compiler.version, left.what, ' (line %d)' % left.line if left.line else '', SIGNED, GET)) from None
     with open(path, 'w', encoding='utf-8') as file:
-        file.write(clang_lowering.finished(text))
+        file.write(clang_compat.finished(text))
     return _run(compiler, ['-mcpu=v3', '-Xclang', '-disable-llvm-passes', '-c', path], folder, 'operator.o')
 
 

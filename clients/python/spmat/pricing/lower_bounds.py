@@ -1,6 +1,6 @@
 """What a call is charged for certain, before it does any work: a budget that is too small for that refuses it at once.
 
-`estimates` tells the most that a call can take, of which much may come back. This tells the least, and never too much: entries are counted as far as
+`upper_bounds` tells the most that a call can take, of which much may come back. This tells the least, and never too much: entries are counted as far as
 the client knows them, an operator takes its shortest way, and what only a result would tell ends the count.
 """
 from __future__ import annotations
@@ -8,12 +8,12 @@ from __future__ import annotations
 import functools
 from typing import TYPE_CHECKING, Any, Callable, Dict, List, NamedTuple, Optional, Sequence, Tuple, TypeVar, cast
 
-from .._client.job_queue import most_of
+from .._client.pending_jobs import most_of
 from ..errors import BudgetExceeded
 from ..limits import MOST_PRICE, MOST_SIDE
 from ..matrix import Matrix
 from ..operators import Operator, dataflow, indexunary
-from .estimates import Asked, Stand, Unforeseen, asked, asking, counted, stand
+from .upper_bounds import Asked, Stand, Unforeseen, asked, asking, counted, stand
 
 if TYPE_CHECKING:
     from ..session import Session

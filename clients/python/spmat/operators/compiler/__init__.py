@@ -2,7 +2,7 @@
 
 A function is called with words that are no numbers yet (`symbolic_words`). Each operation makes a shared expression (`expressions`, `simplifier`),
 and each truth of a condition forks the run (`path_exploration`), with what is known by then answered (`value_ranges`). What two ways have in common is
-merged (`branch_merging`). The expression's decision graph becomes blocks and forward jumps (`basic_blocks`, `codegen`), on registers and then the
+merged (`branch_merging`). The expression's decision graph becomes blocks and forward jumps (`block_placement`, `codegen`), on registers and then the
 stack (`register_allocation`), and assembly text (`peephole`). Before its first use the code is called beside the function (`sample_check`).
 
 No source is needed, so a function may come from a file, a notebook, `python3 -c` or the prompt, and what it calls may be any Python.
@@ -20,8 +20,8 @@ from .. import Operator, READY
 from .cache import code_of
 from .compile_function import NAMES, name_of, positional
 from .emulator import Machine
-from .instructions import Instruction
 from .symbolic_operands import Operand, whole
+from .three_address_code import Instruction
 
 UNASKED = ('any', 'oneb', 'iseq', 'isne')          # ready operators that are others by a second name
 

@@ -3,9 +3,9 @@ from __future__ import annotations
 
 from typing import Dict, List, Optional
 
-from .basic_blocks import Block, Layout, fits, is_changed, tested
+from .block_placement import Block, Layout, fits, is_changed, tested
 from .expressions import COMMUTE, Node, based
-from .instructions import FIXED, Instruction, Reg, ins, moved
+from .three_address_code import FIXED, Instruction, Reg, ins, moved
 
 # Of each condition the jumps where it doesn't hold and where it does, and the same with both words turned.
 JUMPS = {'slt': ('jsge64', 'jslt64', 'jsle64', 'jsgt64'), 'ult': ('jge64', 'jlt64', 'jle64', 'jgt64'), 'eq': ('jne64', 'jeq64') * 2}

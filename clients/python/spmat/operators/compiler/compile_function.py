@@ -11,13 +11,13 @@ from . import arithmetic_lowering  # noqa: F401  # pylint: disable=unused-import
 from .codegen import Emission
 from .emulator import Machine
 from .expressions import Node, below
-from .instructions import Instruction
+from .packed_lookup import other_forms
 from .path_exploration import Impure, Path, explored, told
 from .peephole import resolved, text_of, tidied
 from .register_allocation import allocated
 from .sample_check import check as compare
-from .switch_tables import other_forms
 from .symbolic_words import Word, node_of
+from .three_address_code import Instruction
 
 NAMES = {'unary': ('x',), 'binary': ('x', 'y'), 'index': ('x', 'row', 'column', 'thunk')}
 KINDS = {'unary': 'a unary operator is a function of x', 'binary': 'a binary operator is a function of x, y',

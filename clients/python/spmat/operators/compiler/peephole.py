@@ -3,7 +3,7 @@ from __future__ import annotations
 
 from typing import Dict, List, Optional
 
-from .instructions import Instruction, Reg, ins, is_jump, is_move, reads, writes
+from .three_address_code import Instruction, Reg, ins, is_jump, is_move, reads, writes
 
 MOST_SHIFT = 30                                    # by which a shift is a product with a number that stands in an instruction
 

@@ -10,7 +10,7 @@ from typing import Dict, List, NamedTuple, Set
 
 from ...errors import CompileError
 from .expressions import COMMUTE
-from .instructions import FIXED, Instruction, Operand, Reg, ins, is_apart, is_move, moved, needed_later, reads, writes
+from .three_address_code import FIXED, Instruction, Operand, Reg, ins, is_apart, is_move, moved, needed_later, reads, writes
 
 REGISTERS, PLACES = 10, 64
 FULL = 'more values are needed at a time than the registers and 512 bytes of stack hold'

@@ -8,7 +8,7 @@ from ..errors import refusal
 from ..limits import MOST_SIDE
 from ..matrix import Matrix
 from ..operators import Operator, Semiring, asm, binary
-from .graph_properties import extremes
+from .cached_properties import extremes
 from .protocols import M
 from .registry import algorithm
 from .single_source_paths import CYCLE

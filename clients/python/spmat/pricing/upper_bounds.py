@@ -7,7 +7,7 @@ import threading
 from typing import TYPE_CHECKING, Any, Callable, Dict, Iterator, List, NamedTuple, NoReturn, Optional, Sequence, Tuple
 
 from .._client.handles import Handle
-from .._client.job_queue import most_of
+from .._client.pending_jobs import most_of
 from ..errors import BudgetExceeded
 from ..matrix import Matrix
 from ..operators import Operator

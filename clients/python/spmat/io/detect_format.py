@@ -5,10 +5,10 @@ from typing import Any, Callable, Iterable, NamedTuple, Optional, Sequence, Tupl
 
 from ..errors import ReadError
 from ..metadata import Nodes
-from . import dimacs, edgelist_text, file_signatures, third_party_formats
+from . import dimacs, edgelist_text, graphml_gml_parquet, unsupported_files
+from .edge_values import scaled
 from .edgelist_header import Layout
 from .edgelist_matrix import Edges, Graph, How, graph_of
-from .integer_values import scaled
 from .matrix_text import line_at
 
 FORMATS = ('mtx', 'edges', 'csv', 'tsv', 'dimacs', 'graphml', 'gexf', 'gml', 'parquet')
@@ -35,7 +35,7 @@ def format_of(text: bytes) -> str:
         return 'mtx'
     if text[:4] == b'PAR1':
         return 'parquet'
-    return file_signatures.by_networkx(text) or ('dimacs' if dimacs.is_dimacs(text) else 'edges')
+    return unsupported_files.by_networkx(text) or ('dimacs' if dimacs.is_dimacs(text) else 'edges')
 
 
 def check_format(file: str, text: bytes, format: Optional[str]) -> str:
@@ -48,9 +48,9 @@ def check_format(file: str, text: bytes, format: Optional[str]) -> str:
         raise not_market(file, text)
     if format not in (None, 'mtx') and found == 'mtx':
         raise ReadError(file, 1, 'this is a Matrix Market file, and %s was asked for' % format, line_at(text, 1))
-    if format in third_party_formats.BY_NETWORKX + ('parquet',) and found != format:
+    if format in graphml_gml_parquet.BY_NETWORKX + ('parquet',) and found != format:
         raise ReadError(file, 1, 'this is no file of the format %s' % format, line_at(text, 1))
-    other = file_signatures.other_kind(text) if found == 'edges' else None
+    other = unsupported_files.other_kind(text) if found == 'edges' else None
     if other is not None:
         raise ReadError(file, None, other)
     return found if format is None else format
@@ -80,23 +80,23 @@ def _edges_of(file: str, text: bytes, request: Request, folds: bool) -> Tuple[Ed
     """The edges of a file, and what becomes of them."""
     format, layout = check_format(file, text, request.format), request.layout
     how = How(request.directed is not False, request.nodelist, request.bipartite, folds)
-    if format in third_party_formats.BY_NETWORKX or format == 'dimacs':
+    if format in graphml_gml_parquet.BY_NETWORKX or format == 'dimacs':
         if how.bipartite:
             raise ValueError('%s has one kind of vertices: bipartite=True is for lists' % format)
         edges, nodes, directed = _of_networkx(file, text, format, layout) if format != 'dimacs' else _of_dimacs(file, text, layout)
         return edges, how._replace(directed=directed if request.directed is None else request.directed,
                                    nodelist=nodes if how.nodelist is None else how.nodelist)
     if format == 'parquet':
-        return third_party_formats.table(file, text, layout), how
-    if layout.columns is None and third_party_formats.has_dictionaries(text):
-        return third_party_formats.with_dictionaries(file, text, layout), how
+        return graphml_gml_parquet.table(file, text, layout), how
+    if layout.columns is None and graphml_gml_parquet.has_dictionaries(text):
+        return graphml_gml_parquet.with_dictionaries(file, text, layout), how
     delimiter = layout.delimiter if layout.delimiter is not None else PARTED.get(format)
     return edgelist_text.read(file, text, layout._replace(delimiter=delimiter)), how
 
 
 def _of_networkx(file: str, text: bytes, format: str, layout: Layout) -> Tuple[Edges, Sequence[Any], bool]:
     """The edges of a file that networkx reads, its vertices, and whether edges lead one way."""
-    drawn = third_party_formats.graph(file, text, format, layout)
+    drawn = graphml_gml_parquet.graph(file, text, format, layout)
     return drawn.edges, drawn.nodes, drawn.directed
 
 

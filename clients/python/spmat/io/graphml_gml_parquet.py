@@ -9,9 +9,9 @@ from typing import Any, List, NamedTuple, Optional, Tuple
 
 from ..errors import ReadError
 from . import pandas
+from .edge_values import Rounding, scaled
 from .edgelist_header import Head, Layout, chosen
 from .edgelist_matrix import Edges
-from .integer_values import Rounding, scaled
 from .matrix_text import line_at
 
 BY_NETWORKX = ('graphml', 'gexf', 'gml')

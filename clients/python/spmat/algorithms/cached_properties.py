@@ -5,7 +5,7 @@ import random
 from typing import Any, Callable, Optional, Tuple
 
 from ..operators import asm
-from ..pricing import estimates
+from ..pricing import upper_bounds
 from .protocols import GraphMatrix, M
 
 # Of an entry (i, j) a number that is that of (j, i) with the other sign. The thunk is an odd number drawn at random. The entries of a
@@ -44,7 +44,7 @@ UNDIRECTED = 'algorithms.undirected(G) is the graph without directions, weights 
 def found(graph: GraphMatrix, name: str, find: Callable[[], Any]) -> Any:
     """A fact of a graph: as it was found before, or as it is found now."""
     if name not in graph.kept:
-        asked = estimates.asked()
+        asked = upper_bounds.asked()
         if asked is not None:
             return asked.fact(graph, name, find)
         graph.kept[name] = find()
@@ -80,7 +80,7 @@ def check_undirected(graph: GraphMatrix, check: bool, loops: bool = False) -> No
     """A ValueError where an edge leads one way alone, or, unless they are allowed, from a vertex to itself."""
     if not check:
         return
-    with estimates.granted({'both ways': True, 'loops': False}):
+    with upper_bounds.granted({'both ways': True, 'loops': False}):
         if not is_both_ways(graph):
             raise ValueError('expected an undirected graph, but an edge leads one way alone: ' + UNDIRECTED)
         if not loops and has_loops(graph):

@@ -14,7 +14,7 @@ from typing import TYPE_CHECKING, Any, Callable, Dict, List, Mapping, NamedTuple
 
 from ..errors import NotSettled, Refused
 from ..io.coo import whole
-from ..pricing.estimates import Unforeseen, asked
+from ..pricing.upper_bounds import Unforeseen, asked
 from .pipelined_rounds import Counts, Round, Trips
 from .round_results import Body, Shown
 from .tracing import Made, State, TracedMatrix, of_two, results, trace
