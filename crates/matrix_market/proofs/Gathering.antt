@@ -1,12 +1,13 @@
 -- Entry lines in a list, and what a text with them has.
-use Rattle.std.proofs.Common.{◌≡◌, ◌≤◌, ◌<◌, ◌+◌, ◌-◌, ◌^◌, ◌%◌, ℕ, zero, suc, List, [], ◌∷◌, ◌++◌, Bool, true, false, ◌||◌, Ok, nat_lt, is_some, length, drop, refl, sym, ap, ◌∙◌, subst, arith, append_assoc, append-nil}
-use Rattle.std.proofs.lemmas.Bool.{le-ltb}
+use Rattle.std.proofs.Common.{◌≡◌, ◌≤◌, ◌<◌, ◌+◌, ◌-◌, ◌^◌, ◌%◌, ℕ, zero, suc, List, [], ◌∷◌, ◌++◌, Bool, true, false, not, cond, ◌||◌, ◌*◌, Option, None, Some, Ok, Err, nat_lt, nat_eq, is_some, length, drop, refl, sym, ap, ◌∙◌, subst, arith, append_assoc, append-nil, length-append}
+use Rattle.std.specs.Prelude.{nat_le}
+use Rattle.std.proofs.lemmas.Bool.{le-ltb, lt-ltb}
 use Rattle.std.proofs.lemmas.Bool.Decides.{nat_tests}
 use Rattle.std.specs.Str.Lines.{lines}
 use Rattle.std.specs.FinMap as fin
-use Rattle.csr_store.specs.Grid.{Grid, Position, Entry, pos_cmp}
+use Rattle.csr_store.specs.Grid.{Grid, Position, Entry, pos_cmp, limit}
 use Rattle.csr_store.specs.ByRows.{grid}
-use Rattle.csr_store.specs.Listed.{Listed, NoneTwice}
+use Rattle.csr_store.specs.Listed.{Listed, NoneTwice, push_fault}
 use Rattle.csr_store.proofs.Listing.{once_front, once_others, absent_others, map_with_entry}
 use Rattle.matrix_market.specs.declared.kinds.Banner.{Banner}
 use Rattle.matrix_market.specs.declared.kinds.Size.{Size}
@@ -15,11 +16,12 @@ use Rattle.matrix_market.specs.declared.kinds.Found.{Found}
 use Rattle.matrix_market.specs.declared.place.Place.{Place}
 use Rattle.matrix_market.specs.declared.usual.UsualLine.{UsualLine}
 use Rattle.text_words.specs.Words.{words}
-use Rattle.matrix_market.specs.Market.{Value, is_skipped, entry_words, outside, is_word, word_of}
+use Rattle.matrix_market.specs.declared.rule.MarketRule.TheVariants.{IndexOutsideMatrix, ValueOutOfRange}
+use Rattle.matrix_market.specs.Market.{Value, WrittenEntry, is_skipped, entry_words, outside, is_word, word_of}
 use Rattle.matrix_market.specs.inner.Answers.{Passes, entry_answer, entry_checked, spots, put_all, some_given}
 use Rattle.matrix_market.specs.inner.Filling.{At, Filled}
 use Rattle.matrix_market.specs.inner.Usual.{IsEntryLine}
-use Rattle.matrix_market.specs.inner.Gathering.{Adds, Begun, Run, Taken, Takes, nothing, with_word}
+use Rattle.matrix_market.specs.inner.Gathering.{Adds, Begun, HasRoom, Run, Taken, Takes, nothing, width, with_word}
 use Rattle.matrix_market.proofs.Puts.{none_before}
 use Rattle.matrix_market.proofs.Reading.{entry_read}
 
@@ -228,3 +230,80 @@ adds_filled text h start l end last given begun few a once =
     let there = filled_same text h.banner h.size end end (start.at + a.many) last (0 + given) given a.entries l.entries whole refl (omega arith) (omega arith) (sym a.entries_are) in
     subst (λ (i : ℕ). Filled text h.banner h.size (grid i l.columns l.entries) end last given) (sym a.rows_same)
     (subst (λ (i : ℕ). Filled text h.banner h.size (grid h.size.rows i l.entries) end last given) (sym a.columns_same) there)
+
+-- ---- room for entries
+
+not_full : (n : ℕ) → n < 16777216 → nat_le 16777216 n ≡ false
+not_full n l = grind (arith, nat_tests)
+
+pub no_fault : (l : Listed) (p : Position) → p.0 < l.rows → p.1 < l.columns → length l.entries < limit → push_fault l p ≡ None
+no_fault l p r c n = rw (lt-ltb p.0 l.rows r, lt-ltb p.1 l.columns c, not_full (length l.entries) n) refl
+
+pub width_some : (symmetric : Bool) → 1 ≤ width symmetric * 1
+width_some true = omega arith
+width_some false = omega arith
+
+pub width_two : (symmetric : Bool) → symmetric ≡ true → width symmetric * 1 ≡ 2
+width_two true e = refl
+width_two false e = absurd (cc)
+
+few_spots : (symmetric : Bool) (f : Found) (w : ℕ) → length (with_word (spots symmetric f) w) ≤ width symmetric
+few_spots true f w = elim (nat_eq f.row f.column) as (λ t. length (with_word (cond (not t) ((f.row, f.column) ∷ (f.column, f.row) ∷ []) ((f.row, f.column) ∷ [])) w) ≤ 2) [
+  | true ↦ omega arith
+  | false ↦ omega arith
+]
+few_spots false f w = omega arith
+
+run_few : (b : Banner) (s : Size) (given : ℕ) (rest : List ℕ) (many : ℕ) (es : List Entry) (end : List ℕ) → Run b s given rest many es end → length es ≤ width b.symmetric * given
+run_few b s zero rest many es end r = let e = ap length r.2 in omega (arith, e)
+run_few b s (suc given) rest many es end r =
+    let x = r.0 in
+    let own = with_word (spots b.symmetric x.found) x.found.word in
+    let e : length es ≡ length own + length x.entries = ap length x.entries_are ∙ length-append own x.entries in
+    let o = few_spots b.symmetric x.found x.found.word in
+    let t = run_few b s given x.more r.1 x.entries end r.3 in
+    let m : width b.symmetric * suc given ≡ width b.symmetric + width b.symmetric * given = omega arith in
+    omega (arith, e, o, t, m)
+
+-- behind so many lines there is room for those that are left
+pub room_behind : (h : Header) (old new : Listed) (rest end : List ℕ) (at given last most more : ℕ) → HasRoom h old most → Adds h old new rest at given end last → given + more ≤ most → HasRoom h new more
+room_behind h old new rest end at given last most more r a l =
+    let e : length new.entries ≡ length old.entries + length a.entries = ap length a.entries_are ∙ length-append old.entries a.entries in
+    let t = run_few h.banner h.size given rest a.many a.entries end a.run in
+    record {
+      rows_same = a.rows_same ∙ r.rows_same;
+      columns_same = a.columns_same ∙ r.columns_same;
+      room = wide h.banner.symmetric (length old.entries) (length a.entries) (length new.entries) e t r.room;
+    }
+  where
+    wide : (symmetric : Bool) (m n k : ℕ) → k ≡ m + n → n ≤ width symmetric * given → m + width symmetric * most ≤ limit → k + width symmetric * more ≤ limit
+    wide true m n k e t r = omega (arith, e, t, r, l)
+    wide false m n k e t r = omega (arith, e, t, r, l)
+
+-- a list without an entry has room for all lines of a text
+pub room_at_first : (h : Header) (l : Listed) → l ≡ nothing h → HasRoom h l h.size.entries
+room_at_first h l e = rw e (record { rows_same = refl; columns_same = refl; room = all h.banner.symmetric h.entries_small h.halved })
+  where
+    all : (symmetric : Bool) → h.size.entries ≤ 16777216 → (symmetric ≡ true → h.size.entries ≤ 8388608) → 0 + width symmetric * h.size.entries ≤ limit
+    all true a b = let c = b refl in omega (arith, c)
+    all false a b = omega (arith, a)
+
+-- what an entry line says is inside the sizes
+outside_not : (i n : ℕ) → outside i n ≡ false → i - 1 < n
+outside_not i n h = grind (arith, nat_tests)
+
+entry_passes : (t u : Bool) (f g : Found) → Ok f ≡ cond t (Err IndexOutsideMatrix) (cond u (Err ValueOutOfRange) (Ok g)) → (t ≡ false) × (f ≡ g)
+entry_passes true u f g h = absurd (cc)
+entry_passes false true f g h = absurd (cc)
+entry_passes false false f g h = (refl, cc)
+
+either_of : (a b : Bool) → (a || b) ≡ false → (a ≡ false) × (b ≡ false)
+either_of true b e = absurd (cc)
+either_of false b e = (refl, e)
+
+pub found_inside : (s : Size) (o : Option WrittenEntry) (f : Found) → Ok f ≡ entry_answer s o → (f.row < s.rows) × (f.column < s.columns)
+found_inside s None f h = absurd (cc)
+found_inside s (Some e) f h =
+    let p = entry_passes (outside e.row s.rows || outside e.column s.columns) (not (is_word e.value)) f (record { row = e.row - 1; column = e.column - 1; word = word_of e.value }) h in
+    let q = either_of (outside e.row s.rows) (outside e.column s.columns) p.0 in
+    rw p.1 (outside_not e.row s.rows q.0, outside_not e.column s.columns q.1)

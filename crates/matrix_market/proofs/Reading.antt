@@ -1,6 +1,7 @@
 -- What the next line of a text does to what was read.
-use Rattle.std.proofs.Common.{◌≡◌, ◌≤◌, ◌<◌, ◌+◌, ℕ, List, [], ◌∷◌, ◌++◌, Bool, true, false, nat_lt, ◌||◌, ◌&&◌, cond, Option, Some, None, Ok, Err, length, refl, sym, ap, ◌∙◌, arith, append_assoc, append-nil, length-append}
+use Rattle.std.proofs.Common.{◌≡◌, ◌≤◌, ◌<◌, ◌+◌, ℕ, List, [], ◌∷◌, ◌++◌, Bool, true, false, not, nat_lt, ◌==◌, ◌||◌, ◌&&◌, cond, Option, Some, None, Ok, Err, length, refl, sym, ap, ◌∙◌, arith, append_assoc, append-nil, length-append}
 use Rattle.std.proofs.lemmas.Bool.{lt-ltb, le-ltb, ltb-false}
+use Rattle.std.proofs.lemmas.Bool.Decides.{nat_tests}
 use Rattle.std.specs.List.{flat_map}
 use Rattle.std.specs.Str.Lines.{lines}
 use Rattle.std.specs.FinMap as fin
@@ -88,6 +89,7 @@ record Taken (symmetric : Bool) (o : Option Size) (s : Size) : Type 0 where
   is : o ≡ Some s
   clean : size_rules symmetric o ≡ []
   small : (is_large s.rows || is_large s.columns || is_large s.entries || (symmetric && nat_lt 8388608 s.entries)) ≡ false
+  square : (symmetric && not (s.rows == s.columns)) ≡ false
 
 size_taken : (symmetric : Bool) (o : Option Size) (s : Size) → Ok s ≡ size_answer symmetric o → Taken symmetric o s
 size_taken symmetric None s h = absurd (cc)
@@ -97,11 +99,31 @@ size_taken symmetric (Some z) s h =
       is = ap Some (sym p.2);
       clean = rw (p.0, p.1) refl;
       small = rw p.2 p.0;
+      square = rw p.2 p.1;
     }
 
 either_false : (a b : Bool) → (a || b) ≡ false → (a ≡ false) × (b ≡ false)
 either_false true b e = absurd (cc)
 either_false false b e = (refl, e)
+
+second_false : (a b : Bool) → a ≡ true → (a && b) ≡ false → b ≡ false
+second_false true b e h = h
+second_false false b e h = absurd (cc)
+
+same_sides : (r c : ℕ) → not (r == c) ≡ false → r ≡ c
+same_sides r c h = grind (arith, nat_tests)
+
+-- what a size line says of a symmetric matrix
+pub size_halved : (b : Banner) (s : Size) (line : List ℕ) → Ok s ≡ size_answer b.symmetric (size_words (words line)) → b.symmetric ≡ true → s.entries ≤ 8388608
+size_halved b s line a e =
+    let t = size_taken b.symmetric (size_words (words line)) s a in
+    let p = either_false (is_large s.rows || is_large s.columns || is_large s.entries) (b.symmetric && nat_lt 8388608 s.entries) t.small in
+    ltb-false _ _ (second_false b.symmetric (nat_lt 8388608 s.entries) e p.1)
+
+pub size_square : (b : Banner) (s : Size) (line : List ℕ) → Ok s ≡ size_answer b.symmetric (size_words (words line)) → b.symmetric ≡ true → s.rows ≡ s.columns
+size_square b s line a e =
+    let t = size_taken b.symmetric (size_words (words line)) s a in
+    same_sides s.rows s.columns (second_false b.symmetric (not (s.rows == s.columns)) e t.square)
 
 pub size_read : (text rest : List ℕ) (b : Banner) (s : Size) (line : List ℕ) (n m : ℕ) → At (lines text) b [] (line ∷ lines rest) n → m ≡ n + 1 → is_skipped line ≡ false → nat_lt 1024 (length line) ≡ false
     → Ok s ≡ size_answer b.symmetric (size_words (words line)) → Filled text b s (record { rows = s.rows; columns = s.columns; cells = fin.empty }) rest m 0

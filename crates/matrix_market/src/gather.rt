@@ -1,13 +1,14 @@
 //! Entries gathered in any order, up to the first line that breaks a rule, where a position that is given again breaks none.
-ghost use Rattle.std.specs.Prelude.{◌≡◌, ◌≤◌, ◌+◌, [], length, drop, IfErr, IfOk, OnErr, OnOk};
-ghost use Rattle.matrix_market.specs.inner.Gathering.{Adds, IsEnd, IsFaultAt, IsRead, Takes, Tells};
+ghost use Rattle.std.specs.Prelude.{◌≡◌, ◌<◌, ◌≤◌, ◌+◌, ◌++◌, ◌∷◌, [], None, length, drop, IfErr, IfOk, OnErr, OnOk};
+ghost use Rattle.csr_store.specs.Listed.{push_fault};
+ghost use Rattle.matrix_market.specs.inner.Gathering.{Adds, HasRoom, IsEnd, IsFaultAt, IsRead, Takes, Tells};
 
 use crate::kinds::{Found, Header, read_entry};
 use crate::lines::{Next, next_content};
 use crate::place::Place;
 use crate::rule::{MarketError, MarketRule};
 use crate::usual::{behind_feeds, entry_line, feed_before};
-use csr_store::EntryList;
+use csr_store::{EntryList, StoreError};
 use std::alloc::{AllocError, Global};
 
 /// The entries of a text in their order, and its first fault, where a position that is given again is none.
@@ -96,6 +97,7 @@ fn gather_run(
     behind: usize,
     most: u64,
 ) -> Result<Run, AllocError>
+    requires { HasRoom header list.old most }
     ensures added { IfOk result (λ r. Adds header list.old list.new rest.now 0 r.given (drop r.next rest.now) r.given) }
     ensures few { IfOk result (λ r. r.given ≤ most) }
     ensures within { IfOk result (λ r. (r.given ≤ r.next) × (r.next ≤ length rest.now)) }
@@ -117,7 +119,7 @@ fn gather_run(
         if found.row >= header.size.rows || found.column >= header.size.columns {
             return Ok(Run { given, next });
         }
-        push_entry(list, header.banner.symmetric, found)?;
+        push_entry(list, header, found)?;
         given += 1;
         next = line.next;
     }
@@ -131,6 +133,7 @@ fn gather_line<'a>(
     header: Header,
     place: Place<'a>,
 ) -> Result<Result<Place<'a>, MarketError>, AllocError>
+    requires { HasRoom header list.old 1 }
     ensures added { IfOk result (λ r. IfOk r (λ p.
         Adds header list.old list.new place.entry.rest.now place.entry.at 1 p.rest.now p.at)) }
     ensures kept { IfOk result (λ r. OnErr r (list.new ≡ list.old)) }
@@ -147,7 +150,7 @@ fn gather_line<'a>(
         })),
         Next::Line(content, behind) => match read_entry(header, content) {
             Ok(found) => {
-                push_entry(list, header.banner.symmetric, found)?;
+                push_entry(list, header, found)?;
                 Ok(Ok(behind))
             }
             Err(rule) => Ok(Err(MarketError::Fault {
@@ -160,16 +163,34 @@ fn gather_line<'a>(
 
 /// Adds an entry and, in a symmetric matrix, its mirror.
 #[inline(always)]
-fn push_entry(list: &mut EntryList, symmetric: bool, found: Found) -> Result<(), AllocError>
-    ensures { OnOk result (Takes list.old symmetric found list.new) }
+fn push_entry(list: &mut EntryList, header: Header, found: Found) -> Result<(), AllocError>
+    requires room { HasRoom header list.old 1 }
+    requires row { found.row < header.size.rows }
+    requires column { found.column < header.size.columns }
+    ensures { OnOk result (Takes list.old header.banner.symmetric found list.new) }
 {
-    list.push(found.row, found.column, found.word)
-        .map_err(|_| AllocError)?;
-    if symmetric && found.row != found.column {
-        list.push(found.column, found.row, found.word)
-            .map_err(|_| AllocError)?;
+    push_word(list, found.row, found.column, found.word)?;
+    if header.banner.symmetric && found.row != found.column {
+        push_word(list, found.column, found.row, found.word)?;
     }
     Ok(())
+}
+
+/// Adds a word at a position inside the sizes of a list that isn't full. Nothing but memory can be refused.
+#[inline(always)]
+fn push_word(list: &mut EntryList, row: u64, column: u64, word: u64) -> Result<(), AllocError>
+    requires { push_fault list.old (row, column) ≡ None }
+    ensures { OnOk result (list.new ≡ record list.old { entries = list.old.entries ++ ((row, column), word) ∷ [] }) }
+{
+    match list.push(row, column, word) {
+        Ok(()) => Ok(()),
+        Err(StoreError::Memory) => Err(AllocError),
+        Err(
+            StoreError::IndexOutOfRange
+            | StoreError::PositionGivenTwice
+            | StoreError::TooManyEntries,
+        ) => unreachable!(),
+    }
 }
 
 /// The fault of what follows the last entry, if it has one.

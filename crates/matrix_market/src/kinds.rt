@@ -1,5 +1,5 @@
 //! What a line of each kind says, or the rule that it breaks.
-ghost use Rattle.std.specs.Prelude.{◌≡◌, ◌≢◌, ◌≤◌, ◌∷◌, [], length, MatchOption, Some};
+ghost use Rattle.std.specs.Prelude.{true, ◌≡◌, ◌≢◌, ◌≤◌, ◌∷◌, [], length, MatchOption, Some};
 ghost use Rattle.std.specs.Str.{str_to_ascii_lowercase};
 ghost use Rattle.text_words.specs.Words.{words};
 ghost use Rattle.text_words.specs.Numbers.{held_number};
@@ -39,6 +39,9 @@ pub struct Header {
     pub size: Size,
     ghost rows_small: { size.rows ≤ 16777216 },
     ghost columns_small: { size.columns ≤ 16777216 },
+    ghost entries_small: { size.entries ≤ 16777216 },
+    ghost halved: { banner.symmetric ≡ true → size.entries ≤ 8388608 },
+    ghost square: { banner.symmetric ≡ true → size.rows ≡ size.columns },
 }
 
 /// What an entry line says, its position counted from 0.

@@ -1,11 +1,11 @@
 -- What was gathered of a text in any order. Positions that are given twice are looked for when all entries are there, so
 -- what is said of a text's faults holds if there are none. This project's own.
-use Rattle.std.specs.Prelude.{◌≡◌, ℕ, zero, suc, ◌+◌, ◌≤◌, ◌<◌, false, nat_lt, Bool, List, [], ◌∷◌}
+use Rattle.std.specs.Prelude.{◌≡◌, ℕ, zero, suc, ◌+◌, ◌*◌, ◌≤◌, ◌<◌, false, nat_lt, Bool, if◌then◌else◌, List, [], ◌∷◌}
 use Rattle.std.specs.Prelude.{◌++◌, map, length, Option, Result, Ok, MatchOption, MatchResult}
 use Rattle.std.specs.List.{AllByRecursion}
 use Rattle.std.specs.Str.Lines.{lines}
 use Rattle.std.specs.FinMap as fin
-use Rattle.csr_store.specs.Grid.{Grid, Position, Entry}
+use Rattle.csr_store.specs.Grid.{Grid, Position, Entry, limit}
 use Rattle.csr_store.specs.ByRows.{grid}
 use Rattle.csr_store.specs.Listed.{Listed, NoneTwice}
 use Rattle.matrix_market.specs.declared.kinds.Banner.{Banner}
@@ -30,6 +30,16 @@ Begun text h start =
 -- a word at each of some positions
 abbrev pub with_word : List Position → ℕ → List Entry
 with_word ps w = map (λ p. (p, w)) ps
+
+-- so many entries does a line give at most
+abbrev pub width : Bool → ℕ
+width symmetric = if symmetric then 2 else 1
+
+-- a list has the sizes of a text, and room for the entries of so many lines more
+pub record HasRoom (h : Header) (l : Listed) (more : ℕ) : Type 0 where
+  pub rows_same : l.rows ≡ h.size.rows
+  pub columns_same : l.columns ≡ h.size.columns
+  pub room : length l.entries + width h.banner.symmetric * more ≤ limit
 
 -- a list took an entry inside its sizes and, in a symmetric matrix, its mirror
 pub record Takes (old : Listed) (symmetric : Bool) (f : Found) (new : Listed) : Type 0 where

@@ -1,6 +1,8 @@
 use Rattle.std.proofs.Common.{◌+◌, refl}
 use Rattle.std.specs.Str.Lines.{lines}
-use Rattle.matrix_market.proofs.Gathering.{adds_line}
+use Rattle.matrix_market.proofs.Gathering.{adds_line, found_inside}
+use Rattle.text_words.specs.Words.{words}
+use Rattle.matrix_market.specs.Market.{entry_words}
 use Rattle.matrix_market.proofs.Reading.{entry_fault, long_entry, too_few}
 use Rattle.matrix_market.proofs.gather.gather_line.Goals as goal
 
@@ -25,3 +27,9 @@ returns-in-Err-clause-fault c = λ text g given filled few.
     let e = c.in-Line.ensures in
     entry_fault text c.args.place.rest.now c.args.header.banner c.args.header.size g c.args.place.at e.0 c.in-Line.behind.at given c.in-Line.content.now (lines c.in-Line.behind.rest.now) c.in-Err.rule filled few
     e.1 e.2 e.3 e.4 c.in-Err.ensures
+
+pub push_entry-requires-clause-row : goal.push_entry-requires-clause-row
+push_entry-requires-clause-row c = (found_inside c.args.header.size (entry_words c.args.header.banner.pattern (words c.in-Line.content.now)) c.in-Ok.found c.in-Ok.ensures).0
+
+pub push_entry-requires-clause-column : goal.push_entry-requires-clause-column
+push_entry-requires-clause-column c = (found_inside c.args.header.size (entry_words c.args.header.banner.pattern (words c.in-Line.content.now)) c.in-Ok.found c.in-Ok.ensures).1

@@ -1,8 +1,8 @@
-use Rattle.std.proofs.Common.{◌≡◌, ◌+◌, subst, sym, arith}
+use Rattle.std.proofs.Common.{◌≡◌, ◌+◌, ◌-◌, refl, subst, sym, arith}
 use Rattle.csr_store.specs.Listed.{Listed}
 use Rattle.matrix_market.specs.declared.place.Place.{Place}
 use Rattle.matrix_market.specs.inner.Gathering.{Adds, IsFaultAt, nothing}
-use Rattle.matrix_market.proofs.Gathering.{adds_none, adds_more, adds_run}
+use Rattle.matrix_market.proofs.Gathering.{adds_none, adds_more, adds_run, room_at_first, room_behind}
 use Rattle.matrix_market.proofs.Telling.{tells_fault, tells_end, ok_case, err_case, on_err}
 use Rattle.matrix_market.proofs.gather.gather_lines.Goals as goal
 
@@ -58,3 +58,15 @@ pub returns-clause-told : goal.returns-clause-told
 returns-clause-told c =
     let few = c.loop-given.invariant.few in
     tells_end c.args.header c.args.start c.loop-given.place c.loop-given.list c.loop-given.given c.fault_behind.result c.loop-given.invariant.adds (omega arith) c.fault_behind.ensures
+
+pub gather_run-requires : goal.gather_run-requires
+gather_run-requires c =
+    room_behind c.args.header (nothing c.args.header) c.loop-given.list c.args.start.rest.now c.loop-given.place.rest.now c.args.start.at c.loop-given.given c.loop-given.place.at c.args.header.size.entries (c.args.header.size.entries - c.loop-given.given)
+    (room_at_first c.args.header (nothing c.args.header) refl) c.loop-given.invariant.adds (let f = c.loop-given.invariant.few in omega arith)
+
+pub gather_line-requires : goal.gather_line-requires
+gather_line-requires c =
+    let adds = adds_run c.args.header (nothing c.args.header) c.loop-given.list c.gather_run.new.list c.args.start.rest.now c.loop-given.place.rest.now c.place_behind-place.result.rest.now c.args.start.at c.loop-given.place.at c.place_behind-place.result.at
+    c.loop-given.given c.in_ok-run.run'.given c.in_ok-run.run'.next c.loop-given.invariant.adds c.in_ok-run.ensures.added c.place_behind-place.ensures.rest c.place_behind-place.ensures.at in
+    room_behind c.args.header (nothing c.args.header) c.gather_run.new.list c.args.start.rest.now c.place_behind-place.result.rest.now c.args.start.at (c.loop-given.given + c.in_ok-run.run'.given) c.place_behind-place.result.at c.args.header.size.entries 1
+    (room_at_first c.args.header (nothing c.args.header) refl) adds (omega arith)

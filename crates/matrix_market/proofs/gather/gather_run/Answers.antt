@@ -1,6 +1,6 @@
 use Rattle.std.proofs.Common.{◌+◌, ◌-◌, ◌^◌, ◌%◌, drop, refl, arith}
 use Rattle.matrix_market.specs.declared.kinds.Found.{Found}
-use Rattle.matrix_market.proofs.Gathering.{adds_more, adds_usual}
+use Rattle.matrix_market.proofs.Gathering.{adds_more, adds_usual, room_behind}
 use Rattle.matrix_market.proofs.gather.gather_run.Goals as goal
 
 pub loop-given-preserved : goal.loop-given-preserved
@@ -19,3 +19,8 @@ loop-given-preserved c =
       order = omega arith;
       within = omega arith;
     }
+
+pub push_entry-requires-clause-room : goal.push_entry-requires-clause-room
+push_entry-requires-clause-room c =
+    let old = c.loop-given in
+    room_behind c.args.header c.args.list.now old.list c.args.rest.now (drop old.next c.args.rest.now) 0 old.given old.given c.args.most 1 c.requires old.invariant.adds (let t = c.loop-given-test.true in omega arith)

@@ -1,7 +1,7 @@
 use Rattle.std.proofs.Common.{◌+◌, [], ◌∷◌, arith, length, refl}
 use Rattle.std.proofs.lemmas.Bool.{le-ltb}
 use Rattle.std.specs.Str.Lines.{lines}
-use Rattle.matrix_market.proofs.Reading.{begun, passed, long_fault, no_size, size_fault, size_read}
+use Rattle.matrix_market.proofs.Reading.{begun, passed, long_fault, no_size, size_fault, size_halved, size_read, size_square}
 use Rattle.matrix_market.proofs.reader.read_header.Goals as goal
 
 pub returns-in-End-clause-err : goal.returns-in-End-clause-err
@@ -24,4 +24,10 @@ pub invariant_of-result : goal.invariant_of-result
 invariant_of-result c =
     let e = c.in-Line.ensures in
     let f = size_read c.args.text.now c.in-Line.start.rest.now c.in-Ok.banner c.in-Ok-read_size.size c.in-Line.line.now e.0 c.in-Line.start.at (passed (lines c.args.text.now) c.in-Ok.banner [] c.in-Some.rest.now (c.in-Line.line.now ∷ lines c.in-Line.start.rest.now) 1 e.0 (begun c.args.text.now c.in-Some.first.now c.in-Some.rest.now c.in-Ok.banner c.in-Some.ensures.lines (le-ltb 1024 (length c.in-Some.first.now) (omega arith)) c.in-Ok.ensures) e.1) e.2 e.3 e.4 c.in-Ok-read_size.ensures in
-    record { rows_small = f.rows_small; columns_small = f.columns_small }
+    record {
+      rows_small = f.rows_small;
+      columns_small = f.columns_small;
+      entries_small = f.entries_small;
+      halved = size_halved c.in-Ok.banner c.in-Ok-read_size.size c.in-Line.line.now c.in-Ok-read_size.ensures;
+      square = size_square c.in-Ok.banner c.in-Ok-read_size.size c.in-Line.line.now c.in-Ok-read_size.ensures;
+    }
