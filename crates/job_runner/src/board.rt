@@ -36,6 +36,6 @@ fn open_with(
     ensures fresh { IfOk result (λ r. All (λ (s : SeatState). s.worker.done ≡ []) r.1.items) }
 {
     plan.recall();
-    let (board, seats) = Board::open(alloc, plan.chunks(), workers)?;
+    let (board, seats) = Board::with_chunks(alloc, plan.chunks(), workers)?;
     Ok((board, seats))
 }

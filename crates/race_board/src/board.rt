@@ -39,9 +39,26 @@ impl Model for Board {
 }
 
 impl Board {
-    /// A board for so many chunks, and a seat for each of so many workers, in the order of their
-    /// numbers. The caller's proof names the prices of the chunks.
+    /// A board for a chunk of each of these prices, and a seat for each of so many workers, in the
+    /// order of their numbers. The prices may add up to 2^62.
     pub fn open(
+        alloc: Global,
+        prices: &[u64],
+        workers: u64,
+    ) -> Result<(Board, Vec<BoardSeat>), AllocError>
+        requires workers { (0 < workers) × (workers ≤ 64) }
+        requires prices { sum prices.now ≤ 2 ^ 62 }
+        ensures board { IfOk result (λ r. (r.0.prices ≡ prices.now) × (r.0.workers ≡ workers)) }
+        ensures seats { IfOk result (λ r. vec_len r.1 ≡ workers) }
+        ensures ready { IfOk result (λ r. All (MayDrawAt r.0) r.1.items) }
+        ensures fresh { IfOk result (λ r. (k : ℕ) (s : SeatState) → slice_get r.1.items k ≡ Some s →
+            s.worker ≡ fresh_worker k) }
+    {
+        open_for(alloc, prices, workers)
+    }
+
+    /// As `open`, for so many chunks. The caller's proof names their prices, which no code has.
+    pub fn with_chunks(
         alloc: Global,
         chunks: u64,
         workers: u64,
@@ -124,6 +141,25 @@ impl Board {
         let all = gather(&table, first, seats);
         end(table, all)
     }
+}
+
+// As `Board::open`, where the caller's proof names the prices.
+fn open_for(
+    alloc: Global,
+    prices: &[u64],
+    workers: u64,
+) -> Result<(Board, Vec<BoardSeat>), AllocError>
+    ghost named: { List ℕ }
+    requires named { named ≡ prices.now }
+    requires workers { (0 < workers) × (workers ≤ 64) }
+    requires prices { sum prices.now ≤ 2 ^ 62 }
+    ensures board { IfOk result (λ r. (r.0.prices ≡ named) × (r.0.workers ≡ workers)) }
+    ensures seats { IfOk result (λ r. vec_len r.1 ≡ workers) }
+    ensures ready { IfOk result (λ r. All (MayDrawAt r.0) r.1.items) }
+    ensures fresh { IfOk result (λ r. (k : ℕ) (s : SeatState) → slice_get r.1.items k ≡ Some s →
+        s.worker ≡ fresh_worker k) }
+{
+    Board::with_chunks(alloc, prices.len() as u64, workers)
 }
 
 // A seat for each worker: the place in hand has those that are not yet split off.

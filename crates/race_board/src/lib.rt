@@ -8,7 +8,7 @@
 //! Read `specs/Race.antt` with `stand`, `event` and `totals` first, then `race` with `worker` (the
 //! core), then `board` and `seat`. `laws` with `specs/Chunks.antt` joins calls with events, and says
 //! what the lists of all workers say together. How the board keeps its promise is in `terms`, `rule` (what holds between any two
-//! steps) and `crew` (the steps themselves); `tests` runs threads, and is a client as a batch is.
+//! steps) and `crew` (the steps themselves). Threads are run by the crate thread_tests, a client as a batch is.
 #![tactic(auto)]
 
 mod board;

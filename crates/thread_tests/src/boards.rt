@@ -1,5 +1,5 @@
 //! Races replayed, and boards run by real threads.
-ghost use Rattle.std.specs.Prelude.{◌≡◌, ◌≤◌, ◌<◌, ◌^◌, ℕ, List, IfOk, All, Some, slice_get, sum, vec_len};
+ghost use Rattle.std.specs.Prelude.{◌≡◌, ◌≤◌, ◌<◌, ◌^◌, ℕ, IfOk, All, Some, slice_get, sum, vec_len};
 ghost use Rattle.race_board.specs.Race.{IsSeatOf, IsToldEnd, MayDrawAt, SeatState, fresh_worker};
 
 use race_board::{Board, BoardSeat, Race, RaceEvent, Totals, replay};
@@ -30,25 +30,7 @@ fn open(
     ensures ready { IfOk result (λ r. All (MayDrawAt r.0) r.1.items) }
     ensures fresh { IfOk result (λ r. (k : ℕ) (s : SeatState) → slice_get r.1.items k ≡ Some s → s.worker ≡ fresh_worker k) }
 {
-    open_with(alloc, prices, workers)
-}
-
-/// The same, where the caller's proof names the prices.
-fn open_with(
-    alloc: Global,
-    prices: &Vec<u64>,
-    workers: u64,
-) -> Result<(Board, Vec<BoardSeat>), AllocError>
-    ghost named: { List ℕ }
-    requires named { named ≡ prices.now.items }
-    requires workers { (0 < workers) × (workers ≤ 64) }
-    requires prices { sum prices.now.items ≤ 2 ^ 62 }
-    ensures board { IfOk result (λ r. (r.0.prices ≡ named) × (r.0.workers ≡ workers)) }
-    ensures seats { IfOk result (λ r. vec_len r.1 ≡ workers) }
-    ensures ready { IfOk result (λ r. All (MayDrawAt r.0) r.1.items) }
-    ensures fresh { IfOk result (λ r. (k : ℕ) (s : SeatState) → slice_get r.1.items k ≡ Some s → s.worker ≡ fresh_worker k) }
-{
-    Board::open(alloc, prices.len() as u64, workers)
+    Board::open(alloc, prices, workers)
 }
 
 #[test]

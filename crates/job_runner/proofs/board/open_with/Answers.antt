@@ -7,8 +7,8 @@ use Rattle.job_plan.specs.Chunks.{Chunk, plan_chunks}
 use Rattle.job_runner.proofs.Costs.{prices_small}
 use Rattle.job_runner.proofs.board.open_with.Goals as goal
 
-pub open-requires : goal.open-requires
-open-requires g c =
+pub with_chunks-requires : goal.with_chunks-requires
+with_chunks-requires g c =
     let plan = c.recall.ensures in
     let are = c.requires.0 in
     let workers = c.requires.1 in

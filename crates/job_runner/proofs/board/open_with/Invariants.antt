@@ -1,4 +1,4 @@
 use Rattle.job_runner.proofs.board.open_with.Given as goal
 
-abbrev pub ghost-open : goal.ghost-open
-ghost-open g a = g.prices
+abbrev pub ghost-with_chunks : goal.ghost-with_chunks
+ghost-with_chunks g a = g.prices

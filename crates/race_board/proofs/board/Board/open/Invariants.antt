@@ -1,4 +1,4 @@
 use Rattle.race_board.proofs.board.Board.open.Given as goal
 
-abbrev pub ghost-for_proof : goal.ghost-for_proof
-ghost-for_proof g a = g.prices
+abbrev pub ghost-open_for : goal.ghost-open_for
+ghost-open_for a = a.prices.now
