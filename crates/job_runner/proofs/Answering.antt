@@ -11,21 +11,21 @@ use Rattle.job_runner.specs.declared.answer.Cause.TheVariants.{Thread}
 use Rattle.job_runner.specs.Answers.{IsBatch, gave, broke}
 use Rattle.job_runner.specs.Batch.{AreResultsOf, result_of, total_steps}
 use Rattle.job_runner.specs.Crew.{crew_of}
-use Rattle.job_runner.specs.Whole.{IsRacedBy}
+use Rattle.job_runner.specs.Whole.{IsRaced}
 use Rattle.job_runner.proofs.Racing.{whole_spent}
 use Rattle.job_runner.proofs.Theorem.{theorem_of}
 
 pub batch_gave : (workers : ℕ) (jobs : List Job) (a : BatchAnswer) → ((k : ℕ) (job : Job) → Cover k job)
     → AllByRecursion IsPriced jobs → AllByRecursion IsWithinPrice jobs → AreResultsOf jobs (map result_of a.results.items)
-    → IsRacedBy (crew_of workers jobs) jobs (map result_of a.results.items) a.spent → IsBatch workers jobs (Ok a)
+    → IsRaced (crew_of workers jobs) jobs (map result_of a.results.items) a.spent → IsBatch workers jobs (Ok a)
 batch_gave workers jobs a cover priced within are by = record {
   theorem = theorem_of jobs (map result_of a.results.items) priced within are;
   results = are;
-  raced = by.0;
-  spent_all = by.0.recorded ∙ whole_spent cover jobs by.0.workers by.0.is_whole;
+  raced = by;
+  spent_all = by.recorded ∙ whole_spent cover jobs by.workers by.is_whole;
   spent = tt;
   thread = tt;
-  told = gave workers jobs (map result_of a.results.items) a.spent by.0 by.1;
+  told = gave workers jobs (map result_of a.results.items) a.spent by;
 }
 
 pub batch_broke : (workers count : ℕ) (jobs : List Job) (f : BatchFault) → count ≤ workers → f.spent ≤ total_steps jobs

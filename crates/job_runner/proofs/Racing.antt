@@ -1,12 +1,14 @@
 -- The race of a batch that came to its end is whole, and its rows are those of the results.
-use Rattle.std.proofs.Common.{◌≡◌, ◌<◌, ℕ, List, [], ◌∷◌, map, length, false, refl, sym, ap, ◌∙◌, subst, arith}
+use Rattle.std.proofs.Common.{◌≡◌, ◌<◌, ℕ, List, [], ◌∷◌, ◌++◌, append-nil, map, length, false, refl, sym, ap, ◌∙◌, subst, arith}
 use Rattle.std.specs.Prelude.{All}
+use Rattle.std.proofs.lemmas.List.{length-append}
 use Rattle.std.specs.FinMap.{get}
 use Rattle.csr_store.specs.Along.{along, cell_at, row_by}
 use Rattle.csr_store.specs.Grid.{Grid, row_of}
 use Rattle.csr_store.specs.Run.{Row, Run}
 use Rattle.csr_store.proofs.Along.{along-same, row_by-row_of}
-use Rattle.race_board.specs.Race.{Worker, BoardState, IsToldEnd, IsFinished, total_of, times_completed, one_if_below, steps_of, workers_of}
+use Rattle.race_board.specs.Race.{Worker, BoardState, IsLawful, IsToldEnd, IsFinished, AreNumbersBelow, RanOneRace, total_of}
+use Rattle.race_board.specs.Race.{times_completed, one_if_below, steps_of, workers_of}
 use Rattle.race_board.specs.Chunks.{AreEachOnce, completed_by, steps_in}
 use Rattle.race_board.proofs.Chunks.{closed_completed, completed_steps, recorded_completed, recorded_steps}
 use Rattle.race_board.proofs.Finishing.{all_told, told_finished}
@@ -38,6 +40,21 @@ gathered_whole board jobs g h completed prices some all failed =
       steps = h.just;
       ended = ended;
     }
+
+-- where no seat was lost, the workers that are here ran the one race of their board alone
+pub one_race : (board : BoardState) (workers : List Worker) (count recorded : ℕ) → RanOneRace board workers count recorded
+    → length workers ≡ board.workers
+    → AreNumbersBelow board.workers workers × IsLawful board.prices count workers
+one_race board workers count recorded ran here = go ran.lost ran.many ran.numbers ran.lawful
+  where
+    go : (lost : List Worker) → length (workers ++ lost) ≡ board.workers → AreNumbersBelow board.workers (workers ++ lost)
+        → IsLawful board.prices count (workers ++ lost) → AreNumbersBelow board.workers workers × IsLawful board.prices count workers
+    go [] many numbers lawful =
+        let e = append-nil workers in (
+          subst (λ (ws : List Worker). AreNumbersBelow board.workers ws) e numbers,
+          subst (λ (ws : List Worker). IsLawful board.prices count ws) e lawful,
+        )
+    go (w ∷ ws) many numbers lawful = let l = length-append workers (w ∷ ws) in absurd (omega (arith, many, here, l))
 
 -- the steps that its workers recorded are those of all jobs
 pub whole_spent : ((k : ℕ) (job : Job) → Cover k job) → (jobs : List Job) (workers : List Worker) → IsWhole jobs workers

@@ -1,5 +1,5 @@
 -- What a batch may answer that may have so many workers. This project's own.
-use Rattle.std.specs.Prelude.{◌≡◌, ◌<◌, ◌≤◌, ℕ, List, map, length, IfOk, IfErr, Ok, Err}
+use Rattle.std.specs.Prelude.{◌≡◌, ◌<◌, ◌≤◌, ℕ, List, map, IfOk, IfErr, Ok, Err}
 use Rattle.std.specs.Prelude as std
 use Rattle.job_plan.specs.Job.{Job}
 use Rattle.job_runner.specs.declared.answer.BatchAnswer.{BatchAnswer}
@@ -23,8 +23,8 @@ said_of (Err f) = Broke f.cause f.spent
 -- What a batch of these jobs may say that may have so many workers: what a race gave of just as many as `crew_of` tells; or, where it
 -- broke off, some of the steps, and for want of a thread only where it may have several.
 pub data MaySay : ℕ → List Job → Said → Type 0 where
-  gave : (workers : ℕ) (jobs : List Job) (results : List Result) (spent : ℕ) (raced : IsRaced jobs results spent)
-      → length raced.workers ≡ crew_of workers jobs → MaySay workers jobs (Gave results spent)
+  gave : (workers : ℕ) (jobs : List Job) (results : List Result) (spent : ℕ)
+      → IsRaced (crew_of workers jobs) jobs results spent → MaySay workers jobs (Gave results spent)
   broke : (workers : ℕ) (jobs : List Job) (why : Cause) (spent : ℕ) → spent ≤ total_steps jobs
       → (why ≡ Thread → 1 < workers) → MaySay workers jobs (Broke why spent)
 
@@ -32,7 +32,7 @@ pub data MaySay : ℕ → List Job → Said → Type 0 where
 pub record IsBatch (workers : ℕ) (jobs : List Job) (result : std.Result BatchAnswer BatchFault) : Type 0 where
   pub theorem : IfOk result (λ a. BatchTheorem jobs (map result_of a.results.items))
   pub results : IfOk result (λ a. AreResultsOf jobs (map result_of a.results.items))
-  pub raced : IfOk result (λ a. IsRaced jobs (map result_of a.results.items) a.spent)
+  pub raced : IfOk result (λ a. IsRaced (crew_of workers jobs) jobs (map result_of a.results.items) a.spent)
   pub spent_all : IfOk result (λ a. a.spent ≡ total_steps jobs)
   pub spent : IfErr result (λ f. f.spent ≤ total_steps jobs)
   pub thread : IfErr result (λ f. f.cause ≡ Thread → 1 < workers)

@@ -3,8 +3,9 @@ use Rattle.std.specs.Prelude.{◌≡◌, ℕ, List, [], ◌∷◌, map, length, 
 use Rattle.csr_store.specs.Along.{along}
 use Rattle.csr_store.specs.Grid.{Grid, row_of}
 use Rattle.csr_store.specs.Run.{Row}
-use Rattle.race_board.specs.Race.{Worker, IsToldEnd, total_of, steps_of}
+use Rattle.race_board.specs.Race.{Worker, IsLawful, IsToldEnd, AreNumbersBelow, total_of, steps_of}
 use Rattle.race_board.specs.Chunks.{AreEachOnce, CostJust, completed_by}
+use Rattle.job_plan.specs.Chunks.{prices_of}
 use Rattle.job_plan.specs.Job.{Job}
 use Rattle.job_runner.specs.Batch.{Result}
 use Rattle.job_runner.specs.Chunk.{chunk_total, chunks_in, run_in_job, chunk_steps}
@@ -27,13 +28,14 @@ whole jobs = map rows_of_chunks jobs
 abbrev pub all_rows : Grid → List Row
 all_rows g = along (λ i. row_of g i ∷ []) 0 g.rows
 
--- the results have the rows that a whole race gives, and what was spent is what its workers recorded
-pub record IsRaced (jobs : List Job) (results : List Result) (spent : ℕ) : Type 0 where
+-- So many workers, with the numbers from 0 on, ran one race over the chunks of the jobs, by the law of a board with these prices, and
+-- it is whole. The results have the rows that it gives, and what was spent is what its workers recorded.
+pub record IsRaced (crew : ℕ) (jobs : List Job) (results : List Result) (spent : ℕ) : Type 0 where
   pub workers : List Worker
+  pub draws : ℕ
+  pub many : length workers ≡ crew
+  pub numbers : AreNumbersBelow crew workers
+  pub lawful : IsLawful (prices_of jobs) draws workers
   pub is_whole : IsWhole jobs workers
   pub rows : map (λ (r : Result). all_rows r.matrix) results ≡ whole jobs
   pub recorded : spent ≡ total_of steps_of workers
-
--- just so many workers ran that race
-abbrev pub IsRacedBy : ℕ → List Job → List Result → ℕ → Type 0
-IsRacedBy count jobs results spent = (raced : IsRaced jobs results spent) × (length raced.workers ≡ count)

@@ -2,8 +2,9 @@
 ghost use Rattle.std.specs.Prelude.{◌≡◌, ◌<◌, ◌≤◌, map, IfOk, IfErr};
 ghost use Rattle.job_runner.specs.Batch.{AreResultsOf, result_of, total_steps};
 ghost use Rattle.job_runner.specs.Answers.{IsBatch, MaySay, said_of};
+ghost use Rattle.job_runner.specs.Crew.{crew_of};
 ghost use Rattle.job_runner.specs.Theorem.{BatchTheorem};
-ghost use Rattle.job_runner.specs.Whole.{IsRaced, IsRacedBy};
+ghost use Rattle.job_runner.specs.Whole.{IsRaced};
 
 use crate::answer::{BatchAnswer, BatchFault, Cause, JobResult};
 use crate::board::open_board;
@@ -39,7 +40,7 @@ pub fn run_batch<H: Threads + Wait, G: Gate + Sync>(
     requires few { workers ≤ 64 }
     ensures theorem { IfOk result (λ a. BatchTheorem plan.now (map result_of a.results.items)) }
     ensures results { IfOk result (λ a. AreResultsOf plan.now (map result_of a.results.items)) }
-    ensures raced { IfOk result (λ a. IsRaced plan.now (map result_of a.results.items) a.spent) }
+    ensures raced { IfOk result (λ a. IsRaced (crew_of workers plan.now) plan.now (map result_of a.results.items) a.spent) }
     ensures spent_all { IfOk result (λ a. a.spent ≡ total_steps plan.now) }
     ensures spent { IfErr result (λ f. f.spent ≤ total_steps plan.now) }
     ensures thread { IfErr result (λ f. f.cause ≡ Cause.Thread → 1 < workers) }
@@ -98,7 +99,7 @@ fn results<H: Threads + Wait, G: Gate + Sync>(
 ) -> Result<Vec<JobResult>, Cause>
     requires { (1 ≤ count) × (count ≤ 64) }
     ensures results { IfOk result (λ rs. AreResultsOf plan.now (map result_of rs.items)
-        × IsRacedBy count plan.now (map result_of rs.items) spent.new) }
+        × IsRaced count plan.now (map result_of rs.items) spent.new) }
     ensures spent { spent.new ≤ total_steps plan.now }
     ensures thread { IfErr result (λ why. why ≡ Cause.Thread → 1 < count) }
 {

@@ -1,10 +1,10 @@
-use Rattle.std.proofs.Common.{◌≡◌, ◌<◌, length, map, arith}
+use Rattle.std.proofs.Common.{◌≡◌, ◌<◌, ℕ, List, length, map, subst, arith}
 use Rattle.std.proofs.lemmas.List.{length-map}
-use Rattle.race_board.specs.Race.{SeatState, workers_of}
-use Rattle.job_runner.specs.Whole.{IsRacedBy}
+use Rattle.race_board.specs.Race.{AreNumbersBelow, IsLawful, SeatState, workers_of}
+use Rattle.job_runner.specs.Whole.{IsRaced}
 use Rattle.job_runner.specs.Batch.{result_of}
 use Rattle.job_runner.proofs.Gathering.{gathered_spent, gathered_full}
-use Rattle.job_runner.proofs.Racing.{gathered_whole, whole_rows}
+use Rattle.job_runner.proofs.Racing.{gathered_whole, one_race, whole_rows}
 use Rattle.job_runner.proofs.batch.results.Given as given
 use Rattle.job_runner.proofs.batch.results.Goals as goal
 
@@ -63,7 +63,7 @@ returns-clause-spent g c =
     c.in_ok-board.ensures.board.0 c.recall.ensures.cover
 
 raced : (g : given.Over) (c : goal.In_ok-join_jobs g)
-    → IsRacedBy c.args.count c.args.plan.now (map result_of c.in_ok-join_jobs.field-0.items) c.close.result.spent
+    → IsRaced c.args.count c.args.plan.now (map result_of c.in_ok-join_jobs.field-0.items) c.close.result.spent
 raced g c =
     let board = c.in_ok-board.board in
     let jobs = c.args.plan.now in
@@ -75,16 +75,21 @@ raced g c =
     let len = gathered.seats.ok.0 in
     let some : 0 < length gathered.seats.items = omega (arith, all, seats, count, len) in
     let here : length gathered.seats.items ≡ board.workers = omega (arith, all, seats, workers, len) in
-    let each = length-map gathered.seats.items (λ (s : SeatState). s.worker) in (
-      record {
-        workers = workers_of gathered.seats.items;
-        is_whole = gathered_whole board jobs gathered c.work_all-gathered.ensures.gathered c.close.ensures.completed
-            c.in_ok-board.ensures.board.0 some here c.if-failed.false;
-        rows = whole_rows c.recall.ensures.cover jobs (map result_of c.in_ok-join_jobs.field-0.items) c.in_ok-join_jobs.ensures;
-        recorded = c.close.ensures.spent;
-      },
-      omega (arith, each, here, workers),
-    )
+    let each = length-map gathered.seats.items (λ (s : SeatState). s.worker) in
+    let alone = one_race board (workers_of gathered.seats.items) c.close.result.count c.close.result.recorded c.close.ensures.race
+    (omega (arith, each, here)) in
+    record {
+      workers = workers_of gathered.seats.items;
+      draws = c.close.result.count;
+      many = omega (arith, each, here, workers);
+      numbers = subst (λ (n : ℕ). AreNumbersBelow n (workers_of gathered.seats.items)) workers alone.0;
+      lawful = subst (λ (ps : List ℕ). IsLawful ps c.close.result.count (workers_of gathered.seats.items))
+          c.in_ok-board.ensures.board.0 alone.1;
+      is_whole = gathered_whole board jobs gathered c.work_all-gathered.ensures.gathered c.close.ensures.completed
+          c.in_ok-board.ensures.board.0 some here c.if-failed.false;
+      rows = whole_rows c.recall.ensures.cover jobs (map result_of c.in_ok-join_jobs.field-0.items) c.in_ok-join_jobs.ensures;
+      recorded = c.close.ensures.spent;
+    }
 
 pub returns-clause-results : goal.returns-clause-results
 returns-clause-results g c = (c.in_ok-join_jobs.ensures, raced g c)
