@@ -1,12 +1,13 @@
 //! What a job is.
-ghost use Rattle.std.specs.Prelude.{◌≡◌, IfOk, IfErr, Some};
+ghost use Rattle.std.specs.Prelude.{◌≡◌, ◌≤◌, ◌-◌, IfOk, IfErr, Some};
 ghost use Rattle.std.specs.Option.{option_map};
 ghost use Rattle.std.specs.Arc.{arc_value};
 ghost use Rattle.std.specs.String.{string_bytes};
 ghost use Rattle.csr_store.specs.Mask.{mask_of};
 ghost use Rattle.job_plan.specs.Costing.{costing};
 ghost use Rattle.job_plan.specs.Kept.{form_of};
-ghost use Rattle.job_plan.specs.Price.{price_of};
+ghost use Rattle.job_plan.specs.Meaning.{row_count};
+ghost use Rattle.job_plan.specs.Price.{price_in, price_of};
 ghost use Rattle.job_plan.specs.Refusal.{job_fault, IsPriced};
 ghost use Rattle.job_plan.specs.inner.Refusal.{Passes};
 
@@ -15,6 +16,7 @@ use crate::form::Form;
 use crate::table::has_shape;
 use csr_store::{MOST_ENTRIES, Matrix, Version};
 use std::marker::Model;
+use std::ops::Range;
 
 /// The most steps that a job may cost.
 const MOST_STEPS: u64 = 4_294_967_296;
@@ -139,5 +141,13 @@ impl Job {
             return entries * form.round();
         }
         form.rounds(self.mask(), 0..form.rows()) * form.round()
+    }
+    /// The price of some rows.
+    pub(crate) fn price_of_rows(&self, range: Range<u64>) -> u64
+        requires passes { Passes self.now }
+        requires within { range.end ≤ row_count self.now }
+        ensures { result ≡ price_in self.now range.start (range.end - range.start) }
+    {
+        self.form.rounds(self.mask(), range) * self.form.round()
     }
 }

@@ -1,10 +1,10 @@
 //! A batch of jobs, cut into chunks.
-ghost use Rattle.std.specs.Prelude.{◌≡◌, ◌≤◌, ◌<◌, ◌^◌, ℕ, ◌++◌, length, IfOk, OnOk};
+ghost use Rattle.std.specs.Prelude.{◌≡◌, ◌≤◌, ◌<◌, ◌^◌, ℕ, ◌++◌, length, slice_get, Some, IfOk, OnOk};
 ghost use Rattle.std.specs.List.{AllByRecursion};
 ghost use Rattle.job_plan.specs.Job as is;
 ghost use Rattle.job_plan.specs.Refusal.{IsPriced};
 ghost use Rattle.job_plan.specs.Price.{IsWithinPrice};
-ghost use Rattle.job_plan.specs.Chunks.{plan_chunks, Cover, IsChunkAt, IsPlan};
+ghost use Rattle.job_plan.specs.Chunks.{plan_chunks, Cover, IsChunkAt, IsChunkOf, IsPlan};
 ghost use Rattle.job_plan.specs.inner.Chunks.{rows_of_job, rows_from};
 
 use crate::job::Job;
@@ -89,8 +89,31 @@ impl Plan {
         self.chunks.len() as u64
     }
 
-    /// A chunk: the place of its job, and its rows.
-    pub fn chunk(&self, c: u64) -> (u64, Range<u64>)
+    /// A chunk: the place of its job, its rows, and their price, which is counted anew each time.
+    pub fn chunk(&self, c: u64) -> (u64, Range<u64>, u64)
+        requires { c < length (plan_chunks self.now) }
+        ensures chunk { slice_get (plan_chunks self.now) c ≡ Some (record {
+          job = result.0;
+          first = result.1.start;
+          last = result.1.end;
+          price = result.2;
+        }) }
+        ensures rows { IsChunkOf self.now (record {
+          job = result.0;
+          first = result.1.start;
+          last = result.1.end;
+          price = result.2;
+        }) }
+    {
+        let (job, range) = self.chunk_rows(c);
+        let jobs = self.jobs();
+        let priced = &jobs[job as usize];
+        let price = priced.job().price_of_rows(range.start..range.end);
+        (job, range, price)
+    }
+
+    /// A chunk without its price: the place of its job, and its rows.
+    pub fn chunk_rows(&self, c: u64) -> (u64, Range<u64>)
         requires { c < length (plan_chunks self.now) }
         ensures { IsChunkAt self.now c result.0 result.1.start result.1.end }
     {

@@ -90,7 +90,7 @@ pub fn compute(alloc: Global, scratch: &mut Scratch, plan: &Plan, chunk: u64) ->
     requires { chunk < length (plan_chunks plan.now) }
     ensures { IsMade (run_of plan.now chunk) (calls_of plan.now chunk) result }
 {
-    let (job, range) = plan.chunk(chunk);
+    let (job, range) = plan.chunk_rows(chunk);
     let jobs = plan.jobs();
     let priced = &jobs[job as usize];
     compute_rows(alloc, scratch, priced.job(), priced.column(), range)

@@ -8,12 +8,13 @@ fn plan_of(alloc: Global, operand: Version) -> Result<Plan, Fail> {
     Ok(queue.take()?)
 }
 
-/// A chunk: its job, and its rows from one up to another.
+/// A chunk: its job, its rows from one up to another, and their price.
 #[derive(Clone, Copy, Debug, PartialEq)]
 struct Piece {
     job: u64,
     first: u64,
     end: u64,
+    price: u64,
 }
 
 /// The first 256 rows of an apply on a diagonal.
@@ -21,6 +22,7 @@ const FIRST: Piece = Piece {
     job: 0,
     first: 0,
     end: 256,
+    price: 768,
 };
 
 /// The next 256 rows.
@@ -28,17 +30,19 @@ const SECOND: Piece = Piece {
     job: 0,
     first: 256,
     end: 512,
+    price: 768,
 };
 
 /// A plan has these chunks.
 fn assert_chunks(rt: &impl Abort, plan: &Plan, wanted: &[Piece]) {
     assert_count(rt, plan.chunks(), wanted.len() as u64);
     for c in 0..plan.chunks() {
-        let (job, rows) = plan.chunk(c);
+        let (job, rows, price) = plan.chunk(c);
         let piece = Piece {
             job,
             first: rows.start,
             end: rows.end,
+            price,
         };
         assert_eq!(rt; Some(&piece), wanted.get(c as usize));
     }
@@ -52,6 +56,7 @@ const SHORTER: [Piece; 3] = [
         job: 0,
         first: 512,
         end: 600,
+        price: 264,
     },
 ];
 
@@ -72,6 +77,7 @@ const WITH_ONE_MORE: [Piece; 2] = [
         job: 0,
         first: 256,
         end: 257,
+        price: 3,
     },
 ];
 
@@ -113,16 +119,19 @@ const OF_THREE: [Piece; 4] = [
         job: 0,
         first: 256,
         end: 300,
+        price: 132,
     },
     Piece {
         job: 2,
         first: 0,
         end: 256,
+        price: 0,
     },
     Piece {
         job: 2,
         first: 256,
         end: 300,
+        price: 6,
     },
 ];
 

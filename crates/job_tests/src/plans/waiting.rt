@@ -26,7 +26,7 @@ fn assert_jobs(rt: &impl Abort, plan: &Plan) {
     assert_count(rt, plan.jobs().len() as u64, 64);
     assert_count(rt, plan.chunks(), 64);
     for c in 0..plan.chunks() {
-        assert_eq!(rt; plan.chunk(c), (c, 0..1));
+        assert_eq!(rt; plan.chunk(c), (c, 0..1, 3));
     }
 }
 

@@ -12,21 +12,21 @@ use Rattle.job_runner.proofs.chunk.compute.Goals as goal
 
 pub offset_bounds-jobs-job : goal.offset_bounds-jobs-job
 offset_bounds-jobs-job c =
-    let p = located 0 c.args.plan.now c.args.chunk _ c.chunk-job.ensures.is in
-    let w = slice_get_within c.args.plan.now c.chunk-job.result.0 p.job (place_within c.args.plan.now c.args.chunk _ p) in
+    let p = located 0 c.args.plan.now c.args.chunk _ c.chunk_rows-job.ensures.is in
+    let w = slice_get_within c.args.plan.now c.chunk_rows-job.result.0 p.job (place_within c.args.plan.now c.args.chunk _ p) in
     let f = c.jobs-jobs.ensures.few in
     omega (arith, w, f)
 
 pub bounds-jobs-job : goal.bounds-jobs-job
 bounds-jobs-job c =
-    let p = located 0 c.args.plan.now c.args.chunk _ c.chunk-job.ensures.is in
-    let w = slice_get_within c.args.plan.now c.chunk-job.result.0 p.job (place_within c.args.plan.now c.args.chunk _ p) in
+    let p = located 0 c.args.plan.now c.args.chunk _ c.chunk_rows-job.ensures.is in
+    let w = slice_get_within c.args.plan.now c.chunk_rows-job.result.0 p.job (place_within c.args.plan.now c.args.chunk _ p) in
     let e = ap length c.jobs-jobs.ensures.jobs in
     omega (arith, w, e)
 
 pub compute_rows-requires-clause-range : goal.compute_rows-requires-clause-range
 compute_rows-requires-clause-range c =
-    let p = located 0 c.args.plan.now c.args.chunk _ c.chunk-job.ensures.is in
+    let p = located 0 c.args.plan.now c.args.chunk _ c.chunk_rows-job.ensures.is in
     (place_ordered c.args.plan.now c.args.chunk _ p, place_in_run c.args.plan.now c.args.chunk _ p)
 
 -- the job that is asked for
@@ -37,7 +37,7 @@ same_job jobs borrowed c x p found job b f e =
 
 pub compute_rows-requires-clause-within : goal.compute_rows-requires-clause-within
 compute_rows-requires-clause-within c =
-    let p = located 0 c.args.plan.now c.args.chunk _ c.chunk-job.ensures.is in
+    let p = located 0 c.args.plan.now c.args.chunk _ c.chunk_rows-job.ensures.is in
     place_rows c.args.plan.now c.args.chunk _ c.job.result.now p
     (same_job c.args.plan.now c.jobs-jobs.result.now c.args.chunk _ p c.index-jobs-job.result c.job.result.now
     c.jobs-jobs.ensures.jobs
@@ -47,8 +47,8 @@ pub returns : goal.returns
 returns c =
     let jobs = c.args.plan.now in
     let job = c.job.result.now in
-    let range = c.chunk-job.result.1 in
-    let p = located 0 jobs c.args.chunk _ c.chunk-job.ensures.is in
+    let range = c.chunk_rows-job.result.1 in
+    let p = located 0 jobs c.args.chunk _ c.chunk_rows-job.ensures.is in
     let e = same_job jobs c.jobs-jobs.result.now c.args.chunk _ p c.index-jobs-job.result job c.jobs-jobs.ensures.jobs
     c.index-jobs-job.is c.job.ensures.job in
     let run : Run = record {
