@@ -22,8 +22,8 @@ use Rattle.job_runner.specs.Batch.{total_steps}
 use Rattle.race_board.proofs.Finishing.{all_told, told_finished}
 use Rattle.job_runner.specs.Chunk.{chunk_total, chunk_steps}
 use Rattle.job_runner.specs.inner.Places.{IsFull}
-use Rattle.job_runner.specs.Worked.{recorded, IsEnded, IsPieceOf, StandsAfter}
-use Rattle.job_runner.specs.inner.Crew.{IsGathered}
+use Rattle.job_runner.specs.Worked.{recorded, IsPieceOf, StandsAfter}
+use Rattle.job_runner.specs.inner.Crew.{IsEnded, IsGathered}
 use Rattle.job_runner.proofs.Listed.{summed-split}
 use Rattle.job_runner.proofs.Joined.{total_of_jobs}
 use Rattle.job_runner.proofs.Costs.{all_listed}

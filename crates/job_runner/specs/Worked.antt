@@ -5,7 +5,6 @@ use Rattle.race_board.specs.Race.{BoardState, SeatState, IsSeatOf, steps_of}
 use Rattle.race_board.specs.declared.stand.Stand.{Stand}
 use Rattle.race_board.specs.declared.stand.Stand.TheVariants.{ToldEnd, Failed}
 use Rattle.job_plan.specs.Job.{Job}
-use Rattle.job_runner.specs.declared.gathered.Ended.{Ended}
 use Rattle.job_runner.specs.declared.piece.Piece.{Piece}
 use Rattle.job_runner.specs.declared.worker.Worked.{Worked}
 use Rattle.job_runner.specs.Chunk.{chunk_total, run_of, chunk_steps}
@@ -34,10 +33,3 @@ pub record HasWorked (board : BoardState) (jobs : List Job) (before after : Seat
   pub pieces : AllByRecursion (IsPieceOf jobs) w.pieces.items
   pub stands : StandsAfter jobs w.failed after.worker.stand
   pub spent : steps_of after.worker ≡ steps_of before.worker + w.spent
-
--- a worker of this board that has ended: its pieces are right, and are what its seat tells
-pub record IsEnded (board : BoardState) (jobs : List Job) (e : Ended) : Type 0 where
-  pub own : IsSeatOf board e.seat
-  pub done : e.seat.worker.done ≡ recorded e.worked.pieces.items
-  pub pieces : AllByRecursion (IsPieceOf jobs) e.worked.pieces.items
-  pub stands : StandsAfter jobs e.worked.failed e.seat.worker.stand

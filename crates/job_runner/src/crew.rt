@@ -4,8 +4,7 @@ ghost use Rattle.std.specs.Prelude.{vec_len, vec_capacity};
 ghost use Rattle.std.specs.List.{AllByRecursion};
 ghost use Rattle.race_board.specs.Race.{MayDrawAt};
 ghost use Rattle.job_plan.specs.Chunks.{prices_of};
-ghost use Rattle.job_runner.specs.Worked.{IsEnded};
-ghost use Rattle.job_runner.specs.inner.Crew.{AreFresh, IsGathered, IsRoomFor, IsStarted, IsWorked};
+ghost use Rattle.job_runner.specs.inner.Crew.{AreFresh, IsEnded, IsGathered, IsRoomFor, IsStarted, IsWorked};
 
 use crate::answer::Cause;
 use crate::chunk::Kept;
@@ -20,7 +19,7 @@ use std::thread;
 use std::thread::{Promise, PromisedHandle, Scope, Threads};
 
 impl<'a> Promise<Ended> for Task<'a> {
-    ghost use Rattle.job_runner.specs.Worked.{IsEnded};
+    ghost use Rattle.job_runner.specs.inner.Crew.{IsEnded};
 
     ghost kept_by = { λ t e. IsEnded t.board.now t.plan.now e };
 }

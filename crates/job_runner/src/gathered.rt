@@ -1,8 +1,7 @@
 //! What came back of the workers that have ended.
 ghost use Rattle.std.specs.Prelude.{◌≡◌, ◌<◌, ◌≤◌, ◌+◌, [], IfOk, vec_len, vec_capacity};
 ghost use Rattle.race_board.specs.Race.{BoardState};
-ghost use Rattle.job_runner.specs.Worked.{IsEnded};
-ghost use Rattle.job_runner.specs.inner.Crew.{IsGathered};
+ghost use Rattle.job_runner.specs.inner.Crew.{IsEnded, IsGathered};
 
 use crate::piece::Piece;
 use crate::places::{no_pieces, put};

@@ -32,5 +32,4 @@ pub use board::open_board;
 pub use chunk::{Kept, Scratch, compute};
 pub use gate::{Gate, Open};
 pub use piece::Piece;
-pub use task::Task;
 pub use worker::{Worked, work};

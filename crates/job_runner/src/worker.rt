@@ -11,7 +11,8 @@ use crate::gate::Gate;
 use crate::piece::Piece;
 use crate::task::Task;
 use job_forms::Made;
-use race_board::BoardSeat;
+use job_plan::Plan;
+use race_board::{Board, BoardSeat};
 use std::alloc::{AllocError, Global};
 
 /// What a worker did: the pieces of the chunks that it completed, in order of its draws, the steps of all its calls, and whether it
@@ -23,14 +24,20 @@ pub struct Worked {
     pub failed: bool,
 }
 
-/// Draws chunks, computes them and completes them, until the seat is told the end or a chunk fails for want of memory.
-pub fn work<G: Gate>(alloc: Global, task: Task<'_>, seat: &mut BoardSeat, gate: &G) -> Worked
-    requires ready { MayDrawAt task.board.now seat.old }
-    requires prices { task.board.now.prices ≡ prices_of task.plan.now }
-    ensures { HasWorked task.entry.board.now task.entry.plan.now seat.old seat.new result }
+/// Draws chunks of a plan, computes them and completes them, until the seat is told the end or a chunk fails for want of memory.
+pub fn work<G: Gate>(
+    alloc: Global,
+    plan: &Plan,
+    board: &Board,
+    seat: &mut BoardSeat,
+    gate: &G,
+) -> Worked
+    requires ready { MayDrawAt board.now seat.old }
+    requires prices { board.now.prices ≡ prices_of plan.now }
+    ensures { HasWorked board.now plan.now seat.old seat.new result }
 {
     let mut kept = Kept::new();
-    work_by(alloc, &mut kept, task, seat, gate)
+    work_by(alloc, &mut kept, Task { plan, board }, seat, gate)
 }
 
 /// The same, with what is kept from batch to batch.

@@ -4,6 +4,7 @@ use bpf_run::Prepared;
 use csr_store::{Builder, Matrix, Version};
 use job_plan::{Form, Job, Plan, Priced, Queue};
 use job_runner::{BatchAnswer, Open, run_batch};
+use race_board::Board;
 use std::alloc::{AllocError, Global};
 use std::process::Abort;
 use std::sync::{Arc, Wait};
@@ -14,6 +15,13 @@ use test_operators::{INCREMENT, MULTIPLY, SUBTRACT, assembled};
 mod passes;
 mod seats;
 mod workers;
+
+/// What workers share: a plan, and the board on which its chunks are drawn.
+#[derive(Clone, Copy)]
+struct Task<'a> {
+    plan: &'a Plan,
+    board: &'a Board,
+}
 
 /// A row and a column, from 0, and the value that stands there.
 type Entry = (u64, u64, u64);

@@ -1,15 +1,25 @@
 -- What the workers of a batch did who have ended. This project's own.
 use Rattle.std.specs.Prelude.{◌≡◌, ℕ, ◌<◌, ◌≤◌, List, [], Bool, true, false, Option, None, Some, All}
 use Rattle.std.specs.Prelude.{vec_len, vec_capacity}
+use Rattle.std.specs.List.{AllByRecursion}
 use Rattle.job_plan.specs.Job.{Job}
 use Rattle.job_plan.specs.Chunks.{prices_of}
 use Rattle.race_board.specs.Race.{BoardState, SeatState, IsSeatOf, IsToldEnd, MayDrawAt, workers_of}
 use Rattle.race_board.specs.Chunks.{CostAtMost, CostJust, completed_by, recorded_by, times_in}
 use Rattle.job_runner.specs.declared.answer.Cause.{Cause}
 use Rattle.job_runner.specs.declared.answer.Cause.TheVariants.{Thread}
+use Rattle.job_runner.specs.declared.gathered.Ended.{Ended}
 use Rattle.job_runner.specs.declared.gathered.Gathered.{Gathered}
 use Rattle.job_runner.specs.Chunk.{chunk_steps}
+use Rattle.job_runner.specs.Worked.{IsPieceOf, StandsAfter, recorded}
 use Rattle.job_runner.specs.inner.Places.{ArePlaces, IsFull}
+
+-- a worker of this board that has ended: its pieces are right, and are what its seat tells
+pub record IsEnded (board : BoardState) (jobs : List Job) (e : Ended) : Type 0 where
+  pub own : IsSeatOf board e.seat
+  pub done : e.seat.worker.done ≡ recorded e.worked.pieces.items
+  pub pieces : AllByRecursion (IsPieceOf jobs) e.worked.pieces.items
+  pub stands : StandsAfter jobs e.worked.failed e.seat.worker.stand
 
 -- of some workers that have ended: each chunk that they completed has its piece at its place, and took just its steps; and no chunk
 -- that they recorded took more

@@ -4,9 +4,9 @@ ghost use Rattle.race_board.specs.Race.{IsSeatOf, MayDrawAt};
 ghost use Rattle.race_board.specs.declared.stand.Stand.TheVariants.{Holds};
 ghost use Rattle.job_plan.specs.Chunks.{prices_of};
 
-use super::increments;
+use super::{Task, increments};
 use job_plan::Plan;
-use job_runner::{Open, Piece, Task, Worked, open_board, work};
+use job_runner::{Open, Piece, Worked, open_board, work};
 use race_board::{Board, BoardSeat, Totals};
 use std::alloc::{AllocError, Global};
 use std::process::Abort;
@@ -63,7 +63,7 @@ fn work_at(alloc: Global, task: Task<'_>, seat: BoardSeat) -> Ended
     ensures { IsSeatOf task.entry.board.now result.seat }
 {
     let mut seat = seat;
-    let worked = work(alloc, task, &mut seat, &Open);
+    let worked = work(alloc, task.plan, task.board, &mut seat, &Open);
     Ended { seat, worked }
 }
 

@@ -3,12 +3,12 @@ ghost use Rattle.std.specs.Prelude.{◌≡◌, ◌≤◌, [], IfOk, All};
 ghost use Rattle.race_board.specs.Race.{IsSeatOf, MayDrawAt, SeatState};
 ghost use Rattle.job_plan.specs.Chunks.{prices_of};
 
-use super::{diagonal, increments, is_incremented, operator, plan_of, put, version};
+use super::{Task, diagonal, increments, is_incremented, operator, plan_of, put, version};
 use bpf_insn::Kind;
 use bpf_run::Prepared;
 use csr_store::{Builder, Version};
 use job_plan::{Form, Plan};
-use job_runner::{BatchAnswer, BatchFault, Cause, Gate, Open, Task, open_board, run_batch, work};
+use job_runner::{BatchAnswer, BatchFault, Cause, Gate, Open, open_board, run_batch, work};
 use race_board::{BoardSeat, Totals};
 use std::alloc::{AllocError, Global};
 use std::process::Abort;
@@ -241,7 +241,7 @@ fn work_each(
     let mut ended = Vec::new(alloc);
     for seat in seats {
         let mut seat = seat;
-        let _worked = work(alloc, task, &mut seat, &Open);
+        let _worked = work(alloc, task.plan, task.board, &mut seat, &Open);
         ended.push(seat)?;
     }
     Ok(ended)
