@@ -1,3 +1,4 @@
 -- What serves this crate's own modules. The program has no public contract.
 pub mod Running
 pub mod Address
+pub mod Serving

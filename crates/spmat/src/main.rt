@@ -4,26 +4,27 @@
 //! makes devices of standard input and output, and `serving` has sessions over TCP.
 //!
 //! What a session reads, does and writes is the contract of `run_on` and of `solo::run` (`specs/inner/Running.antt`), and for one of
-//! many that of `listener::serve_within`. How serving a listener ends is the contract of `listener::serve_entrance`.
+//! many that of `listener::serve_within`. Which server settings ask for is the contract of `open_server` (`specs/inner/Serving.antt`),
+//! and how serving a listener ends that of `listener::serve_entrance`.
 #![tactic(auto)]
 
 ghost use Rattle.std.specs.Prelude.{◌≡◌, IfOk, Result};
 ghost use Rattle.session.specs.declared.end.End.{End};
 ghost use Rattle.session.specs.declared.end.ServeFault.{ServeFault};
 ghost use Rattle.command_line.specs.InRange.{HasRoom, IsInRange};
-ghost use Rattle.spmat.specs.inner.Running.{IsDoneAs, IsTold, RanOver};
+ghost use Rattle.spmat.specs.inner.Running.{IsDoneAs, IsRunOf, IsTold, RanOver};
 
 mod serving;
 mod solo;
 mod standard;
 
-use crate::serving::{Log, serve};
+use crate::serving::{open_server, serve};
 use crate::solo::run_over;
 use crate::standard::Side;
 use command_line::{
     Done, Failure, Settings, SettingsFault, VERSION, ending_of, finish, settings_of,
 };
-use listener::{Cause, Limits, LogFormat, ServeFault, Terms};
+use listener::{Cause, ServeFault};
 use std::io::{ErrorKind, Read, Write};
 use std::net::{Net, TcpListener, TcpStream};
 use std::process::ExitCode;
@@ -86,25 +87,12 @@ fn run_on<R: Read + Drop, W: Write + Drop, H: Threads + Wait + AllocGlobal>(
     }
 }
 
-/// The log that the words of the command line ask for: by its flag, or by how it is to be.
-fn log_of(is_asked: bool, format: Option<LogFormat>, every: Option<u64>) -> Option<Log> {
-    if is_asked || format.is_some() || every.is_some() {
-        let format = match format {
-            Some(format) => format,
-            None => LogFormat::Text,
-        };
-        Some(Log { format, every })
-    } else {
-        None
-    }
-}
-
 /// Serves one session on standard input and output.
 fn run<H>(rt: &H, steps: u64, workers: u64, idle: Option<u64>) -> Result<Done, Failure>
 where
     H: Input + Print + Threads + Wait + AllocGlobal,
     requires { HasRoom steps workers }
-    ensures { (ran : Result End ServeFault) × IsTold ran result }
+    ensures { IsRunOf steps workers result }
 {
     run_on(rt, rt.reader(), io::writer(rt), steps, workers, idle)
 }
@@ -130,28 +118,8 @@ where
             workers,
             idle,
         } => run(rt, steps, workers, idle),
-        Settings::Serve {
-            port,
-            steps,
-            workers,
-            sessions,
-            idle,
-            session_steps,
-            session_reserve,
-            log,
-            log_format,
-            log_every,
-        } => {
-            let terms = Terms {
-                workers,
-                sessions,
-                idle,
-                limits: Limits {
-                    steps: session_steps,
-                    reserve: session_reserve,
-                },
-            };
-            serve(rt, port, steps, terms, log_of(log, log_format, log_every))?;
+        Settings::Serve { .. } => {
+            serve(rt, open_server(rt, settings)?)?;
             Ok(Done::Sessions)
         }
     }

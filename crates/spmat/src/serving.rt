@@ -1,10 +1,12 @@
 //! Sessions over TCP.
-ghost use Rattle.std.specs.Prelude.{◌≡◌, ◌≢◌, ◌≤◌, ◌<◌, ◌^◌, None, OnOk, IfOk};
+ghost use Rattle.std.specs.Prelude.{◌≡◌, ◌≢◌, ◌≤◌, ◌<◌, ◌^◌, None, OnOk, IfOk, IfErr};
 ghost use Rattle.step_purse.specs.Passes.{IsPassOf};
+ghost use Rattle.command_line.specs.InRange.{IsInRange};
 ghost use Rattle.spmat.specs.inner.Address.{IsLocal};
+ghost use Rattle.spmat.specs.inner.Serving.{IsOfServer, IsOpened, IsServerOf, MayRefuse};
 
-use command_line::Failure;
-use listener::{Cause, Journal, ListenFault, LogFormat, Terms, serve_listener};
+use command_line::{Failure, Settings};
+use listener::{Cause, Journal, Limits, ListenFault, LogFormat, Terms, serve_listener};
 use std::alloc::{AllocError, Global};
 use std::net::{IpAddr, Ipv4Addr, Net, SocketAddr, TcpListener, TcpStream};
 use std::sync::Wait;
@@ -17,6 +19,18 @@ use step_purse::{Pass, Purse};
 pub struct Log {
     pub format: LogFormat,
     pub every: Option<u64>,
+}
+
+/// A server that listens: its listener with the address that it was bound to, its purse with the one pass, the terms of its
+/// sessions, and what their log is gathered in, if there is one.
+#[derive(Drop)]
+pub struct Server {
+    listener: TcpListener,
+    address: SocketAddr,
+    purse: Purse,
+    pass: Pass,
+    terms: Terms,
+    journal: Option<Journal>,
 }
 
 /// A purse of so many steps, with its one pass.
@@ -36,21 +50,45 @@ fn local_address(port: u16) -> SocketAddr
     SocketAddr::new(IpAddr::V4(Ipv4Addr::new(127, 0, 0, 1)), port)
 }
 
-/// Listens on a port of this machine.
+/// Listens on a port of this machine, and tells the address.
 ///
 /// # Errors
 ///
 /// The system refuses it.
-fn listen<H>(rt: &H, port: u16) -> Result<TcpListener, Failure>
+fn listen<H>(rt: &H, port: u16) -> Result<(TcpListener, SocketAddr), Failure>
 where
     H: Net<Listener = TcpListener, Stream = TcpStream>,
+    ensures local { IfOk result (λ r. IsLocal port r.1) }
+    ensures refused { IfErr result (λ failure. MayRefuse port failure) }
 {
-    match TcpListener::bind(rt, local_address(port)) {
-        Ok(listener) => Ok(listener),
+    let address = local_address(port);
+    match TcpListener::bind(rt, address) {
+        Ok(listener) => Ok((listener, address)),
         Err(error) => Err(Failure::Binding {
             port,
             cause: Cause::of(&error),
         }),
+    }
+}
+
+/// The log that the words of the command line ask for: by its flag, or by how it is to be.
+fn log_of(is_asked: bool, format: Option<LogFormat>, every: Option<u64>) -> Option<Log> {
+    if is_asked || format.is_some() || every.is_some() {
+        let format = match format {
+            Some(format) => format,
+            None => LogFormat::Text,
+        };
+        Some(Log { format, every })
+    } else {
+        None
+    }
+}
+
+/// What a log is gathered in, if there is to be one.
+fn journal_of(alloc: Global, log: Option<Log>) -> Result<Option<Journal>, AllocError> {
+    match log {
+        Some(Log { format, every }) => Ok(Some(Journal::new(alloc, format, every)?)),
+        None => Ok(None),
     }
 }
 
@@ -83,45 +121,102 @@ where
     served
 }
 
-/// Serves sessions on a port of this machine, on one purse of so many steps, with a log of them or without.
+/// The server that settings of `serve` ask for, which listens on a port of this machine and has said so.
 ///
 /// # Errors
 ///
 /// In this order: there is no memory for the purse, or the log; the port can't be bound; the line `listening P` can't be
-/// written; no more connections are taken.
-pub fn serve<H>(
+/// written.
+pub fn open_server<H>(rt: &H, settings: Settings) -> Result<Server, Failure>
+where
+    H: Net<Listener = TcpListener, Stream = TcpStream> + Print + AllocGlobal,
+    requires range { IsInRange settings }
+    requires serve { IsOfServer settings }
+    ensures opened { IfOk result (λ server. IsServerOf settings server) }
+{
+    match settings {
+        Settings::Serve {
+            port,
+            steps,
+            workers,
+            sessions,
+            idle,
+            session_steps,
+            session_reserve,
+            log,
+            log_format,
+            log_every,
+        } => {
+            let terms = Terms {
+                workers,
+                sessions,
+                idle,
+                limits: Limits {
+                    steps: session_steps,
+                    reserve: session_reserve,
+                },
+            };
+            open_on(rt, port, steps, terms, log_of(log, log_format, log_every))
+        }
+        Settings::Run { .. } => unreachable!(),
+    }
+}
+
+/// The same, on these terms.
+fn open_on<H>(
     rt: &H,
     port: u16,
     steps: u64,
     terms: Terms,
     log: Option<Log>,
-) -> Result<(), Failure>
+) -> Result<Server, Failure>
 where
-    H: Net<Listener = TcpListener, Stream = TcpStream>
-        + Threads
-        + Wait
-        + Clock
-        + Sync
-        + Print
-        + Eprint
-        + AllocGlobal,
+    H: Net<Listener = TcpListener, Stream = TcpStream> + Print + AllocGlobal,
     requires { steps ≤ 2 ^ 62 }
-    ensures { OnOk result (terms.sessions ≢ None) }
+    ensures opened { IfOk result (λ server. IsOpened port steps server) }
+    ensures terms { IfOk result (λ server. server.terms ≡ terms) }
+    ensures refused { IfErr result (λ failure. MayRefuse port failure) }
 {
     let Ok((purse, pass)) = prepare(rt.alloc(), steps) else {
         return Err(Failure::Memory);
     };
-    let journal = match log {
-        Some(Log { format, every }) => match Journal::new(rt.alloc(), format, every) {
-            Ok(journal) => Some(journal),
-            Err(_) => return Err(Failure::Memory),
-        },
-        None => None,
+    let Ok(journal) = journal_of(rt.alloc(), log) else {
+        return Err(Failure::Memory);
     };
-    let listener = listen(rt, port)?;
+    let (listener, address) = listen(rt, port)?;
     if let Err(error) = println!(rt; "listening {port}") {
         return Err(Failure::Output(Cause::of(&error)));
     }
+    Ok(Server {
+        listener,
+        address,
+        purse,
+        pass,
+        terms,
+        journal,
+    })
+}
+
+/// Serves sessions until their number is reached, or no more connections are taken.
+///
+/// # Errors
+///
+/// No more connections are taken, or there was no memory for the first session.
+pub fn serve<H>(rt: &H, server: Server) -> Result<(), Failure>
+where
+    H: Threads + Wait + Clock + Sync + Eprint + AllocGlobal,
+    requires own { IsPassOf server.purse server.pass }
+    requires whole { 0 < server.pass.known.share.wholes }
+    ensures { OnOk result (server.terms.sessions ≢ None) }
+{
+    let Server {
+        listener,
+        address: _,
+        purse,
+        pass,
+        terms,
+        journal,
+    } = server;
     let served = match &journal {
         Some(journal) => serve_logged(rt, journal, &listener, &purse, pass, terms),
         None => serve_listener(rt, &listener, &purse, pass, terms, None),

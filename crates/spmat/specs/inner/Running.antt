@@ -54,9 +54,15 @@ abbrev pub IsTold : Result End ServeFault → Result Done Failure → Type 0
 IsTold (Ok end) told = told ≡ Ok (done.Session end)
 IsTold (Err fault) told = (cause : Option Cause) × (told ≡ Err (failures.Session fault cause))
 
--- What is told of what settings ask for: of one session how it ended, and of a server that all its sessions have ended only where
--- their number was given.
+-- One session on the standard streams, whatever bytes these tell, of so many steps and workers; and how it ended is what is told.
+abbrev pub IsRunOf : (steps workers : ℕ) → Result Done Failure → Type 0
+IsRunOf steps workers told =
+    (input : Option (List ℕ)) × (output : Option (List ℕ)) × (ran : Result End ServeFault)
+    × RanOver steps workers input output ran × IsTold ran told
+
+-- What is told of what settings ask for: of one session of their steps and workers how it ended, and of a server that all its
+-- sessions have ended only where their number was given.
 abbrev pub IsDoneAs : Settings → Result Done Failure → Type 0
-IsDoneAs (Run steps workers idle) told = (ran : Result End ServeFault) × IsTold ran told
+IsDoneAs (Run steps workers idle) told = IsRunOf steps workers told
 IsDoneAs (Serve port steps workers sessions idle session_steps session_reserve log log_format log_every) told =
     IfOk told (λ d. (d ≡ done.Sessions) × (sessions ≢ None))
