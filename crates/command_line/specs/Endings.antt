@@ -17,7 +17,7 @@ use Rattle.command_line.specs.declared.ending.Message.{Message}
 use Rattle.command_line.specs.declared.ending.Message.TheVariants as messages
 use Rattle.command_line.specs.declared.ending.Status.{Status}
 use Rattle.command_line.specs.declared.ending.Status.TheVariants as statuses
-use Rattle.command_line.specs.declared.settings.SettingsFault.TheVariants.{Words, Version, Memory}
+use Rattle.command_line.specs.declared.asked.SettingsFault.TheVariants.{Words, Version, Memory}
 
 -- the number of each status
 abbrev pub code_of : Status → ℕ

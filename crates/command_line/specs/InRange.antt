@@ -1,7 +1,7 @@
 -- The numbers that the command line of the program takes (this project's own).
 use Rattle.std.specs.Prelude.{ℕ, ◌≤◌, ◌^◌, Option, IfSome}
-use Rattle.command_line.specs.declared.settings.Settings.{Settings}
-use Rattle.command_line.specs.declared.settings.Settings.TheVariants.{Run, Serve}
+use Rattle.command_line.specs.declared.asked.Settings.{Settings}
+use Rattle.command_line.specs.declared.asked.Settings.TheVariants.{Run, Serve}
 
 -- none, or a number from 1 to the most
 abbrev pub IsWithin : ℕ → Option ℕ → Type 0

@@ -12,8 +12,8 @@ use Rattle.clap.specs.declared.builder.value_parser.ValueParser.{ValueParser}
 use Rattle.clap.specs.declared.builder.value_parser.ValueParser.TheVariants.{Unsigned, String as TextParser}
 use Rattle.listener.specs.declared.journal.LogFormat.{LogFormat}
 use Rattle.listener.specs.declared.journal.LogFormat.TheVariants as formats
-use Rattle.command_line.specs.declared.settings.Settings.{Settings}
-use Rattle.command_line.specs.declared.settings.Settings.TheVariants.{Run, Serve}
+use Rattle.command_line.specs.declared.asked.Settings.{Settings}
+use Rattle.command_line.specs.declared.asked.Settings.TheVariants.{Run, Serve}
 
 -- an option `--NAME N`, which may have to be given
 abbrev pub number_option : Text → ValueParser → Bool → Rule

@@ -4,7 +4,7 @@ ghost use Rattle.std.specs.Process.{exit_status};
 ghost use Rattle.command_line.specs.Endings.{code_of, status_of, said_by, session_words, words_of, failed_by, detail_in, detail_of};
 ghost use Rattle.command_line.specs.declared.ending.Failure.TheVariants as failures;
 
-use crate::settings::SettingsFault;
+use crate::asked::SettingsFault;
 use listener::{Cause, End, ListenFault, ServeFault};
 use std::fmt;
 use std::process::ExitCode;

@@ -1,7 +1,7 @@
 //! The words of the command line, and the statuses.
 use crate::ending::{Detail, Done, Ending, Failure, Fault, Message, Status, ending_of, finish};
-use crate::settings::{Settings, SettingsFault};
-use crate::words::settings_of;
+use crate::asked::{Settings, SettingsFault};
+use crate::words::settings;
 use listener::{Cause, End, FatalRule, ListenFault, LogFormat, ServeFault};
 use std::alloc::Global;
 use std::io;
@@ -11,7 +11,7 @@ use std::test::Fail;
 /// The settings of a command line whose words stand between single blanks.
 fn settings_from(alloc: Global, line: &str) -> Result<Settings, SettingsFault> {
     let words: Vec<&str> = line.split(' ').collect(alloc)?;
-    settings_of(alloc, words.as_slice())
+    settings(alloc, words.as_slice())
 }
 
 /// Settings of `run`.

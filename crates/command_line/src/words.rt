@@ -8,7 +8,7 @@ ghost use Rattle.listener.specs.declared.journal.LogFormat.{LogFormat};
 ghost use Rattle.command_line.specs.InRange.{IsInRange, IsWithin};
 
 use crate::grammar::{LAST_PORT, MOST_SECONDS, MOST_SESSIONS, MOST_STEPS, MOST_WORKERS, program};
-use crate::settings::{Settings, SettingsFault};
+use crate::asked::{Settings, SettingsFault};
 use clap::ArgMatches;
 use clap::error::ErrorKind;
 use listener::LogFormat;
@@ -169,7 +169,7 @@ fn settings_in(name: &str, matches: &ArgMatches<'_>) -> Option<Settings>
 ///
 /// `Words` with the text of `clap`, where it refuses them or they ask for help, `Version`, where they ask for the version, and
 /// `Memory`. Words that `clap` takes, with numbers in their ranges, are refused only where memory runs out.
-pub fn settings_of<'a, S: AsStr>(alloc: Global, words: &'a [S]) -> Result<Settings, SettingsFault>
+pub fn settings<'a, S: AsStr>(alloc: Global, words: &'a [S]) -> Result<Settings, SettingsFault>
     ensures asked { IfOk result (λ s. IsAsked (map S.text words.now) s) }
     ensures range { IfOk result (λ s. IsInRange s) }
     ensures taken { (s : Settings) → takes line.program (map S.text words.now) ≡ true →

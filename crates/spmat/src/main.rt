@@ -22,7 +22,7 @@ use crate::serving::{open_server, serve};
 use crate::solo::run_over;
 use crate::standard::Side;
 use command_line::{
-    Done, Failure, Settings, SettingsFault, VERSION, ending_of, finish, settings_of,
+    Done, Failure, Settings, SettingsFault, VERSION, ending_of, finish, settings,
 };
 use listener::{Cause, ServeFault};
 use std::io::{ErrorKind, Read, Write};
@@ -45,7 +45,7 @@ fn read_settings<H: Env + AllocGlobal>(rt: &H) -> Result<Settings, SettingsFault
         Err(error) if error.kind() == ErrorKind::OutOfMemory => return Err(SettingsFault::Memory),
         Err(_) => return Err(SettingsFault::Words(String::from_str(rt.alloc(), NOT_TEXT)?)),
     };
-    settings_of(rt.alloc(), words.as_slice())
+    settings(rt.alloc(), words.as_slice())
 }
 
 /// Tells the version on standard output.

@@ -15,8 +15,8 @@ use Rattle.command_line.specs.declared.ending.Done.{Done}
 use Rattle.command_line.specs.declared.ending.Done.TheVariants as done
 use Rattle.command_line.specs.declared.ending.Failure.{Failure}
 use Rattle.command_line.specs.declared.ending.Failure.TheVariants as failures
-use Rattle.command_line.specs.declared.settings.Settings.{Settings}
-use Rattle.command_line.specs.declared.settings.Settings.TheVariants.{Run, Serve}
+use Rattle.command_line.specs.declared.asked.Settings.{Settings}
+use Rattle.command_line.specs.declared.asked.Settings.TheVariants.{Run, Serve}
 
 -- what a session reads from and writes to
 pub record Devices : Type 0 where

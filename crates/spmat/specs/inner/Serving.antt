@@ -4,8 +4,8 @@ use Rattle.step_purse.specs.Passes.{IsPassOf}
 use Rattle.listener.specs.declared.limits.Limits.{Limits}
 use Rattle.command_line.specs.declared.ending.Failure.{Failure}
 use Rattle.command_line.specs.declared.ending.Failure.TheVariants as failures
-use Rattle.command_line.specs.declared.settings.Settings.{Settings}
-use Rattle.command_line.specs.declared.settings.Settings.TheVariants.{Run, Serve}
+use Rattle.command_line.specs.declared.asked.Settings.{Settings}
+use Rattle.command_line.specs.declared.asked.Settings.TheVariants.{Run, Serve}
 use Rattle.spmat.specs.declared.serving.Server.{Server}
 use Rattle.spmat.specs.inner.Address.{IsLocal}
 

@@ -4,12 +4,12 @@ use Rattle.clap.specs.Words.{App, IsAmong, Row, Text, fault_of, found_of, is_sim
 use Rattle.clap.specs.Simple.{HasMatchesOf, subcommand_rows_of}
 use Rattle.clap.specs.Matches.{subcommand_name_of}
 use Rattle.clap.specs.declared.parser.matches.ArgMatches.{ArgMatches}
-use Rattle.command_line.specs.declared.settings.Settings.{Settings}
+use Rattle.command_line.specs.declared.asked.Settings.{Settings}
 use Rattle.clap.specs.declared.error.kind.ErrorKind.{ErrorKind}
 use Rattle.clap.specs.declared.error.kind.ErrorKind.TheVariants.{DisplayVersion, OutOfMemory}
 use Rattle.command_line.specs.Words.{AsksVersion, IsAskedBy, IsAskedIn, MayAskVersion, program}
-use Rattle.command_line.proofs.words.settings_of.Goals as goal
-use Rattle.command_line.proofs.words.settings_of.Goals.{in-Some+in_default-settings_in, in_default}
+use Rattle.command_line.proofs.words.settings.Goals as goal
+use Rattle.command_line.proofs.words.settings.Goals.{in-Some+in_default-settings_in, in_default}
 
 -- no argument of the grammar has a rule on another
 simple : (app : App) → app ≡ program → is_simple_and_free app ≡ true

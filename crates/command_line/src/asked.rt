@@ -1,6 +1,6 @@
 //! What the program is asked to do, and why it can't be told.
 ghost use Rattle.std.specs.Prelude.{◌≡◌};
-ghost use Rattle.command_line.specs.declared.settings.SettingsFault.TheVariants.{Memory};
+ghost use Rattle.command_line.specs.declared.asked.SettingsFault.TheVariants.{Memory};
 
 use listener::LogFormat;
 use std::alloc::{AllocError, AllocFailed};
