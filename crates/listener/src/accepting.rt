@@ -10,8 +10,10 @@ use crate::entrance::{AcceptFailed, Entrance, FromListener};
 use crate::fault::ListenFault;
 use crate::house::{House, Terms};
 use crate::journal::Journal;
+use crate::limits::Limits;
 use crate::seats::SEATS;
 use session::Room;
+use std::alloc::Global;
 use std::marker::Brand;
 use std::net::{OpenListener, TcpStream};
 use std::sync::Wait;
@@ -183,36 +185,37 @@ pub fn serve_entrance<
     )
 }
 
-/// What sessions draw on: a purse, and a pass of it that can give others.
+/// What sessions draw on: memory, a purse, and a pass of it that can give others.
 #[derive(Drop)]
-struct Funds<'p> {
-    purse: &'p Purse,
-    pass: Pass,
+pub struct Supply<'p> {
+    pub alloc: Global,
+    pub purse: &'p Purse,
+    pub pass: Pass,
 }
 
-/// As `serve_listener`, with the counts by ledgers of the caller's: of seats, of accepted connections and of failures.
+/// As `serve_on_terms`, with the counts by ledgers of the caller's: of seats, of accepted connections and of failures.
 fn serve_counted<
     N: OpenListener<Stream = TcpStream>,
-    R: Threads + Wait + Clock + Sync + AllocGlobal,
+    R: Threads + Wait + Clock + Sync,
     L: Ledger + Send + Sync,
     C: Ledger,
     F: Ledger,
 >(
     rt: &R,
     listener: &N,
-    funds: Funds<'_>,
+    supply: Supply<'_>,
     terms: Terms,
     journal: Option<&Journal>,
     blanks: (Blank, Blank, Blank),
 ) -> Result<(), ListenFault>
-    requires funds { IsPassOf funds.purse.now funds.pass × (0 < funds.pass.known.share.wholes) }
+    requires supply { IsPassOf supply.purse.now supply.pass × (0 < supply.pass.known.share.wholes) }
     requires seats { (blanks.0.name ≡ L.name) × (blanks.0.parts ≡ L.parts) × (blanks.0.parts ≡ 16) }
     requires counts { IsNewCount blanks.1 C.name C.parts × IsNewCount blanks.2 F.name F.parts }
     ensures { OnOk result (terms.sessions ≢ None) }
 {
-    let Funds { purse, pass } = funds;
+    let Supply { alloc, purse, pass } = supply;
     let (seats, accepted, failures) = blanks;
-    let house = House::<L>::new(rt.alloc(), purse, terms, journal, seats);
+    let house = House::<L>::new(alloc, purse, terms, journal, seats);
     let entrance = FromListener::<N, C, F>::new(listener, accepted, failures);
     let (_entrance, ended) = serve_entrance(rt, &house, entrance, pass);
     ended
@@ -228,20 +231,50 @@ fn serve_counted<
 /// could not be accepted; sessions that run go on to their ends first.
 pub fn serve_listener<
     N: OpenListener<Stream = TcpStream>,
-    R: Threads + Wait + Clock + Sync + AllocGlobal,
+    R: Threads + Wait + Clock + Sync,
 >(
     rt: &R,
+    alloc: Global,
     listener: &N,
     purse: &Purse,
     pass: Pass,
+    workers: u64,
+    sessions: Option<u64>,
+) -> Result<(), ListenFault>
+    requires workers { (1 ≤ workers) × (workers ≤ 64) }
+    requires own { IsPassOf purse.now pass }
+    requires whole { 0 < pass.known.share.wholes }
+    ensures { OnOk result (sessions ≢ None) }
+{
+    let supply = Supply { alloc, purse, pass };
+    let terms = Terms {
+        workers,
+        sessions,
+        idle: None,
+        limits: Limits::none(),
+    };
+    serve_on_terms(rt, listener, supply, terms, None)
+}
+
+/// As `serve_listener`, on terms that may also bound how long a session waits and what it may take, and with a log or without.
+///
+/// # Errors
+///
+/// As those of `serve_listener`.
+pub fn serve_on_terms<
+    N: OpenListener<Stream = TcpStream>,
+    R: Threads + Wait + Clock + Sync,
+>(
+    rt: &R,
+    listener: &N,
+    supply: Supply<'_>,
     terms: Terms,
     journal: Option<&Journal>,
 ) -> Result<(), ListenFault>
-    requires own { IsPassOf purse.now pass }
-    requires whole { 0 < pass.known.share.wholes }
+    requires own { IsPassOf supply.purse.now supply.pass }
+    requires whole { 0 < supply.pass.known.share.wholes }
     ensures { OnOk result (terms.sessions ≢ None) }
 {
     let blanks = (Blank::new(SEATS), Blank::new(1), Blank::new(1));
-    let funds = Funds { purse, pass };
-    serve_counted::<N, R, Brand, Brand, Brand>(rt, listener, funds, terms, journal, blanks)
+    serve_counted::<N, R, Brand, Brand, Brand>(rt, listener, supply, terms, journal, blanks)
 }

@@ -16,7 +16,7 @@
 //!
 //! Read `streams` first (one session), with `meter` (its budget) and `limits`; then `seats`, `entrance` (what connections come in by),
 //! `connection` (one connection from its start to its end), `patient` (for how long a session waits for its client), `house` (what
-//! all sessions share) and `accepting`, from `serve_listener` down to one accept; then the log: `entry`, `refusal`,
+//! all sessions share) and `accepting`, from `serve_listener` and `serve_on_terms` down to one accept; then the log: `entry`, `refusal`,
 //! `notice` (how refusals come to it), `pace` (how many have lines), `roster` (the sessions that run), and `journal`.
 #![tactic(auto)]
 
@@ -37,7 +37,7 @@ mod roster;
 mod seats;
 mod streams;
 
-pub use accepting::{serve_entrance, serve_listener};
+pub use accepting::{Supply, serve_entrance, serve_listener, serve_on_terms};
 pub use entrance::{AcceptFailed, Caller, Entrance, FromListener};
 pub use fault::{Cause, ListenFault};
 pub use house::{House, Terms};

@@ -2,7 +2,7 @@
 ghost use Rattle.std.specs.Prelude.{◌≡◌, ◌<◌};
 ghost use Rattle.step_purse.specs.Passes.{IsPassOf};
 
-use listener::{Limits, ListenFault, Terms, serve_listener};
+use listener::{ListenFault, serve_listener};
 use std::alloc::AllocError;
 use std::io;
 use std::io::{Read, Write};
@@ -73,13 +73,7 @@ pub fn serve_beside<
         requires own { IsPassOf purse.now pass }
         requires whole { 0 < pass.known.share.wholes }
     {
-        let terms = Terms {
-            workers: 2,
-            sessions,
-            idle: None,
-            limits: Limits::none(),
-        };
-        serve_listener(rt, listener, purse, pass, terms, None)
+        serve_listener(rt, rt.alloc(), listener, purse, pass, 2, sessions)
     };
     Ok(join(rt, server, client))
 }

@@ -6,7 +6,7 @@ ghost use Rattle.spmat.specs.inner.Address.{IsLocal};
 ghost use Rattle.spmat.specs.inner.Serving.{IsOfServer, IsOpened, IsServerOf, MayRefuse};
 
 use command_line::{Failure, Settings};
-use listener::{Cause, Journal, Limits, ListenFault, LogFormat, Terms, serve_listener};
+use listener::{Cause, Journal, Limits, ListenFault, LogFormat, Supply, Terms, serve_on_terms};
 use std::alloc::{AllocError, Global};
 use std::net::{IpAddr, Ipv4Addr, Net, SocketAddr, TcpListener, TcpStream};
 use std::sync::Wait;
@@ -92,7 +92,7 @@ fn journal_of(alloc: Global, log: Option<Log>) -> Result<Option<Journal>, AllocE
     }
 }
 
-/// As `serve_listener`, with a log that another thread writes to standard error meanwhile. Where no thread can be made for it,
+/// As `serve_on_terms`, with a log that another thread writes to standard error meanwhile. Where no thread can be made for it,
 /// it is written at the end.
 fn serve_logged<H>(
     rt: &H,
@@ -113,7 +113,12 @@ where
         requires whole { 0 < pass.known.share.wholes }
         ensures { OnOk result (terms.sessions ≢ None) }
     {
-        let served = serve_listener(rt, listener, purse, pass, terms, Some(journal));
+        let supply = Supply {
+            alloc: rt.alloc(),
+            purse,
+            pass,
+        };
+        let served = serve_on_terms(rt, listener, supply, terms, Some(journal));
         journal.end(rt);
         served
     };
@@ -219,7 +224,14 @@ where
     } = server;
     let served = match &journal {
         Some(journal) => serve_logged(rt, journal, &listener, &purse, pass, terms),
-        None => serve_listener(rt, &listener, &purse, pass, terms, None),
+        None => {
+            let supply = Supply {
+                alloc: rt.alloc(),
+                purse: &purse,
+                pass,
+            };
+            serve_on_terms(rt, &listener, supply, terms, None)
+        }
     };
     Ok(served?)
 }

@@ -9,7 +9,7 @@
 //! first. Then read `views` with `specs/Shares.antt` and `specs/Histories.antt` (what a pass knows), and `purse` with
 //! `specs/Passes.antt` (the purse, its passes and all public contracts). `laws` says what holds of every legal history,
 //! and of calls in order. Below the contract, `specs/inner/Rule.antt` with `rule` says what the three words of the purse's cell
-//! mean and what each kind of step tells, and `account` has one method for each kind. `tests` runs threads.
+//! mean and what each kind of step tells, and `account` has one method for each kind. The crate thread_tests runs threads.
 #![tactic(auto)]
 
 mod account;

@@ -1,4 +1,4 @@
-use Rattle.listener.proofs.accepting.serve_listener.Given as goal
+use Rattle.listener.proofs.accepting.serve_on_terms.Given as goal
 
 abbrev pub ghosts-serve_counted-L-Ledger : goal.ghosts-serve_counted-L-Ledger
 ghosts-serve_counted-L-Ledger g a = record { name = a.blanks.0.name; parts = a.blanks.0.parts }
