@@ -1,6 +1,6 @@
 //! The words of the command line, and the statuses.
-use crate::ending::{Detail, Done, Ending, Failure, Fault, Message, Status, ending_of, finish};
 use crate::asked::{Settings, SettingsFault};
+use crate::ending::{Detail, Done, Ending, Failure, Fault, Message, Status, ending_of, finish};
 use crate::words::settings;
 use listener::{Cause, End, FatalRule, ListenFault, LogFormat, ServeFault};
 use std::alloc::Global;

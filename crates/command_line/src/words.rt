@@ -7,8 +7,8 @@ ghost use Rattle.command_line.specs.Words.{AsksVersion, IsAsked, IsAskedIn, IsNu
 ghost use Rattle.listener.specs.declared.journal.LogFormat.{LogFormat};
 ghost use Rattle.command_line.specs.InRange.{IsInRange, IsWithin};
 
-use crate::grammar::{LAST_PORT, MOST_SECONDS, MOST_SESSIONS, MOST_STEPS, MOST_WORKERS, program};
 use crate::asked::{Settings, SettingsFault};
+use crate::grammar::{LAST_PORT, MOST_SECONDS, MOST_SESSIONS, MOST_STEPS, MOST_WORKERS, program};
 use clap::ArgMatches;
 use clap::error::ErrorKind;
 use listener::LogFormat;

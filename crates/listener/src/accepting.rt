@@ -229,10 +229,7 @@ fn serve_counted<
 ///
 /// `Memory` where the room of the first session was refused, before any connection was accepted. `Network` where a connection
 /// could not be accepted; sessions that run go on to their ends first.
-pub fn serve_listener<
-    N: OpenListener<Stream = TcpStream>,
-    R: Threads + Wait + Clock + Sync,
->(
+pub fn serve_listener<N: OpenListener<Stream = TcpStream>, R: Threads + Wait + Clock + Sync>(
     rt: &R,
     alloc: Global,
     listener: &N,
@@ -261,10 +258,7 @@ pub fn serve_listener<
 /// # Errors
 ///
 /// As those of `serve_listener`.
-pub fn serve_on_terms<
-    N: OpenListener<Stream = TcpStream>,
-    R: Threads + Wait + Clock + Sync,
->(
+pub fn serve_on_terms<N: OpenListener<Stream = TcpStream>, R: Threads + Wait + Clock + Sync>(
     rt: &R,
     listener: &N,
     supply: Supply<'_>,

@@ -72,8 +72,6 @@ pub fn serve_beside<
     let server = move || -> Result<(), ListenFault>
         requires own { IsPassOf purse.now pass }
         requires whole { 0 < pass.known.share.wholes }
-    {
-        serve_listener(rt, rt.alloc(), listener, purse, pass, 2, sessions)
-    };
+    { serve_listener(rt, rt.alloc(), listener, purse, pass, 2, sessions) };
     Ok(join(rt, server, client))
 }

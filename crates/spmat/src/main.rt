@@ -21,9 +21,7 @@ mod standard;
 use crate::serving::{open_server, serve};
 use crate::solo::run_over;
 use crate::standard::Side;
-use command_line::{
-    Done, Failure, Settings, SettingsFault, VERSION, ending_of, finish, settings,
-};
+use command_line::{Done, Failure, Settings, SettingsFault, VERSION, ending_of, finish, settings};
 use listener::{Cause, ServeFault};
 use std::io::{ErrorKind, Read, Write};
 use std::net::{Net, TcpListener, TcpStream};
