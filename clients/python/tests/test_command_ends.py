@@ -209,6 +209,8 @@ class Ends(CommandLine):
         return process.returncode, said
 
     def test_signals(self):
+        # what a shell began in the background ignores SIGINT, and so would its children
+        self.addCleanup(signal.signal, signal.SIGINT, signal.signal(signal.SIGINT, signal.default_int_handler))
         self.assertEqual(self.signalled(signal.SIGINT), (Status.INTERRUPTED, b'spmat-graph: interrupted\n'))
         self.assertEqual(self.signalled(signal.SIGTERM), (Status.TERMINATED, b''))
 
