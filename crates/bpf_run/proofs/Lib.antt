@@ -3,9 +3,7 @@ pub mod Calling
 pub mod Charging
 pub mod Standing
 pub mod Flat
-pub mod Preparing
 pub mod Folds
-pub mod Exact
 pub mod Families
 pub mod Cells
 pub mod Placing

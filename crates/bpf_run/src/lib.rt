@@ -4,13 +4,12 @@
 //! the machine of `bpf_insn` has for its program (`HasValue`; as functions, `value_of` and `cost_of` of `specs/Meaning.antt`).
 //! `fold` promises the same of calls of which each is on what the one before gave, and `Calls` of calls that are made together.
 //!
-//! Read `single` first: an operator is prepared once, and called any number of times. `prepare`, with `flatten`, makes its flat
-//! code, which `bpf_flat` runs; that a run of it is a call is the law of `specs/inner/Flat.antt`. `folding` is such a run that
-//! starts again for each cell. Then `calls`, which gathers operands, and `lanes`, which has `bpf_lanes` run the flat code for all
-//! of them in one pass.
+//! Read `single` first: a call runs the flat code of its operator by `bpf_flat`. That a run of it is a call is the law of
+//! `specs/inner/Flat.antt`. `folding` is such a run that starts again for each cell. Then `calls`, which gathers operands, and
+//! `lanes`, which has `bpf_lanes` run the flat code for all of them in one pass.
 //!
-//! A program that `known` finds in the table of `specs/inner/Known.antt` computes a function of two words, which is a type in
-//! `function`; a number that stands in the program is told at each call, so that one type serves all numbers.
+//! A program that `bpf_known` knows computes a function of two words (`specs/inner/Known.antt`), which is a type in `function`; a
+//! number that stands in the program is told at each call, so that one type serves all numbers.
 //! A `Loop` over calls of one operator is generic over that type, and `native` runs it, compiled for what the operator computes:
 //! there is one for folds in `folding`, one for a word with each of some words in `products`, and crates above may write their
 //! own. Calls that are made together have one in `lanes::known`, for operators of each kind. All that loops of other crates may
@@ -19,13 +18,10 @@
 #![tactic(auto)]
 
 mod calls;
-mod flatten;
 mod folding;
 mod function;
-mod known;
 mod lanes;
 mod native;
-mod prepare;
 mod products;
 mod single;
 
@@ -34,4 +30,4 @@ pub use calls::{Calls, MOST_CALLS};
 pub use folding::fold;
 pub use function::Function;
 pub use native::{Loop, call_by, run_known};
-pub use single::{Prepared, call};
+pub use single::call;

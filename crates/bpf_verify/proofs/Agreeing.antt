@@ -183,7 +183,7 @@ length_bytes sizes.B32 n = refl
 length_bytes sizes.B64 n = refl
 
 -- an access that is inside ends within the stack
-ends_within : (t : Tag) (off : ℤ) (n : ℕ) → is_place_tag t ≡ true → tags.reaches_outside t off n ≡ false
+pub ends_within : (t : Tag) (off : ℤ) (n : ℕ) → is_place_tag t ≡ true → tags.reaches_outside t off n ≡ false
     → first_byte t off + n ≤ 512
 ends_within t off n p e = grind arith
 

@@ -10,3 +10,4 @@ pub mod Stack
 pub mod Agreeing
 pub mod Sound
 pub mod Accepting
+pub mod Flattening

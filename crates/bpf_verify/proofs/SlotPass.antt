@@ -16,7 +16,7 @@ use Rattle.bpf_insn.proofs.Slots.{begins_nowhere}
 use Rattle.bpf_verify.specs.Slots.{jump_target, is_exit, ends_without_exit, slot_rule, HasNoSlotFaultBelow, HasNoSlotFault}
 use Rattle.bpf_verify.specs.Slots.{IsSlotFault}
 use Rattle.bpf_verify.specs.Paths.{targets}
-use Rattle.bpf_verify.specs.Pass.{IsGoodTarget}
+use Rattle.bpf_verify.specs.inner.Pass.{IsGoodTarget}
 use Rattle.bpf_verify.specs.inner.Pass.{IsClean}
 
 same_insn : (o : Option Insn) (i j : Insn) → o ≡ Some i → o ≡ Some j → i ≡ j

@@ -35,7 +35,7 @@ use Rattle.bpf_verify.specs.Tags.{Known, tag, after}
 use Rattle.bpf_verify.specs.Paths.{IsIn, targets, IsPath, IsKnown, IsWay}
 use Rattle.bpf_verify.specs.Holds.{Agrees, HoldsOf}
 use Rattle.bpf_verify.specs.Accepted.{entry_tags, IsSound}
-use Rattle.bpf_verify.specs.Pass.{IsGoodTarget}
+use Rattle.bpf_verify.specs.inner.Pass.{IsGoodTarget}
 use Rattle.bpf_verify.specs.inner.Pass.{IsClean}
 use Rattle.bpf_verify.proofs.SlotPass.{begins_inside}
 use Rattle.bpf_verify.proofs.Stepping.{eleven_on}

@@ -26,7 +26,7 @@ use Rattle.bpf_verify.specs.Tags.{Known, tag, is_mixed_tag, moved_tag, breaks, B
 use Rattle.bpf_verify.specs.Paths.{IsIn, targets, MayLead, IsPath, IsKnown, IsWay, IsShown, NothingShown, TellsTag, TellsByte}
 use Rattle.bpf_verify.specs.Paths.{Tells}
 use Rattle.bpf_verify.specs.Table.{known_at}
-use Rattle.bpf_verify.specs.Pass.{IsGoodTarget}
+use Rattle.bpf_verify.specs.inner.Pass.{IsGoodTarget}
 use Rattle.bpf_verify.specs.inner.Pass.{
   IsAfter,
   AddsAll,

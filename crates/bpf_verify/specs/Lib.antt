@@ -4,5 +4,5 @@ pub mod Paths
 pub mod Holds
 pub mod Table
 pub mod Accepted
-pub mod Pass
+pub mod Flat
 pub mod inner

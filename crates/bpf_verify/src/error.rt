@@ -8,7 +8,7 @@ pub enum VerifyError {
     /// It breaks a rule of `V7` to `V16`.
     #[error("slot {slot}: {rule}", slot = .0.slot, rule = .0.rule)]
     Fault(Fault),
-    /// There was no memory for what is known at its slots.
+    /// There was no memory for what is known at its slots, or for its flat code.
     #[error("no memory for the operator")]
     Memory,
 }

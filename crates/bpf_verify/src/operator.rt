@@ -1,39 +1,46 @@
-//! Operators: programs that were verified.
-ghost use Rattle.std.specs.Prelude.{◌≡◌, ◌≤◌, ◌<◌, ℕ, ℤ, negsuc, pos, ◌≤ℤ◌, ◌<ℤ◌, length, Option};
+//! Operators: programs that were verified, with all that their calls need.
+ghost use Rattle.std.specs.Prelude.{◌≡◌, ◌≤◌, ◌<◌, ℤ, negsuc, pos, ◌≤ℤ◌, ◌<ℤ◌, length};
 ghost use Rattle.std.specs.Prelude.{Some, None, IfOk, IfErr, IfSome, IfNone};
-ghost use Rattle.bpf_verify.specs.Accepted.{Accepted, IsAccepted, IsAcceptable, IsSound, ExplainsRefusal, IsTyping, typing};
-ghost use Rattle.bpf_verify.specs.Accepted.{entry_tags};
 ghost use Rattle.bpf_insn.specs.Effects.{byte_at};
-ghost use Rattle.bpf_verify.specs.Table.{known_in};
+ghost use Rattle.bpf_known.specs.Known.{number_in, IsKnown};
+ghost use Rattle.bpf_verify.specs.Accepted.{IsAccepted, IsAcceptable, IsSound, ExplainsRefusal, IsTyping, typing};
+ghost use Rattle.bpf_verify.specs.Accepted.{entry_tags};
+ghost use Rattle.bpf_verify.specs.Flat.{IsFlat};
 ghost use Rattle.bpf_verify.specs.Tags.{Known};
-ghost use Rattle.bpf_verify.specs.inner.Pass.{IsEntry};
 
+use crate::checked::{Checked, check};
 use crate::error::VerifyError;
-use crate::facts::Facts;
-use crate::slot_pass::slot_fault;
+use crate::flat_code::FlatCode;
 use crate::tag::Tag;
-use crate::typing::typed;
 use bpf_insn::{Kind, Program};
+use bpf_known::{KnownCall, known_of, number_in};
 use std::alloc::Global;
 use std::marker::Model;
 
-/// A program that was verified as an operator of a kind, with what is known at each of its slots.
-/// A contract sees an `Accepted`, of which `IsAccepted` holds.
+/// A program that was verified as an operator of a kind, with what is known at each of its slots, its flat code, and how its
+/// calls are known. A contract sees an `Accepted`, of which `IsAccepted` holds.
 #[derive(Drop)]
 pub struct Operator {
-    kind: Kind,
-    program: Program,
-    table: Vec<Option<Facts>>,
+    checked: Checked,
+    code: FlatCode,
+    /// How its calls are known, if its program is.
+    known: Option<KnownCall>,
+    /// The number that stands in the program.
+    number: u64,
 }
 
 impl Model for Operator {
+    ghost use Rattle.std.specs.Prelude.{◌≡◌, IfSome};
+    ghost use Rattle.bpf_known.specs.Known.{number_in, IsKnown};
     ghost use Rattle.bpf_verify.specs.Accepted.{Accepted, IsAccepted};
+    ghost use Rattle.bpf_verify.specs.Flat.{IsFlat};
 
     ghost Value = { Accepted };
 
-    ghost view = { λ o. record { kind = o.kind; insns = o.program; table = o.table.items } };
+    ghost view = { λ o. o.checked };
 
-    ghost invariant = { λ o. IsAccepted (record { kind = o.kind; insns = o.program; table = o.table.items }) };
+    ghost invariant = { λ o. IsAccepted o.checked × IsFlat o.checked o.code
+        × IfSome o.known (IsKnown o.checked.kind o.checked.insns) × (o.number ≡ number_in o.checked.insns) };
 }
 
 /// The operator of the program, where it has no slot fault and no path shows a fault. Else the
@@ -50,32 +57,50 @@ pub fn verify(
     ensures back { IfErr result (λ refusal. refusal.0 ≡ program) }
     ensures refused { IfErr result (λ refusal. ExplainsRefusal kind program refusal.1) }
 {
-    if let Some(fault) = slot_fault(&program) {
-        return Err((program, VerifyError::Fault(fault)));
-    }
-    match typed(alloc, &program, entry_tags(kind)) {
-        Ok(table) => Ok(Operator {
-            kind,
-            program,
-            table,
-        }),
-        Err(error) => Err((program, error)),
+    let checked = check(alloc, program, kind)?;
+    match FlatCode::of(alloc, &checked) {
+        Ok(code) => Ok(Operator::new(checked, code)),
+        Err(_) => Err((checked.into_program(), VerifyError::Memory)),
     }
 }
 
 impl Operator {
+    /// The operator of a program that was checked, and of its flat code.
+    fn new(checked: Checked, code: FlatCode) -> Self
+        requires { IsFlat checked code }
+        ensures { result ≡ checked }
+    {
+        let known = known_of(checked.kind(), checked.program());
+        let number = number_in(checked.program());
+        Operator {
+            checked,
+            code,
+            known,
+            number,
+        }
+    }
+
+    /// What holds of any operator. Only the prover looks at it.
+    #[inline(always)]
+    pub fn recall(&self)
+        ensures { IsAccepted self.now }
+    {
+        // What a type promises is known where one of its fields is used.
+        let _ = &self.checked;
+    }
+
     /// How many instructions the program has: no call takes more steps.
     pub fn len(&self) -> u64
         ensures { result ≡ length self.now.insns }
     {
-        self.program.len()
+        self.checked.program().len()
     }
 
     /// How the operator is called.
     pub fn kind(&self) -> Kind
         ensures { result ≡ self.now.kind }
     {
-        self.kind
+        self.checked.kind()
     }
 
     /// The program.
@@ -83,8 +108,7 @@ impl Operator {
         ensures same { result.now ≡ self.now.insns }
         ensures accepted { IsAccepted self.now }
     {
-        let _ = &self.table;
-        &self.program
+        self.checked.program()
     }
 
     /// What is known of R0 to R10 at a slot, or None where no path leads.
@@ -93,62 +117,47 @@ impl Operator {
         ensures none { IfNone result (typing self.now slot ≡ None) }
         ensures typed { IsTyping self.now.insns (entry_tags self.now.kind) slot (typing self.now slot) }
     {
-        match self.facts(slot) {
-            Some(facts) => Some(facts.tags),
-            None => None,
-        }
+        self.checked.typing(slot)
     }
 
     /// Whether all paths to a slot have stored the byte at a place of the stack, -512 to -1, or None
     /// where no path leads.
-    pub fn stored(&self, slot: u64, place: i16) -> Option<bool>
+    pub fn stored(&self, slot: u64, place: i64) -> Option<bool>
         requires above { negsuc 511 ≤ℤ place }
         requires below { place <ℤ pos 0 }
         ensures some { IfSome result (λ b. (k : Known) × (typing self.now slot ≡ Some k) × (b ≡ k.stored (byte_at place))) }
         ensures none { IfNone result (typing self.now slot ≡ None) }
         ensures typed { IsTyping self.now.insns (entry_tags self.now.kind) slot (typing self.now slot) }
     {
-        let byte = (i64::from(place) + 512).unsigned_abs() as usize;
-        match self.facts(slot) {
-            Some(facts) => Some(facts.marks.has(byte)),
-            None => None,
-        }
-    }
-
-    fn facts(&self, slot: u64) -> Option<Facts>
-        ensures facts { typing self.now slot ≡ known_in (Some result) }
-        ensures accepted { IsAccepted self.now }
-    {
-        if slot < self.table.len() as u64 {
-            self.table[slot as usize]
-        } else {
-            None
-        }
+        self.checked.stored(slot, place)
     }
 }
 
-/// The tags at the entry of an operator of the kind.
-fn entry_tags(kind: Kind) -> [Tag; 11]
-    ensures tags { result ≡ entry_tags kind }
-    ensures entry { IsEntry result }
-{
-    let unset = Tag::Unset;
-    let [first, second, third, fourth] = match kind {
-        Kind::Unary => [Tag::Number, unset, unset, unset],
-        Kind::Binary => [Tag::Number, Tag::Number, unset, unset],
-        Kind::Index => [Tag::Number; 4],
-    };
-    [
-        unset,
-        first,
-        second,
-        third,
-        fourth,
-        unset,
-        unset,
-        unset,
-        unset,
-        unset,
-        Tag::Place(0),
-    ]
+impl Operator {
+    /// The flat code.
+    #[inline(always)]
+    pub fn code(&self) -> &FlatCode
+        ensures accepted { IsAccepted self.now }
+        ensures flat { IsFlat self.now result.now }
+        ensures some { 0 < length result.now }
+        ensures few { length result.now ≤ 4096 }
+    {
+        &self.code
+    }
+
+    /// How its calls are known, if its program is.
+    #[inline]
+    pub fn known(&self) -> Option<KnownCall>
+        ensures { IfSome result (IsKnown self.now.kind self.now.insns) }
+    {
+        self.known
+    }
+
+    /// The number that stands in the program.
+    #[inline(always)]
+    pub fn number(&self) -> u64
+        ensures { result ≡ number_in self.now.insns }
+    {
+        self.number
+    }
 }

@@ -5,7 +5,7 @@ ghost use Rattle.bpf_insn.specs.Rule.{IsLowest};
 ghost use Rattle.bpf_verify.specs.declared.tag.Tag.{Tag};
 ghost use Rattle.bpf_verify.specs.Paths.{targets, IsShown};
 ghost use Rattle.bpf_verify.specs.Table.{known, known_in};
-ghost use Rattle.bpf_verify.specs.Pass.{IsGoodTarget};
+ghost use Rattle.bpf_verify.specs.inner.Pass.{IsGoodTarget};
 ghost use Rattle.bpf_verify.specs.inner.Pass.{IsMerged, IsEntry, IsClean, IsExact, IsExactBelow, ExplainsTyping, Adds, AddsAll};
 ghost use Rattle.bpf_verify.specs.inner.Pass.{IsVisit, IsLeading};
 

@@ -11,7 +11,8 @@ use crate::line::Sources;
 use crate::mapping::map_region;
 use crate::rows::fill_region;
 use crate::select::{Masked, select_region};
-use bpf_run::{Calls, Prepared};
+use bpf_run::Calls;
+use bpf_verify::Operator;
 use csr_store::Matrix;
 use job_forms::{Made, Region};
 use std::alloc::Global;
@@ -24,7 +25,7 @@ pub fn apply_rows<'m>(
     alloc: Global,
     calls: &mut Calls,
     a: &'m Matrix,
-    operator: &Prepared,
+    operator: &Operator,
     thunk: Option<u64>,
     region: Region<'m>,
 ) -> Made
@@ -61,7 +62,7 @@ pub fn select_rows<'m>(
     alloc: Global,
     calls: &mut Calls,
     a: &'m Matrix,
-    operator: &Prepared,
+    operator: &Operator,
     thunk: u64,
     region: Region<'m>,
 ) -> Made

@@ -10,7 +10,8 @@ ghost use Rattle.entry_ops.specs.inner.Placing.{placed, HavePlaces, Rise, Holds,
 
 use crate::line::Cell;
 use bpf_insn::Operands;
-use bpf_run::{Calls, MOST_CALLS, Prepared};
+use bpf_run::{Calls, MOST_CALLS};
+use bpf_verify::Operator;
 use csr_store::Rows;
 use job_forms::{Made, Making};
 use std::alloc::{AllocError, Global};
@@ -71,7 +72,7 @@ impl Emitter {
     }
 
     /// Makes the calls that were gathered, and puts their values in place.
-    pub fn flush(&mut self, operator: &Prepared, calls: &mut Calls)
+    pub fn flush(&mut self, operator: &Operator, calls: &mut Calls)
         requires holds { Holds operator.now self.old calls.old }
         requires room { self.old.steps + steps_of (calls_on operator.now calls.old.operands) < 2 ^ 64 }
         ensures { IsFlushed operator.now self.old calls.old self.new calls.new }
@@ -82,7 +83,7 @@ impl Emitter {
 
     /// Flushes where no further call fits in.
     #[inline(always)]
-    fn make_room(&mut self, operator: &Prepared, calls: &mut Calls)
+    fn make_room(&mut self, operator: &Operator, calls: &mut Calls)
         requires holds { Holds operator.now self.old calls.old }
         requires room { self.old.steps + steps_of (calls_on operator.now calls.old.operands) < 2 ^ 64 }
         ensures does { Does operator.now [] (λ run. run) self.old calls.old self.new calls.new }
@@ -97,7 +98,7 @@ impl Emitter {
     #[inline(always)]
     pub fn call(
         &mut self,
-        operator: &Prepared,
+        operator: &Operator,
         calls: &mut Calls,
         column: u64,
         operands: Operands,

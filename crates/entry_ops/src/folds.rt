@@ -21,7 +21,8 @@ ghost use Rattle.entry_ops.specs.inner.Folding.{
 use crate::line::Cell;
 use crate::open_rows::{OpenRow, OpenRows};
 use bpf_insn::Kind;
-use bpf_run::{Calls, MOST_CALLS, Prepared, fold};
+use bpf_run::{Calls, MOST_CALLS, fold};
+use bpf_verify::Operator;
 use csr_store::{Matrix, Rows};
 use std::alloc::{AllocError, Global};
 use std::marker::Model;
@@ -118,7 +119,7 @@ impl<'m> Folds<'m> {
     }
 
     /// Makes the next call of each lane, all of them together.
-    fn call_all(&mut self, operator: &Prepared, calls: &mut Calls)
+    fn call_all(&mut self, operator: &Operator, calls: &mut Calls)
         requires can { CanGo operator.now self.old }
         requires waits { NoneWaits kinds.Binary calls.old }
         ensures goes { Goes operator.now self.old self.new × TakesSteps self.old self.new }
@@ -128,7 +129,7 @@ impl<'m> Folds<'m> {
     }
 
     /// Makes all the calls of the last lane, in one run.
-    fn finish_last(&mut self, operator: &Prepared)
+    fn finish_last(&mut self, operator: &Operator)
         requires can { CanGo operator.now self.old }
         requires some { 0 < length self.old.lanes }
         ensures goes { Goes operator.now self.old self.new }
@@ -141,7 +142,7 @@ impl<'m> Folds<'m> {
     }
 
     /// Makes the next calls: those of the lanes together, unless they are few.
-    fn go(&mut self, operator: &Prepared, calls: &mut Calls)
+    fn go(&mut self, operator: &Operator, calls: &mut Calls)
         requires can { CanGo operator.now self.old × (0 < length self.old.lanes) }
         requires waits { NoneWaits kinds.Binary calls.old }
         ensures goes { Goes operator.now self.old self.new × (self.old.steps < self.new.steps) }
@@ -157,7 +158,7 @@ impl<'m> Folds<'m> {
     /// Folds a block of rows.
     pub fn fold(
         &mut self,
-        operator: &Prepared,
+        operator: &Operator,
         calls: &mut Calls,
         a: &'m Matrix,
         mask: Option<&'m Matrix>,

@@ -9,7 +9,8 @@ ghost use Rattle.entry_ops.specs.inner.Walking.{Suits, form_at, form_calls};
 
 use crate::emitter::Emitter;
 use bpf_insn::Operands;
-use bpf_run::{Calls, Prepared};
+use bpf_run::Calls;
+use bpf_verify::Operator;
 use std::alloc::AllocError;
 
 /// An operation entry by entry.
@@ -36,7 +37,7 @@ pub struct Place {
 #[inline(always)]
 pub fn emit(
     form: EntryForm,
-    operator: &Prepared,
+    operator: &Operator,
     calls: &mut Calls,
     emitter: &mut Emitter,
     place: Place,

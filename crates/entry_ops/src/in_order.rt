@@ -7,7 +7,8 @@ ghost use Rattle.entry_ops.specs.inner.Folding.{words, CanReduce, AddsReduced};
 
 use crate::folds::{add_row, shown_cells};
 use crate::line::{Cell, entries_between};
-use bpf_run::{Prepared, fold};
+use bpf_run::fold;
+use bpf_verify::Operator;
 use csr_store::Matrix;
 use job_forms::{Making, Region};
 use std::alloc::AllocError;
@@ -20,7 +21,7 @@ struct Folded {
 }
 
 /// Folds the cells of a row.
-fn fold_row(operator: &Prepared, cells: &[Cell]) -> Folded
+fn fold_row(operator: &Operator, cells: &[Cell]) -> Folded
     requires kind { operator.now.kind ≡ kinds.Binary }
     requires room { steps_of (folds.fold_calls operator.now (words cells.now)) < 2 ^ 64 }
     ensures value { result.value ≡ folds.fold operator.now (words cells.now) }
@@ -48,7 +49,7 @@ fn fold_row(operator: &Prepared, cells: &[Cell]) -> Folded
 /// Adds the reductions of the rows of a region, row by row.
 pub fn fill_in_order(
     a: &Matrix,
-    operator: &Prepared,
+    operator: &Operator,
     region: Region,
     making: &mut Making,
 ) -> Result<(), AllocError>

@@ -8,7 +8,8 @@ ghost use Rattle.entry_ops.specs.inner.Walking.{Joins, IsWhole, left_over, cells
 use crate::emitter::Emitter;
 use crate::form::{EntryForm, Place, emit};
 use crate::line::{Cell, Line};
-use bpf_run::{Calls, Prepared};
+use bpf_run::Calls;
+use bpf_verify::Operator;
 use std::alloc::AllocError;
 
 /// Adds what a form makes of the cells that are left of one row where the other has none.
@@ -57,7 +58,7 @@ fn right_alone(row: u64, cell: &Cell) -> Place
 #[inline(always)]
 pub fn fill_joint(
     form: EntryForm,
-    operator: &Prepared,
+    operator: &Operator,
     calls: &mut Calls,
     emitter: &mut Emitter,
     line: Line,

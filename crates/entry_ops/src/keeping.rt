@@ -8,7 +8,8 @@ ghost use Rattle.entry_ops.specs.inner.Walking.{IsFormMade};
 
 use crate::coming::Coming;
 use crate::line::entries_between;
-use bpf_run::{Calls, Prepared};
+use bpf_run::Calls;
+use bpf_verify::Operator;
 use csr_store::{Matrix, Rows};
 use job_forms::Made;
 use std::alloc::{AllocError, Global};
@@ -19,7 +20,7 @@ use std::ops::Range;
 fn answers_of(
     alloc: Global,
     calls: &mut Calls,
-    operator: &Prepared,
+    operator: &Operator,
     mut coming: Coming,
     room: usize,
     steps: &mut u64,
@@ -43,7 +44,7 @@ pub fn keep_region(
     alloc: Global,
     calls: &mut Calls,
     a: &Matrix,
-    operator: &Prepared,
+    operator: &Operator,
     thunk: u64,
     range: Range<u64>,
 ) -> Made

@@ -18,7 +18,8 @@ use crate::form::EntryForm;
 use crate::line::Sources;
 use crate::pairs::Pairs;
 use crate::rows::fill_region;
-use bpf_run::{Calls, MOST_CALLS, Prepared};
+use bpf_run::{Calls, MOST_CALLS};
+use bpf_verify::Operator;
 use csr_store::{Matrix, RowCopy};
 use job_forms::Made;
 use std::alloc::Global;
@@ -34,7 +35,7 @@ pub struct Mapping<'m> {
 
 impl Mapping<'_> {
     /// Makes the calls that were gathered, and writes the next entries with their values.
-    fn make(&mut self, operator: &Prepared, calls: &mut Calls)
+    fn make(&mut self, operator: &Operator, calls: &mut Calls)
         requires kind { calls.old.kind ≡ operator.now.kind }
         requires room { HasRoom operator.now calls.old.operands self.old }
         ensures waits { NoneWaits calls.old.kind calls.new }
@@ -45,7 +46,7 @@ impl Mapping<'_> {
     }
 
     /// Makes the calls on all words.
-    fn add_words(&mut self, operator: &Prepared, calls: &mut Calls)
+    fn add_words(&mut self, operator: &Operator, calls: &mut Calls)
         requires kind { operator.now.kind ≡ kinds.Unary }
         requires waits { NoneWaits kinds.Unary calls.old }
         requires room { (self.old.rows.written ≡ 0)
@@ -61,7 +62,7 @@ impl Mapping<'_> {
     }
 
     /// Makes the calls on all entries that come.
-    fn add_entries(&mut self, operator: &Prepared, calls: &mut Calls, mut coming: Coming)
+    fn add_entries(&mut self, operator: &Operator, calls: &mut Calls, mut coming: Coming)
         requires kind { operator.now.kind ≡ kinds.Index }
         requires waits { NoneWaits kinds.Index calls.old }
         requires room { HasRoom operator.now coming self.old }
@@ -73,7 +74,7 @@ impl Mapping<'_> {
     }
 
     /// Makes the calls on all pairs.
-    fn add_pairs(&mut self, operator: &Prepared, calls: &mut Calls, mut pairs: Pairs)
+    fn add_pairs(&mut self, operator: &Operator, calls: &mut Calls, mut pairs: Pairs)
         requires kind { operator.now.kind ≡ kinds.Binary }
         requires waits { NoneWaits operator.now.kind calls.old }
         requires room { HasRoom operator.now pairs self.old }
@@ -98,7 +99,7 @@ impl Mapping<'_> {
     /// Makes the calls of a range of rows, which are being copied.
     fn add_all(
         &mut self,
-        operator: &Prepared,
+        operator: &Operator,
         calls: &mut Calls,
         a: &Matrix,
         thunk: Option<u64>,
@@ -124,7 +125,7 @@ pub fn map_region(
     alloc: Global,
     calls: &mut Calls,
     a: &Matrix,
-    operator: &Prepared,
+    operator: &Operator,
     thunk: Option<u64>,
     range: Range<u64>,
 ) -> Made
@@ -151,7 +152,7 @@ pub fn joint_region(
     alloc: Global,
     calls: &mut Calls,
     form: EntryForm,
-    operator: &Prepared,
+    operator: &Operator,
     sources: Sources,
     range: Range<u64>,
 ) -> Made

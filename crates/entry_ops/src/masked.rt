@@ -9,14 +9,15 @@ use crate::ahead::{begin_walk, second_for, value_here, walk_to};
 use crate::emitter::Emitter;
 use crate::form::{EntryForm, Place, emit};
 use crate::line::{Cell, Line};
-use bpf_run::{Calls, Prepared};
+use bpf_run::Calls;
+use bpf_verify::Operator;
 use std::alloc::AllocError;
 
 /// Adds the cells of a row, of those positions that a mask's row stores.
 #[inline(always)]
 pub fn fill_masked(
     form: EntryForm,
-    operator: &Prepared,
+    operator: &Operator,
     calls: &mut Calls,
     emitter: &mut Emitter,
     line: Line,

@@ -7,7 +7,8 @@ ghost use Rattle.entry_ops.specs.inner.Coming.{NoneWaits};
 ghost use Rattle.entry_ops.specs.inner.Folding.{open_of, in_columns, in_two_columns, ArePlaced, Gives};
 
 use crate::line::Cell;
-use bpf_run::{Calls, MOST_CALLS, Prepared};
+use bpf_run::{Calls, MOST_CALLS};
+use bpf_verify::Operator;
 use std::alloc::{AllocError, Global};
 use std::marker::Model;
 
@@ -121,7 +122,7 @@ impl<'m> OpenRows<'m> {
     /// Makes the next call of each row, all of them together. Rows that end have their results then, and no lane.
     pub fn call(
         &mut self,
-        operator: &Prepared,
+        operator: &Operator,
         calls: &mut Calls,
         results: &mut [Option<u64>],
     ) -> u64

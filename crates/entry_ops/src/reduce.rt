@@ -9,7 +9,8 @@ ghost use Rattle.entry_ops.specs.inner.Folding.{CanReduce, AddsReduced};
 use crate::blank::{blank_region, is_blank, is_shut};
 use crate::folds::{BLOCK_ROWS, Block, Folds};
 use crate::in_order::fill_in_order;
-use bpf_run::{Calls, Prepared};
+use bpf_run::Calls;
+use bpf_verify::Operator;
 use csr_store::Matrix;
 use job_forms::{Made, Making, Region};
 use std::alloc::{AllocError, Global};
@@ -23,7 +24,7 @@ fn fill_in_blocks<'m>(
     alloc: Global,
     calls: &mut Calls,
     a: &'m Matrix,
-    operator: &Prepared,
+    operator: &Operator,
     region: Region<'m>,
     making: &mut Making,
 ) -> Result<(), AllocError>
@@ -56,7 +57,7 @@ pub fn reduce_rows<'m>(
     alloc: Global,
     calls: &mut Calls,
     a: &'m Matrix,
-    operator: &Prepared,
+    operator: &Operator,
     region: Region<'m>,
 ) -> Made
     requires kind { operator.now.kind ≡ kinds.Binary }

@@ -21,7 +21,8 @@ use crate::form::EntryForm::{self, Apply, Both, Union};
 use crate::joint::fill_joint;
 use crate::line::{Line, Lines, MOST_ROOM, Sources, entries_between};
 use crate::masked::fill_masked;
-use bpf_run::{Calls, Prepared};
+use bpf_run::Calls;
+use bpf_verify::Operator;
 use job_forms::Made;
 use std::alloc::{AllocError, Global};
 use std::ops::Range;
@@ -29,7 +30,7 @@ use std::ops::Range;
 /// Adds the cells of a row, each form by a loop of its own.
 fn fill_line(
     form: EntryForm,
-    operator: &Prepared,
+    operator: &Operator,
     calls: &mut Calls,
     emitter: &mut Emitter,
     line: Line,
@@ -57,7 +58,7 @@ fn fill_line(
 /// Adds the rows of a range.
 fn fill(
     form: EntryForm,
-    operator: &Prepared,
+    operator: &Operator,
     calls: &mut Calls,
     emitter: &mut Emitter,
     sources: Sources,
@@ -105,7 +106,7 @@ pub fn fill_region(
     alloc: Global,
     calls: &mut Calls,
     form: EntryForm,
-    operator: &Prepared,
+    operator: &Operator,
     sources: Sources,
     range: Range<u64>,
 ) -> Made

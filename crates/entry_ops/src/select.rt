@@ -11,7 +11,8 @@ ghost use Rattle.entry_ops.specs.inner.Walking.{with_rows, form_row, form_row_ca
 use crate::ahead::{begin_walk, value_here, walk_to};
 use crate::form::operands_of;
 use crate::sieve::Sieve;
-use bpf_run::{Calls, Prepared};
+use bpf_run::Calls;
+use bpf_verify::Operator;
 use csr_store::Matrix;
 use job_forms::Made;
 use std::alloc::{AllocError, Global};
@@ -27,7 +28,7 @@ pub struct Masked<'a> {
 /// Adds the words of a row that the operator keeps, of those at positions that the mask's row stores.
 fn keep_row(
     thunk: u64,
-    operator: &Prepared,
+    operator: &Operator,
     calls: &mut Calls,
     sieve: &mut Sieve,
     masked: Masked,
@@ -61,7 +62,7 @@ fn keep_row(
 /// Adds the rows of a range.
 fn keep_rows(
     thunk: u64,
-    operator: &Prepared,
+    operator: &Operator,
     calls: &mut Calls,
     sieve: &mut Sieve,
     masked: Masked,
@@ -86,7 +87,7 @@ fn keep_rows(
 pub fn select_region(
     alloc: Global,
     calls: &mut Calls,
-    operator: &Prepared,
+    operator: &Operator,
     thunk: u64,
     masked: Masked,
     range: Range<u64>,

@@ -8,7 +8,8 @@ ghost use Rattle.entry_ops.specs.inner.Standing.{CanPush, with_end};
 ghost use Rattle.entry_ops.specs.inner.Sifting.{placed, Fits, Holds, with_kept, CanAdd, Puts, IsFlushed};
 
 use bpf_insn::Operands;
-use bpf_run::{Calls, MOST_CALLS, Prepared};
+use bpf_run::{Calls, MOST_CALLS};
+use bpf_verify::Operator;
 use csr_store::Rows;
 use job_forms::{Made, Making};
 use std::alloc::{AllocError, Global};
@@ -70,7 +71,7 @@ impl Sieve {
     }
 
     /// Makes the calls that were gathered, and adds what is marked.
-    pub fn flush(&mut self, operator: &Prepared, calls: &mut Calls) -> Result<(), AllocError>
+    pub fn flush(&mut self, operator: &Operator, calls: &mut Calls) -> Result<(), AllocError>
         requires holds { Holds operator.now self.old calls.old }
         requires room { self.old.steps + steps_of (calls_on operator.now calls.old.operands) < 2 ^ 64 }
         ensures made { OnOk result (IsFlushed operator.now self.old calls.old self.new calls.new) }
@@ -84,7 +85,7 @@ impl Sieve {
 
     /// Flushes where no further mark or call fits in.
     #[inline(always)]
-    pub fn make_room(&mut self, operator: &Prepared, calls: &mut Calls) -> Result<(), AllocError>
+    pub fn make_room(&mut self, operator: &Operator, calls: &mut Calls) -> Result<(), AllocError>
         requires holds { Holds operator.now self.old calls.old }
         requires room { self.old.steps + steps_of (calls_on operator.now calls.old.operands) < 2 ^ 64 }
         ensures puts { Puts operator.now [] (λ run. run) self.old calls.old self.new calls.new result }
@@ -101,7 +102,7 @@ impl Sieve {
     #[inline(always)]
     pub fn keep(
         &mut self,
-        operator: &Prepared,
+        operator: &Operator,
         calls: &mut Calls,
         column: u64,
         word: u64,
@@ -119,7 +120,7 @@ impl Sieve {
     }
 
     /// Ends the open row.
-    pub fn end_row(&mut self, operator: &Prepared, calls: &mut Calls) -> Result<(), AllocError>
+    pub fn end_row(&mut self, operator: &Operator, calls: &mut Calls) -> Result<(), AllocError>
         requires holds { Holds operator.now self.old calls.old }
         requires room { self.old.steps + steps_of (calls_on operator.now calls.old.operands) < 2 ^ 64 }
         ensures { Puts operator.now [] with_end self.old calls.old self.new calls.new result }

@@ -8,7 +8,8 @@ use crate::blank::{blank_region, is_blank, is_shut};
 use crate::form::EntryForm;
 use crate::line::Sources;
 use crate::mapping::joint_region;
-use bpf_run::{Calls, Prepared};
+use bpf_run::Calls;
+use bpf_verify::Operator;
 use csr_store::Matrix;
 use job_forms::{Made, Region};
 use std::alloc::Global;
@@ -21,7 +22,7 @@ pub fn union_rows<'m>(
     calls: &mut Calls,
     a: &'m Matrix,
     b: &'m Matrix,
-    operator: &Prepared,
+    operator: &Operator,
     region: Region<'m>,
 ) -> Made
     requires kind { operator.now.kind ≡ kinds.Binary }
@@ -56,7 +57,7 @@ pub fn both_rows<'m>(
     calls: &mut Calls,
     a: &'m Matrix,
     b: &'m Matrix,
-    operator: &Prepared,
+    operator: &Operator,
     region: Region<'m>,
 ) -> Made
     requires kind { operator.now.kind ≡ kinds.Binary }

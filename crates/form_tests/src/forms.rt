@@ -8,7 +8,8 @@ mod small;
 
 use crate::masks::{has_shape, passes};
 use bpf_insn::{Kind, Operands, Ran, run_tagged};
-use bpf_run::{Calls, Prepared};
+use bpf_run::Calls;
+use bpf_verify::Operator;
 use csr_store::{Builder, Matrix, RUN_ROWS, Rows, join_rows};
 use entry_ops::{apply_rows, both_rows, reduce_rows, select_rows, union_rows};
 use job_forms::{Made, Region};
@@ -72,7 +73,7 @@ enum Job {
 type Triple = (u64, u64, u64);
 
 /// The operator that the tests take for a job.
-fn operator_for(alloc: Global, job: Job) -> Result<Prepared, NoOperator> {
+fn operator_for(alloc: Global, job: Job) -> Result<Operator, NoOperator> {
     match job {
         Job::Apply(None) => assembled(alloc, Kind::Unary, TRIPLE),
         Job::Apply(Some(_)) => assembled(alloc, Kind::Index, PLACED),
@@ -109,7 +110,7 @@ fn rows_of<'m>(
     alloc: Global,
     calls: &mut Calls,
     job: Job,
-    operator: &Prepared,
+    operator: &Operator,
     a: &'m Matrix,
     b: &'m Matrix,
     mask: Option<&'m Matrix>,
@@ -154,7 +155,7 @@ fn whole<'m>(
     alloc: Global,
     calls: &mut Calls,
     job: Job,
-    operator: &Prepared,
+    operator: &Operator,
     (a, b, mask): (&'m Matrix, &'m Matrix, Option<&'m Matrix>),
     middle: u64,
 ) -> Result<Option<(Matrix, u64)>, Fail> {
@@ -200,8 +201,8 @@ fn joined(
 }
 
 /// What a call gives, and the steps so far with its own.
-fn called(operator: &Prepared, operands: Operands, steps: &mut u64) -> Option<u64> {
-    match run_tagged(operator.operator().program(), operands.kind(), &operands) {
+fn called(operator: &Operator, operands: Operands, steps: &mut u64) -> Option<u64> {
+    match run_tagged(operator.program(), operands.kind(), &operands) {
         Ran::Done { value, steps: more } => {
             *steps = steps.wrapping_add(more);
             Some(value)
@@ -211,13 +212,13 @@ fn called(operator: &Prepared, operands: Operands, steps: &mut u64) -> Option<u6
 }
 
 /// What a binary operator gives for two words.
-fn called_with(operator: &Prepared, x: u64, y: u64, steps: &mut u64) -> Option<u64> {
+fn called_with(operator: &Operator, x: u64, y: u64, steps: &mut u64) -> Option<u64> {
     called(operator, Operands::Binary { x, y }, steps)
 }
 
 /// What an operator with a thunk gives for a word at a position.
 fn called_at(
-    operator: &Prepared,
+    operator: &Operator,
     x: u64,
     (row, column): (u64, u64),
     thunk: u64,
@@ -234,7 +235,7 @@ fn called_at(
 
 /// The word at a position, unless the operator gives 0 for it.
 fn selected(
-    operator: &Prepared,
+    operator: &Operator,
     x: u64,
     position: (u64, u64),
     thunk: u64,
@@ -247,7 +248,7 @@ fn selected(
 }
 
 /// What stands where two words may be met.
-fn united(operator: &Prepared, x: Option<u64>, y: Option<u64>, steps: &mut u64) -> Option<u64> {
+fn united(operator: &Operator, x: Option<u64>, y: Option<u64>, steps: &mut u64) -> Option<u64> {
     match (x, y) {
         (Some(x), Some(y)) => called_with(operator, x, y, steps),
         (Some(x), None) => Some(x),
@@ -256,7 +257,7 @@ fn united(operator: &Prepared, x: Option<u64>, y: Option<u64>, steps: &mut u64) 
 }
 
 /// A row folded from its first word on.
-fn folded(operator: &Prepared, a: &Matrix, row: u64, steps: &mut u64) -> Option<u64> {
+fn folded(operator: &Operator, a: &Matrix, row: u64, steps: &mut u64) -> Option<u64> {
     let mut so_far = None;
     for k in 0..a.columns() {
         if let Some(y) = a.get(row, k) {
@@ -272,7 +273,7 @@ fn folded(operator: &Prepared, a: &Matrix, row: u64, steps: &mut u64) -> Option<
 /// What stands at a position of a job's result.
 fn value_at(
     job: Job,
-    operator: &Prepared,
+    operator: &Operator,
     (a, b): (&Matrix, &Matrix),
     (row, column): (u64, u64),
     steps: &mut u64,
@@ -301,7 +302,7 @@ fn assert_totals(rt: &impl Abort, matrix: &Matrix, spent: u64, entries: u64, ste
 /// What the reference says of a position, where it passes a mask.
 fn value_under(
     job: Job,
-    operator: &Prepared,
+    operator: &Operator,
     (a, b, mask): (&Matrix, &Matrix, Option<&Matrix>),
     (row, column): (u64, u64),
     steps: &mut u64,
@@ -317,7 +318,7 @@ fn assert_values(
     rt: &impl Abort,
     matrix: &Matrix,
     job: Job,
-    operator: &Prepared,
+    operator: &Operator,
     sources: (&Matrix, &Matrix, Option<&Matrix>),
 ) -> (u64, u64) {
     let mut steps = 0;
@@ -336,7 +337,7 @@ fn assert_values(
 fn done<'m>(
     alloc: Global,
     job: Job,
-    operator: &Prepared,
+    operator: &Operator,
     sources: (&'m Matrix, &'m Matrix, Option<&'m Matrix>),
     middle: u64,
 ) -> Result<(Matrix, u64), Fail> {
@@ -363,7 +364,7 @@ fn assert_done<'m>(
     rt: &impl Abort,
     alloc: Global,
     job: Job,
-    operator: &Prepared,
+    operator: &Operator,
     sources: (&'m Matrix, &'m Matrix, Option<&'m Matrix>),
     middle: u64,
 ) -> Result<(), Fail> {

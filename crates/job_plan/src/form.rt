@@ -2,7 +2,7 @@
 ghost use Rattle.std.specs.Prelude.{◌≡◌};
 ghost use Rattle.job_plan.specs.Form.{IsMapped, all_some, first_and_second, matrices_of, operators_of};
 
-use bpf_run::Prepared;
+use bpf_verify::Operator;
 use csr_store::Version;
 use std::sync::Arc;
 
@@ -10,7 +10,7 @@ use std::sync::Arc;
 /// job they are operators and matrices of which it is an owner, perhaps of the wrong kind and of shapes that don't fit:
 /// [`Priced::of`](crate::Priced::of) looks at that.
 #[derive(Clone, Copy, Drop)]
-pub enum Form<O = Arc<Prepared>, M = Version> {
+pub enum Form<O = Arc<Operator>, M = Version> {
     /// What a unary operator makes of each word; with a thunk, what an index operator makes of it.
     Apply {
         operator: O,

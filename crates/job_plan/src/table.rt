@@ -13,7 +13,7 @@ ghost use Rattle.job_plan.specs.Refusal.{has_shape};
 use crate::form::Form;
 use crate::rows::{count_in, folds_in, folds_under, least_in, lesser_in};
 use bpf_insn::Kind;
-use bpf_run::Prepared;
+use bpf_verify::Operator;
 use csr_store::Matrix;
 use job_forms::{mult_count, mult_count_in};
 use std::ops::Range;
@@ -180,7 +180,7 @@ fn kind_with(thunk: Option<u64>) -> Kind
 }
 
 /// What holds of any operator and of any matrix. Only the prover looks at it.
-fn recall(operator: &Prepared, operand: &Matrix)
+fn recall(operator: &Operator, operand: &Matrix)
     ensures operator { IsAccepted operator.now }
     ensures operand { IsGrid operand.now }
 {
@@ -189,14 +189,14 @@ fn recall(operator: &Prepared, operand: &Matrix)
 }
 
 /// Whether an operator is of a kind.
-fn is_of(kind: Kind, operator: &Prepared) -> bool
+fn is_of(kind: Kind, operator: &Operator) -> bool
     ensures { result ≡ is_of kind operator.now }
 {
     operator.kind() == kind
 }
 
 /// How many instructions an operator has.
-fn length(operator: &Prepared) -> u64
+fn length(operator: &Operator) -> u64
     ensures length { result ≡ length operator.now.insns }
     ensures few { result ≤ 4096 }
 {

@@ -1,6 +1,6 @@
 //! Batches with their matrices and steps worked out by hand.
 use bpf_insn::Kind;
-use bpf_run::Prepared;
+use bpf_verify::Operator;
 use csr_store::{Builder, Matrix, Version};
 use job_plan::{Form, Job, Plan, Priced, Queue};
 use job_runner::{BatchAnswer, Open, run_batch};
@@ -27,7 +27,7 @@ struct Task<'a> {
 type Entry = (u64, u64, u64);
 
 /// The operator of a text that is right, with several owners.
-fn operator(alloc: Global, kind: Kind, text: &str) -> Result<Arc<Prepared>, AllocError> {
+fn operator(alloc: Global, kind: Kind, text: &str) -> Result<Arc<Operator>, AllocError> {
     let operator = assembled(alloc, kind, text).map_err(|_| AllocError)?;
     Ok(Arc::new(alloc, operator)?)
 }
@@ -177,8 +177,8 @@ fn no_rows(rt: HostRuntime) -> Result<(), Fail> {
 /// The operators and the operands that jobs of each form share.
 #[derive(Drop)]
 struct Common {
-    sub: Arc<Prepared>,
-    index: Arc<Prepared>,
+    sub: Arc<Operator>,
+    index: Arc<Operator>,
     a: Version,
     b: Version,
 }

@@ -5,7 +5,7 @@ mod refusals;
 mod waiting;
 
 use bpf_insn::Kind;
-use bpf_run::Prepared;
+use bpf_verify::Operator;
 use csr_store::{Builder, Version};
 use job_plan::{Form, Job, JobError, Plan, Priced, Queue, price};
 use std::alloc::{AllocError, Global};
@@ -32,7 +32,7 @@ const WIDE: &str = "
 type Entry = (u64, u64, u64);
 
 /// The operator of a text, with several owners.
-fn operator(alloc: Global, kind: Kind, text: &str) -> Result<Arc<Prepared>, Fail> {
+fn operator(alloc: Global, kind: Kind, text: &str) -> Result<Arc<Operator>, Fail> {
     Ok(Arc::new(alloc, assembled(alloc, kind, text)?)?)
 }
 

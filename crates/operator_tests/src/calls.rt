@@ -2,8 +2,9 @@
 mod lanes;
 
 use bpf_insn::{Kind, Operands, Program, Ran, run_tagged};
-use bpf_run::{Calls, MOST_CALLS, Outcome, Prepared, call};
+use bpf_run::{Calls, MOST_CALLS, Outcome, call};
 use bpf_text::assemble;
+use bpf_verify::Operator;
 use std::alloc::Global;
 use std::process::Abort;
 use std::test::Fail;
@@ -41,14 +42,14 @@ fn operands_of(kind: Kind, x: u64, y: u64) -> Operands {
 /// That calls of the operator of a text, alone and together, give and cost what the tagged machine says, on all pairs of words.
 fn expect_alike(rt: &impl Abort, alloc: Global, text: &str, kind: Kind) -> Result<(), Fail> {
     let tagged = assemble(alloc, text.as_bytes())?;
-    let prepared = assembled(alloc, kind, text)?;
-    assert_eq!(rt; prepared.len(), tagged.len());
-    lanes::expect_together_in_all_counts(rt, alloc, &tagged, &prepared)?;
+    let operator = assembled(alloc, kind, text)?;
+    assert_eq!(rt; operator.len(), tagged.len());
+    lanes::expect_together_in_all_counts(rt, alloc, &tagged, &operator)?;
     for x in WORDS {
         for y in WORDS {
-            let operands = operands_of(prepared.kind(), x, y);
-            if operands.kind() == prepared.kind() {
-                let Outcome { value, steps } = call(&prepared, &operands);
+            let operands = operands_of(operator.kind(), x, y);
+            if operands.kind() == operator.kind() {
+                let Outcome { value, steps } = call(&operator, &operands);
                 let ran = run_tagged(&tagged, operands.kind(), &operands);
                 assert_eq!(rt; ran, Ran::Done { value, steps });
             }

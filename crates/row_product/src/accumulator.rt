@@ -13,7 +13,8 @@ use crate::factors::MaskedFactors;
 use crate::single::push_words;
 use crate::sums::Sums;
 use crate::terms::Terms;
-use bpf_run::{Calls, Prepared, run_known};
+use bpf_run::{Calls, run_known};
+use bpf_verify::Operator;
 use csr_store::Rows;
 use job_forms::Making;
 use std::alloc::{AllocError, Global};
@@ -120,7 +121,7 @@ impl Accumulator {
 
 /// Adds terms to the sums of the columns of cells. Answers the steps.
 fn add_terms(
-    add: &Prepared,
+    add: &Operator,
     cells: &[(u64, u64)],
     terms: &[u64],
     additions: &mut Additions,

@@ -5,7 +5,8 @@ ghost use Rattle.row_product.specs.inner.Adding.{written, gathered_one, none_gat
 
 use crate::sums::Sums;
 use bpf_insn::Kind;
-use bpf_run::{Calls, MOST_CALLS, Prepared};
+use bpf_run::{Calls, MOST_CALLS};
+use bpf_verify::Operator;
 use std::alloc::{AllocError, Global};
 use std::marker::Model;
 
@@ -53,7 +54,7 @@ impl Additions {
     }
 
     /// Makes all that were gathered, and puts what they come to at their columns. Answers the steps.
-    pub(crate) fn make(&mut self, add: &Prepared, sums: &mut Sums) -> u64
+    pub(crate) fn make(&mut self, add: &Operator, sums: &mut Sums) -> u64
         requires add { add.now.kind ≡ kinds.Binary }
         requires within { AreBelow (length sums.old) self.old.columns }
         ensures added { AreAdded add.now self.old sums.old sums.new result }

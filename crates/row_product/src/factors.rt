@@ -2,14 +2,14 @@
 ghost use Rattle.bpf_verify.specs.Accepted.{IsAccepted};
 ghost use Rattle.csr_store.specs.Grid.{IsGrid};
 
-use bpf_run::Prepared;
+use bpf_verify::Operator;
 use csr_store::{Column, Matrix};
 
 /// The operators and the matrices of a product.
 #[derive(Clone, Copy)]
 pub struct Factors<'m> {
-    pub add: &'m Prepared,
-    pub mul: &'m Prepared,
+    pub add: &'m Operator,
+    pub mul: &'m Operator,
     pub a: &'m Matrix,
     pub b: &'m Matrix,
     /// A copy of B, if there is one. It is made only of a B of one column.
@@ -34,8 +34,8 @@ impl<'m> Factors<'m> {
 /// The factors of a product, with its mask if there is one.
 #[derive(Clone, Copy)]
 pub(crate) struct MaskedFactors<'m> {
-    pub(crate) add: &'m Prepared,
-    pub(crate) mul: &'m Prepared,
+    pub(crate) add: &'m Operator,
+    pub(crate) mul: &'m Operator,
     pub(crate) a: &'m Matrix,
     pub(crate) b: &'m Matrix,
     pub(crate) column: Option<&'m Column>,

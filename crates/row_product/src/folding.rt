@@ -4,7 +4,8 @@ ghost use Rattle.row_product.specs.inner.Few.{MayFold, MayFoldBehind, FoldsBehin
 
 use crate::calling::{ByFunction, ByProgram, Caller};
 use crate::ordering::term;
-use bpf_run::{Function, Loop, Prepared, run_known};
+use bpf_run::{Function, Loop, run_known};
+use bpf_verify::Operator;
 
 /// Terms of a row, and the keys by which they are in order.
 #[derive(Drop)]
@@ -16,7 +17,7 @@ pub(crate) struct Ordered<'c> {
 /// Folds further terms into a column's first, and so on for each column after it. Answers the steps.
 #[inline(always)]
 fn fold_behind<C: Caller>(
-    add: &Prepared,
+    add: &Operator,
     first: (u64, u64),
     further: &Ordered,
     sums: &mut Vec<(u64, u64)>,
@@ -44,7 +45,7 @@ fn fold_behind<C: Caller>(
 
 /// Folds the terms of each column. Answers the steps.
 #[inline(always)]
-fn fold_columns<C: Caller>(add: &Prepared, terms: &Ordered, sums: &mut Vec<(u64, u64)>) -> u64
+fn fold_columns<C: Caller>(add: &Operator, terms: &Ordered, sums: &mut Vec<(u64, u64)>) -> u64
     requires may { MayFold add.now terms.now sums.old }
     requires serves { C.serves add.now }
     ensures { AreFolded add.now terms.now sums.new.items result }
@@ -67,13 +68,13 @@ impl<'c> Loop for Ordered<'c> {
     ghost gives = { λ t add old sums steps. AreFolded add t sums.items steps };
 
     #[inline(never)]
-    fn run<F: Function>(&self, add: &Prepared, sums: &mut Vec<(u64, u64)>) -> u64 {
+    fn run<F: Function>(&self, add: &Operator, sums: &mut Vec<(u64, u64)>) -> u64 {
         fold_columns::<ByFunction<F>>(add, self, sums)
     }
 }
 
 /// Folds the terms of each column, into one cell a column. Answers the steps.
-pub(crate) fn fold_terms(add: &Prepared, terms: &Ordered, sums: &mut Vec<(u64, u64)>) -> u64
+pub(crate) fn fold_terms(add: &Operator, terms: &Ordered, sums: &mut Vec<(u64, u64)>) -> u64
     requires may { MayFold add.now terms.now sums.old }
     ensures { AreFolded add.now terms.now sums.new.items result }
 {

@@ -11,7 +11,8 @@ ghost use Rattle.row_product.specs.inner.Few.{MayList, Lists};
 ghost use Rattle.row_product.specs.inner.Single.{multiplied};
 
 use crate::calling::{ByFunction, ByProgram, Caller};
-use bpf_run::{Function, Loop, Prepared, run_known};
+use bpf_run::{Function, Loop, run_known};
+use bpf_verify::Operator;
 use csr_store::Matrix;
 
 /// Row `i` of A, whose cells name rows of B, and the mask if there is one.
@@ -37,7 +38,7 @@ fn lets_pass(mask: Option<&Matrix>, i: u64, j: u64) -> bool
 /// Lists a word times each cell of a row of B that passes row `i` of the mask. Answers the steps.
 #[inline(always)]
 fn list_cells<C: Caller>(
-    mul: &Prepared,
+    mul: &Operator,
     x: u64,
     cells: &[(u64, u64)],
     mask: Option<&Matrix>,
@@ -67,7 +68,7 @@ fn list_cells<C: Caller>(
 
 /// Lists the terms that the cells of a row of A give, one row of B after the other. Answers the steps.
 #[inline(always)]
-fn list_rows<C: Caller>(mul: &Prepared, naming: &Naming, listed: &mut Vec<(u64, u64)>) -> u64
+fn list_rows<C: Caller>(mul: &Operator, naming: &Naming, listed: &mut Vec<(u64, u64)>) -> u64
     requires may { MayList mul.now naming.now listed.old }
     requires serves { C.serves mul.now }
     ensures { Lists mul.now naming.now listed.old listed.new result }
@@ -88,13 +89,13 @@ impl<'m> Loop for Naming<'m> {
     ghost gives = { λ n mul old listed steps. Lists mul n old listed steps };
 
     #[inline(never)]
-    fn run<F: Function>(&self, mul: &Prepared, listed: &mut Vec<(u64, u64)>) -> u64 {
+    fn run<F: Function>(&self, mul: &Operator, listed: &mut Vec<(u64, u64)>) -> u64 {
         list_rows::<ByFunction<F>>(mul, self, listed)
     }
 }
 
 /// Lists the terms that the cells of a row of A give, in their order, in place of what was listed. Answers the steps.
-pub(crate) fn list_terms(mul: &Prepared, naming: &Naming, listed: &mut Vec<(u64, u64)>) -> u64
+pub(crate) fn list_terms(mul: &Operator, naming: &Naming, listed: &mut Vec<(u64, u64)>) -> u64
     requires may { MayList mul.now naming.now listed.old }
     ensures { Lists mul.now naming.now listed.old listed.new result }
 {

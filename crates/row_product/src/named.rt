@@ -11,7 +11,8 @@ ghost use Rattle.csr_store.specs.Column.{IsCopyOf};
 ghost use Rattle.row_product.specs.inner.Column.{AreLent, AreGathered, MayMultiply, AreMultiplied, HasRoom};
 
 use bpf_insn::Kind;
-use bpf_run::{Calls, Function, Loop, Outcome, Prepared, call_by};
+use bpf_run::{Calls, Function, Loop, Outcome, call_by};
+use bpf_verify::Operator;
 use csr_store::{Column, Matrix};
 
 /// Up to 64 cells of a row of A, and the column whose words they name, with its copy if there is one.
@@ -40,7 +41,7 @@ fn word_at(b: &Matrix, column: Option<&Column>, k: u64) -> (u64, bool)
 /// it is known whether there is a word for it, and taken back where there is none: which cells name a word can't be foretold.
 #[inline(always)]
 fn multiply<F: Function>(
-    mul: &Prepared,
+    mul: &Operator,
     cells: &[(u64, u64)],
     b: &Matrix,
     column: Option<&Column>,
@@ -85,7 +86,7 @@ impl<'c> Loop for Named<'c> {
     ghost gives = { λ n mul old terms steps. AreMultiplied mul n.b.now n.cells.now terms steps };
 
     #[inline(never)]
-    fn run<F: Function>(&self, mul: &Prepared, terms: &mut Vec<(u64, u64)>) -> u64 {
+    fn run<F: Function>(&self, mul: &Operator, terms: &mut Vec<(u64, u64)>) -> u64 {
         // a loop for each: none asks at every cell whether there is a copy
         match self.column {
             Some(column) => multiply::<F>(mul, self.cells, self.b, Some(column), terms),

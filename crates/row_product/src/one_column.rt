@@ -12,7 +12,8 @@ ghost use Rattle.row_product.specs.inner.Sums.{fold_on_calls};
 use crate::factors::MaskedFactors;
 use crate::named::{Named, gather, list_terms};
 use crate::room::Room;
-use bpf_run::{Calls, MOST_CALLS, Outcome, Prepared, fold, run_known};
+use bpf_run::{Calls, MOST_CALLS, Outcome, fold, run_known};
+use bpf_verify::Operator;
 use csr_store::{Column, Matrix, Rows};
 use job_forms::Making;
 use std::alloc::{AllocError, Global};
@@ -46,7 +47,7 @@ fn lets_pass(mask: Option<&Matrix>, i: u64) -> bool
 
 /// Folds the words of further terms into a word.
 #[inline(always)]
-fn fold_terms(add: &Prepared, so_far: u64, terms: &[(u64, u64)]) -> Outcome
+fn fold_terms(add: &Operator, so_far: u64, terms: &[(u64, u64)]) -> Outcome
     requires add { add.now.kind ≡ kinds.Binary }
     requires room { steps_of (fold_calls_from add.now so_far (terms_of terms.now)) < 2 ^ 64 }
     ensures value { result.value ≡ fold_from add.now so_far (terms_of terms.now) }
@@ -62,7 +63,7 @@ fn fold_terms(add: &Prepared, so_far: u64, terms: &[(u64, u64)]) -> Outcome
 }
 
 /// Folds the words of further terms into a sum, or begins it by the first. Answers the steps.
-fn add_terms(add: &Prepared, terms: &[(u64, u64)], sum: &mut Option<u64>) -> u64
+fn add_terms(add: &Operator, terms: &[(u64, u64)], sum: &mut Option<u64>) -> u64
     requires add { add.now.kind ≡ kinds.Binary }
     requires room { steps_of (fold_on_calls add.now sum.old (terms_of terms.now)) < 2 ^ 64 }
     ensures { AddsListed add.now (terms_of terms.now) sum.old sum.new result }
@@ -93,7 +94,7 @@ impl Summing {
     /// Lists the terms of up to 64 cells of a row of A. Answers the steps.
     fn multiply(
         &mut self,
-        mul: &Prepared,
+        mul: &Operator,
         cells: &[(u64, u64)],
         b: &Matrix,
         column: Option<&Column>,

@@ -9,7 +9,8 @@ ghost use Rattle.row_product.specs.inner.Sums.{slot, added, added_calls};
 
 use crate::emit::{emit_listed, emit_marked};
 use crate::held::Held;
-use bpf_run::{Function, Prepared, call_by};
+use bpf_run::{Function, call_by};
+use bpf_verify::Operator;
 use csr_store::Rows;
 use std::alloc::{AllocError, Global};
 use std::marker::Model;
@@ -117,7 +118,7 @@ impl Sums {
 
     /// Adds a term to the sum of a column, or begins it, by an operator that computes a function. Answers the steps.
     #[inline(always)]
-    pub(crate) fn add<F: Function>(&mut self, add: &Prepared, column: u64, term: u64) -> u64
+    pub(crate) fn add<F: Function>(&mut self, add: &Operator, column: u64, term: u64) -> u64
         requires computes { Computes add.now F.meaning F.price }
         requires within { column < length self.old }
         ensures sum { self.new ≡ set self.old column (Some (added add.now (slot self.old column) term)) }

@@ -6,7 +6,8 @@ ghost use Rattle.bpf_run.specs.Known.{Computes};
 ghost use Rattle.row_product.specs.inner.Adding.{put_calls, AreTerms, ArePut};
 
 use crate::sums::Sums;
-use bpf_run::{Function, Loop, Prepared};
+use bpf_run::{Function, Loop};
+use bpf_verify::Operator;
 
 /// Cells, and a term for the column of each.
 #[derive(Drop)]
@@ -18,7 +19,7 @@ pub(crate) struct Terms<'c> {
 /// Adds terms to the sums of the columns of cells, by an operator that computes a function. Answers the steps.
 #[inline(always)]
 fn add_terms<F: Function>(
-    add: &Prepared,
+    add: &Operator,
     cells: &[(u64, u64)],
     terms: &[u64],
     sums: &mut Sums,
@@ -44,7 +45,7 @@ impl<'c> Loop for Terms<'c> {
     ghost gives = { λ t add old sums steps. ArePut add t.cells.now t.terms.now old sums steps };
 
     #[inline(never)]
-    fn run<F: Function>(&self, add: &Prepared, sums: &mut Sums) -> u64 {
+    fn run<F: Function>(&self, add: &Operator, sums: &mut Sums) -> u64 {
         add_terms::<F>(add, self.cells, self.terms, sums)
     }
 }

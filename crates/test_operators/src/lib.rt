@@ -6,10 +6,9 @@
 ghost use Rattle.std.specs.Prelude.{◌≡◌, IfOk};
 
 use bpf_insn::Kind;
-use bpf_run::Prepared;
 use bpf_text::{AsmError, assemble};
-use bpf_verify::{VerifyError, verify};
-use std::alloc::{AllocError, Global};
+use bpf_verify::{Operator, VerifyError, verify};
+use std::alloc::Global;
 use thiserror::Error;
 
 /// x + 1, for a kind of any operands.
@@ -39,21 +38,18 @@ pub enum NoOperator {
     /// The text has a fault, or there was no memory for its program.
     #[error("{0}")]
     Text(AsmError),
-    /// The verifier refuses the program, or there was no memory for what it knows.
+    /// The verifier refuses the program, or there was no memory for the operator.
     #[error("{0}")]
     Program(VerifyError),
-    /// There was no memory to prepare the operator.
-    #[error("no memory for the calls of the operator")]
-    Memory,
 }
 
-/// The operator of a text, ready for calls. A text with a fault is the test's own fault, and comes back with its line or its slot.
-pub fn assembled(alloc: Global, kind: Kind, text: &str) -> Result<Prepared, NoOperator>
+/// The operator of a text. A text with a fault is the test's own fault, and comes back with its line or its slot.
+pub fn assembled(alloc: Global, kind: Kind, text: &str) -> Result<Operator, NoOperator>
     ensures { IfOk result (λ operator. operator.kind ≡ kind) }
 {
     let program = assemble(alloc, text.as_bytes()).map_err(NoOperator::Text)?;
     match verify(alloc, program, kind) {
-        Ok(operator) => Prepared::new(alloc, operator).map_err(|_| NoOperator::Memory),
+        Ok(operator) => Ok(operator),
         Err((_, error)) => Err(NoOperator::Program(error)),
     }
 }

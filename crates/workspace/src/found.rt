@@ -8,7 +8,7 @@ ghost use Rattle.workspace.specs.inner.Lent.{lent_form, lent_job};
 ghost use Rattle.workspace.specs.Workspace.{state_of};
 
 use crate::workspace::Workspace;
-use bpf_run::Prepared;
+use bpf_verify::Operator;
 use command_text::{Name, Submission};
 use csr_store::Version;
 use job_plan::Form;
@@ -17,7 +17,7 @@ use std::sync::Arc;
 /// What the names of a job's operators, matrices and mask stand for.
 #[derive(Clone, Copy)]
 pub struct FoundJob<'a> {
-    pub form: Form<&'a Arc<Prepared>, &'a Version>,
+    pub form: Form<&'a Arc<Operator>, &'a Version>,
     pub mask: Option<&'a Version>,
 }
 
@@ -25,7 +25,7 @@ pub struct FoundJob<'a> {
 fn find_form<'a>(
     workspace: &'a Workspace,
     form: Form<Name<'_>, Name<'_>>,
-) -> Option<Form<&'a Arc<Prepared>, &'a Version>>
+) -> Option<Form<&'a Arc<Operator>, &'a Version>>
     ensures { option_map lent_form result ≡
         found (state_of workspace.now).operators (state_of workspace.now).matrices (form_of form.entry) }
 {

@@ -6,14 +6,14 @@ ghost use Rattle.job_plan.specs.Kept.{form_of};
 ghost use Rattle.workspace.specs.inner.Lent.{lent_form, lent_mask, lent_job};
 
 use crate::found::FoundJob;
-use bpf_run::Prepared;
+use bpf_verify::Operator;
 use csr_store::Version;
 use job_plan::{Form, Job};
 use std::alloc::{AllocError, Global};
 use std::sync::Arc;
 
 /// A form, as a further owner of its operators and matrices.
-fn share_form(found: Form<&Arc<Prepared>, &Version>) -> Result<Form, AllocError>
+fn share_form(found: Form<&Arc<Operator>, &Version>) -> Result<Form, AllocError>
     ensures { IfOk result (λ form. form_of form ≡ lent_form found.entry) }
 {
     found

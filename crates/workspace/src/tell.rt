@@ -32,7 +32,7 @@ pub fn types(alloc: Global, workspace: &Workspace, name: Name<'_>, reply: &mut R
     let Some(operator) = workspace.operator(name) else {
         return refuse(reply, Refusal::Session(SessionRule::UnknownName));
     };
-    match types_text(alloc, operator.operator()) {
+    match types_text(alloc, operator) {
         Ok(text) => list(reply, "types", operator.len(), text),
         Err(_) => refuse(reply, Refusal::Memory),
     }
@@ -45,7 +45,7 @@ pub fn disassembly(alloc: Global, workspace: &Workspace, name: Name<'_>, reply: 
     let Some(operator) = workspace.operator(name) else {
         return refuse(reply, Refusal::Session(SessionRule::UnknownName));
     };
-    match disassemble(alloc, operator.operator().program()) {
+    match disassemble(alloc, operator.program()) {
         Ok(text) => list(reply, "dis", operator.len(), text.into_bytes()),
         Err(_) => refuse(reply, Refusal::Memory),
     }

@@ -8,7 +8,6 @@ ghost use Rattle.workspace.specs.State.{empty, bound};
 ghost use Rattle.workspace.specs.Queued.{AreNamed};
 
 use crate::names::Names;
-use bpf_run::Prepared;
 use bpf_verify::Operator;
 use command_text::Name;
 use csr_store::{Matrix, Version};
@@ -22,7 +21,7 @@ use std::sync::Arc;
 #[derive(Drop)]
 pub struct Workspace {
     pub matrices: Names<Version>,
-    pub operators: Names<Arc<Prepared>>,
+    pub operators: Names<Arc<Operator>>,
     pub queue: Queue,
     /// How many workers a batch may have: 1 to 64.
     pub workers: u64,
@@ -62,7 +61,7 @@ impl Workspace {
     }
 
     /// The operator of a name.
-    pub fn operator(&self, name: Name<'_>) -> Option<&Arc<Prepared>>
+    pub fn operator(&self, name: Name<'_>) -> Option<&Arc<Operator>>
         ensures { option_map arc_value (option_copied result) ≡ (state_of self.now).operators (name_of name.entry) }
     {
         self.operators.find(name.as_str())
@@ -106,8 +105,7 @@ impl Workspace {
             { operators = bound (state_of self.old).operators name.now operator }) }
         ensures same { OnErr result (state_of self.new ≡ state_of self.old) }
     {
-        let prepared = Prepared::new(alloc, operator)?;
-        let operator = Arc::new(alloc, prepared)?;
+        let operator = Arc::new(alloc, operator)?;
         self.operators.declare(name)?;
         self.operators.bind(name, operator);
         Ok(())

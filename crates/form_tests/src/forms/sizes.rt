@@ -80,7 +80,7 @@ fn chunk_of<'m>(
     alloc: Global,
     calls: &mut Calls,
     job: Job,
-    operator: &Prepared,
+    operator: &Operator,
     (a, b, mask): (&'m Matrix, &'m Matrix, Option<&'m Matrix>),
     range: Range<u64>,
 ) -> Option<Made> {

@@ -2,7 +2,7 @@
 //! steps. The same in a scratch that has room for all columns.
 use super::{Operators, all_operators, assert_count, chunk_of, finished, reference, scattered};
 use crate::masks::passes;
-use bpf_run::Prepared;
+use bpf_verify::Operator;
 use csr_store::{Builder, Matrix};
 use row_product::Scratch;
 use std::alloc::{AllocError, Global};
@@ -41,7 +41,7 @@ fn reference_cells(
     rt: &impl Abort,
     alloc: Global,
     (a, b): (&Matrix, &Matrix),
-    (add, mul): (&Prepared, &Prepared),
+    (add, mul): (&Operator, &Operator),
     mask: Option<&Matrix>,
     steps: &mut u64,
 ) -> Result<Vec<(u64, u64)>, AllocError> {
@@ -64,7 +64,7 @@ fn assert_cells(
     alloc: Global,
     scratch: &mut Scratch,
     (a, b): (&Matrix, &Matrix),
-    (add, mul): (&Prepared, &Prepared),
+    (add, mul): (&Operator, &Operator),
     mask: Option<&Matrix>,
 ) -> Result<(), Fail> {
     let mut steps = 0;

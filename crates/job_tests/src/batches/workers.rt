@@ -5,7 +5,7 @@ ghost use Rattle.job_plan.specs.Chunks.{prices_of};
 
 use super::{Task, diagonal, increments, is_incremented, operator, plan_of, put, version};
 use bpf_insn::Kind;
-use bpf_run::Prepared;
+use bpf_verify::Operator;
 use csr_store::{Builder, Version};
 use job_plan::{Form, Plan};
 use job_runner::{BatchAnswer, BatchFault, Cause, Gate, Open, open_board, run_batch, work};
@@ -137,7 +137,7 @@ impl Gate for Counts {
 const DEAR: u64 = 1000;
 
 /// The operator that adds one, by so many instructions.
-fn dear_increment(alloc: Global) -> Result<Arc<Prepared>, AllocError> {
+fn dear_increment(alloc: Global) -> Result<Arc<Operator>, AllocError> {
     let mut text = String::new(alloc);
     for _ in 0..DEAR - 3 {
         text.push_str("mov64 r0, r1\n")?;

@@ -214,7 +214,7 @@ fn reduce_counts_one_less_a_row(rt: HostRuntime) -> Result<(), Fail> {
 }
 
 /// An operator of so many instructions before `exit`.
-fn long_operator(alloc: Global, count: u64) -> Result<Arc<Prepared>, Fail> {
+fn long_operator(alloc: Global, count: u64) -> Result<Arc<Operator>, Fail> {
     let mut text = String::new(alloc);
     for _ in 0..count {
         text.push_str("mov64 r0, r1\n")?;

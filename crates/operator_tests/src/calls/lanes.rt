@@ -50,13 +50,13 @@ fn expect_values(rt: &impl Abort, tagged: &Program, operands: &[Operands], value
 fn expect_together(
     rt: &impl Abort,
     tagged: &Program,
-    prepared: &Prepared,
+    operator: &Operator,
     calls: &mut Calls,
     operands: &[Operands],
 ) {
-    gather_all(calls, prepared.kind(), operands);
+    gather_all(calls, operator.kind(), operands);
     assert_eq!(rt; calls.len(), operands.len());
-    let steps = calls.make(prepared);
+    let steps = calls.make(operator);
     assert_eq!(rt; calls.len(), 0);
     let expected = expect_values(rt, tagged, operands, calls.values());
     assert_eq!(rt; steps, expected);
@@ -77,13 +77,13 @@ pub(super) fn expect_together_in_all_counts(
     rt: &impl Abort,
     alloc: Global,
     tagged: &Program,
-    prepared: &Prepared,
+    operator: &Operator,
 ) -> Result<(), Fail> {
     let mut calls = Calls::new(alloc)?;
     for count in COUNTS {
         for alike in [false, true] {
-            let operands = lanes_of(alloc, prepared.kind(), count, alike)?;
-            expect_together(rt, tagged, prepared, &mut calls, &operands);
+            let operands = lanes_of(alloc, operator.kind(), count, alike)?;
+            expect_together(rt, tagged, operator, &mut calls, &operands);
         }
     }
     Ok(())
@@ -96,7 +96,7 @@ const CELLS: [(u64, u64); 3] = [(1, 10), (4, 40), (7, 70)];
 const SIX_CELLS: [(u64, u64); 6] = [(0, 1), (1, 2), (2, 3), (3, 4), (5, 5), (9, 6)];
 
 /// That the calls that were gathered cost and give this.
-fn expect_made(rt: &impl Abort, calls: &mut Calls, operator: &Prepared, steps: u64, values: &[u64])
+fn expect_made(rt: &impl Abort, calls: &mut Calls, operator: &Operator, steps: u64, values: &[u64])
     requires { calls.old.kind ≡ operator.now.kind }
     ensures kind { calls.new.kind ≡ calls.old.kind }
     ensures none { calls.new.operands ≡ [] }

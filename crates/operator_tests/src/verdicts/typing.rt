@@ -39,7 +39,7 @@ const STORING: &str = "
 ";
 
 /// Slots and offsets, with whether the byte there is stored.
-const MARKS: [(u64, i16, bool); 10] = [
+const MARKS: [(u64, i64, bool); 10] = [
     (0, -8, false),
     (2, -9, false),
     (2, -8, true),
@@ -53,7 +53,7 @@ const MARKS: [(u64, i16, bool); 10] = [
 ];
 
 /// Whether a byte of the stack is stored at a slot.
-fn expect_mark(rt: &impl Abort, operator: &Operator, slot: u64, place: i16, stored: bool) {
+fn expect_mark(rt: &impl Abort, operator: &Operator, slot: u64, place: i64, stored: bool) {
     assert!(rt; -512 <= place);
     assert!(rt; place < 0);
     assert_eq!(rt;
