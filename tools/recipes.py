@@ -7,7 +7,7 @@ from typing import Dict, Iterator, List
 # what a sample is called in code, by the recipe's heading
 SAMPLES = {
     'An opcode': r"\bXor\b|'xor'|\bxor64\b",
-    'A form of job': r"\bReduce\b|'reduce'|b'reduce'|\breduce_rows\b",
+    'A form of job': r"\bReduce\b|'reduce'|b'reduce'|\breduce_(rows|region)\b",
     'A command': r"\bTypes\b|'types'|b'types\b|\btypes_text\b",
     'A ready operator': r'\babsdiff\b',
     'An algorithm': r'\bk_core\b',

@@ -12,7 +12,7 @@ use Rattle.bpf_verify.specs.Accepted.{Accepted}
 use Rattle.bpf_run.specs.Calls.{Call}
 use Rattle.bpf_run.specs.Fold.{fold, fold_calls}
 use Rattle.job_forms.specs.Forms.{applied, apply_calls, apply_at, apply_calls_at, selected, select_at, select_calls_at, united, joint, joint_calls, union_at, both_at, joint_calls_at, reduce_at, reduce_calls_at}
-use Rattle.job_forms.specs.declared.region.Made.{Made}
+use Rattle.job_forms.specs.declared.region.Chunk.{Chunk}
 use Rattle.job_forms.specs.declared.region.Region.{Region}
 use Rattle.job_forms.specs.Region.{IsMade, IsPartOf}
 use Rattle.entry_ops.specs.inner.Blank.{AreBlank, AreShut}
@@ -49,7 +49,7 @@ no_calls mask columns calls first (suc n) h =
     ∙ no_calls mask columns calls (suc first) n (λ i j l u. h i j (omega (arith, l)) (omega (arith, u)))
 
 -- blank rows are what is made of such a region
-pub part_of_nothing : (columns given : ℕ) → given ≡ columns → (values : Position → Option ℕ) (calls : Position → List Call) (region : Region) (made : Made)
+pub part_of_nothing : (columns given : ℕ) → given ≡ columns → (values : Position → Option ℕ) (calls : Position → List Call) (region : Region) (made : Chunk)
     → ((i j : ℕ) → region.range.start ≤ i → i < region.range.start + (region.range.end - region.range.start)
     → HasNothing (mask_of region.mask) values calls (i, j))
     → IsMade (record {

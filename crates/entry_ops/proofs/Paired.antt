@@ -16,7 +16,7 @@ use Rattle.bpf_run.specs.Calls.{Gathered, calls_on, values_on}
 use Rattle.entry_ops.specs.inner.Forms.{Form, Apply, Select, Union, Both}
 use Rattle.entry_ops.specs.declared.line.Sources.{Sources}
 use Rattle.entry_ops.specs.inner.Paired.{columns_of, pairs_in, AreInStep, range_pairs, ArePaired}
-use Rattle.job_forms.specs.declared.region.Made.{Made}
+use Rattle.job_forms.specs.declared.region.Chunk.{Chunk}
 use Rattle.entry_ops.specs.inner.Walking.{kind_for, is_joint, form_at, form_calls, row_cells, row_calls, IsFormMade}
 use Rattle.entry_ops.proofs.Nexts.{next_both, next_first}
 use Rattle.entry_ops.proofs.Merging.{cells_here, calls_here, no_cell, no_call}
@@ -204,7 +204,7 @@ pub paired_mapped : (form : Form) (f : Accepted) (s : Sources) (first n : ℕ) (
 paired_mapped form f s first n pairs h j = pairs_mapped form f s.left.now h.other first n j h.grids.0 h.grids.1 h.columns h.in_step
 
 -- what was made without a mask
-pub paired_made : (form : Form) (f : Accepted) (s : Sources) (first n : ℕ) (pairs : List Operands) (h : ArePaired s first n pairs) (made : Made)
+pub paired_made : (form : Form) (f : Accepted) (s : Sources) (first n : ℕ) (pairs : List Operands) (h : ArePaired s first n pairs) (made : Chunk)
     → IsFormMade form f s.left.now (Some h.other) None first n made
     → IsFormMade form f s.left.now (mask_of s.right) (mask_of s.mask) first n made
 paired_made form f s first n pairs h made m =

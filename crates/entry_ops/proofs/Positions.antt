@@ -27,7 +27,7 @@ use Rattle.job_forms.specs.Forms.{
 }
 use Rattle.job_forms.specs.Region.{IsMade, IsPartOf}
 use Rattle.job_forms.specs.declared.region.Region.{Region}
-use Rattle.job_forms.specs.declared.region.Made.{Made}
+use Rattle.job_forms.specs.declared.region.Chunk.{Chunk}
 use Rattle.entry_ops.specs.inner.Forms.{Form, Apply, Select, Union, Both}
 use Rattle.entry_ops.specs.inner.Walking.{
   form_at,
@@ -78,7 +78,7 @@ module _ (form : Form) (f : Accepted) (a : Grid) (b mask : Option Grid) where
 module _ (form : Form) (f : Accepted) (a : Grid) (b : Option Grid) (values : Position → Option ℕ) (lists : Position → List Call)
     (same : (i j : ℕ) → form_at form f (i, j) (at (row_of a i) j) (at (row_or_none b i) j) ≡ values (i, j))
     (same_lists : (i j : ℕ) → form_calls form f (i, j) (at (row_of a i) j) (at (row_or_none b i) j) ≡ lists (i, j))
-    (region : Region) (made : Made) where
+    (region : Region) (made : Chunk) where
   part_is : IsFormMade form f a b (mask_of region.mask) region.range.start (region.range.end - region.range.start) made
       → IsPartOf a.columns values lists region made
   part_is h =
@@ -91,7 +91,7 @@ module _ (form : Form) (f : Accepted) (a : Grid) (b : Option Grid) (values : Pos
       { first = first; columns = a.columns; ended = form_rows form f a b mask first n; opened = [] })
       cs made) (calls_are form f a b mask lists same_lists first n) h)
 
-module _ (f : Accepted) (a : Grid) (region : Region) (made : Made) where
+module _ (f : Accepted) (a : Grid) (region : Region) (made : Chunk) where
   pub apply_is : (thunk : Option ℕ)
       → IsFormMade (Apply thunk) f a None (mask_of region.mask) region.range.start (region.range.end - region.range.start) made
       → IsPartOf a.columns (apply_at f thunk a) (apply_calls_at f thunk a) region made

@@ -41,7 +41,7 @@ use Rattle.bpf_run.proofs.Charging.{Spends, spends-start, spends-step, spends-no
 use Rattle.job_forms.specs.Forms.{reduce_at, reduce_calls_at, row_words}
 use Rattle.job_forms.specs.Region.{IsPartOf, Adds, nothing_made, told}
 use Rattle.job_forms.specs.declared.region.Region.{Region}
-use Rattle.job_forms.specs.declared.region.Made.{Made}
+use Rattle.job_forms.specs.declared.region.Chunk.{Chunk}
 use Rattle.job_forms.specs.declared.region.Making.{Making}
 use Rattle.job_forms.proofs.Regions.{made-of_nothing}
 use Rattle.entry_ops.specs.inner.Folding.{AreResults, AddsReduced}
@@ -166,7 +166,7 @@ module _ (f : Accepted) (a : Grid) (mask : Option Grid) where
       omega arith
 
 -- what was begun with nothing and reduced is that part of the result
-pub reduced : (f : Accepted) (a : Grid) (region : Region) (old new : Making) (filled : Result (Unit {0}) AllocError) (made : Made)
+pub reduced : (f : Accepted) (a : Grid) (region : Region) (old new : Making) (filled : Result (Unit {0}) AllocError) (made : Chunk)
     → old ≡ nothing_made region.range.start 1 → AddsReduced f a region old new filled → made ≡ told new filled
     → IsPartOf 1 (reduce_at f a) (reduce_calls_at f a) region made
 reduced f a region old new filled made o h e =

@@ -10,25 +10,26 @@ use crate::keeping::keep_region;
 use crate::line::Sources;
 use crate::mapping::map_region;
 use crate::rows::fill_region;
-use crate::select::{Masked, select_region};
+use crate::runs::is_in_run;
+use crate::select::{Masked, sift_region};
 use bpf_run::Calls;
 use bpf_verify::Operator;
 use csr_store::Matrix;
-use job_forms::{Made, Region};
+use job_forms::{Chunk, Region};
 use std::alloc::Global;
 
 /// What an operator makes of each word of a region: a unary one of the word alone, an index operator of the word, its row, its
 /// column and the thunk.
 ///
 /// With a mask calls are made for the positions alone that it stores. `calls` is scratch, kept from region to region.
-pub fn apply_rows<'m>(
+pub fn apply_region<'m>(
     alloc: Global,
     calls: &mut Calls,
     a: &'m Matrix,
     operator: &Operator,
     thunk: Option<u64>,
     region: Region<'m>,
-) -> Made
+) -> Chunk
     requires kind { operator.now.kind ≡ apply_kind thunk }
     requires region { IsRegion a.now.rows a.now.columns region }
     ensures { IsPartOf a.now.columns (apply_at operator.now thunk a.now) (apply_calls_at operator.now thunk a.now)
@@ -37,9 +38,9 @@ pub fn apply_rows<'m>(
     if is_blank(a, &region) || is_shut(&region) {
         return blank_region(alloc, a.columns(), region.range);
     }
-    let Some(_) = region.mask else {
+    if region.mask.is_none() && is_in_run(region.range.start..region.range.end) {
         return map_region(alloc, calls, a, operator, thunk, region.range);
-    };
+    }
     let sources = Sources {
         left: a,
         right: None,
@@ -58,14 +59,14 @@ pub fn apply_rows<'m>(
 /// The words of a region for which the answer of an index operator is not 0.
 ///
 /// With a mask calls are made for the positions alone that it stores. `calls` is scratch, kept from region to region.
-pub fn select_rows<'m>(
+pub fn select_region<'m>(
     alloc: Global,
     calls: &mut Calls,
     a: &'m Matrix,
     operator: &Operator,
     thunk: u64,
     region: Region<'m>,
-) -> Made
+) -> Chunk
     requires kind { operator.now.kind ≡ kinds.Index }
     requires region { IsRegion a.now.rows a.now.columns region }
     ensures { IsPartOf a.now.columns (select_at operator.now thunk a.now) (select_calls_at operator.now thunk a.now)
@@ -77,7 +78,7 @@ pub fn select_rows<'m>(
     let Some(mask) = region.mask else {
         return keep_region(alloc, calls, a, operator, thunk, region.range);
     };
-    select_region(
+    sift_region(
         alloc,
         calls,
         operator,

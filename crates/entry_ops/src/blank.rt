@@ -7,7 +7,7 @@ ghost use Rattle.job_forms.specs.Region.{IsMade};
 ghost use Rattle.entry_ops.specs.inner.Blank.{AreBlank, AreShut};
 
 use csr_store::Matrix;
-use job_forms::{Made, Making, Region};
+use job_forms::{Chunk, Making, Region};
 use std::alloc::Global;
 use std::ops::Range;
 
@@ -32,7 +32,7 @@ pub fn is_shut(region: &Region<'_>) -> bool
 }
 
 /// The rows of a region without an entry, and no call.
-pub fn blank_region(alloc: Global, columns: u64, range: Range<u64>) -> Made
+pub fn blank_region(alloc: Global, columns: u64, range: Range<u64>) -> Chunk
     requires { range.start ≤ range.end }
     ensures { IsMade (record {
       first = range.start;

@@ -13,7 +13,7 @@ use bpf_insn::Operands;
 use bpf_run::{Calls, MOST_CALLS};
 use bpf_verify::Operator;
 use csr_store::Rows;
-use job_forms::{Made, Making};
+use job_forms::{Chunk, Making};
 use std::alloc::{AllocError, Global};
 use std::marker::Model;
 
@@ -59,7 +59,7 @@ impl Emitter {
     }
 
     /// What was made: the rows, unless memory was refused, and the steps. What is left of the room that was made is given back.
-    pub fn finish(self, filled: Result<(), AllocError>) -> Made
+    pub fn finish(self, filled: Result<(), AllocError>) -> Chunk
         ensures { result ≡ told (record { rows = self.rows; steps = self.steps }) filled }
     {
         let Emitter {

@@ -11,7 +11,7 @@ use crate::line::entries_between;
 use bpf_run::Calls;
 use bpf_verify::Operator;
 use csr_store::{Matrix, Rows};
-use job_forms::Made;
+use job_forms::Chunk;
 use std::alloc::{AllocError, Global};
 use std::ops::Range;
 
@@ -47,7 +47,7 @@ pub fn keep_region(
     operator: &Operator,
     thunk: u64,
     range: Range<u64>,
-) -> Made
+) -> Chunk
     requires kind { operator.now.kind ≡ kinds.Index }
     requires range { range.start ≤ range.end }
     requires within { range.end ≤ a.now.rows }
@@ -60,11 +60,11 @@ pub fn keep_region(
     let mut steps = 0;
     calls.begin(operator.kind());
     match answers_of(alloc, calls, operator, coming, room, &mut steps) {
-        Ok(answers) => Made {
+        Ok(answers) => Chunk {
             result: Rows::kept(alloc, a, range, &answers),
             steps,
         },
-        Err(error) => Made {
+        Err(error) => Chunk {
             result: Err(error),
             steps,
         },

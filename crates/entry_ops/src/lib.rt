@@ -1,14 +1,17 @@
-//! Operations entry by entry, with operators of the user's own: [`apply_rows`], [`select_rows`], [`union_rows`], [`both_rows`] and
-//! [`reduce_rows`] each make a region of a result, which is a part of what job_forms defines (`IsPartOf`).
+//! Operations entry by entry, with operators of the user's own. [`apply_rows`], [`select_rows`], [`union_rows`], [`both_rows`] and
+//! [`reduce_rows`] each make the rows of a range of a result, under a mask if there is one, which are a part of what job_forms
+//! defines (`IsPartOf`). [`apply_region`], [`select_region`], [`union_region`], [`both_region`] and [`reduce_region`] make the same
+//! with room for calls that is kept from region to region, as workers do.
 //!
 //! Calls are gathered across rows and made many together, so a cell stands before its value is known. Without a mask apply copies
-//! rows and gives their entries the values of calls (`mapping`); so do union and both where their operands have the same positions
-//! (`pairs`). Select without a mask makes all calls first (`keeping`). Otherwise rows are filled cell by cell (`rows`): by two rows
-//! read side by side (`joint`), or along the row of a mask (`masked`); `form` says what a form makes of a position, and `emitter`
-//! puts values in their places. Under a mask select's last cells wait for their answers (`select`, over `sieve`). Rows are reduced
-//! one after the other by a short operator (`in_order`), many at once by a longer one (`folds`, over `open_rows`).
+//! rows of one run (`runs`) and gives their entries the values of calls (`mapping`); so do union and both where their operands have
+//! the same positions (`pairs`). Select without a mask makes all calls first (`keeping`). Otherwise rows are filled cell by cell
+//! (`rows`): by two rows read side by side (`joint`), or along the row of a mask (`masked`); `form` says what a form makes of a
+//! position, and `emitter` puts values in their places. Under a mask select's last cells wait for their answers (`select`, over
+//! `sieve`). Rows are reduced one after the other by a short operator (`in_order`), many at once by a longer one (`folds`, over
+//! `open_rows`).
 //!
-//! Read `apply`, `union` and `reduce` first, then `rows` with `specs/inner/Walking.antt` and `specs/inner/Placing.antt`.
+//! Read `ranges`, `apply`, `union` and `reduce` first, then `rows` with `specs/inner/Walking.antt` and `specs/inner/Placing.antt`.
 #![tactic(auto)]
 
 mod ahead;
@@ -26,12 +29,16 @@ mod mapping;
 mod masked;
 mod open_rows;
 mod pairs;
+mod ranges;
 mod reduce;
 mod rows;
+mod runs;
 mod select;
 mod sieve;
 mod union;
 
-pub use apply::{apply_rows, select_rows};
-pub use reduce::reduce_rows;
-pub use union::{both_rows, union_rows};
+pub use apply::{apply_region, select_region};
+pub use job_forms::Chunk;
+pub use ranges::{apply_rows, both_rows, reduce_rows, select_rows, union_rows};
+pub use reduce::reduce_region;
+pub use union::{both_region, union_region};

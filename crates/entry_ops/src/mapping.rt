@@ -21,7 +21,7 @@ use crate::rows::fill_region;
 use bpf_run::{Calls, MOST_CALLS};
 use bpf_verify::Operator;
 use csr_store::{Matrix, RowCopy};
-use job_forms::Made;
+use job_forms::Chunk;
 use std::alloc::Global;
 use std::ops::Range;
 
@@ -86,11 +86,11 @@ impl Mapping<'_> {
     }
 
     /// The rows, when all calls were made.
-    fn finish(self) -> Made
+    fn finish(self) -> Chunk
         requires { self.rows.written ≡ entries_of self.rows.run }
         ensures { result ≡ record { result = Ok self.entry.rows.run; steps = self.entry.steps } }
     {
-        Made {
+        Chunk {
             result: Ok(self.rows.finish()),
             steps: self.steps,
         }
@@ -119,8 +119,8 @@ impl Mapping<'_> {
     }
 }
 
-/// The rows of a range of what an operator makes of each word, without a mask. Their memory is taken first, so that on want of it
-/// no call was made.
+/// The rows of a range, all of one run, of what an operator makes of each word, without a mask. Their memory is taken first, so that
+/// on want of it no call was made.
 pub fn map_region(
     alloc: Global,
     calls: &mut Calls,
@@ -128,7 +128,7 @@ pub fn map_region(
     operator: &Operator,
     thunk: Option<u64>,
     range: Range<u64>,
-) -> Made
+) -> Chunk
     requires kind { operator.now.kind ≡ apply_kind thunk }
     requires range { (range.start ≤ range.end) × IsInRun range.start range.end }
     requires within { range.end ≤ a.now.rows }
@@ -138,7 +138,7 @@ pub fn map_region(
     a.recall();
     let rows = match a.copying(alloc, range.start..range.end) {
         Ok(rows) => rows,
-        Err(error) => return Made::refused(error),
+        Err(error) => return Chunk::refused(error),
     };
     let mut mapping = Mapping { rows, steps: 0 };
     calls.begin(operator.kind());
@@ -146,8 +146,9 @@ pub fn map_region(
     mapping.finish()
 }
 
-/// The rows of a range of a union, or of where both have a word. Where these rows are alike in both operands and there is no mask,
-/// they are copied with the values of calls, and their memory is taken first, so that on want of it no call was made.
+/// The rows of a range of a union, or of where both have a word. Where these rows are of one run and alike in both operands, and
+/// there is no mask, they are copied with the values of calls, and their memory is taken first, so that on want of it no call was
+/// made.
 pub fn joint_region(
     alloc: Global,
     calls: &mut Calls,
@@ -155,7 +156,7 @@ pub fn joint_region(
     operator: &Operator,
     sources: Sources,
     range: Range<u64>,
-) -> Made
+) -> Chunk
     requires form { Joins (form_of form) operator.now }
     requires rows { HaveRows sources range.start range.end }
     ensures { IsFormMade (form_of form) operator.now sources.entry.left.now (mask_of sources.entry.right)
@@ -167,7 +168,7 @@ pub fn joint_region(
     operator.recall();
     let rows = match sources.left.copying(alloc, range.start..range.end) {
         Ok(rows) => rows,
-        Err(error) => return Made::refused(error),
+        Err(error) => return Chunk::refused(error),
     };
     let mut mapping = Mapping { rows, steps: 0 };
     calls.begin(operator.kind());

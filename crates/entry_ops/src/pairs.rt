@@ -3,11 +3,13 @@
 ghost use Rattle.std.specs.Prelude.{◌≡◌, ◌<◌, ◌≤◌, ◌+◌, ◌-◌, ◌++◌, ℕ, length, nat_lt, IfSome, IsTrue};
 ghost use Rattle.bpf_insn.specs.declared.operands.Kind.TheVariants as kinds;
 ghost use Rattle.csr_store.specs.Grid.{row_of};
+ghost use Rattle.csr_store.specs.Run.{IsInRun};
 ghost use Rattle.entry_ops.specs.inner.Coming.{NoneWaits, Gathers};
 ghost use Rattle.entry_ops.specs.inner.Paired.{columns_of, pairs_in, ArePaired};
 ghost use Rattle.entry_ops.specs.inner.Walking.{HaveRows};
 
 use crate::line::{Cell, Sources};
+use crate::runs::is_in_run;
 use bpf_run::{Calls, MOST_CALLS};
 use csr_store::Matrix;
 use std::marker::Model;
@@ -33,12 +35,16 @@ impl<'m> Model for Pairs<'m> {
 }
 
 impl<'m> Pairs<'m> {
-    /// The entries of a range of rows, where there is no mask, and these rows are alike in both operands: each has entries at the
-    /// same columns. They are compared as two lists, and no row is looked up.
+    /// The entries of a range of rows, where there is no mask, and these rows are of one run and alike in both operands: each has
+    /// entries at the same columns. They are compared as two lists, and no row is looked up.
     pub fn of_rows(sources: Sources<'m>, range: Range<u64>) -> Option<Self>
         requires { HaveRows sources range.start range.end }
-        ensures { IfSome result (λ p. ArePaired sources.entry range.start (range.end - range.start) p) }
+        ensures pairs { IfSome result (λ p. ArePaired sources.entry range.start (range.end - range.start) p) }
+        ensures one_run { IfSome result (λ p. IsInRun range.start range.end) }
     {
+        if !is_in_run(range.start..range.end) {
+            return None;
+        }
         let (Some(b), None) = (sources.right, sources.mask) else {
             return None;
         };

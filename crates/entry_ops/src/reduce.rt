@@ -12,7 +12,7 @@ use crate::in_order::fill_in_order;
 use bpf_run::Calls;
 use bpf_verify::Operator;
 use csr_store::Matrix;
-use job_forms::{Made, Making, Region};
+use job_forms::{Chunk, Making, Region};
 use std::alloc::{AllocError, Global};
 
 /// The rows of an operator of up to so many instructions are folded one after the other: by the clock a call of one that has more
@@ -53,13 +53,13 @@ fn fill_in_blocks<'m>(
 /// A row is folded by ascending column, beginning with its first word. With a mask, of one column, calls are made for the rows
 /// alone at which it stores something. By a short operator rows are folded one after the other; by a longer one up to 64 of them
 /// at once, a call of each made together with the others', in the scratch.
-pub fn reduce_rows<'m>(
+pub fn reduce_region<'m>(
     alloc: Global,
     calls: &mut Calls,
     a: &'m Matrix,
     operator: &Operator,
     region: Region<'m>,
-) -> Made
+) -> Chunk
     requires kind { operator.now.kind ≡ kinds.Binary }
     requires region { IsRegion a.now.rows 1 region }
     ensures { IsPartOf 1 (reduce_at operator.now a.now) (reduce_calls_at operator.now a.now) region.entry result }

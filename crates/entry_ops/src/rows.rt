@@ -23,7 +23,7 @@ use crate::line::{Line, Lines, MOST_ROOM, Sources, entries_between};
 use crate::masked::fill_masked;
 use bpf_run::Calls;
 use bpf_verify::Operator;
-use job_forms::Made;
+use job_forms::Chunk;
 use std::alloc::{AllocError, Global};
 use std::ops::Range;
 
@@ -109,7 +109,7 @@ pub fn fill_region(
     operator: &Operator,
     sources: Sources,
     range: Range<u64>,
-) -> Made
+) -> Chunk
     requires form { Suits (form_of form) operator.now }
     requires rows { HaveRows sources range.start range.end }
     ensures { IsFormMade (form_of form) operator.now sources.entry.left.now (mask_of sources.entry.right)

@@ -14,7 +14,7 @@ use crate::sieve::Sieve;
 use bpf_run::Calls;
 use bpf_verify::Operator;
 use csr_store::Matrix;
-use job_forms::Made;
+use job_forms::Chunk;
 use std::alloc::{AllocError, Global};
 use std::ops::Range;
 
@@ -84,14 +84,14 @@ fn keep_rows(
 }
 
 /// The rows of a range of what an operator keeps, under a mask.
-pub fn select_region(
+pub fn sift_region(
     alloc: Global,
     calls: &mut Calls,
     operator: &Operator,
     thunk: u64,
     masked: Masked,
     range: Range<u64>,
-) -> Made
+) -> Chunk
     requires kind { operator.now.kind ≡ kinds.Index }
     requires rows { HasMaskedRows masked range.start range.end }
     ensures { IsFormMade (forms.Select thunk) operator.now masked.entry.a.now None (Some masked.entry.mask.now) range.start
@@ -100,7 +100,7 @@ pub fn select_region(
     operator.recall();
     let mut sieve = match Sieve::begin(alloc, range.start, masked.a.columns()) {
         Ok(sieve) => sieve,
-        Err(error) => return Made::refused(error),
+        Err(error) => return Chunk::refused(error),
     };
     calls.begin(operator.kind());
     match keep_rows(thunk, operator, calls, &mut sieve, masked, range) {

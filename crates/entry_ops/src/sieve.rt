@@ -11,7 +11,7 @@ use bpf_insn::Operands;
 use bpf_run::{Calls, MOST_CALLS};
 use bpf_verify::Operator;
 use csr_store::Rows;
-use job_forms::{Made, Making};
+use job_forms::{Chunk, Making};
 use std::alloc::{AllocError, Global};
 use std::marker::Model;
 
@@ -63,7 +63,7 @@ impl Sieve {
     }
 
     /// What was made: the rows, unless memory was refused, and the steps.
-    pub fn finish(self, filled: Result<(), AllocError>) -> Made
+    pub fn finish(self, filled: Result<(), AllocError>) -> Chunk
         ensures { result ≡ told (record { rows = self.rows; steps = self.steps }) filled }
     {
         let Sieve { rows, steps, .. } = self;

@@ -11,20 +11,20 @@ use crate::mapping::joint_region;
 use bpf_run::Calls;
 use bpf_verify::Operator;
 use csr_store::Matrix;
-use job_forms::{Made, Region};
+use job_forms::{Chunk, Region};
 use std::alloc::Global;
 
 /// A region of the union of two matrices: the operator where both have a word, and a copy where one has.
 ///
 /// With a mask calls are made for the positions alone that it stores. `calls` is scratch, kept from region to region.
-pub fn union_rows<'m>(
+pub fn union_region<'m>(
     alloc: Global,
     calls: &mut Calls,
     a: &'m Matrix,
     b: &'m Matrix,
     operator: &Operator,
     region: Region<'m>,
-) -> Made
+) -> Chunk
     requires kind { operator.now.kind ≡ kinds.Binary }
     requires shapes { (b.now.rows ≡ a.now.rows) × (b.now.columns ≡ a.now.columns) }
     requires region { IsRegion a.now.rows a.now.columns region }
@@ -52,14 +52,14 @@ pub fn union_rows<'m>(
 /// The operator where two matrices both have a word, in a region.
 ///
 /// With a mask calls are made for the positions alone that it stores. `calls` is scratch, kept from region to region.
-pub fn both_rows<'m>(
+pub fn both_region<'m>(
     alloc: Global,
     calls: &mut Calls,
     a: &'m Matrix,
     b: &'m Matrix,
     operator: &Operator,
     region: Region<'m>,
-) -> Made
+) -> Chunk
     requires kind { operator.now.kind ≡ kinds.Binary }
     requires shapes { (b.now.rows ≡ a.now.rows) × (b.now.columns ≡ a.now.columns) }
     requires region { IsRegion a.now.rows a.now.columns region }

@@ -3,6 +3,7 @@ ghost use Rattle.std.specs.Prelude.{◌≡◌, ◌≤◌, ◌-◌, ◌*◌, [], 
 ghost use Rattle.csr_store.specs.Mask.{HasShape, mask_of};
 ghost use Rattle.form_tests.specs.inner.Pieces.{IsPiece};
 
+mod ranges;
 mod sizes;
 mod small;
 
@@ -10,9 +11,9 @@ use crate::masks::{has_shape, passes};
 use bpf_insn::{Kind, Operands, Ran, run_tagged};
 use bpf_run::Calls;
 use bpf_verify::Operator;
-use csr_store::{Builder, Matrix, RUN_ROWS, Rows, join_rows};
-use entry_ops::{apply_rows, both_rows, reduce_rows, select_rows, union_rows};
-use job_forms::{Made, Region};
+use csr_store::{Builder, Matrix, Rows, join_rows};
+use entry_ops::{apply_region, both_region, reduce_region, select_region, union_region};
+use job_forms::{Chunk, Region};
 use std::alloc::{AllocError, Global};
 use std::ops::Range;
 use std::process::Abort;
@@ -116,36 +117,33 @@ fn rows_of<'m>(
     mask: Option<&'m Matrix>,
     columns: u64,
     range: Range<u64>,
-) -> Option<Made>
+) -> Option<Chunk>
     ensures { IfSome result (λ c. IfOk c.result (λ r. IsPiece range.start columns (range.end - range.start) r)) }
 {
     if range.start > range.end || range.end > a.rows() || !has_shape(mask, a.rows(), columns) {
         return None;
     }
-    if range.end > range.start / RUN_ROWS * RUN_ROWS + RUN_ROWS {
-        return None;
-    }
     let region = Region { range, mask };
     if columns == 1 && operator.kind() == Kind::Binary {
         if let Job::Reduce = job {
-            return Some(reduce_rows(alloc, calls, a, operator, region));
+            return Some(reduce_region(alloc, calls, a, operator, region));
         }
     }
     if columns != a.columns() || b.rows() != a.rows() || b.columns() != columns {
         return None;
     }
     match (job, operator.kind()) {
-        (Job::Apply(None), Kind::Unary) => Some(apply_rows(
+        (Job::Apply(None), Kind::Unary) => Some(apply_region(
             alloc, calls, a, operator, None, region,
         )),
         (Job::Apply(Some(thunk)), Kind::Index) => {
-            Some(apply_rows(alloc, calls, a, operator, Some(thunk), region))
+            Some(apply_region(alloc, calls, a, operator, Some(thunk), region))
         }
         (Job::Select(thunk), Kind::Index) => {
-            Some(select_rows(alloc, calls, a, operator, thunk, region))
+            Some(select_region(alloc, calls, a, operator, thunk, region))
         }
-        (Job::Union, Kind::Binary) => Some(union_rows(alloc, calls, a, b, operator, region)),
-        (Job::Both, Kind::Binary) => Some(both_rows(alloc, calls, a, b, operator, region)),
+        (Job::Union, Kind::Binary) => Some(union_region(alloc, calls, a, b, operator, region)),
+        (Job::Both, Kind::Binary) => Some(both_region(alloc, calls, a, b, operator, region)),
         _ => None,
     }
 }

@@ -5,33 +5,32 @@ use Rattle.std.specs.Prelude.{Result, Ok, Err, IfOk, OnOk, OnErr}
 use Rattle.std.specs.declared.alloc.AllocError.{AllocError}
 use Rattle.csr_store.specs.Grid.{Position}
 use Rattle.csr_store.specs.Mask.{HasShape, mask_of, rows_under, all_listed_under}
-use Rattle.csr_store.specs.Run.{Row, Run, IsInRun}
+use Rattle.csr_store.specs.Run.{Row, Run}
 use Rattle.bpf_run.specs.Calls.{Call, steps_of, Charges}
 use Rattle.job_forms.specs.declared.region.Region.{Region}
-use Rattle.job_forms.specs.declared.region.Made.{Made}
+use Rattle.job_forms.specs.declared.region.Chunk.{Chunk}
 use Rattle.job_forms.specs.declared.region.Making.{Making}
 
--- the region is one of a result of so many rows and columns: rows of one run
+-- the region is one of a result of so many rows and columns
 pub record IsRegion (rows columns : ℕ) (region : Region) : Type 0 where
   pub mask : HasShape rows columns (mask_of region.mask)
   pub range : region.range.start ≤ region.range.end
   pub within : region.range.end ≤ rows
-  pub one_run : IsInRun region.range.start region.range.end
 
 -- a run of rows with the steps of all calls; or, for want of memory, the steps of some of the calls, each taken at most once
-pub record IsMade (run : Run) (calls : List Call) (made : Made) : Type 0 where
-  pub rows : IfOk made.result (λ r. r ≡ run)
-  pub steps : OnOk made.result (made.steps ≡ steps_of calls)
-  pub spent : OnErr made.result (Charges calls 0 made.steps)
+pub record IsMade (run : Run) (calls : List Call) (chunk : Chunk) : Type 0 where
+  pub rows : IfOk chunk.result (λ r. r ≡ run)
+  pub steps : OnOk chunk.result (chunk.steps ≡ steps_of calls)
+  pub spent : OnErr chunk.result (Charges calls 0 chunk.steps)
 
 -- the rows of a region of a result of so many columns, which is told position by position, as are the calls for it
-abbrev pub IsPartOf : ℕ → (Position → Option ℕ) → (Position → List Call) → Region → Made → Type 0
-IsPartOf columns values calls region made =
+abbrev pub IsPartOf : ℕ → (Position → Option ℕ) → (Position → List Call) → Region → Chunk → Type 0
+IsPartOf columns values calls region chunk =
     let first = region.range.start in
     let count = region.range.end - first in
     IsMade
     (record { first = first; columns = columns; ended = rows_under (mask_of region.mask) columns values first count; opened = [] })
-    (all_listed_under (mask_of region.mask) columns calls first count) made
+    (all_listed_under (mask_of region.mask) columns calls first count) chunk
 
 -- rows are added, with the steps of the calls for them; or, for want of memory, the steps of some of these calls
 pub record Adds (added : List Row) (calls : List Call) (old new : Making) (filled : Result (Unit {0}) AllocError) : Type 0 where
@@ -43,7 +42,7 @@ pub record Adds (added : List Row) (calls : List Call) (old new : Making) (fille
 abbrev pub nothing_made : ℕ → ℕ → Making
 nothing_made first columns = record { rows = record { first = first; columns = columns; ended = []; opened = [] }; steps = 0 }
 
--- what was being made, told as made, unless memory was refused
-abbrev pub told : Making → Result (Unit {0}) AllocError → Made
+-- what was being made, told as a chunk, unless memory was refused
+abbrev pub told : Making → Result (Unit {0}) AllocError → Chunk
 told making (Ok x) = record { result = Ok making.rows; steps = making.steps }
 told making (Err e) = record { result = Err e; steps = making.steps }

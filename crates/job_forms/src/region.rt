@@ -8,27 +8,27 @@ use csr_store::{Matrix, Rows};
 use std::alloc::{AllocError, Global};
 use std::ops::Range;
 
-/// A part of a result: rows of one run of it ([`RUN_ROWS`](csr_store::RUN_ROWS)), under a mask if there is one. A mask is
-/// structural (`GrB_STRUCTURE` of the GraphBLAS): a position passes where it stores something.
+/// A part of a result: rows of a range, under a mask if there is one. A mask is structural (`GrB_STRUCTURE` of the GraphBLAS): a
+/// position passes where it stores something.
 #[derive(Drop)]
 pub struct Region<'m> {
     pub range: Range<u64>,
     pub mask: Option<&'m Matrix>,
 }
 
-/// What was made of a region: its rows, or want of memory; and the steps of the calls that were made.
+/// What was made of a part of a result: its rows, or want of memory; and the steps of the calls that were made.
 #[derive(Drop)]
-pub struct Made {
+pub struct Chunk {
     pub result: Result<Rows, AllocError>,
     pub steps: u64,
 }
 
-impl Made {
+impl Chunk {
     /// Want of memory, before any call was made.
     pub fn refused(error: AllocError) -> Self
         ensures { (run : Run) (calls : List Call) → IsMade run calls result }
     {
-        Made {
+        Chunk {
             result: Err(error),
             steps: 0,
         }
@@ -54,16 +54,16 @@ impl Making {
     }
 
     /// What was made: the rows, unless memory was refused, and the steps.
-    pub fn finish(self, filled: Result<(), AllocError>) -> Made
+    pub fn finish(self, filled: Result<(), AllocError>) -> Chunk
         ensures { result ≡ told self filled }
     {
         let Making { rows, steps } = self;
         match filled {
-            Ok(()) => Made {
+            Ok(()) => Chunk {
                 result: Ok(rows),
                 steps,
             },
-            Err(error) => Made {
+            Err(error) => Chunk {
                 result: Err(error),
                 steps,
             },

@@ -3,7 +3,7 @@ use Rattle.std.proofs.Common.{◌≡◌, ◌<◌, ◌≤◌, ◌⊎◌, ℕ, zer
 use Rattle.std.specs.List.{slice_get}
 use Rattle.std.proofs.lemmas.Bool.{lt-ltb, le-ltb}
 use Rattle.csr_store.specs.Along.{along}
-use Rattle.csr_store.specs.Run.{Run, IsInRun}
+use Rattle.csr_store.specs.Run.{Run}
 use Rattle.job_plan.specs.Job.{Job}
 use Rattle.job_plan.specs.Meaning.{row_count, column_count, rows_in, calls_in}
 use Rattle.job_plan.specs.Chunks.{Chunk, chunk_count, chunk_first, chunk_last, chunk_of, chunks_of, chunks_from}
@@ -134,12 +134,6 @@ place_ordered jobs c x p =
     let l : x.last ≡ chunk_last (row_count p.job) p.number = ap (λ (y : Chunk). y.last) p.chunk in
     let o = chunk_ordered (row_count p.job) p.number p.below in
     omega (arith, f, l, o)
-
-pub place_in_run : (jobs : List Job) (c : ℕ) (x : Chunk) → Place 0 jobs c x → IsInRun x.first x.last
-place_in_run jobs c x p =
-    let f : x.first ≡ chunk_first p.number = ap (λ (y : Chunk). y.first) p.chunk in
-    let l : x.last ≡ chunk_last (row_count p.job) p.number = ap (λ (y : Chunk). y.last) p.chunk in
-    omega (arith, f, l)
 
 pub place_rows : (jobs : List Job) (c : ℕ) (x : Chunk) (job : Job) → (p : Place 0 jobs c x) → job ≡ p.job → x.last ≤ row_count job
 place_rows jobs c x job p e =

@@ -1,6 +1,5 @@
 //! One chunk of a batch.
 ghost use Rattle.std.specs.Prelude.{◌<◌, ◌≤◌, ◌-◌, [], length};
-ghost use Rattle.csr_store.specs.Run.{IsInRun};
 ghost use Rattle.job_forms.specs.Region.{IsMade};
 ghost use Rattle.job_plan.specs.Chunks.{plan_chunks};
 ghost use Rattle.job_plan.specs.Copies.{IsCopyFor};
@@ -10,10 +9,10 @@ ghost use Rattle.job_runner.specs.Chunk.{run_of, calls_of};
 
 use bpf_run::Calls;
 use csr_store::Column;
-use entry_ops::{apply_rows, both_rows, reduce_rows, select_rows, union_rows};
-use job_forms::{Made, Region};
+use entry_ops::{apply_region, both_region, reduce_region, select_region, union_region};
+use job_forms::{Chunk, Region};
 use job_plan::{Form, Job, Plan};
-use row_product::{Factors, product_rows};
+use row_product::{Factors, product_region};
 use std::alloc::{AllocError, Global};
 use std::ops::Range;
 
@@ -86,7 +85,7 @@ fn is_wide(plan: &Plan) -> bool {
 
 /// The rows of a chunk of a plan, with the steps of the calls that were made for them. Where memory is wanted, the steps are those
 /// of some of these calls.
-pub fn compute(alloc: Global, scratch: &mut Scratch, plan: &Plan, chunk: u64) -> Made
+pub fn compute(alloc: Global, scratch: &mut Scratch, plan: &Plan, chunk: u64) -> Chunk
     requires { chunk < length (plan_chunks plan.now) }
     ensures { IsMade (run_of plan.now chunk) (calls_of plan.now chunk) result }
 {
@@ -103,10 +102,10 @@ fn compute_rows(
     job: &Job,
     column: Option<&Column>,
     range: Range<u64>,
-) -> Made
+) -> Chunk
     requires priced { IsPriced job.now }
     requires column { IsCopyFor job.now.form column }
-    requires range { (range.start ≤ range.end) × IsInRun range.start range.end }
+    requires range { range.start ≤ range.end }
     requires within { range.end ≤ row_count job.now }
     ensures { IsMade (record {
       first = range.start;
@@ -125,22 +124,22 @@ fn compute_rows(
             operator,
             thunk,
             operand,
-        } => apply_rows(alloc, calls, operand, operator, *thunk, region),
+        } => apply_region(alloc, calls, operand, operator, *thunk, region),
         Form::Select {
             operator,
             thunk,
             operand,
-        } => select_rows(alloc, calls, operand, operator, *thunk, region),
+        } => select_region(alloc, calls, operand, operator, *thunk, region),
         Form::Union {
             operator,
             left,
             right,
-        } => union_rows(alloc, calls, left, right, operator, region),
+        } => union_region(alloc, calls, left, right, operator, region),
         Form::Both {
             operator,
             left,
             right,
-        } => both_rows(alloc, calls, left, right, operator, region),
+        } => both_region(alloc, calls, left, right, operator, region),
         Form::Product {
             add,
             mul,
@@ -154,8 +153,10 @@ fn compute_rows(
                 b: right,
                 column,
             };
-            product_rows(alloc, row, &factors, region)
+            product_region(alloc, row, &factors, region)
         }
-        Form::Reduce { operator, operand } => reduce_rows(alloc, calls, operand, operator, region),
+        Form::Reduce { operator, operand } => reduce_region(
+            alloc, calls, operand, operator, region,
+        ),
     }
 }

@@ -10,7 +10,7 @@ use crate::chunk::{Kept, Scratch, compute};
 use crate::gate::Gate;
 use crate::piece::Piece;
 use crate::task::Task;
-use job_forms::Made;
+use job_forms::Chunk;
 use job_plan::Plan;
 use race_board::{Board, BoardSeat};
 use std::alloc::{AllocError, Global};
@@ -129,7 +129,7 @@ fn turn(
     task: Task<'_>,
     seat: &mut BoardSeat,
     chunk: u64,
-    made: Made,
+    made: Chunk,
     pieces: &mut Vec<Piece>,
 ) -> Result<u64, u64>
     requires holds { IsHolding task.board.now chunk seat.old }
@@ -155,12 +155,12 @@ fn turn(
 }
 
 /// Puts what was made for a chunk behind other pieces, where there is memory for it.
-fn add(chunk: u64, made: Made, pieces: &mut Vec<Piece>) -> Result<(), AllocError>
+fn add(chunk: u64, made: Chunk, pieces: &mut Vec<Piece>) -> Result<(), AllocError>
     ensures put { OnOk result ((rows : Run) × (made.result ≡ Ok rows) × (pieces.new.items ≡ pieces.old.items ++
         record { chunk = chunk; rows = rows; steps = made.steps } ∷ [])) }
     ensures kept { OnErr result (pieces.new.items ≡ pieces.old.items) }
 {
-    let Made { result, steps } = made;
+    let Chunk { result, steps } = made;
     let rows = result?;
     pieces.push(Piece { chunk, rows, steps })?;
     Ok(())

@@ -1,10 +1,11 @@
 //! Products of matrices by rows, whole or under a structural mask.
 //!
 //! The one contract is over `Product` and `Region` of job_forms: at each position that passes the mask, `add` folded over `mul` of
-//! the words of A's row and B's column, ascending, starting with the first. [`product_rows`] makes a region of a product of
-//! [`Factors`], with the exact steps of its calls, and on want of memory the steps of calls that were made.
+//! the words of A's row and B's column, ascending, starting with the first. [`product_rows`] makes a range of rows of a
+//! product, with the exact steps of its calls, and on want of memory the steps of calls that were made. [`product_region`] makes
+//! the same of [`Factors`] in a [`Scratch`], as workers do. [`mult_count`] says how many multiplications a product takes.
 //!
-//! A row of the result is summed in a [`Scratch`], which a caller keeps from call to call: a word for each column, and a bit that
+//! A row of the result is summed in a [`Scratch`], which a worker keeps from call to call: a word for each column, and a bit that
 //! is set where the word is a sum of this row (`held`). The rows of B that A's row names are added one after another, up to 64
 //! cells at a time: their products are made together, and then the terms are added. An operator that is known by its program adds
 //! each term to its sum, or begins it, in a loop that was compiled for it (`terms`). By any other the terms whose column has a sum
@@ -23,7 +24,7 @@
 //! (`ordering`), and folded (`folding`), in lists that are kept. So the work is linear in the multiplications, the rows and the
 //! entries, but for the order of a row's columns; and the room of the result is taken row by row.
 //!
-//! Read `factors` and `product`, `room` (row after row, over `specs/inner/Masked.antt`), `row` (one row), `single` (a row of A with
+//! Read `ranges`, `factors` and `product`, `room` (row after row, over `specs/inner/Masked.antt`), `row` (one row), `single` (a row of A with
 //! one entry, over `specs/inner/Single.antt`) with `beside` (a row of B beside the mask's, over `specs/inner/Beside.antt`),
 //! `progress` (rows of B, under the mask, over `specs/inner/Rows.antt`), `accumulator` (cells of one row of B) with `terms`,
 //! `additions`, `sums`, `held` and `marked` (what is kept of columns), `emit` (sums into the result, over
@@ -49,6 +50,7 @@ mod one_column;
 mod ordering;
 mod product;
 mod progress;
+mod ranges;
 mod room;
 mod row;
 mod single;
@@ -56,4 +58,6 @@ mod sums;
 mod terms;
 
 pub use factors::Factors;
-pub use product::{Scratch, product_rows};
+pub use job_forms::{Chunk, mult_count};
+pub use product::{Scratch, product_region};
+pub use ranges::product_rows;

@@ -8,14 +8,14 @@ use denote.Ref.{Bor}
 use Rattle.std.specs.Option.{option_map}
 use Rattle.csr_store.specs.Grid.{Grid, IsGrid, Cell, Position, row_of}
 use Rattle.csr_store.specs.Reading.{Reading}
-use Rattle.csr_store.specs.Run.{Row, Run, IsInRun}
+use Rattle.csr_store.specs.Run.{Row, Run}
 use Rattle.csr_store.specs.Along.{along, cell_at}
 use Rattle.csr_store.specs.Mask.{HasShape, mask_of}
 use Rattle.csr_store.specs.Ascending.{Ascends, AscendsIn, at, shows}
 use Rattle.bpf_run.specs.Calls.{Call}
 use Rattle.job_forms.specs.Forms.{applied, apply_calls, selected, united, joint, joint_calls}
 use Rattle.job_forms.specs.Region.{IsMade}
-use Rattle.job_forms.specs.declared.region.Made.{Made}
+use Rattle.job_forms.specs.declared.region.Chunk.{Chunk}
 use Rattle.entry_ops.specs.declared.line.Line.{Line}
 use Rattle.entry_ops.specs.declared.line.Lines.{Lines}
 use Rattle.entry_ops.specs.declared.line.Sources.{Sources}
@@ -90,7 +90,7 @@ abbrev pub form_all_calls : Form → Accepted → Grid → Option Grid → Optio
 form_all_calls form f a b mask first n = along (λ i. form_row_calls form f a b mask i) first n
 
 -- these rows of a form were made, with the steps of its calls; or, for want of memory, the steps of some of them
-abbrev pub IsFormMade : Form → Accepted → Grid → Option Grid → Option Grid → ℕ → ℕ → Made → Type 0
+abbrev pub IsFormMade : Form → Accepted → Grid → Option Grid → Option Grid → ℕ → ℕ → Chunk → Type 0
 IsFormMade form f a b mask first n made =
     IsMade (record { first = first; columns = a.columns; ended = form_rows form f a b mask first n; opened = [] })
     (form_all_calls form f a b mask first n) made
@@ -140,12 +140,11 @@ pub record AreAlike (sources : Sources) : Type 0 where
   pub right : HasShape sources.left.now.rows sources.left.now.columns (mask_of sources.right)
   pub mask : HasShape sources.left.now.rows sources.left.now.columns (mask_of sources.mask)
 
--- so they have, and the rows from one up to another are there, all of one run
+-- so they have, and the rows from one up to another are there
 pub record HaveRows (sources : Sources) (start to : ℕ) : Type 0 where
   pub alike : AreAlike sources
   pub range : start ≤ to
   pub within : to ≤ sources.left.now.rows
-  pub one_run : IsInRun start to
 
 -- a matrix is read from row i on, if there is one
 abbrev pub reading_at : Option Grid → ℕ → Option Reading

@@ -33,7 +33,7 @@ fn long_row(rt: HostRuntime) -> Result<(), Fail> {
 }
 
 /// The last rows of a job on a matrix with itself, from one on.
-fn last_rows<'m>(alloc: Global, a: &'m Matrix, job: Job, first: u64) -> Result<Made, Fail> {
+fn last_rows<'m>(alloc: Global, a: &'m Matrix, job: Job, first: u64) -> Result<Chunk, Fail> {
     let operator = operator_for(alloc, job)?;
     let mut calls = Calls::new(alloc)?;
     match chunk_of(
@@ -83,6 +83,6 @@ fn chunk_of<'m>(
     operator: &Operator,
     (a, b, mask): (&'m Matrix, &'m Matrix, Option<&'m Matrix>),
     range: Range<u64>,
-) -> Option<Made> {
+) -> Option<Chunk> {
     rows_of(alloc, calls, job, operator, a, b, mask, 1, range)
 }

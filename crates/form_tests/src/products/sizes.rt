@@ -1,7 +1,7 @@
 //! Products of many rows, and of a long one.
 use super::{assert_count, assert_rows, chunk_of, finished, operator, scattered};
 use csr_store::{Builder, Matrix};
-use job_forms::{Made, mult_count_in};
+use job_forms::{Chunk, mult_count_in};
 use row_product::Scratch;
 use std::alloc::Global;
 use std::ops::Range;
@@ -24,7 +24,7 @@ fn product_by(
     a: &Matrix,
     b: &Matrix,
     range: Range<u64>,
-) -> Result<Made, Fail> {
+) -> Result<Chunk, Fail> {
     let add = operator(alloc, ADD)?;
     let mul = operator(alloc, text)?;
     let mut scratch = Scratch::new();
@@ -34,7 +34,7 @@ fn product_by(
 /// A chunk has so many rows from one on, and took so many steps.
 fn assert_chunk(
     rt: &impl Abort,
-    chunk: Made,
+    chunk: Chunk,
     first: u64,
     count: u64,
     steps: u64,

@@ -2,7 +2,7 @@
 use Rattle.std.specs.Prelude.{◌≡◌, ℕ, ◌<◌, ◌≤◌, List, [], ◌∷◌, ◌++◌, length}
 use Rattle.race_board.specs.declared.stand.Stand.TheVariants.{Holds}
 use Rattle.race_board.specs.Race.{BoardState, SeatState, IsSeatOf, completed, failed}
-use Rattle.job_forms.specs.declared.region.Made.{Made}
+use Rattle.job_forms.specs.declared.region.Chunk.{Chunk}
 use Rattle.job_forms.specs.Region.{IsMade}
 use Rattle.job_plan.specs.Job.{Job}
 use Rattle.job_plan.specs.Chunks.{plan_chunks}
@@ -15,7 +15,7 @@ abbrev pub IsHolding : BoardState → ℕ → SeatState → Type 0
 IsHolding board chunk seat = IsSeatOf board seat × (seat.worker.stand ≡ Holds chunk)
 
 -- this was made for a chunk of the jobs
-abbrev pub IsMadeFor : List Job → ℕ → Made → Type 0
+abbrev pub IsMadeFor : List Job → ℕ → Chunk → Type 0
 IsMadeFor jobs chunk made = (chunk < length (plan_chunks jobs)) × IsMade (run_of jobs chunk) (calls_of jobs chunk) made
 
 -- the piece of this chunk is put behind others

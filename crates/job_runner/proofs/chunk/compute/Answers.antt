@@ -7,7 +7,7 @@ use Rattle.job_plan.specs.Job.{Job}
 use Rattle.job_plan.specs.Meaning.{column_count, rows_in}
 use Rattle.job_forms.specs.Region.{IsMade}
 use Rattle.job_runner.specs.Chunk.{calls_of}
-use Rattle.job_runner.proofs.Located.{Place, located, place_within, place_ordered, place_in_run, place_rows, place_run, place_calls}
+use Rattle.job_runner.proofs.Located.{Place, located, place_within, place_ordered, place_rows, place_run, place_calls}
 use Rattle.job_runner.proofs.chunk.compute.Goals as goal
 
 pub offset_bounds-jobs-job : goal.offset_bounds-jobs-job
@@ -27,7 +27,7 @@ bounds-jobs-job c =
 pub compute_rows-requires-clause-range : goal.compute_rows-requires-clause-range
 compute_rows-requires-clause-range c =
     let p = located 0 c.args.plan.now c.args.chunk _ c.chunk_rows-job.ensures.is in
-    (place_ordered c.args.plan.now c.args.chunk _ p, place_in_run c.args.plan.now c.args.chunk _ p)
+    place_ordered c.args.plan.now c.args.chunk _ p
 
 -- the job that is asked for
 same_job : (jobs borrowed : List Job) (c : ℕ) (x : Chunk) (p : Place 0 jobs c x) (found job : Job) → borrowed ≡ jobs

@@ -6,8 +6,8 @@ use Rattle.entry_ops.specs.inner.Paired.{columns_of, pairs_in}
 use Rattle.entry_ops.proofs.Paired.{AreAsLong, in_step, all_pairs}
 use Rattle.entry_ops.proofs.pairs.Pairs.of_rows.Goals as goal
 
-pub returns : goal.returns
-returns c =
+pub returns-clause-pairs : goal.returns-clause-pairs
+returns-clause-pairs c =
     let a = c.args.sources.left.now in
     let b = c.in-Some-None.b.now in
     let first = c.args.range.start in

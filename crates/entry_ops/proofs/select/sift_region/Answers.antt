@@ -7,7 +7,7 @@ use Rattle.entry_ops.specs.inner.Walking.{form_all_calls}
 use Rattle.entry_ops.specs.inner.Sifting.{Sifting, final, standing}
 use Rattle.entry_ops.proofs.Standing.{empty_run}
 use Rattle.entry_ops.proofs.Regions.{begin-room, begin-stop, whole-rows, whole-costs, whole-spent, told_is}
-use Rattle.entry_ops.proofs.select.select_region.Goals as goal
+use Rattle.entry_ops.proofs.select.sift_region.Goals as goal
 
 pub returns-in-Err : goal.returns-in-Err
 returns-in-Err c = c.refused.ensures _ _

@@ -2,8 +2,8 @@ use Rattle.csr_store.specs.Mask.{mask_of}
 use Rattle.job_forms.specs.Forms.{both_at, joint_calls_at}
 use Rattle.entry_ops.proofs.Nothing.{part_of_nothing, nothing_passes, left_nothing, right_nothing}
 use Rattle.entry_ops.proofs.Positions.{both_is}
-use Rattle.entry_ops.proofs.union.both_rows.Goals as goal
-use Rattle.entry_ops.proofs.union.both_rows.Goals.{then-is_blank-via-then-is_blank, then-is_blank-via-else-is_blank+then-is_blank-2, then-is_blank-via-else-is_blank+else-is_blank-2+then-is_shut}
+use Rattle.entry_ops.proofs.union.both_region.Goals as goal
+use Rattle.entry_ops.proofs.union.both_region.Goals.{then-is_blank-via-then-is_blank, then-is_blank-via-else-is_blank+then-is_blank-2, then-is_blank-via-else-is_blank+else-is_blank-2+then-is_shut}
 
 pub returns : goal.returns
 returns c = both_is c.args.operator.now c.args.a.now c.args.region _ c.args.b.now c.joint_region.ensures

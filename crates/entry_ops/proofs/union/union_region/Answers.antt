@@ -3,8 +3,8 @@ use Rattle.csr_store.specs.Mask.{mask_of}
 use Rattle.job_forms.specs.Forms.{union_at, joint_calls_at}
 use Rattle.entry_ops.proofs.Nothing.{part_of_nothing, nothing_passes, union_nothing}
 use Rattle.entry_ops.proofs.Positions.{union_is}
-use Rattle.entry_ops.proofs.union.union_rows.Goals as goal
-use Rattle.entry_ops.proofs.union.union_rows.Goals.{then-is_blank, else-is_blank, then-is_blank-2-via-then-is_blank-2, then-is_blank-2-via-else-is_blank-2+then-is_shut}
+use Rattle.entry_ops.proofs.union.union_region.Goals as goal
+use Rattle.entry_ops.proofs.union.union_region.Goals.{then-is_blank, else-is_blank, then-is_blank-2-via-then-is_blank-2, then-is_blank-2-via-else-is_blank-2+then-is_shut}
 
 pub returns : goal.returns
 returns c = union_is c.args.operator.now c.args.a.now c.args.region _ c.args.b.now c.joint_region.ensures

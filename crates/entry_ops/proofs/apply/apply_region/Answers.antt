@@ -1,4 +1,6 @@
-use Rattle.std.proofs.Common.{◌-◌, None, Option, ap, sym, subst}
+use Rattle.std.proofs.Common.{◌≡◌, ◌-◌, false, None, Some, Option, refl, sym, subst}
+use Rattle.std.specs.Option.{is_some}
+use denote.Ref.{Bor}
 use Rattle.csr_store.specs.Grid.{Grid}
 use Rattle.csr_store.specs.Mask.{mask_of}
 use Rattle.entry_ops.specs.inner.Forms.{Apply}
@@ -6,16 +8,20 @@ use Rattle.entry_ops.specs.inner.Walking.{IsFormMade}
 use Rattle.entry_ops.proofs.Positions.{apply_is}
 use Rattle.job_forms.specs.Forms.{apply_at, apply_calls_at}
 use Rattle.entry_ops.proofs.Nothing.{part_of_nothing, nothing_passes, apply_nothing}
-use Rattle.entry_ops.proofs.apply.apply_rows.Goals as goal
-use Rattle.entry_ops.proofs.apply.apply_rows.Goals.{then-is_blank-via-then-is_blank, then-is_blank-via-else-is_blank+then-is_shut}
+use Rattle.entry_ops.proofs.apply.apply_region.Goals as goal
+use Rattle.entry_ops.proofs.apply.apply_region.Goals.{then-is_blank-via-then-is_blank, then-is_blank-via-else-is_blank+then-is_shut}
 
 pub returns : goal.returns
 returns c = apply_is c.args.operator.now c.args.a.now c.args.region _ c.args.thunk c.fill_region.ensures
 
-pub returns-in_default : goal.returns-in_default
-returns-in_default c = apply_is c.args.operator.now c.args.a.now c.args.region _ c.args.thunk
+none_there : (mask : Option (Bor Grid)) → is_some mask ≡ false → mask_of mask ≡ None
+none_there None h = refl
+none_there (Some m) h = absurd (cc)
+
+pub returns-then-is_in_run : goal.returns-then-is_in_run
+returns-then-is_in_run c = apply_is c.args.operator.now c.args.a.now c.args.region _ c.args.thunk
     (subst (λ (m : Option Grid). IsFormMade (Apply c.args.thunk) c.args.operator.now c.args.a.now None m c.args.region.range.start
-    (c.args.region.range.end - c.args.region.range.start) c.map_region.result) (sym (ap mask_of c.in_default.is))
+    (c.args.region.range.end - c.args.region.range.start) c.map_region.result) (sym (none_there c.args.region.mask c.if-is_none.ensures))
     c.map_region.ensures)
 
 pub returns-then-is_blank : goal.returns-then-is_blank

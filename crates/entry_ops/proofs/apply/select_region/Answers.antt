@@ -6,14 +6,14 @@ use Rattle.entry_ops.specs.inner.Walking.{IsFormMade}
 use Rattle.entry_ops.proofs.Positions.{select_is}
 use Rattle.job_forms.specs.Forms.{select_at, select_calls_at}
 use Rattle.entry_ops.proofs.Nothing.{part_of_nothing, nothing_passes, select_nothing}
-use Rattle.entry_ops.proofs.apply.select_rows.Goals as goal
-use Rattle.entry_ops.proofs.apply.select_rows.Goals.{then-is_blank-via-then-is_blank, then-is_blank-via-else-is_blank+then-is_shut}
+use Rattle.entry_ops.proofs.apply.select_region.Goals as goal
+use Rattle.entry_ops.proofs.apply.select_region.Goals.{then-is_blank-via-then-is_blank, then-is_blank-via-else-is_blank+then-is_shut}
 
 pub returns : goal.returns
 returns c = select_is c.args.operator.now c.args.a.now c.args.region _ c.args.thunk
     (subst (λ (m : Option Grid). IsFormMade (Select c.args.thunk) c.args.operator.now c.args.a.now None m c.args.region.range.start
-    (c.args.region.range.end - c.args.region.range.start) c.select_region.result) (sym (ap mask_of c.in-Some.is))
-    c.select_region.ensures)
+    (c.args.region.range.end - c.args.region.range.start) c.sift_region.result) (sym (ap mask_of c.in-Some.is))
+    c.sift_region.ensures)
 
 pub returns-in_default : goal.returns-in_default
 returns-in_default c = select_is c.args.operator.now c.args.a.now c.args.region _ c.args.thunk

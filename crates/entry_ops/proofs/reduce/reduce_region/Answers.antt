@@ -3,8 +3,8 @@ use Rattle.csr_store.specs.Mask.{mask_of}
 use Rattle.entry_ops.proofs.Reducing.{few_reduced, reduced}
 use Rattle.job_forms.specs.Forms.{reduce_at, reduce_calls_at}
 use Rattle.entry_ops.proofs.Nothing.{part_of_nothing, nothing_passes, reduce_nothing}
-use Rattle.entry_ops.proofs.reduce.reduce_rows.Goals as goal
-use Rattle.entry_ops.proofs.reduce.reduce_rows.Goals.{then-is_blank-via-then-is_blank, then-is_blank-via-else-is_blank+then-is_shut}
+use Rattle.entry_ops.proofs.reduce.reduce_region.Goals as goal
+use Rattle.entry_ops.proofs.reduce.reduce_region.Goals.{then-is_blank-via-then-is_blank, then-is_blank-via-else-is_blank+then-is_shut}
 
 pub fill_in_order-filled-requires : goal.fill_in_order-filled-requires
 fill_in_order-filled-requires c =

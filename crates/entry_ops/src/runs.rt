@@ -1,0 +1,14 @@
+//! Rows whose cells stand in one list.
+ghost use Rattle.std.specs.Prelude.{◌≤◌, IsTrue};
+ghost use Rattle.csr_store.specs.Run.{IsInRun};
+
+use csr_store::RUN_ROWS;
+use std::ops::Range;
+
+/// Whether the rows of a range are all of one run.
+pub fn is_in_run(range: Range<u64>) -> bool
+    requires { range.start ≤ range.end }
+    ensures { IsTrue result → IsInRun range.start range.end }
+{
+    range.end - range.start / RUN_ROWS * RUN_ROWS <= RUN_ROWS
+}
