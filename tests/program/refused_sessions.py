@@ -53,6 +53,7 @@ def long_session() -> List[bytes]:
     """Each command, with each reply that takes memory, over matrices and operators that outgrow their first room."""
     wide = matrix_text(40, 40, [(row, column, row * column) for row in range(1, 41) for column in range(1, 41)])
     line = matrix_text(1, 300, [(1, column, -column) for column in range(1, 301)])
+    tall = matrix_text(40, 1, [(row, 1, -row) for row in range(1, 41)])
     many = RESULT_IS_OPERAND + add(1) * 500 + EXIT
     spaced = b'\n\t '.join(INCREMENT[at:at + 2] for at in range(0, len(INCREMENT), 2))
     unset = instruction(0xbf, 0, 3) + EXIT
@@ -111,6 +112,9 @@ def long_session() -> List[bytes]:
         b'both V plus A A mask A\n',
         b'product W plus plus A A\n',
         b'product X plus plus A A mask A\n',
+        matrix_command('column', tall),
+        b'product Q plus plus A column\n',
+        b'product R plus plus A column\n',
         b'reduce Y plus A\n',
         b'run\n',
         b'union U plus L W mask L\n',

@@ -5,3 +5,4 @@ pub mod Covering
 pub mod Bounds
 pub mod Steps
 pub mod Faults
+pub mod Copies

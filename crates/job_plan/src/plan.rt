@@ -5,11 +5,14 @@ ghost use Rattle.job_plan.specs.Job as is;
 ghost use Rattle.job_plan.specs.Refusal.{IsPriced};
 ghost use Rattle.job_plan.specs.Price.{IsWithinPrice};
 ghost use Rattle.job_plan.specs.Chunks.{plan_chunks, Cover, IsChunkAt, IsChunkOf, IsPlan};
+ghost use Rattle.job_plan.specs.Copies.{AreCopies, IsCopyFor};
 ghost use Rattle.job_plan.specs.inner.Chunks.{rows_of_job, rows_from};
+ghost use Rattle.job_plan.specs.inner.Copies.{AreFor};
 
+use crate::columns::{Columns, Copied};
 use crate::job::Job;
 use crate::priced::Priced;
-use csr_store::RUN_ROWS;
+use csr_store::{Column, RUN_ROWS};
 use std::alloc::{AllocError, Global};
 use std::marker::Model;
 use std::ops::Range;
@@ -28,6 +31,7 @@ pub struct ChunkRows {
 pub struct Plan {
     jobs: Vec<Priced>,
     chunks: Vec<ChunkRows>,
+    columns: Columns,
 }
 
 impl Model for Plan {
@@ -44,22 +48,28 @@ impl Model for Plan {
 
     ghost use Rattle.job_plan.specs.Refusal.{IsPriced};
     ghost use Rattle.job_plan.specs.inner.Chunks.{rows_from};
+    ghost use Rattle.job_plan.specs.inner.Copies.{AreFor};
 
     ghost view = { λ p. p.jobs.items };
 
     ghost invariant = { λ p. AllByRecursion IsPriced p.jobs.items × (length p.jobs.items ≤ 64)
-        × (p.chunks.items ≡ rows_from 0 p.jobs.items) };
+        × (p.chunks.items ≡ rows_from 0 p.jobs.items) × AreFor p.jobs.items p.columns.copies.items p.columns.places };
 }
 
 impl Plan {
-    /// The plan of jobs and their chunks.
-    pub(crate) fn new(jobs: Vec<Priced>, chunks: Vec<ChunkRows>) -> Plan
+    /// The plan of jobs and their chunks, with copies of columns.
+    pub(crate) fn new(jobs: Vec<Priced>, chunks: Vec<ChunkRows>, columns: Columns) -> Plan
         requires priced { AllByRecursion IsPriced jobs.items }
         requires few { length jobs.items ≤ 64 }
         requires chunks { chunks.items ≡ rows_from 0 jobs.items }
+        requires columns { AreFor jobs.items columns.copies.items columns.places }
         ensures { result ≡ jobs.items }
     {
-        Plan { jobs, chunks }
+        Plan {
+            jobs,
+            chunks,
+            columns,
+        }
     }
 
     /// What holds of any plan. Only the prover looks at it.
@@ -78,6 +88,24 @@ impl Plan {
         ensures within { AllByRecursion IsWithinPrice self.now }
     {
         &self.jobs
+    }
+
+    /// The copies that were made of columns.
+    pub fn copies(&self) -> &[Copied]
+        ensures { AreCopies self.now result.now }
+    {
+        self.columns.copies()
+    }
+
+    /// A copy of the column that a job is by, if one was made. Jobs by equal columns have the same.
+    pub fn column(&self, job: u64) -> Option<&Column>
+        ensures { (j : is.Job) → slice_get self.now job ≡ Some j → IsCopyFor j.form result }
+    {
+        let Some(place) = self.columns.place(job) else {
+            return None;
+        };
+        let copies = self.columns.copies();
+        Some(copies[place as usize].column())
     }
 
     /// How many chunks there are.

@@ -2,6 +2,7 @@
 ghost use Rattle.std.specs.Prelude.{◌≡◌, ◌≤◌, ◌<◌, ◌+◌, ◌++◌, ◌∷◌, [], ◌↔◌, IsTrue, length};
 ghost use Rattle.std.specs.Prelude.{IfOk, OnOk, OnErr};
 
+use crate::columns::Columns;
 use crate::plan::{Plan, cut};
 use crate::priced::Priced;
 use std::alloc::{AllocError, Global};
@@ -89,8 +90,8 @@ impl Queue {
         self.jobs.clear();
     }
 
-    /// Makes a plan of the jobs, and is then empty, with room for 64. Columns of products by one are copied, as far as there is
-    /// memory.
+    /// Makes a plan of the jobs, and is then empty, with room for 64. The columns that products are by are copied, each once, as
+    /// far as that pays and there is memory ([`Plan::copies`]).
     ///
     /// # Errors
     ///
@@ -102,17 +103,8 @@ impl Queue {
     {
         let room = Vec::with_capacity(self.alloc, ROOM)?;
         let chunks = cut(self.alloc, &self.jobs)?;
-        let mut jobs = mem::replace(&mut self.jobs, room);
-        copy_columns(self.alloc, &mut jobs);
-        Ok(Plan::new(jobs, chunks))
-    }
-}
-
-/// Copies the columns of products by one, as far as there is memory.
-fn copy_columns(alloc: Global, jobs: &mut Vec<Priced>)
-    ensures { jobs.new.items ≡ jobs.old.items }
-{
-    for place in 0..jobs.len() {
-        jobs[place].copy_column(alloc);
+        let jobs = mem::replace(&mut self.jobs, room);
+        let columns = Columns::of(self.alloc, &jobs);
+        Ok(Plan::new(jobs, chunks, columns))
     }
 }

@@ -92,7 +92,7 @@ pub fn compute(alloc: Global, scratch: &mut Scratch, plan: &Plan, chunk: u64) ->
     let (job, range) = plan.chunk_rows(chunk);
     let jobs = plan.jobs();
     let priced = &jobs[job as usize];
-    compute_rows(alloc, scratch, priced.job(), priced.column(), range)
+    compute_rows(alloc, scratch, priced.job(), plan.column(job), range)
 }
 
 /// Some rows of a job's matrix: the six forms, each by its operation. A copy may be lent of the column of a product by one.

@@ -1,5 +1,6 @@
 //! Prices, refusals, the queue and chunks, by examples done by hand.
 mod chunks;
+mod copies;
 mod prices;
 mod refusals;
 mod waiting;

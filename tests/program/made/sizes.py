@@ -250,6 +250,10 @@ def bytes_held(program):
     four = b'apply C inc A\napply D inc A\napply E inc A\nrun\n'
     longest = RESULT_IS_OPERAND + add(1) * (MOST_SLOTS - 2) + EXIT
     lines = b'mov64 r0, r1\n' + b'add64 r0, 1\n' * (MOST_SLOTS - 2) + b'exit\n'
+    plus = assembly_command('plus', b'mov64 r0, r1\nadd64 r0, r2\nexit\n', 'binary')
+    wide = matrix_command('W', matrix_text(1, count, [(1, column, 1) for column in range(1, count + 1)]))
+    tall = matrix_command('T', matrix_text(count, 1, [(row, 1, row) for row in range(1, count + 1)]))
+    products = b''.join(b'product n%d plus plus W T\n' % number for number in range(64))
     sessions = [
         ('a row', matrix_command('A', matrix_text(1 << 22, 1, [])), 1 << 22, 9),
         ('an entry that is read', matrix, count, 38),
@@ -257,6 +261,7 @@ def bytes_held(program):
         ('an entry that is read, mapped and shown', matrix + apply + b'run\nshow B\n', count, 67),
         ('an entry that is mapped four times', matrix + apply + four, count, 114),
         ('an entry of a text that goes backwards', backwards, count, 38),
+        ('a row of a column that 64 products are by', wide + tall + plus + products + b'run\n', count, 100),
         ('a slot', b''.join(operator_command('n%d' % number, longest) for number in range(100)), 100 * MOST_SLOTS, 178),
         ('a slot of assembly', b''.join(assembly_command('n%d' % number, lines) for number in range(100)), 100 * MOST_SLOTS, 178),
         ('a name', b''.join(matrix_command('n%d' % number, matrix_text(1, 1, [])) for number in range(5000)), 5000, 270),

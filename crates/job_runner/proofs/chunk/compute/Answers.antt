@@ -1,4 +1,4 @@
-use Rattle.std.proofs.Common.{◌≡◌, ◌-◌, ℕ, List, [], length, get_or, ap, ◌∙◌, subst, arith}
+use Rattle.std.proofs.Common.{◌≡◌, ◌-◌, ℕ, List, [], Some, length, get_or, ap, sym, ◌∙◌, subst, arith}
 use Rattle.std.proofs.lemmas.Option.{slice_get_within, get_or_from_slice_get}
 use Rattle.bpf_run.specs.Calls.{Call}
 use Rattle.csr_store.specs.Run.{Run}
@@ -34,6 +34,15 @@ same_job : (jobs borrowed : List Job) (c : ℕ) (x : Chunk) (p : Place 0 jobs c 
     → found ≡ get_or borrowed x.job found → job ≡ found → job ≡ p.job
 same_job jobs borrowed c x p found job b f e =
     e ∙ f ∙ ap (λ js. get_or js x.job found) b ∙ get_or_from_slice_get jobs x.job p.job found (place_within jobs c x p)
+
+-- what is lent is for that job
+pub compute_rows-requires-clause-column : goal.compute_rows-requires-clause-column
+compute_rows-requires-clause-column c =
+    let p = located 0 c.args.plan.now c.args.chunk _ c.chunk_rows-job.ensures.is in
+    let e = same_job c.args.plan.now c.jobs-jobs.result.now c.args.chunk _ p c.index-jobs-job.result c.job.result.now
+    c.jobs-jobs.ensures.jobs
+    c.index-jobs-job.is c.job.ensures.job in
+    c.column.ensures c.job.result.now (place_within c.args.plan.now c.args.chunk _ p ∙ ap (λ (j : Job). Some j) (sym e))
 
 pub compute_rows-requires-clause-within : goal.compute_rows-requires-clause-within
 compute_rows-requires-clause-within c =

@@ -1,0 +1,235 @@
+//! Copies of the columns that the products of a batch are by.
+ghost use Rattle.std.specs.Prelude.{◌≡◌, ◌≢◌, ◌≤◌, ◌<◌, [], ◌∷◌, ◌++◌, length, get_or, true, false, None, Some, if◌then◌else◌};
+ghost use Rattle.std.specs.Prelude.{IfOk, IfSome, IsTrue, MatchOption};
+ghost use Rattle.std.specs.Arc.{arc_value};
+ghost use Rattle.std.specs.FinMap as fin;
+ghost use Rattle.csr_store.specs.Column.{column_of};
+ghost use Rattle.job_plan.specs.Copies.{IsBy};
+ghost use Rattle.job_plan.specs.inner.Copies.{Adds, AreFor, FitsBehind, IsFound};
+
+use crate::form::Form;
+use crate::priced::{Priced, price};
+use crate::queue::ROOM;
+use csr_store::{Column, Matrix, Version};
+use std::alloc::{AllocError, Global};
+use std::marker::Model;
+use std::sync::Arc;
+
+/// How many times the rows of a column may be read in vain, before the search for its copy is given up.
+const PATIENCE: u64 = 4;
+
+/// A copy of a column, with an owner more of the matrix that it was made of. A contract sees that matrix.
+#[derive(Drop)]
+pub struct Copied {
+    matrix: Version,
+    column: Column,
+}
+
+impl Model for Copied {
+    ghost use Rattle.std.specs.Prelude.{◌≡◌};
+    ghost use Rattle.std.specs.Arc.{arc_value};
+    ghost use Rattle.csr_store.specs.Column.{column_of};
+    ghost use Rattle.csr_store.specs.Grid.{Grid, grid_code};
+
+    ghost Value = { Grid };
+
+    ghost coded = { grid_code };
+
+    ghost view = { λ c. arc_value c.matrix };
+
+    ghost invariant = { λ c. c.column ≡ column_of (arc_value c.matrix) };
+}
+
+impl Copied {
+    /// Copies a matrix of one column.
+    fn of(alloc: Global, matrix: &Version) -> Result<Self, AllocError>
+        requires { (arc_value matrix.now).columns ≡ 1 }
+        ensures { IfOk result (λ c. c ≡ arc_value matrix.now) }
+    {
+        let column = Column::of(alloc, matrix)?;
+        let matrix = Arc::try_clone(matrix)?;
+        Ok(Copied { matrix, column })
+    }
+
+    /// The copy.
+    pub(crate) fn column(&self) -> &Column
+        ensures { result.now ≡ column_of self.now }
+    {
+        &self.column
+    }
+
+    /// Whether a matrix has as many rows as the copied one, and as many entries.
+    fn is_sized_as(&self, other: &Matrix) -> bool
+        ensures rows { result ≡ true → self.now.rows ≡ other.now.rows }
+        ensures other { result ≡ false → self.now ≢ other.now }
+    {
+        self.matrix.rows() == other.rows() && self.matrix.entries() == other.entries()
+    }
+
+    /// The word at a row, if there is one.
+    #[inline(always)]
+    fn word(&self, k: u64) -> Option<u64>
+        requires { k < self.now.rows }
+        ensures { result ≡ fin.get self.now.cells (k, 0) }
+    {
+        word_of(self.column.word(k))
+    }
+
+    /// The first row at which another column differs: 0 where the sizes do, and none where nothing does.
+    #[tactic(auto, using(crate::proofs::Copies::same_columns, crate::proofs::Copies::other_words))]
+    fn difference(&self, other: &Matrix) -> Option<u64>
+        requires { other.now.columns ≡ 1 }
+        ensures { MatchOption result (column_of self.now ≡ column_of other.now) (λ _. self.now ≢ other.now) }
+    {
+        if !self.is_sized_as(other) {
+            return Some(0);
+        }
+        for k in 0..other.rows() {
+            if self.word(k) != word_at(other, k) {
+                return Some(k);
+            }
+        }
+        None
+    }
+}
+
+/// A word that may not be there.
+#[inline(always)]
+fn word_of(word: (u64, bool)) -> Option<u64>
+    ensures { result ≡ (if word.1 then Some word.0 else None) }
+{
+    if word.1 { Some(word.0) } else { None }
+}
+
+/// The word at a row of a column, if there is one.
+#[inline(always)]
+fn word_at(column: &Matrix, k: u64) -> Option<u64>
+    requires column { column.now.columns ≡ 1 }
+    requires row { k < column.now.rows }
+    ensures { result ≡ fin.get column.now.cells (k, 0) }
+{
+    word_of(column.word_in_column(k))
+}
+
+/// What a search for a copy may answer: its place, that there is none, or that the search would take too long.
+enum Found {
+    At(u64),
+    Nowhere,
+    Unknown,
+}
+
+/// Looks for the copy of a column. Matrices that are equal count as one. Takes no memory.
+#[tactic(auto, using(crate::proofs::Copies::found_at, crate::proofs::Copies::new_more))]
+fn find(copies: &[Copied], column: &Matrix) -> Found
+    requires { column.now.columns ≡ 1 }
+    ensures { IsFound copies.now column.now result }
+{
+    let mut left = PATIENCE * column.rows();
+    for (place, copy) in copies.iter().enumerate() {
+        let Some(row) = copy.difference(column) else {
+            return Found::At(place as u64);
+        };
+        if row > left {
+            return Found::Unknown;
+        }
+        left -= row;
+    }
+    Found::Nowhere
+}
+
+/// Whether one more copy takes no more words than the cells that it is of. The first copy may also take as many as tell where the
+/// rows of its matrix start.
+fn fits(copies: &[Copied], column: &Matrix) -> bool
+    ensures { IsTrue result → FitsBehind copies.now column.now }
+{
+    let rows = column.rows();
+    let starts = if copies.is_empty() { rows + 1 } else { 0 };
+    rows + rows.div_ceil(64) <= starts + 2 * column.entries()
+}
+
+/// Puts the copy of a column behind others, where it fits and there is memory for it, and tells its place.
+fn add(alloc: Global, copies: &mut Vec<Copied>, matrix: &Version) -> Option<u64>
+    requires { (arc_value matrix.now).columns ≡ 1 }
+    ensures { MatchOption result (copies.new.items ≡ copies.old.items) (λ p. (p ≡ length copies.old.items)
+        × (copies.new.items ≡ copies.old.items ++ arc_value matrix.now ∷ [])
+        × FitsBehind copies.old.items (arc_value matrix.now)) }
+{
+    if !fits(copies, matrix) {
+        return None;
+    }
+    let Ok(copy) = Copied::of(alloc, matrix) else {
+        return None;
+    };
+    let place = copies.len() as u64;
+    match copies.push(copy) {
+        Ok(()) => Some(place),
+        Err(_) => None,
+    }
+}
+
+/// The column that a product is by, where a copy of it pays.
+fn paid(priced: &Priced) -> Option<&Version>
+    ensures { IfSome result (λ v. IsBy (arc_value v.now) priced.now) }
+{
+    let form = priced.job().form();
+    if let Form::Product { right, .. } = form {
+        if right.columns() == 1 && price(priced) >= right.rows() * form.round() {
+            return Some(right);
+        }
+    }
+    None
+}
+
+/// The place of a job's copy, which is made if there is none yet.
+#[tactic(auto, using(crate::proofs::Copies::adds_nothing, crate::proofs::Copies::adds_found, crate::proofs::Copies::adds_new))]
+fn place_for(alloc: Global, copies: &mut Vec<Copied>, priced: &Priced) -> Option<u64>
+    ensures { Adds copies.old.items copies.new.items priced.now result }
+{
+    let Some(column) = paid(priced) else {
+        return None;
+    };
+    match find(copies, column) {
+        Found::At(place) => Some(place),
+        Found::Nowhere => add(alloc, copies, column),
+        Found::Unknown => None,
+    }
+}
+
+/// The copies of a batch's columns, and for each job the place of its copy, if it has one.
+#[derive(Drop)]
+pub(crate) struct Columns {
+    copies: Vec<Copied>,
+    places: [Option<u64>; ROOM],
+}
+
+impl Columns {
+    /// Copies the columns that products are by, as far as that pays and there is memory: each once.
+    pub(crate) fn of(alloc: Global, jobs: &[Priced]) -> Columns
+        requires { length jobs.now ≤ 64 }
+        ensures { AreFor jobs.now result.copies.items result.places }
+    {
+        let mut copies = Vec::new(alloc);
+        let mut places = [None; ROOM];
+        for (job, priced) in jobs.iter().enumerate() {
+            places[job] = place_for(alloc, &mut copies, priced);
+        }
+        Columns { copies, places }
+    }
+
+    /// The copies.
+    pub(crate) fn copies(&self) -> &[Copied]
+        ensures { result.now ≡ self.now.copies.items }
+    {
+        &self.copies
+    }
+
+    /// The place of a job's copy, if it has one.
+    pub(crate) fn place(&self, job: u64) -> Option<u64>
+        ensures { result ≡ get_or self.now.places job None }
+    {
+        match self.places.get(job as usize) {
+            Some(place) => *place,
+            None => None,
+        }
+    }
+}
