@@ -18,8 +18,11 @@ import tempfile
 import threading
 import time
 
-TOP = os.path.normpath(os.path.join(os.path.dirname(os.path.abspath(__file__)), '..', '..', 'clients', 'python'))
-sys.path[:0] = [TOP, os.path.join(TOP, 'tests')]
+sys.path[0] = os.path.dirname(os.path.dirname(os.path.dirname(os.path.realpath(__file__))))     # modules are named from the top
+
+from tests.lib.paths import CLIENT, CLIENT_TESTS  # noqa: E402  # pylint: disable=wrong-import-position
+
+sys.path[:0] = [CLIENT, CLIENT_TESTS]
 os.environ['PYTHONPATH'] = os.pathsep.join(sys.path[:2])       # also for Dask's workers
 
 import alike  # noqa: E402  # pylint: disable=wrong-import-position

@@ -11,8 +11,11 @@ import os
 import random
 import sys
 
-TOP = os.path.dirname(os.path.dirname(os.path.dirname(os.path.realpath(__file__))))
-sys.path[:1] = [os.path.join(TOP, 'clients', 'python'), os.path.join(TOP, 'clients', 'python', 'tests'), TOP]
+sys.path[0] = os.path.dirname(os.path.dirname(os.path.dirname(os.path.realpath(__file__))))     # modules are named from the top
+
+from tests.lib.paths import CLIENT, CLIENT_TESTS, PLAIN_SERVER, TOP
+
+sys.path[:1] = [CLIENT, CLIENT_TESTS, TOP]
 
 
 def main(words):
@@ -21,7 +24,7 @@ def main(words):
     parser.add_argument('--seed', type=int, default=random.randrange(1 << 32))
     parser.add_argument('--program')
     given = parser.parse_args(words)
-    os.environ.setdefault('SPMAT', given.program or os.path.join(TOP, 'reference', '__main__.py'))
+    os.environ.setdefault('SPMAT', given.program or PLAIN_SERVER)
     import random_comparison
     import spmat
     faulthandler.cancel_dump_traceback_later()      # the tests' watch over hanging ones

@@ -11,7 +11,7 @@ from reference import __file__ as reference_file
 from .programs import Program, reference_answer
 from .scripts import random_session
 
-SECONDS = 60
+SECONDS_TO_FIND = 60
 REFERENCE = os.path.dirname(os.path.abspath(reference_file))
 
 
@@ -79,7 +79,7 @@ def planted(plant: Plant, folder: str) -> str:
 def sessions_until(differs: Callable) -> Optional[int]:
     """The number of sessions after which one differs; None where none does within a
     minute of the processor."""
-    end, number = time.process_time() + SECONDS, 0
+    end, number = time.process_time() + SECONDS_TO_FIND, 0
     while time.process_time() < end:
         if differs(random_session('plant-%d' % number)):
             return number + 1
@@ -120,6 +120,6 @@ def program_differs(folder: str) -> Callable:
 
 
 def told(what: str, sessions: Optional[int]) -> int:
-    found = 'NOT FOUND in %d seconds' % SECONDS if sessions is None else 'found by session %d' % sessions
+    found = 'NOT FOUND in %d seconds' % SECONDS_TO_FIND if sessions is None else 'found by session %d' % sessions
     print('%s: %s' % (what, found), flush=True)
     return sessions is None

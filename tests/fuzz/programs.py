@@ -6,9 +6,7 @@ import subprocess
 from typing import List, NamedTuple
 from reference.session import Session as Served
 from tests.lib.commands import run_words
-from tests.lib.runs import CHECKED
-
-SECONDS = 600 if os.environ.get(CHECKED) else 60
+from tests.lib.patience import FOR_A_FUZZED_SESSION
 
 
 class Session(NamedTuple):
@@ -70,7 +68,7 @@ class Running:
 
     def answer(self) -> Answer:
         """What the program wrote when it has ended."""
-        signal.alarm(SECONDS)
+        signal.alarm(FOR_A_FUZZED_SESSION)
         try:
             if self.session.at_once:
                 self.hand_over()
@@ -78,7 +76,7 @@ class Running:
         except TimeoutError:
             self.child.kill()
             status = self.child.wait()
-            self.told.write(b'not ended after %d seconds\n' % SECONDS)
+            self.told.write(b'not ended after %d seconds\n' % FOR_A_FUZZED_SESSION)
         finally:
             signal.alarm(0)
         return Answer(written(self.sink) + written(self.told), status)

@@ -12,9 +12,10 @@ import tempfile
 import time
 from typing import Iterator, List, Optional
 
-from tests.lib.commands import TOP
+from tests.lib.paths import TOP
+from tests.lib.patience import CHECKED
 from tests.lib.ports import LOOPBACK, free_port
-from tests.lib.runs import CHECKED, Wrong
+from tests.lib.runs import Wrong
 
 SECONDS_TO_COMPILE = 1800
 SECONDS_TO_LISTEN = 30

@@ -7,10 +7,7 @@ import struct
 from typing import Dict
 
 from tests.lib.limits import MOST_STEPS
-
-TOP = os.path.dirname(os.path.dirname(os.path.dirname(os.path.abspath(__file__))))
-CASES = os.path.join(TOP, 'tests', 'cases')
-PROGRAM = os.path.join(TOP, 'crates', 'spmat', 'out', 'spmat')
+from tests.lib.paths import CASES
 
 
 def run_words(steps=MOST_STEPS, workers=1):

@@ -6,8 +6,9 @@ import threading
 from typing import List, NamedTuple
 
 from tests.lib.commands import run_words
+from tests.lib.patience import FOR_A_SESSION
 from tests.lib.replies import Replies
-from tests.lib.runs import SECONDS, Wrong, bounded
+from tests.lib.runs import Wrong, bounded
 
 PIECE = 1 << 20
 LAST = b'ok budget '
@@ -25,7 +26,7 @@ def replies_until_last(child: subprocess.Popen) -> List[bytes]:
     def more() -> bytes:
         piece = child.stdout.read1(PIECE)
         if not piece:
-            raise Wrong('the program ended, status %d' % child.wait(SECONDS))
+            raise Wrong('the program ended, status %d' % child.wait(FOR_A_SESSION))
         return piece
 
     replies, refusals = Replies(more), []
@@ -45,7 +46,7 @@ def cost_of(program: str, session: bytes, workers: int = 1) -> Cost:
         feeder = threading.Thread(target=give, args=(child, session), daemon=True)
         feeder.start()
         refusals = replies_until_last(child)
-        feeder.join(SECONDS)
+        feeder.join(FOR_A_SESSION)
         # not by its resource usage, which counts what the Python that started it had before
         with open('/proc/%d/status' % child.pid) as status:
             peak = int(re.search(r'VmHWM:\s+(\d+) kB', status.read()).group(1)) << 10

@@ -6,13 +6,11 @@ import subprocess
 import threading
 from typing import Any, Iterable, Iterator, List
 
+from tests.lib.patience import CHECKED, FOR_A_SESSION
+
 # of a program that asks for far more than a case needs, so that it takes no machine down
 MOST_ADDRESS_SPACE = 8 << 30
-# the variable that says that the program has run-time checks (tests/lib/checked.py)
-CHECKED = 'SPMAT_CHECKED'
-# for a session; run-time checks take some ten times as long
-SECONDS = 1200 if os.environ.get(CHECKED) else 120
-LONGEST = 5 * SECONDS                              # for one that is too large to be held
+LONGEST = 5 * FOR_A_SESSION                              # for one that is too large to be held
 
 
 class Wrong(Exception):
@@ -44,7 +42,7 @@ def bounded() -> None:
 
 
 @contextlib.contextmanager
-def started(words: List[str], seconds: float = SECONDS, **settings: Any) -> 'Iterator[subprocess.Popen[bytes]]':
+def started(words: List[str], seconds: float = FOR_A_SESSION, **settings: Any) -> 'Iterator[subprocess.Popen[bytes]]':
     """A program that is killed where it takes so long, or what looks at it fails. So nobody reads from it or waits for it without an end."""
     child = subprocess.Popen(words, **settings)
     timer = threading.Timer(seconds, child.kill)
@@ -63,7 +61,7 @@ def started(words: List[str], seconds: float = SECONDS, **settings: Any) -> 'Ite
 
 def run_session(program, words, data, want, status=0):
     """One session, from its input to its output and exit status."""
-    done = subprocess.run([program] + words, input=data, stdout=subprocess.PIPE, stderr=subprocess.PIPE, timeout=SECONDS,
+    done = subprocess.run([program] + words, input=data, stdout=subprocess.PIPE, stderr=subprocess.PIPE, timeout=FOR_A_SESSION,
                           preexec_fn=bounded)
     if done.stdout != want:
         raise Wrong(difference(want, done.stdout))
@@ -95,5 +93,5 @@ def run_streamed(program: str, words: List[str], given: Iterable[bytes], wanted:
                 raise Wrong('from byte %d of the output: %s' % (at, difference(want, got)))
             at += len(want)
         expect('behind the output', b'', child.stdout.read())
-        expect('status', status, child.wait(SECONDS))
-        feeder.join(SECONDS)
+        expect('status', status, child.wait(FOR_A_SESSION))
+        feeder.join(FOR_A_SESSION)

@@ -6,7 +6,7 @@ import subprocess
 import tempfile
 from collections import namedtuple
 
-from tests.lib.runs import SECONDS
+from tests.lib.patience import FOR_A_SESSION
 
 SOURCE = os.path.join(os.path.dirname(os.path.abspath(__file__)), 'memory_witness.c')
 
@@ -42,7 +42,7 @@ class Witness:
         with tempfile.TemporaryFile() as given:
             given.write(data)
             given.seek(0)
-            done = subprocess.run(words, stdin=given, stdout=subprocess.PIPE, stderr=subprocess.PIPE, env=environment, timeout=SECONDS)
+            done = subprocess.run(words, stdin=given, stdout=subprocess.PIPE, stderr=subprocess.PIPE, env=environment, timeout=FOR_A_SESSION)
         with open(self.page, 'rb') as page:
             counts = Counts(*struct.unpack('<5Q', page.read(40)))
         if counts.requests == 0:

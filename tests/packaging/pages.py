@@ -6,7 +6,8 @@ import os
 import re
 from typing import Dict, Iterator, List, NamedTuple
 
-TOP = os.path.dirname(os.path.dirname(os.path.dirname(os.path.abspath(__file__))))
+from tests.lib.paths import TOP
+
 PAGES = ('README.md', 'docs/server.md')
 INTRODUCED = re.compile(r'\[(packaging/[^\]]+)\]\((?:\.\./)?\1\):$')
 INDENT = '    '

@@ -10,11 +10,12 @@ import time
 import unittest
 from typing import Any, Callable, Dict, Iterator, List, Optional, Sequence
 
-from tests.packaging.pages import TOP
+from tests.lib.paths import CLIENT, PROGRAM
+from tests.lib.patience import CHECKED, FOR_A_REPLY
+from tests.lib.ports import free_port
 
-sys.path.insert(0, os.path.join(TOP, 'clients', 'python'))
+sys.path.insert(0, CLIENT)
 
-SECONDS = 60.0
 PATH = os.pathsep.join([os.environ.get('PATH', ''), '/usr/sbin', '/sbin'])
 FIRST_SESSION = (b'matrix A 62\n%%MatrixMarket matrix coordinate integer general\n1 1 1\n1 1 41\n'
                  b'asm inc unary 30\nmov64 r0, r1\nadd64 r0, 1\nexit\napply B inc A\nrun\nshow B\nquit\n')
@@ -23,12 +24,12 @@ LAST_REPLIES = b'1 1 42\nok quit\n'
 
 def program() -> str:
     """The program that the tests are about: the variable SPMAT, or the built one."""
-    return os.path.abspath(os.environ.get('SPMAT') or os.path.join(TOP, 'crates', 'spmat', 'out', 'spmat'))
+    return os.path.abspath(os.environ.get('SPMAT') or PROGRAM)
 
 
 def is_checked() -> bool:
     """Whether the program has run-time checks, which want all addresses and calls of their own (the variable SPMAT_CHECKED)."""
-    return bool(os.environ.get('SPMAT_CHECKED'))
+    return bool(os.environ.get(CHECKED))
 
 
 def found(name: str) -> Optional[str]:
@@ -42,14 +43,7 @@ def needs(*names: str) -> Callable[[Any], Any]:
     return unittest.skipIf(bool(missing), 'no ' + ', no '.join(missing))
 
 
-def free_port() -> int:
-    """A port that nobody listens on."""
-    with socket.socket() as taken:
-        taken.bind(('127.0.0.1', 0))
-        return int(taken.getsockname()[1])
-
-
-def until(what: str, happens: Callable[[], bool], seconds: float = SECONDS) -> None:
+def until(what: str, happens: Callable[[], bool], seconds: float = FOR_A_REPLY) -> None:
     """Waits for something."""
     end = time.monotonic() + seconds
     while not happens():
@@ -70,7 +64,7 @@ def listens(port: int) -> bool:
 def converse(connection: socket.socket, data: bytes) -> bytes:
     """Sends all, sends no more, and takes in what comes until the end."""
     with connection:
-        connection.settimeout(SECONDS)
+        connection.settimeout(FOR_A_REPLY)
         connection.sendall(data)
         connection.shutdown(socket.SHUT_WR)
         return b''.join(iter(lambda: connection.recv(1 << 16), b''))

@@ -5,8 +5,11 @@ import subprocess
 import time
 from typing import List
 
-from tests.packaging.pages import TOP, text_of
-from tests.packaging.rooms import SECONDS, Room, free_port, needs, program, settings_of, until
+from tests.lib.paths import TOP
+from tests.lib.patience import FOR_A_REPLY
+from tests.lib.ports import free_port
+from tests.packaging.pages import text_of
+from tests.packaging.rooms import Room, needs, program, settings_of, until
 import spmat
 
 DRAIN = os.path.join(TOP, 'packaging', 'spmat-drain')
@@ -30,14 +33,14 @@ class Drain(Room):
     def is_busy(self) -> bool:
         """Whether a new client is told that there is no seat."""
         try:
-            spmat.Session.connect(port=self.port, timeout=SECONDS).close()
+            spmat.Session.connect(port=self.port, timeout=FOR_A_REPLY).close()
         except spmat.Refused as refused:
             return refused.rule == 'busy'
         return False
 
     def test_sessions_end_by_themselves(self) -> None:
         child = self.server([], '--idle', '2')
-        with spmat.Session.connect(port=self.port, timeout=SECONDS) as s:
+        with spmat.Session.connect(port=self.port, timeout=FOR_A_REPLY) as s:
             A = s.from_triples([(0, 0, 41)])
             drain = self.drain(child, 600)
             until('new clients are turned away', self.is_busy)
@@ -46,19 +49,19 @@ class Drain(Room):
                 self.assertEqual(A.apply('plus', right=1).to_list(), [42])
             self.assertTrue(self.is_busy())
             self.assertIsNone(drain.poll())
-        self.assertEqual((drain.wait(SECONDS), child.wait(SECONDS)), (0, -signal.SIGTERM))
+        self.assertEqual((drain.wait(FOR_A_REPLY), child.wait(FOR_A_REPLY)), (0, -signal.SIGTERM))
 
     def test_the_time_is_over(self) -> None:
         child = self.server([])
-        with spmat.Session.connect(port=self.port, timeout=SECONDS) as s:
-            self.assertEqual(self.drain(child, 2).wait(SECONDS), 1)
-            self.assertEqual(child.wait(SECONDS), -signal.SIGTERM)
+        with spmat.Session.connect(port=self.port, timeout=FOR_A_REPLY) as s:
+            self.assertEqual(self.drain(child, 2).wait(FOR_A_REPLY), 1)
+            self.assertEqual(child.wait(FOR_A_REPLY), -signal.SIGTERM)
             with self.assertRaises(spmat.Closed):
                 s.budget()
 
     def test_what_is_no_server(self) -> None:
         for words, said in ((['0'], 'no process 0'), ([str(os.getpid())], "%d isn't spmat serve --port P" % os.getpid())):
-            told = subprocess.run([DRAIN] + words, stdout=subprocess.PIPE, stderr=subprocess.STDOUT, text=True, timeout=SECONDS, check=False)
+            told = subprocess.run([DRAIN] + words, stdout=subprocess.PIPE, stderr=subprocess.STDOUT, text=True, timeout=FOR_A_REPLY, check=False)
             self.assertEqual((told.returncode, told.stdout), (2, 'spmat-drain: %s\n' % said))
 
     def test_the_unit_ignores_sighup_and_drains(self) -> None:
@@ -68,11 +71,11 @@ class Drain(Room):
         self.assertEqual(before, ['/usr/bin/env', '--ignore-signal=HUP'])
         child = self.server(before)
         child.send_signal(signal.SIGHUP)
-        with spmat.Session.connect(port=self.port, timeout=SECONDS) as s:
+        with spmat.Session.connect(port=self.port, timeout=FOR_A_REPLY) as s:
             self.assertEqual(s.budget().spent, 0)
         self.assertIsNone(child.poll())
         words = settings['ExecStop'][0].split()
         self.assertEqual(words[:2], ['-+/usr/bin/spmat-drain', '$MAINPID'])
         self.assertLess(int(words[2]), int(settings['TimeoutStopSec'][0].rstrip('s')))
-        self.assertEqual(self.drain(child, int(words[2])).wait(SECONDS), 0)
-        self.assertEqual(child.wait(SECONDS), -signal.SIGTERM)
+        self.assertEqual(self.drain(child, int(words[2])).wait(FOR_A_REPLY), 0)
+        self.assertEqual(child.wait(FOR_A_REPLY), -signal.SIGTERM)

@@ -6,8 +6,10 @@ import subprocess
 import time
 from typing import List, Tuple
 
-from tests.packaging.pages import TOP
-from tests.packaging.rooms import SECONDS, Room, free_port, found, needs, program
+from tests.lib.paths import TOP
+from tests.lib.patience import FOR_A_REPLY
+from tests.lib.ports import free_port
+from tests.packaging.rooms import Room, found, needs, program
 import spmat
 
 HEALTH = os.path.join(TOP, 'packaging', 'spmat-health')
@@ -17,7 +19,7 @@ SEATS = 16
 def health(*words: object) -> Tuple[int, str]:
     """The status of the check, and its line."""
     said = subprocess.run([HEALTH] + [str(word) for word in words], stdin=subprocess.DEVNULL, stdout=subprocess.PIPE,
-                          stderr=subprocess.PIPE, text=True, timeout=SECONDS, check=False)
+                          stderr=subprocess.PIPE, text=True, timeout=FOR_A_REPLY, check=False)
     assert said.stderr == '', said.stderr
     return said.returncode, said.stdout
 
@@ -70,10 +72,10 @@ class Health(Room):
         with socket.create_server(('127.0.0.1', 0)) as other:
             port = other.getsockname()[1]
             child = subprocess.Popen([HEALTH, str(port)], stdout=subprocess.PIPE, text=True)
-            other.settimeout(SECONDS)
+            other.settimeout(FOR_A_REPLY)
             with other.accept()[0] as connection:
                 connection.sendall(b'HTTP/1.1 400 Bad Request\r\n')
-            self.assertEqual(child.communicate(timeout=SECONDS), ('%d: no answer\n' % port, None))
+            self.assertEqual(child.communicate(timeout=FOR_A_REPLY), ('%d: no answer\n' % port, None))
             self.assertEqual(child.returncode, 1)
 
     @needs('socat', 'systemd-socket-activate')

@@ -6,8 +6,10 @@ import subprocess
 import unittest
 from typing import Set
 
-from tests.packaging.pages import TOP, text_of
-from tests.packaging.rooms import SECONDS, Room, program
+from tests.lib.paths import TOP
+from tests.lib.patience import FOR_A_REPLY
+from tests.packaging.pages import text_of
+from tests.packaging.rooms import Room, program
 
 OPTION = r'--[a-z-]+'
 
@@ -15,7 +17,7 @@ OPTION = r'--[a-z-]+'
 def helped(*words: str) -> Set[str]:
     """The options that `--help` tells of."""
     said = subprocess.run([program()] + list(words) + ['--help'], stdout=subprocess.PIPE, stderr=subprocess.STDOUT, text=True,
-                          timeout=SECONDS, check=False)
+                          timeout=FOR_A_REPLY, check=False)
     return set(re.findall(OPTION, said.stdout))
 
 
@@ -51,7 +53,7 @@ class Completion(Room):
         """What bash offers for the last word."""
         script = 'source "$0"; spmat() { "$PROGRAM" "$@"; }; COMP_WORDS=("$@"); COMP_CWORD=$(($# - 1)); _spmat spmat; printf "%s\\n" "${COMPREPLY[@]}"'
         said = subprocess.run(['bash', '-c', script, os.path.join(TOP, 'packaging/completion/spmat.bash'), *words], stdout=subprocess.PIPE,
-                              env=dict(os.environ, PROGRAM=program()), text=True, timeout=SECONDS, check=True)
+                              env=dict(os.environ, PROGRAM=program()), text=True, timeout=FOR_A_REPLY, check=True)
         return set(said.stdout.split())
 
     def test_bash(self) -> None:
@@ -62,4 +64,4 @@ class Completion(Room):
 
     @unittest.skipIf(shutil.which('zsh') is None, 'no zsh')
     def test_zsh(self) -> None:
-        subprocess.run(['zsh', '-n', os.path.join(TOP, 'packaging/completion/spmat.zsh')], timeout=SECONDS, check=True)
+        subprocess.run(['zsh', '-n', os.path.join(TOP, 'packaging/completion/spmat.zsh')], timeout=FOR_A_REPLY, check=True)

@@ -5,7 +5,8 @@ import re
 import unittest
 from typing import List, Set
 
-from tests.packaging.pages import PAGES, TOP, blocks, is_file, text_of
+from tests.lib.paths import TOP
+from tests.packaging.pages import PAGES, blocks, is_file, text_of
 
 PRINTED = ('ssh/*', 'stunnel/session.py')
 LINKED = ('ssh/*', 'stunnel/*', 'systemd/*.service', 'systemd/*.socket', 'spmat-health')

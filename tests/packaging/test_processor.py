@@ -2,7 +2,8 @@
 import subprocess
 import unittest
 
-from tests.packaging.rooms import SECONDS, needs, program
+from tests.lib.patience import FOR_A_REPLY
+from tests.packaging.rooms import needs, program
 
 TOO_OLD, OLD_ENOUGH = ('core2duo', 'kvm64'), 'Nehalem'       # without SSE4.2 and POPCNT, and the first of Intel's that has both
 
@@ -11,7 +12,7 @@ TOO_OLD, OLD_ENOUGH = ('core2duo', 'kvm64'), 'Nehalem'       # without SSE4.2 an
 class Processor(unittest.TestCase):
     def on(self, processor: str) -> 'subprocess.CompletedProcess[str]':
         return subprocess.run(['qemu-x86_64', '-cpu', processor, program(), '--version'], stdout=subprocess.PIPE, stderr=subprocess.PIPE, text=True,
-                              timeout=SECONDS, check=False)
+                              timeout=FOR_A_REPLY, check=False)
 
     def test_too_old(self) -> None:
         for processor in TOO_OLD:

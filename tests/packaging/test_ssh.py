@@ -3,8 +3,10 @@ import os
 import subprocess
 from typing import List
 
+from tests.lib.patience import FOR_A_REPLY
+from tests.lib.ports import free_port
 from tests.packaging.pages import snippet
-from tests.packaging.rooms import SECONDS, Room, found, free_port, is_checked, listens, needs, program
+from tests.packaging.rooms import Room, found, is_checked, listens, needs, program
 import spmat
 
 CONFIGURATION = """Port %d
@@ -27,7 +29,7 @@ class Sshd(Room):
     def start_sshd(self, line: str) -> None:
         for name in ('host', 'key', 'probe'):
             subprocess.run(['ssh-keygen', '-q', '-t', 'ed25519', '-N', '', '-f', self.file(name)], stdin=subprocess.DEVNULL, check=True,
-                           timeout=SECONDS)
+                           timeout=FOR_A_REPLY)
         self.write('authorized_keys', line.replace('ssh-ed25519 AAAA...', self.public('key')) + self.public('probe') + '\n')
         if os.getuid() == 0 and not os.path.isdir(PRIVATE):
             os.mkdir(PRIVATE, 0o755)
@@ -36,7 +38,7 @@ class Sshd(Room):
         self.write('sshd_config', CONFIGURATION % (self.port, self.file('host'), self.file('authorized_keys')))
         self.start('sshd', [str(found('sshd')), '-D', '-e', '-f', self.file('sshd_config')], lambda: listens(self.port))
         if subprocess.run(self.words('127.0.0.1', 'true', key='probe'), stdin=subprocess.DEVNULL, stderr=subprocess.DEVNULL,
-                          timeout=SECONDS, check=False).returncode:
+                          timeout=FOR_A_REPLY, check=False).returncode:
             self.skipTest('no session by sshd here, whatever the key may do')
 
     def public(self, name: str) -> str:
@@ -52,7 +54,7 @@ class Sshd(Room):
 
     def said(self, *words: str) -> 'subprocess.CompletedProcess[bytes]':
         return subprocess.run(self.words(*words), input=b'budget\nquit\n', stdout=subprocess.PIPE, stderr=subprocess.PIPE,
-                              timeout=SECONDS, check=False)
+                              timeout=FOR_A_REPLY, check=False)
 
     def refuses_to_listen(self) -> None:
         """The key opens no port of the server's machine."""
@@ -110,7 +112,7 @@ class OfTunnels(Sshd):
     def test_session(self) -> None:
         here = free_port()
         self.start('tunnel', self.words('-N', '-L', '%d:127.0.0.1:%d' % (here, self.served), '127.0.0.1'), lambda: listens(here))
-        with spmat.Session.connect(port=here, timeout=SECONDS) as s:
+        with spmat.Session.connect(port=here, timeout=FOR_A_REPLY) as s:
             self.assertEqual(s.from_triples([(0, 0, 41)]).apply('plus', right=1).to_list(), [42])
 
     def test_no_commands(self) -> None:

@@ -8,8 +8,11 @@ import subprocess
 import sys
 from typing import Dict, Optional
 
-from tests.packaging.pages import TOP, snippet
-from tests.packaging.rooms import FIRST_SESSION, LAST_REPLIES, SECONDS, Room, converse, found, free_port, listens, needs, until
+from tests.lib.paths import TOP
+from tests.lib.patience import FOR_A_REPLY
+from tests.lib.ports import free_port
+from tests.packaging.pages import snippet
+from tests.packaging.rooms import FIRST_SESSION, LAST_REPLIES, Room, converse, found, listens, needs, until
 import spmat
 
 SERVER = 'localhost'
@@ -26,7 +29,7 @@ class Stunnel(Room):
         self.served = self.serve()
         for name in (SERVER, 'anna', 'boris'):
             subprocess.run([os.path.join(TOP, 'packaging', 'stunnel', 'certificate'), name], cwd=self.folder, check=True,
-                           stdin=subprocess.DEVNULL, stderr=subprocess.DEVNULL, timeout=SECONDS)
+                           stdin=subprocess.DEVNULL, stderr=subprocess.DEVNULL, timeout=FOR_A_REPLY)
         shutil.copy(self.file(SERVER + '.pem'), self.file('server.pem'))
         shutil.copy(self.file(SERVER + '.crt'), self.file('server.crt'))
         shutil.copy(self.file('anna.crt'), self.file('clients.crt'))
@@ -43,13 +46,13 @@ class Stunnel(Room):
         tls = ssl.create_default_context(cafile=self.file(known + '.crt'))
         if name is not None:
             tls.load_cert_chain(self.file(name + '.pem'))
-        return spmat.Session.connect(SERVER, self.port, tls=tls, timeout=SECONDS)
+        return spmat.Session.connect(SERVER, self.port, tls=tls, timeout=FOR_A_REPLY)
 
     def test_the_python_of_the_document(self) -> None:
         text = snippet('stunnel/session.py', {'"HOST", 7172': '"%s", %d' % (SERVER, self.port)})
         environment = {**os.environ, 'PYTHONPATH': os.path.join(TOP, 'clients', 'python')}
         said = subprocess.run([sys.executable, '-c', text], cwd=self.folder, env=environment, stdout=subprocess.PIPE,
-                              timeout=SECONDS, check=False)
+                              timeout=FOR_A_REPLY, check=False)
         self.assertEqual(said.stdout, b'[42]\n')
 
     def test_who_is_not_known(self) -> None:
@@ -62,7 +65,7 @@ class Stunnel(Room):
 
     def test_without_tls(self) -> None:
         with self.assertRaises(spmat.Closed) as said:
-            spmat.Session.connect(port=self.port, timeout=SECONDS)
+            spmat.Session.connect(port=self.port, timeout=FOR_A_REPLY)
         self.assertIn('tls=', str(said.exception))
 
     def test_who_is_added(self) -> None:
@@ -86,9 +89,9 @@ class Stunnel(Room):
         here = free_port()
         self.stunnel('client', {'accept = 127.0.0.1:7171': 'accept = 127.0.0.1:%d' % here,
                                 'connect = HOST:7172': 'connect = %s:%d' % (SERVER, self.port)}, here)
-        with spmat.Session.connect(port=here, timeout=SECONDS) as s:
+        with spmat.Session.connect(port=here, timeout=FOR_A_REPLY) as s:
             self.assertEqual(s.from_triples([(0, 0, 41)]).apply('plus', right=1).to_list(), [42])
-        said = converse(socket.create_connection(('127.0.0.1', here), SECONDS), FIRST_SESSION)
+        said = converse(socket.create_connection(('127.0.0.1', here), FOR_A_REPLY), FIRST_SESSION)
         self.assertTrue(said.endswith(LAST_REPLIES), said)
 
     def test_a_long_batch_is_no_silence(self) -> None:

@@ -7,9 +7,11 @@ import socket
 import subprocess
 from typing import List, Set, Tuple
 
+from tests.lib.patience import FOR_A_REPLY
+from tests.lib.ports import free_port
 from tests.packaging.pages import snippet, text_of
-from tests.packaging.rooms import (FIRST_SESSION, LAST_REPLIES, SECONDS, Room, converse, found, free_port, is_checked, lines_of, needs,
-                                   program, settings_of)
+from tests.packaging.rooms import (FIRST_SESSION, LAST_REPLIES, Room, converse, found, is_checked, lines_of, needs, program,
+                                   settings_of)
 import spmat
 
 SERVICES = ('spmat.service', 'spmat@.service')
@@ -36,14 +38,14 @@ class Units(Room):
     @needs('systemd-analyze')
     def test_systemd_takes_them(self) -> None:
         said = subprocess.run(['systemd-analyze', 'verify', '--man=no'] + [self.file(name) for name in UNITS],
-                              stdout=subprocess.PIPE, stderr=subprocess.STDOUT, text=True, timeout=SECONDS, check=False)
+                              stdout=subprocess.PIPE, stderr=subprocess.STDOUT, text=True, timeout=FOR_A_REPLY, check=False)
         self.assertEqual((said.returncode, said.stdout), (0, ''))
 
     @needs('systemd-analyze')
     def test_exposure(self) -> None:
         for name in SERVICES:
             said = subprocess.run(['systemd-analyze', 'security', '--offline=yes', '--no-pager', '--threshold=%d' % MOST_EXPOSED,
-                                   self.file(name)], stdout=subprocess.PIPE, text=True, timeout=SECONDS, check=False)
+                                   self.file(name)], stdout=subprocess.PIPE, text=True, timeout=FOR_A_REPLY, check=False)
             self.assertEqual(said.returncode, 0, said.stdout[-300:])
             self.assertRegex(said.stdout, r'Overall exposure level for \S+: [01]\.\d')
 
@@ -53,7 +55,7 @@ class Units(Room):
         self.assertEqual(shlex.split(default['SERVE'].strip('"')), words_of('spmat.service', 'SERVE'))
         self.assertEqual(shlex.split(default['SESSION'].strip('"')), words_of('spmat@.service', 'SESSION'))
         said = subprocess.run([program(), 'run'] + words_of('spmat@.service', 'SESSION'), input=b'budget\n', stdout=subprocess.PIPE,
-                              timeout=SECONDS, check=False)
+                              timeout=FOR_A_REPLY, check=False)
         self.assertEqual(said.stdout, b'ok budget 1000000000000 0 0\n')
         port, words = free_port(), words_of('spmat.service', 'SERVE')
         words[words.index('--port') + 1] = str(port)
@@ -95,7 +97,7 @@ class Calls(Room):
 
     def test_session(self) -> None:
         words = ['run'] + words_of('spmat@.service', 'SESSION')
-        said = subprocess.run(self.traced(words), input=FIRST_SESSION, stdout=subprocess.PIPE, timeout=SECONDS, check=False)
+        said = subprocess.run(self.traced(words), input=FIRST_SESSION, stdout=subprocess.PIPE, timeout=FOR_A_REPLY, check=False)
         self.assertTrue(said.stdout.endswith(LAST_REPLIES))
         self.assertEqual(self.calls('spmat@.service'), set())
 
@@ -105,13 +107,13 @@ class Calls(Room):
             words[words.index(option) + 1] = value
         child = self.start('serve', self.traced(words), lambda: 'listening' in self.log('serve'))
         for _ in range(2):
-            self.assertTrue(converse(socket.create_connection(('127.0.0.1', port), SECONDS), FIRST_SESSION).endswith(LAST_REPLIES))
-        with spmat.Session.connect(port=port, timeout=SECONDS) as s:
+            self.assertTrue(converse(socket.create_connection(('127.0.0.1', port), FOR_A_REPLY), FIRST_SESSION).endswith(LAST_REPLIES))
+        with spmat.Session.connect(port=port, timeout=FOR_A_REPLY) as s:
             A = s.full(2000, 2)
             self.assertEqual(A.apply('ainv').reduce_scalar(), -4000)
-            silent = socket.create_connection(('127.0.0.1', port), SECONDS)
+            silent = socket.create_connection(('127.0.0.1', port), FOR_A_REPLY)
         with silent:
-            self.assertEqual(child.wait(SECONDS), 0)
+            self.assertEqual(child.wait(FOR_A_REPLY), 0)
         self.assertEqual(self.calls('spmat.service'), set())
 
 
@@ -126,7 +128,7 @@ class Sockets(Room):
                    + words_of('spmat@.service', 'SESSION'), lambda: 'Listening on' in self.log('socket'))
 
     def test_sessions_have_budgets_of_their_own(self) -> None:
-        with spmat.Session.connect(self.path, timeout=SECONDS) as s, spmat.Session.connect(self.path, timeout=SECONDS) as t:
+        with spmat.Session.connect(self.path, timeout=FOR_A_REPLY) as s, spmat.Session.connect(self.path, timeout=FOR_A_REPLY) as t:
             self.assertEqual(s.from_triples([(0, 0, 41)]).apply('plus', right=1).to_list(), [42])
             self.assertEqual((s.budget().spent, t.budget().spent), (4, 0))
 
@@ -136,8 +138,8 @@ class Sockets(Room):
         self.assertTrue(converse(connection, FIRST_SESSION).endswith(LAST_REPLIES))
 
     def test_a_session_that_is_killed_ends_no_other(self) -> None:
-        with spmat.Session.connect(self.path, timeout=SECONDS) as s:
-            t = spmat.Session.connect(self.path, timeout=SECONDS)
+        with spmat.Session.connect(self.path, timeout=FOR_A_REPLY) as s:
+            t = spmat.Session.connect(self.path, timeout=FOR_A_REPLY)
             os.kill(self.newest_session(), signal.SIGKILL)
             with self.assertRaises(spmat.Closed):
                 t.budget()

@@ -8,10 +8,10 @@ from concurrent.futures import ThreadPoolExecutor
 from typing import List, Tuple
 
 from tests.lib.commands import run_words
+from tests.lib.patience import FOR_A_COMMAND
 from tests.lib.runs import Wrong, expect
 from tests.program.instruction_sessions import QUIT, SESSIONS
 
-SECONDS = 600
 CALLGRIND = ['valgrind', '--tool=callgrind', '--callgrind-out-file=' + os.devnull]
 
 
@@ -20,7 +20,7 @@ def instructions_of(program: str, session: bytes) -> int:
         given.write(session + QUIT)
         given.seek(0)
         done = subprocess.run(CALLGRIND + [program] + run_words(), stdin=given, stdout=subprocess.PIPE, stderr=subprocess.PIPE,
-                              timeout=SECONDS)
+                              timeout=FOR_A_COMMAND)
     expect('status', 0, done.returncode)
     expect('refusals', [], re.findall(rb'^no .*', done.stdout, re.M))
     return int(re.search(rb'Collected : (\d+)', done.stderr).group(1))

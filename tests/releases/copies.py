@@ -8,8 +8,11 @@ import tempfile
 import unittest
 from typing import Any, Dict, Optional
 
-TOP = os.path.dirname(os.path.dirname(os.path.dirname(os.path.abspath(__file__))))
-PROGRAM = os.path.join('crates', 'spmat', 'out', 'spmat')
+from tests.lib import paths
+from tests.lib.paths import TOP
+from tests.lib.patience import FOR_A_COMMAND
+
+PROGRAM = os.path.relpath(paths.PROGRAM, TOP)
 WHO = {'GIT_%s_%s' % (role, what): value for role in ('AUTHOR', 'COMMITTER')
        for what, value in (('NAME', 'nobody'), ('EMAIL', 'nobody@localhost'), ('DATE', '2026-01-02T03:04:05Z'))}
 # A program that says its version, where the built one isn't wanted.
@@ -17,7 +20,6 @@ TELLS = '#!/bin/sh\necho "spmat %s"\n'
 # What a release doesn't look at, and what it does look at in there.
 LEFT_OUT = ('bench/', 'crates/', 'reference/', 'tests/')
 LOOKED_AT = ('crates/command_line/src/version.rt', 'crates/spmat/stdin', 'crates/spmat/stdout')
-SECONDS = 600                                      # of whatever is run
 RT = '#!/bin/sh\necho "%s"\n'
 
 
@@ -78,13 +80,13 @@ class Copy:
 
     def release(self, *words: str) -> 'subprocess.CompletedProcess[str]':
         return subprocess.run([self.path('tools/release')] + list(words), cwd=self.top, env=self.environment, stdout=subprocess.PIPE,
-                              stderr=subprocess.STDOUT, text=True, check=False, timeout=SECONDS)
+                              stderr=subprocess.STDOUT, text=True, check=False, timeout=FOR_A_COMMAND)
 
     def pass_gate(self, amid: str = '', steps: str = 'gate.STEPS') -> None:
         """A run of the gate in which each step does nothing; `amid` is a command of the shell that runs before the note."""
         text = ('from tools.releasing import gate\nrun = gate.Run()\nfor name in %s: run.step(name, ["true"])\n'
                 'import subprocess\nsubprocess.run(%r, shell=True, check=True)\nrun.note()' % (steps, amid or 'true'))
-        subprocess.run([sys.executable, '-c', text], cwd=self.top, env=self.environment, stdout=subprocess.DEVNULL, check=True, timeout=SECONDS)
+        subprocess.run([sys.executable, '-c', text], cwd=self.top, env=self.environment, stdout=subprocess.DEVNULL, check=True, timeout=FOR_A_COMMAND)
 
 
 def needs_git(of: Any) -> Any:

@@ -8,7 +8,7 @@ import unittest
 from typing import Any, Tuple
 from unittest import mock
 
-from tests.releases.copies import TOP
+from tests.lib.paths import TOP
 from tools import packages
 from tools.releasing import gate
 

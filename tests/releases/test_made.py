@@ -14,7 +14,9 @@ import unittest
 import zipfile
 from typing import Dict, List
 
-from tests.releases.copies import PROGRAM, SECONDS, TOP, Copy, needs_git
+from tests.lib.paths import TOP
+from tests.lib.patience import FOR_A_COMMAND
+from tests.releases.copies import PROGRAM, Copy, needs_git
 from tools.releasing import look
 
 WHOLE = False                                      # the Debian packages too, and every Python of this machine
@@ -187,7 +189,7 @@ class Made(unittest.TestCase):
     def ran(self, room: str, words: List[str], given: str = '') -> str:
         """What a command prints in an environment with nothing in it; it says nothing on standard error."""
         told = subprocess.run(words, cwd=room, env={'PATH': '/usr/bin:/bin', 'HOME': room}, input=given, stdout=subprocess.PIPE,
-                              stderr=subprocess.PIPE, text=True, timeout=SECONDS, check=False)
+                              stderr=subprocess.PIPE, text=True, timeout=FOR_A_COMMAND, check=False)
         self.assertEqual((told.returncode, told.stderr), (0, ''), words)
         return told.stdout
 

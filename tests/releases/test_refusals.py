@@ -4,7 +4,8 @@ import os
 import re
 import tempfile
 
-from tests.releases.copies import PROGRAM, TELLS, TOP, Copy, InCopy, needs_git
+from tests.lib.paths import TOP
+from tests.releases.copies import PROGRAM, TELLS, Copy, InCopy, needs_git
 
 
 def documented() -> str:

@@ -1,14 +1,13 @@
 """The page itself: each public name of the client under its subject."""
 import inspect
-import os
 import re
 import sys
 from typing import Any, Callable, Dict, Iterator, List, Sequence
 
+from tools.paths import CLIENT
 from tools.reference import docstrings, subjects
 
-TOP = os.path.dirname(os.path.dirname(os.path.dirname(os.path.abspath(__file__))))
-sys.path.insert(0, os.path.join(TOP, 'clients', 'python'))
+sys.path.insert(0, CLIENT)
 
 import spmat                                       # noqa: E402 (found by the line above)
 from spmat import algorithms, blocks, draw, errors  # noqa: E402

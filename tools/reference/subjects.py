@@ -36,7 +36,7 @@ OPERATORS = (
 ALGORITHM_MODULES = {
     'Degrees, triangles, undirected graphs': ('protocols', 'utils', 'triangle_counts'),
     'Searches and shortest paths': ('bfs', 'single_source_paths', 'shortest_path_trees', 'all_pairs_lengths', 'multi_source_bfs', 'distance_measures'),
-    'Components, orders and trees': ('components', 'strong_components', 'bipartite', 'topological_order', 'spanning_forest'),
+    'Components, orders and trees': ('components', 'strong_components', 'bipartite', 'independent_set', 'topological_order', 'spanning_forest'),
     'Centrality': ('page_rank', 'betweenness_centrality', 'centrality'),
     'Communities and dense parts': ('label_propagation_communities', 'louvain_communities', 'core_decomposition', 'truss'),
     'Similarity': ('neighbour_similarity',),

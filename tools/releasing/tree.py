@@ -7,7 +7,8 @@ import subprocess
 import sys
 from typing import List, NamedTuple, Optional
 
-TOP = os.path.dirname(os.path.dirname(os.path.dirname(os.path.abspath(__file__))))
+from tools.paths import TOP
+
 CLIENT = 'clients/python/'
 # What of it isn't installed: tests, and what makes a checkout look installed.
 LEFT_OUT = tuple(CLIENT + folder for folder in ('tests/', 'benchmarks/', 'spmat.dist-info/'))

@@ -17,7 +17,8 @@ if TYPE_CHECKING:
     from . import algorithms, draw
     from ._client.pending_jobs import Budget, JobResult
     from .errors import (BudgetExceeded, Busy, Closed, CompileError, DimensionMismatch, DomainMismatch, NoThread, NotMade,
-                         NotSettled, OperatorRefused, OutOfMemory, ReadError, Refused, SpmatError, TextRefused, TooLarge)
+                         NotSettled, OperatorRefused, OutOfMemory, ReadError, Refused, ResultLost, SpmatError, TextRefused,
+                         ThreadUnavailable, TooLarge)
     from .loops import Loop, empty, loop, steady
     from .loops.fixpoint import fixpoint
     from .mask import Mask
@@ -39,16 +40,16 @@ def _version() -> str:
 __version__ = _version()
 __all__ = ['Budget', 'BudgetExceeded', 'Busy', 'Closed', 'CompileError', 'DimensionMismatch', 'DomainMismatch', 'JobResult', 'Loop',
            'Mask', 'Matrix', 'NoThread', 'NotMade', 'NotSettled', 'Operator', 'OperatorRefused', 'OutOfMemory', 'ReadError',
-           'Refused', 'Semiring', 'Session', 'SpmatError', 'TextRefused', 'TooLarge', 'algorithms', 'asm', 'binary', 'bipartite',
-           'c', 'cdiv', 'cmod', 'code', 'code_of', 'draw', 'empty', 'explain', 'fixpoint', 'indexunary', 'loop', 'price', 'rsh',
-           'select', 'semiring', 'steady', 'udiv', 'ult', 'umod', 'unary', 'where']
+           'Refused', 'ResultLost', 'Semiring', 'Session', 'SpmatError', 'TextRefused', 'ThreadUnavailable', 'TooLarge', 'algorithms',
+           'asm', 'binary', 'bipartite', 'c', 'cdiv', 'cmod', 'code', 'code_of', 'draw', 'empty', 'explain', 'fixpoint', 'indexunary',
+           'loop', 'price', 'rsh', 'select', 'semiring', 'steady', 'udiv', 'ult', 'umod', 'unary', 'where']
 
 # Each name is imported when it is first asked for: networkx imports this package to ask for its backend's names, and a program
 # that makes a session doesn't wait for pictures.
 _PLACES: Dict[str, str] = {name: module for module, names in {
     'operators.clang': 'c',
     'errors': 'BudgetExceeded Busy Closed CompileError DimensionMismatch DomainMismatch NoThread NotMade NotSettled OperatorRefused '
-              'OutOfMemory ReadError Refused SpmatError TextRefused TooLarge',
+              'OutOfMemory ReadError Refused ResultLost SpmatError TextRefused ThreadUnavailable TooLarge',
     '_client.pending_jobs': 'Budget JobResult',
     'loops': 'Loop empty loop steady',
     'mask': 'Mask',

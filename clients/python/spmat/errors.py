@@ -3,7 +3,7 @@
     SpmatError
         Closed               the session has ended; open another one
         ReadError            a file, or a line of it, isn't what was to be read; a ValueError
-        NotMade              this matrix was the result of a run that was refused; its cause says why
+        NotMade              this matrix was the result of a run that was refused; its cause says why. Also called ResultLost
         Refused              the server answered `no ..`, or would have
             OperatorRefused      mend the operator (rules A1 to A6, V1 to V16, S9)
             TextRefused          mend the matrix text (M1 to M12)
@@ -12,7 +12,7 @@
             DomainMismatch       the operator is of another kind than expected (J4)
             BudgetExceeded       the job needs more steps than are left (S8)
             OutOfMemory          the server has too little memory
-            NoThread             the server could start too few threads; fewer workers may do
+            NoThread             the server could start too few threads; fewer workers may do. Also called ThreadUnavailable
             Busy                 the server has as many sessions as it serves; try later
 
 Each refusal has its rule, the place (a line or a slot), the line that stands there, and the rule's sentence. The sentences stand
@@ -123,7 +123,11 @@ class ReadError(SpmatError, ValueError):
 
 
 class NotMade(SpmatError):
-    """This matrix is the result of a job whose run was refused, so it never came to be. The refusal is the cause."""
+    """This matrix is the result of a job whose run was refused, so it never came to be. The refusal is the cause. `ResultLost` is the
+    same class."""
+
+
+ResultLost = NotMade
 
 
 class CompileError(SpmatError):
@@ -231,7 +235,10 @@ class OutOfMemory(_Spent):
 
 
 class NoThread(_Spent):
-    """A run could not start a thread for a worker."""
+    """A run could not start a thread for a worker. `ThreadUnavailable` is the same class."""
+
+
+ThreadUnavailable = NoThread
 
 
 class Busy(Refused):

@@ -6,7 +6,7 @@ from __future__ import annotations
 import weakref
 from typing import TYPE_CHECKING, Any, Dict, NamedTuple, Optional, Sequence, Tuple, Union
 
-from . import job_limits, metadata
+from . import metadata, oversized_jobs
 from .display import html
 from .errors import TooLarge, refusal
 from .indexing import Signs, picked
@@ -160,7 +160,7 @@ class Matrix(Signs):
         def job(rows: 'Matrix') -> 'Matrix':
             return self._queued(_Job('product', ops, [rows, other], (self.nrows, other.ncols), told), mask, name)
         if parts:
-            return job_limits.in_parts(self, job)
+            return oversized_jobs.in_parts(self, job)
         return self._job(_Job('product', ops, [self, other], (self.nrows, other.ncols), told), mask, name)
 
     def mxv(self, vector: 'Matrix', op: Ring = 'plus_times', *, mask: MaskLike = None, name: Optional[str] = None) -> 'Matrix':
@@ -188,7 +188,7 @@ class Matrix(Signs):
         except TooLarge as fault:
             where = as_mask(mask)
             cut = where.matrix if where is not None and not where.complement else None
-            raise job_limits.explained(fault, job.form, job.ops, job.operands, cut) from None
+            raise oversized_jobs.explained(fault, job.form, job.ops, job.operands, cut) from None
 
     def _queued(self, job: '_Job', mask: MaskLike, name: Optional[str]) -> 'Matrix':
         where = as_mask(mask)

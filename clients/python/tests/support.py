@@ -13,6 +13,7 @@ import unittest
 import spmat
 
 TOP = os.path.normpath(os.path.join(os.path.dirname(os.path.abspath(__file__)), '..', '..', '..'))
+CLIENT = os.path.dirname(os.path.dirname(os.path.abspath(spmat.__file__)))          # the folder that spmat is imported from
 BANNER = '%%MatrixMarket matrix coordinate integer general\n'
 
 

@@ -107,9 +107,8 @@ class Page(unittest.TestCase):
             path = os.path.join(folder, 'example.py')
             with open(path, 'w', encoding='utf-8') as file:
                 file.write(lines)
-            client = os.path.dirname(os.path.dirname(os.path.abspath(spmat.__file__)))
             printed = subprocess.run([sys.executable, path], stdout=subprocess.PIPE, stderr=subprocess.DEVNULL, check=True, timeout=SECONDS,
-                                     env=dict(os.environ, PYTHONPATH=client)).stdout.decode()
+                                     env=dict(os.environ, PYTHONPATH=support.CLIENT)).stdout.decode()
         self.assertEqual(printed, said)
 
 

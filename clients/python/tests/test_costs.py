@@ -1,5 +1,6 @@
 """What the algorithms say that they cost in runs, that they tell how far they are, and products that are too large for one job."""
 import collections
+import functools
 import os
 import random
 import sys
@@ -10,7 +11,10 @@ import support
 import spmat
 from spmat import algorithms
 from spmat.algorithms import cached_properties
-from spmat.algorithms.utils import column, loops, nothing, product
+from spmat.algorithms.registry import ALGORITHMS, Size
+from spmat.algorithms.utils import column, loops, nothing, product, settle
+
+WITHOUT_CYCLES = ('topological_levels', 'longest_paths')       # what refuses a graph with a cycle
 
 
 class Costs(unittest.TestCase):
@@ -30,17 +34,41 @@ class Costs(unittest.TestCase):
             result.wait()
         return self.session.runs - before
 
-    def test_counts(self):
-        """What the docstrings say in runs, and the checks, which are made once."""
-        for function, runs in ((algorithms.degrees, 2), (algorithms.triangle_count, 4), (algorithms.triangles, 3),
-                               (algorithms.clustering, 4), (algorithms.undirected, 3)):
-            named = {'check': False} if 'check=False' in function.__doc__ or 'as `triangles` does' in function.__doc__ else {}
-            self.assertLessEqual(self.runs(function, self.G, **named), runs, function)
-            self.assertIn('Runs: %d' % runs, function.__doc__)
-            if named:
-                G = self.graph.matrix(self.session)
-                self.assertLessEqual(self.runs(function, G), runs + 4)
-                self.assertLessEqual(self.runs(function, G), runs)
+    def bounded(self, graph, kind, checked=False):
+        """The algorithms that say the most that they take of `runs` or `steps`, each with a call of it on a graph that it is for, which may
+        have been checked already."""
+        lower = graphs.directed(graph.name, graph.count, {(i, j) for i, j in graph.edges if i < j})
+        for name, one in sorted(ALGORITHMS.items()):
+            if getattr(one, kind):
+                own = lower if name in WITHOUT_CYCLES else graph
+                G = own.matrix(self.session)
+                if checked:
+                    cached_properties.check_undirected(G, True)
+                    cached_properties.extremes(G)
+                given = {'source': 0, 'k': 3, 'GT': G, 'WT': G}
+                named = {what: given[what] for what in one.parameters if what in given and own is graph}
+                told = []
+                if 'progress' in one.parameters:
+                    named['progress'] = lambda word, number, of, told=told: told.append(number)
+                yield one, own, told, functools.partial(one.function, G, **named)
+
+    def size(self, graph, told):
+        """What a bound is reckoned from."""
+        return Size(graph.count, len(graph.edges), sum(graphs.triangles(graph.near())) // 3, len(told))
+
+    def test_runs(self):
+        """Each algorithm takes no more runs than it says, and up to 4 for checks, which are made once. A number that doesn't depend on the
+        graph stands in the docstring."""
+        seen = set()
+        for one, graph, told, call in self.bounded(self.graph, 'runs'):
+            for checks in (4, 0):
+                told.clear()
+                took = self.runs(call)
+                self.assertLessEqual(took, one.runs(self.size(graph, told)) + checks, one.function.__name__)
+            if one.runs(Size(1, 1, 1, 1)) == one.runs(Size(9, 99, 9, 9)):
+                self.assertIn('Runs: %d' % one.runs(Size(1, 1, 1, 1)), one.function.__doc__)
+            seen.add(one.function.__name__)
+        self.assertLessEqual({'degrees', 'bfs_levels', 'k_truss', 'longest_paths'}, seen)
 
     def counted(self, function, *more, **named):
         """The words and numbers that the progress function is told, and the runs."""
@@ -61,35 +89,16 @@ class Costs(unittest.TestCase):
     def test_steps(self):
         """What the functions say that they take at most, on each graph; no bound is twenty times too high on the largest."""
         for graph in graphs.UNDIRECTED[2:]:
-            G, near = graph.matrix(self.session), graph.near()
-            n, m, t = graph.count, len(graph.edges), sum(graphs.triangles(near)) // 3
-            levels = max(graphs.levels(near, 0).values()) + 1
-            rounds = {}
-            told = lambda name: lambda word, number, of: rounds.__setitem__(name, number)
-            self.assertLessEqual(self.spent(algorithms.cached_properties.check_undirected, G, True), 18 * m + 5 * n)
-            self.assertEqual(self.spent(algorithms.cached_properties.check_undirected, G, True), 0)
-            self.assertLessEqual(self.spent(algorithms.cached_properties.extremes, G), 8 * m + 4 * n)
-            for function, more, bound in (
-                    (algorithms.degrees, (), lambda k: 5 * m),
-                    (algorithms.triangle_count, (), lambda k: 9 * m + 5 * n + 5 * t),
-                    (algorithms.triangles, (), lambda k: 30 * t + 3 * m + 4 * n),
-                    (algorithms.clustering, (), lambda k: 30 * t + 8 * m + 7 * n),
-                    (algorithms.undirected, (G,), lambda k: 16 * m),
-                    (algorithms.bfs_levels, (0, G), lambda k: 4 * m + 4 * n * levels),
-                    (algorithms.bfs_parents, (0, G), lambda k: 6 * m + 7 * n * levels),
-                    (algorithms.connected_components, (G,), lambda k: 10 * m + 2 * n + 20 * m * k),
-                    (algorithms.sssp, (0, G), lambda k: (7 * m + 20 * n) * k),
-                    (algorithms.k_truss, (3,), lambda k: 30 * t + (30 * t + 10 * m) * k),
-                    (algorithms.k_core, (2,), lambda k: 10 * m + 4 * n * k),
-                    (algorithms.core_numbers, (), lambda k: 10 * m + 4 * n * k),
-                    (algorithms.maximal_independent_set, (), lambda k: (10 * m + 16 * n) * k + 5 * m + 2 * n),
-                    (algorithms.pagerank, (G,), lambda k: (5 * m + 15 * n) * k + 5 * m + 10 * n * k // 2)):
-                named = {'progress': told(function)} if 'progress(' in function.__doc__ else {}
-                took = self.spent(function, G, *more, **named)
-                most = bound(rounds.get(function, 0))
-                self.assertLessEqual(took, most, (graph.name, function.__name__))
+            G, (n, m) = graph.matrix(self.session), (graph.count, len(graph.edges))
+            self.assertLessEqual(self.spent(cached_properties.check_undirected, G, True), 18 * m + 5 * n)
+            self.assertEqual(self.spent(cached_properties.check_undirected, G, True), 0)
+            self.assertLessEqual(self.spent(cached_properties.extremes, G), 8 * m + 4 * n)
+            for one, own, told, call in self.bounded(graph, 'steps', checked=True):
+                took = self.spent(call)
+                most = one.steps(self.size(own, told))
+                self.assertLessEqual(took, most, (graph.name, one.function.__name__))
                 if graph.name == 'skewed':
-                    self.assertGreater(20 * took, most, function.__name__)
+                    self.assertGreater(20 * took, most, one.function.__name__)
 
     @support.needs('numpy')
     def test_no_more_steps_than_by_columns(self):
@@ -179,12 +188,12 @@ class Costs(unittest.TestCase):
 
     def test_orders(self):
         """6 a level, and 5; 8 a level, and 9, where lengths are kept; of a loop that makes 12 rounds at least."""
-        lower = graphs.directed('lower', 40, {(i, j) for i, j in graphs.DIRECTED[2].edges if i < j}).matrix(self.session)
-        for function, many, more in ((algorithms.topological_levels, 6, 5), (algorithms.longest_paths, 8, 9)):
-            told, runs = self.counted(function, lower)
+        lower = graphs.directed('lower', 40, {(i, j) for i, j in graphs.DIRECTED[2].edges if i < j})
+        for function, words in ((algorithms.topological_levels, '6 a level, and 5'), (algorithms.longest_paths, '8 a level, and 9')):
+            told, runs = self.counted(function, lower.matrix(self.session))
             self.assertGreater(len(told), 3)
-            self.assertLessEqual(runs, many * min(4 * len(told) + 12, len(told) + 128) + more)
-            self.assertIn('Runs: %d a level, and %d' % (many, more), function.__doc__)
+            self.assertLessEqual(runs, ALGORITHMS[function.__name__].runs(self.size(lower, told)))
+            self.assertIn('Runs: ' + words, function.__doc__)
 
     def test_searches(self):
         """4 a level of a batch, 5 for the greatest distance, and 3 a batch."""
@@ -192,11 +201,6 @@ class Costs(unittest.TestCase):
         for function, many in ((algorithms.distance_counts, 4), (algorithms.eccentricity, 5)):
             told, runs = self.counted(function, self.G, self.G, check=False)
             self.assertEqual((told, runs), ([('batch', 1, 1)], many * levels + 3))
-
-    def test_neighbours(self):
-        for function, runs in ((algorithms.common_neighbours, 3), (algorithms.jaccard, 7)):
-            self.assertLessEqual(self.runs(function, self.G, self.G, check=False), runs)
-            self.assertIn('Runs: %d' % runs, function.__doc__)
 
     def test_shortest_paths(self):
         """1 a round, and 4; 4 more a round with a large front, 11 where a band ends with it."""
@@ -243,12 +247,26 @@ class Costs(unittest.TestCase):
             self.assertLessEqual(runs, 2 * len(told) + 3)
 
     def test_rounds(self):
-        for function, more, each in ((algorithms.k_truss, (4,), 8), (algorithms.k_core, (4,), 3), (algorithms.core_numbers, (), 3)):
+        """Of some rounds, and without the checks."""
+        for function, more in ((algorithms.k_truss, (4,)), (algorithms.k_core, (4,)), (algorithms.core_numbers, ()),
+                               (algorithms.maximal_independent_set, (1,))):
             told, runs = self.counted(function, self.G, *more, check=False)
             self.assertGreater(len(told), 1)
-            self.assertLessEqual(runs, each * len(told) + 3)
-        told, runs = self.counted(algorithms.maximal_independent_set, self.G, 1, check=False)
-        self.assertLessEqual(runs, 7 * len(told) + 3)
+            self.assertLessEqual(runs, ALGORITHMS[function.__name__].runs(self.size(self.graph, told)), function.__name__)
+
+    def test_settle(self):
+        """1 a round, of which two are in vain; no more than are allowed are tried."""
+        path = graphs.directed('path', 9, [(i, i + 1) for i in range(8)])
+        near = path.matrix(self.session).T.ewise_add(self.session.identity(9, 0), 'min')
+        start = self.session.from_coo([0], [0], 0, 9, 1)
+        start.wait(), near.wait()
+        steps = []
+        runs = self.runs(settle, lambda far: steps.append(far) or near.mxv(far, 'min_plus'), start)
+        self.assertEqual((len(steps), runs), (11, 11))
+        far = settle(lambda far: near.mxv(far, 'min_plus'), start, most=8)
+        self.assertEqual(far.to_list(), [sum(path.edges[i, i + 1] for i in range(end)) for end in range(9)])
+        with self.assertRaisesRegex(spmat.NotSettled, 'after 10 rounds'):
+            settle(lambda far: near.mxv(far, 'min_plus'), start, most=7)
 
     def test_pagerank(self):
         """No more rounds than are known beforehand, and fewer where the ranks have settled."""

@@ -9,11 +9,11 @@ import threading
 import time
 import unittest
 
-import support  # noqa: F401 (finds the program)
+import support
 import spmat
 from spmat._client.commands import Command
 
-ENVIRONMENT = dict(os.environ, PYTHONPATH=os.path.dirname(os.path.dirname(os.path.abspath(spmat.__file__))))
+ENVIRONMENT = dict(os.environ, PYTHONPATH=support.CLIENT)
 
 
 def alive(process):

@@ -50,6 +50,16 @@ class Sentences(unittest.TestCase):
             'J5': spmat.DimensionMismatch, 'J9': spmat.DimensionMismatch, 'S8': spmat.BudgetExceeded, 'memory': spmat.OutOfMemory,
             'memory SPENT': spmat.OutOfMemory, 'thread SPENT': spmat.NoThread, 'busy': spmat.Busy})
 
+    def test_other_names(self):
+        """Some have two names, and are caught by either."""
+        for name, other in (('NotMade', 'ResultLost'), ('NoThread', 'ThreadUnavailable')):
+            self.assertIs(getattr(spmat, other), getattr(spmat, name))
+            self.assertIs(getattr(errors, other), getattr(errors, name))
+            self.assertLessEqual({name, other}, set(spmat.__all__))
+            self.assertIn(other, errors.__doc__)
+        with self.assertRaises(spmat.ThreadUnavailable):
+            raise errors.refusal('thread', (3,))
+
 
 class Words(unittest.TestCase):
     def refused(self, kind, rule, call):

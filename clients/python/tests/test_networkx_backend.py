@@ -23,7 +23,6 @@ try:
 except ImportError:
     FOUND = False
 
-CLIENT = os.path.dirname(os.path.dirname(os.path.abspath(spmat.__file__)))
 
 
 def settings(**values):
@@ -389,7 +388,7 @@ class Sessions(Case):
 
 class Imports(Case):
     def run_python(self, code):
-        env = {**os.environ, 'PYTHONPATH': os.pathsep.join([CLIENT, *sys.path])}
+        env = {**os.environ, 'PYTHONPATH': os.pathsep.join([support.CLIENT, *sys.path])}
         return subprocess.run([sys.executable, '-c', code], env=env, stdout=subprocess.PIPE, stderr=subprocess.PIPE, text=True)
 
     def test_nothing_before_it_is_asked(self):
@@ -405,13 +404,13 @@ class Imports(Case):
     def test_entry_points(self):
         """What a PYTHONPATH finds is what an installation has."""
         wanted = {}
-        with open(os.path.join(CLIENT, 'spmat.dist-info', 'entry_points.txt')) as file:
+        with open(os.path.join(support.CLIENT, 'spmat.dist-info', 'entry_points.txt')) as file:
             for line in file:
                 if line.startswith('['):
                     group = line.strip()[1:-1]
                 elif '=' in line:
                     wanted[group] = tuple(part.strip() for part in line.split('='))
-        with open(os.path.join(CLIENT, 'pyproject.toml')) as file:
+        with open(os.path.join(support.CLIENT, 'pyproject.toml')) as file:
             text = file.read()
         for group, (name, place) in wanted.items():
             self.assertIn('[project.entry-points."%s"]\n%s = "%s"\n' % (group, name, place), text)

@@ -166,9 +166,8 @@ class Errors(unittest.TestCase):
 
     def test_at_the_prompt(self):
         """Without source the message names what is known."""
-        folder = os.path.dirname(os.path.dirname(os.path.abspath(spmat.__file__)))
         done = subprocess.run([sys.executable, '-c', 'import spmat\nspmat.unary(lambda x: x / 2)'], stderr=subprocess.PIPE, check=False,
-                              universal_newlines=True, env=dict(os.environ, PYTHONPATH=folder, PYTHONDONTWRITEBYTECODE='1'))
+                              universal_newlines=True, env=dict(os.environ, PYTHONPATH=support.CLIENT, PYTHONDONTWRITEBYTECODE='1'))
         self.assertRegex(done.stderr.strip().split('\n')[-1], r'CompileError: `<lambda>` \(<string>:2.*\): x / y is a float in Python')
 
 

@@ -314,9 +314,8 @@ class Places(unittest.TestCase):
     """By `python -c`, at the prompt, in each Python that PYTHONS names, and with any order of hashes: the same texts."""
 
     def run_by(self, words, given=None, **more):
-        folder = os.path.dirname(os.path.dirname(os.path.abspath(spmat.__file__)))
         done = subprocess.run(words, input=given, stdout=subprocess.PIPE, stderr=subprocess.PIPE, universal_newlines=True, check=False,
-                              env=dict(os.environ, PYTHONDONTWRITEBYTECODE='1', PYTHONPATH=folder, **more))
+                              env=dict(os.environ, PYTHONDONTWRITEBYTECODE='1', PYTHONPATH=support.CLIENT, **more))
         self.assertEqual(done.returncode, 0, done.stderr)
         return done.stdout
 

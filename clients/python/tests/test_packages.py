@@ -5,18 +5,17 @@ import unittest
 
 import support
 
-CLIENT = os.path.join(support.TOP, 'clients', 'python')
 
 
 def folders():
     """The packages as they lie in folders, with dots."""
-    held = [folder for folder, _, files in os.walk(os.path.join(CLIENT, 'spmat')) if '__init__.py' in files]
-    return sorted(os.path.relpath(folder, CLIENT).replace(os.sep, '.') for folder in held)
+    held = [folder for folder, _, files in os.walk(os.path.join(support.CLIENT, 'spmat')) if '__init__.py' in files]
+    return sorted(os.path.relpath(folder, support.CLIENT).replace(os.sep, '.') for folder in held)
 
 
 def named():
     """The packages that pyproject.toml names."""
-    with open(os.path.join(CLIENT, 'pyproject.toml'), encoding='utf-8') as file:
+    with open(os.path.join(support.CLIENT, 'pyproject.toml'), encoding='utf-8') as file:
         return sorted(re.findall(r'"([^"]+)"', re.search(r'^packages = \[(.*?)\]', file.read(), re.M | re.S).group(1)))
 
 

@@ -39,6 +39,16 @@ class Order(unittest.TestCase):
         self.assertEqual(self.words(None, own, PATH=self.folder), [own])
         self.assertEqual(self.words(None, None, PATH=self.folder), [found])
 
+    def test_a_folder(self):
+        """A folder is no program, but one of the name of a program on the PATH stands in nobody's way."""
+        os.mkdir(os.path.join(self.folder, 'here'))
+        os.mkdir(os.path.join(self.folder, 'here', 'own'))
+        self.addCleanup(os.chdir, os.getcwd())
+        os.chdir(os.path.join(self.folder, 'here'))
+        with self.assertRaisesRegex(FileNotFoundError, 'expected a program, got the folder own'):
+            self.words('own')
+        self.assertEqual(self.words('own', PATH=self.folder), ['own'])
+
     def test_none(self):
         with self.assertRaises(FileNotFoundError) as said:
             self.words()

@@ -8,7 +8,6 @@ import support
 import spmat
 from spmat.metadata import COMMUTE
 
-TOP = support.TOP
 FOLDER = os.path.join(os.path.dirname(os.path.abspath(spmat.__file__)), 'operators')
 WORDS = 1 << 64
 READY = {'unary': spmat.unary, 'binary': spmat.binary, 'index': spmat.indexunary}
@@ -91,7 +90,7 @@ class ReadyOperators(unittest.TestCase):
         for kind, meanings in MEANINGS.items():
             self.assertEqual(names(kind), sorted(meanings))
             self.assertEqual(sorted(READY[kind]), sorted(meanings))
-        with open(os.path.join(TOP, 'docs', 'operators.md'), encoding='utf-8') as page:
+        with open(os.path.join(support.TOP, 'docs', 'operators.md'), encoding='utf-8') as page:
             self.assertIn('%d operators are [ready]' % sum(map(len, MEANINGS.values())), page.read())
 
     def test_unary(self):
@@ -138,7 +137,7 @@ class ReadyOperators(unittest.TestCase):
 
 def tables():
     """Kind, name, meaning and instructions of each row of the tables of docs/operators.md."""
-    with open(os.path.join(TOP, 'docs', 'operators.md'), encoding='utf-8') as file:
+    with open(os.path.join(support.TOP, 'docs', 'operators.md'), encoding='utf-8') as file:
         section = file.read().split('\n## Ready operators\n')[1].split('\n## ')[0]
     kind = None
     for line in section.split('\n'):
@@ -150,7 +149,7 @@ def tables():
             yield kind, row[1], row[2], int(row[3])
 
 
-@unittest.skipUnless(os.path.exists(os.path.join(TOP, 'docs', 'operators.md')), 'the package stands without the repository')
+@unittest.skipUnless(os.path.exists(os.path.join(support.TOP, 'docs', 'operators.md')), 'the package stands without the repository')
 class Table(unittest.TestCase):
     def test_table_is_that_of_the_files(self):
         rows = list(tables())

@@ -7,7 +7,7 @@ import unittest
 
 import support
 import spmat
-from spmat import blocks, job_limits
+from spmat import blocks, oversized_jobs
 from spmat.errors import refusal
 from spmat.operators import assembly, dataflow
 
@@ -174,7 +174,7 @@ class Limits(Case):
         self.assertIn('20,000,000 multiplications', str(said.exception))
         few = self.s.from_coo(range(5), [0] * 5, 1, 5000, 5000)
         self.assertEqual(self.ones.mxm(self.wide, mask=few.S).nvals, 5)
-        union = job_limits.explained(refusal('J7', command='union a b c'), 'union', [spmat.binary.plus], [self.ones, self.ones])
+        union = oversized_jobs.explained(refusal('J7', command='union a b c'), 'union', [spmat.binary.plus], [self.ones, self.ones])
         self.assertIn('10,000 entries of both together, and 16,777,216 is the most of a job: select() some rows', str(union))
 
     def test_a_price_too_high(self):

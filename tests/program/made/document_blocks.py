@@ -11,8 +11,9 @@ import subprocess
 import sys
 import tempfile
 from typing import List, NamedTuple, Optional
-from tests.lib.commands import TOP
-from tests.lib.runs import SECONDS, Wrong, difference
+from tests.lib.paths import TOP
+from tests.lib.patience import FOR_A_SESSION
+from tests.lib.runs import Wrong, difference
 
 PYTHON = ('import', 'from')
 SHELL = ('send()', 'export', 'python3', 'printf', 'PATH', 'cd', 'tools/', 'tests/', 'bench/', '{')
@@ -84,7 +85,7 @@ def check_page(page: str, program: str) -> None:
             if words is None:
                 continue
             done = subprocess.run(words, cwd=folder, env=environment, stdout=subprocess.PIPE, stderr=subprocess.PIPE,
-                                  timeout=SECONDS)
+                                  timeout=FOR_A_SESSION)
             last = done.stderr.decode('utf-8', 'replace').strip().split('\n')[-1]
             if bool(done.returncode) != (block.last is not None) or (block.last is not None and block.last.split() != last.split()):
                 raise Wrong('%s, line %d: status %d: %s' % (page, block.line, done.returncode, last))

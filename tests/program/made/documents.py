@@ -4,12 +4,14 @@ import os
 import re
 import subprocess
 import tempfile
-from tests.lib.commands import TOP, assembly_command, matrix_command, matrix_text, operator_command, run_words, show_reply
-from tests.lib.runs import SECONDS, Wrong, difference, run_session
+from tests.lib.commands import BANNER, assembly_command, matrix_command, matrix_text, operator_command, run_words, show_reply
+from tests.lib.paths import TOP
+from tests.lib.patience import FOR_A_SESSION
+from tests.lib.runs import Wrong, difference, run_session
 from tests.program.made.document_blocks import page_case
 
 PROTOCOL, BPF = 'protocol.md', 'bpf.md'
-BANNER = '%%MatrixMarket matrix coordinate integer general'
+FIRST_LINE = BANNER.decode().rstrip()
 
 
 def lines_of(page):
@@ -76,7 +78,7 @@ def protocol_operators(program):
 def run_shell(script, folder, program):
     os.symlink(program, os.path.join(folder, 'spmat'))
     path = {**os.environ, 'PATH': folder + os.pathsep + os.environ['PATH']}
-    return subprocess.run(['sh', '-c', script], cwd=folder, env=path, stdout=subprocess.PIPE, timeout=SECONDS).stdout
+    return subprocess.run(['sh', '-c', script], cwd=folder, env=path, stdout=subprocess.PIPE, timeout=FOR_A_SESSION).stdout
 
 
 def protocol_client(program):
@@ -111,7 +113,7 @@ def length_too_small(program):
 def byte_order_mark(program):
     """A byte-order mark is refused, and what the page says takes it away."""
     text = b'\xef\xbb\xbf' + matrix_text(1, 1, [(1, 1, 5)])
-    rest = subprocess.run(['sh', '-c', 'tail -c +4'], input=text, stdout=subprocess.PIPE, timeout=SECONDS).stdout
+    rest = subprocess.run(['sh', '-c', 'tail -c +4'], input=text, stdout=subprocess.PIPE, timeout=FOR_A_SESSION).stdout
     run_session(program, run_words(), matrix_command('A', text) + matrix_command('A', rest), b'no M1 1\nok matrix 1 1 1\n')
 
 
@@ -123,7 +125,7 @@ def slots_of_lines(program):
             file.write(text)
         counted = run_shell(code_block('slots()', BPF) + 'slots a.asm', folder, program)
     done = subprocess.run([program] + run_words(), input=assembly_command('a', text) + b'types a\n', stdout=subprocess.PIPE,
-                          timeout=SECONDS)
+                          timeout=FOR_A_SESSION)
     want, got = ([line.split()[0] for line in lines if line] for lines in (done.stdout.split(b'\n')[2:], counted.split(b'\n')))
     if want != got or len(got) != 4:
         raise Wrong('slots %r, counted %r' % (want, got))
@@ -134,8 +136,8 @@ def matrix_rules(program):
     for row in tables('Rule | Fault | Example | Reply', PROTOCOL)[0]:
         lines, reply = quoted(row['Example']), quoted(row['Reply'])[0]
         if lines and not lines[0].startswith('%%MatrixMarket'):
-            lines = [BANNER] + lines
-        text = text_of(lines) if lines else text_of([BANNER, '%' * 1025])
+            lines = [FIRST_LINE] + lines
+        text = text_of(lines) if lines else text_of([FIRST_LINE, '%' * 1025])
         expect_reply(program, matrix_command('A', text), reply)
 
 
@@ -156,7 +158,7 @@ def matrix_filters(program):
     """Each shell function for a file that is refused makes a text of it that is read."""
     for name, kind, lines, matrix in FILTERED:
         refused = text_of(['%%MatrixMarket matrix ' + kind] + lines)
-        done = subprocess.run(['sh', '-c', code_block('whole()') + name], input=refused, stdout=subprocess.PIPE, timeout=SECONDS)
+        done = subprocess.run(['sh', '-c', code_block('whole()') + name], input=refused, stdout=subprocess.PIPE, timeout=FOR_A_SESSION)
         reply = 'ok matrix %d %d %d\n' % (matrix[0], matrix[1], len(matrix[2]))
         run_session(program, run_words(), matrix_command('A', done.stdout) + b'show A\n',
                     reply.encode() + show_reply(matrix_text(*matrix)))

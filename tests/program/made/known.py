@@ -1,15 +1,15 @@
 """Jobs of each form with operators that the program recognises by their code, and with operators that are nearly such: another register, another
 order, another width, one more instruction, a jump over two. Values and steps are those of the plain server in Python (reference)."""
-import os
 import subprocess
 import sys
 from typing import Callable, Dict, Iterator
 
-from tests.lib.commands import TOP, assembly_command, matrix_command, matrix_text, run_words
-from tests.lib.runs import SECONDS, Wrong, run_session
+from tests.lib.commands import assembly_command, matrix_command, matrix_text, run_words
+from tests.lib.paths import PLAIN_SERVER
+from tests.lib.patience import FOR_A_SESSION
+from tests.lib.runs import Wrong, run_session
 from tests.program.made.sizes import many_entries
 
-REFERENCE = os.path.join(TOP, 'reference', '__main__.py')
 OPERATIONS = ('add', 'sub', 'mul', 'div', 'mod', 'sdiv', 'smod', 'or', 'and', 'xor', 'lsh', 'rsh', 'arsh', 'mov')
 # Operations with a number that are known, and numbers whose sign is extended, or whose width is at its end.
 CHANGES = ('add', 'sub', 'mul', 'and', 'or', 'xor')
@@ -153,7 +153,7 @@ def jobs_by_known_operators(program: str) -> None:
 
 def run_as_reference(program: str, given: bytes, ran: bytes, times: int) -> None:
     """The program replies to a session what the reference does, which ran so many times."""
-    done = subprocess.run([sys.executable, REFERENCE] + run_words(), input=given, stdout=subprocess.PIPE, check=True, timeout=SECONDS)
+    done = subprocess.run([sys.executable, PLAIN_SERVER] + run_words(), input=given, stdout=subprocess.PIPE, check=True, timeout=FOR_A_SESSION)
     if done.stdout.count(ran) != times:
         raise Wrong('the reference ran %d of %d operators' % (done.stdout.count(ran), times))
     run_session(program, run_words(), given, done.stdout)

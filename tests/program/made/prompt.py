@@ -6,7 +6,8 @@ import subprocess
 from typing import Callable, ContextManager, Dict
 
 from tests.lib.commands import EXIT, RESULT_IS_OPERAND, add, matrix_command, matrix_text, run_words
-from tests.lib.runs import CHECKED, expect, started
+from tests.lib.patience import CHECKED
+from tests.lib.runs import expect, started
 
 BUDGET = b'ok budget 4611686018427387904 0 0\n'
 SLOTS = 4096

@@ -6,8 +6,10 @@ import subprocess
 import time
 from typing import Callable, Dict, List
 
-from tests.lib.commands import TOP, matrix_command, matrix_text, run_words
-from tests.lib.runs import SECONDS, Wrong, expect, started
+from tests.lib.commands import matrix_command, matrix_text, run_words
+from tests.lib.paths import TOP
+from tests.lib.patience import FOR_A_SESSION
+from tests.lib.runs import Wrong, expect, started
 
 TIME_IS_OVER = '\nspmat: because the time that --idle gives is over\n'
 LITTLE_TIME = 0.3
@@ -18,14 +20,14 @@ def version_is_told(program: str) -> None:
     with open(os.path.join(TOP, 'VERSION')) as file:
         version = file.read().strip()
     for word in ('--version', '-V'):
-        done = subprocess.run([program, word], stdin=subprocess.DEVNULL, stdout=subprocess.PIPE, stderr=subprocess.PIPE, timeout=SECONDS)
+        done = subprocess.run([program, word], stdin=subprocess.DEVNULL, stdout=subprocess.PIPE, stderr=subprocess.PIPE, timeout=FOR_A_SESSION)
         expect(word, (0, 'spmat %s\n' % version, ''), (done.returncode, done.stdout.decode(), done.stderr.decode()))
 
 
 def version_is_not_written(program: str) -> None:
     """Where standard output takes nothing, the status is 1."""
     with open('/dev/full', 'wb') as full:
-        done = subprocess.run([program, '--version'], stdout=full, stderr=subprocess.PIPE, timeout=SECONDS)
+        done = subprocess.run([program, '--version'], stdout=full, stderr=subprocess.PIPE, timeout=FOR_A_SESSION)
     expect('status and error', (1, b'spmat: write failed\nspmat: because No space left on device (os error 28)\n'), (done.returncode, done.stderr))
 
 
@@ -35,7 +37,7 @@ def waiting(seconds: int) -> List[str]:
 
 def expect_idle_end(child: 'subprocess.Popen[bytes]', words: str, least: float, began: float) -> None:
     """The program ends by itself, no sooner than it may, and says why."""
-    expect('status', 1, child.wait(SECONDS))
+    expect('status', 1, child.wait(FOR_A_SESSION))
     expect('standard error', (words + TIME_IS_OVER).encode(), child.stderr.read())
     waited = time.monotonic() - began
     if waited < least:
@@ -74,9 +76,9 @@ def idle_spares_those_who_send(program: str) -> None:
             child.stdin.write(bytes([byte]))
             time.sleep(0.4)
         expect('reply', b'ok quit\n', child.stdout.read())
-        expect('status', 0, child.wait(SECONDS))
+        expect('status', 0, child.wait(FOR_A_SESSION))
     with open(os.path.join(TOP, 'VERSION'), 'rb') as file:
-        done = subprocess.run([program] + waiting(1), stdin=file, stdout=subprocess.PIPE, stderr=subprocess.PIPE, timeout=SECONDS)
+        done = subprocess.run([program] + waiting(1), stdin=file, stdout=subprocess.PIPE, stderr=subprocess.PIPE, timeout=FOR_A_SESSION)
     expect('a file', (0, b'no S1\n', b''), (done.returncode, done.stdout, done.stderr))
 
 
@@ -100,7 +102,7 @@ def idle_ends_whoever_takes_nothing(program: str) -> None:
                     time.sleep(LITTLE_TIME)
                 got += child.stdout.read()
                 expect('whether all replies came', True, got == want)
-                expect('status', 0, child.wait(SECONDS))
+                expect('status', 0, child.wait(FOR_A_SESSION))
             else:
                 expect_idle_end(child, 'spmat: write failed', 0.9, began)
 

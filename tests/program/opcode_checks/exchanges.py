@@ -5,8 +5,9 @@ import tempfile
 from typing import Iterator, List, NamedTuple, Tuple
 
 from tests.lib.commands import run_words
+from tests.lib.patience import FOR_A_SESSION
 from tests.lib.replies import Replies
-from tests.lib.runs import SECONDS, bounded
+from tests.lib.runs import bounded
 
 
 class Exchange(NamedTuple):
@@ -46,9 +47,9 @@ def answer_of(program: str, session: Session) -> Answer:
     """What a program makes of a session. One that doesn't end has no exit status, and so is wrong."""
     try:
         done = subprocess.run([program] + run_words(), input=session.data, stdout=subprocess.PIPE, stderr=subprocess.PIPE,
-                              timeout=SECONDS, preexec_fn=bounded, check=False)
+                              timeout=FOR_A_SESSION, preexec_fn=bounded, check=False)
     except subprocess.TimeoutExpired as late:
-        return Answer(late.stdout or b'', b'not ended after %d seconds' % SECONDS, -1)
+        return Answer(late.stdout or b'', b'not ended after %d seconds' % FOR_A_SESSION, -1)
     return Answer(done.stdout, done.stderr, done.returncode)
 
 

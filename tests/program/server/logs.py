@@ -13,8 +13,9 @@ from typing import Callable, Dict, List, NamedTuple, Optional
 
 from tests.lib.commands import assembly_command, matrix_command, matrix_text
 from tests.lib.limits import MOST_SESSIONS, MOST_STEPS
+from tests.lib.patience import CHECKED
 from tests.lib.ports import free_port
-from tests.lib.runs import CHECKED, Wrong, expect
+from tests.lib.runs import Wrong, expect
 from tests.program.server.hostile import LITTLE_ROOM, full_house, large_matrix
 from tests.program.server.server import BUSY, Client, Server, serve_words, until
 from tests.program.server.sessions import PRODUCT, UPLOADED, UPLOADS

@@ -7,9 +7,10 @@ from typing import Callable, Dict, List
 
 from tests.lib.commands import matrix_command, show_reply
 from tests.lib.limits import MOST_SESSIONS, MOST_STEPS
+from tests.lib.patience import FOR_A_REPLY
 from tests.lib.runs import Wrong, expect
 from tests.program.server.hostile import LITTLE_ROOM, large_matrix
-from tests.program.server.server import LOOPBACK, SECONDS, Server, free_port, serve_words, until
+from tests.program.server.server import LOOPBACK, Server, free_port, serve_words, until
 from tests.program.server.sessions import LONG_PRICE, LONG_SECONDS, PRODUCT, UPLOADS, long_uploads, queue_long_jobs, ran_long_jobs
 
 NETWORK_FAILED = b"spmat: network failed\nspmat: because listening on 127.0.0.1:%d failed: the address is in use\n"
@@ -48,7 +49,7 @@ def words_refused(program: str) -> None:
     """A number out of its range, an option that is missing, unknown or given twice: status 2 with a text, and no `listening`."""
     for words in REFUSED_WORDS:
         done = subprocess.run([program] + words, stdin=subprocess.DEVNULL, stdout=subprocess.PIPE, stderr=subprocess.PIPE,
-                              timeout=SECONDS)
+                              timeout=FOR_A_REPLY)
         expect('status of %r' % words, 2, done.returncode)
         expect('standard output of %r' % words, b'', done.stdout)
         if not done.stderr:
@@ -69,7 +70,7 @@ def port_in_use(program: str) -> None:
         taken.listen(1)
         port = taken.getsockname()[1]
         done = subprocess.run([program] + serve_words(port), stdin=subprocess.DEVNULL, stdout=subprocess.PIPE,
-                              stderr=subprocess.PIPE, timeout=SECONDS)
+                              stderr=subprocess.PIPE, timeout=FOR_A_REPLY)
     expect('status, output and error', (1, b'', NETWORK_FAILED % port), (done.returncode, done.stdout, done.stderr))
 
 
@@ -77,7 +78,7 @@ def listening_is_not_written(program: str) -> None:
     """Where the line `listening P` can't be written the program ends."""
     with open('/dev/full', 'wb') as full:
         done = subprocess.run([program] + serve_words(free_port()), stdin=subprocess.DEVNULL, stdout=full, stderr=subprocess.PIPE,
-                              timeout=SECONDS)
+                              timeout=FOR_A_REPLY)
     expect('status and error', (1, b'spmat: write failed\nspmat: because No space left on device (os error 28)\n'), (done.returncode, done.stderr))
 
 

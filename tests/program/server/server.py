@@ -10,13 +10,12 @@ import time
 from typing import Callable, Dict, List, Optional, TypeVar
 
 from tests.lib.limits import MOST_STEPS
+from tests.lib.patience import FOR_A_REPLY
 from tests.lib.ports import LOOPBACK, free_port
 from tests.lib.replies import Replies
 from tests.lib.runs import Wrong, expect
 
 BUSY = b'no busy\n'
-# how long a reply, an end, or what was taken and is given back may take on a busy machine
-SECONDS = 60.0
 PIECE = 1 << 16
 PORTS_TRIED = 5
 
@@ -34,7 +33,7 @@ def serve_words(port: int, steps: int = MOST_STEPS, workers: int = 1, sessions: 
     return words + (['--log'] if log else [])
 
 
-def until(what: str, holds: Callable[[], Held], seconds: float = SECONDS) -> Held:
+def until(what: str, holds: Callable[[], Held], seconds: float = FOR_A_REPLY) -> Held:
     """Waits until something holds, and answers it."""
     end = time.monotonic() + seconds
     while True:
@@ -64,7 +63,7 @@ class Server:
             if line:
                 break
             # someone else took the port in between
-            self.child.wait(SECONDS)
+            self.child.wait(FOR_A_REPLY)
         if line != b'listening %d\n' % self.port:
             self.close()
             raise Wrong('expected listening %d, got %.60r and %.60r' % (self.port, line, self.child.stderr.read()))
@@ -82,8 +81,8 @@ class Server:
     def line_of_output(self) -> bytes:
         line = b''
         while not line.endswith(b'\n'):
-            if not select.select([self.child.stdout], [], [], SECONDS)[0]:
-                raise Wrong('says nothing in %g seconds' % SECONDS)
+            if not select.select([self.child.stdout], [], [], FOR_A_REPLY)[0]:
+                raise Wrong('says nothing in %g seconds' % FOR_A_REPLY)
             byte = self.child.stdout.read(1)
             if not byte:
                 break
@@ -114,9 +113,9 @@ class Server:
     def expect_end(self, status: int, said: bytes = b'') -> None:
         """The server ends by itself, with this status and these words on standard error."""
         try:
-            expect('status of the server', status, self.child.wait(SECONDS))
+            expect('status of the server', status, self.child.wait(FOR_A_REPLY))
         except subprocess.TimeoutExpired:
-            raise Wrong('the server has not ended in %g seconds' % SECONDS) from None
+            raise Wrong('the server has not ended in %g seconds' % FOR_A_REPLY) from None
         expect('standard output behind listening', b'', self.child.stdout.read())
         expect('standard error', said, self.child.stderr.read())
 
@@ -174,7 +173,7 @@ class Client:
         self.socket = socket.socket()
         if room:
             self.socket.setsockopt(socket.SOL_SOCKET, socket.SO_RCVBUF, room)
-        self.socket.settimeout(SECONDS)
+        self.socket.settimeout(FOR_A_REPLY)
         self.socket.connect((LOOPBACK, port))
         self.socket.setsockopt(socket.IPPROTO_TCP, socket.TCP_NODELAY, 1)
         self.replies = Replies(self.more)
@@ -240,7 +239,7 @@ class Client:
         server ends the session before all is sent, the rest is not sent."""
         self.socket.setblocking(False)
         unsent: Optional[memoryview] = memoryview(data)
-        pieces, end = [], time.monotonic() + SECONDS
+        pieces, end = [], time.monotonic() + FOR_A_REPLY
         while True:
             ready, free, _ = select.select([self.socket], [] if unsent is None else [self.socket], [], 1)
             if free:
@@ -251,9 +250,9 @@ class Client:
                     return b''.join(pieces)
                 pieces.append(piece)
             if ready or free:
-                end = time.monotonic() + SECONDS
+                end = time.monotonic() + FOR_A_REPLY
             elif time.monotonic() > end:
-                raise Wrong('nothing moves for %g seconds' % SECONDS)
+                raise Wrong('nothing moves for %g seconds' % FOR_A_REPLY)
 
     def sent_some(self, unsent: memoryview) -> Optional[memoryview]:
         """What is left to send; none where all is sent or can't be."""

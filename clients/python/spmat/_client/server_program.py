@@ -37,6 +37,8 @@ def program_words(program: Optional[Program] = None) -> List[str]:
                                 % (platform.system(), platform.machine(), _plain()))
     if not isinstance(found, str):
         return [os.fspath(word) for word in found]
+    if os.path.isdir(found) and not shutil.which(found):
+        raise FileNotFoundError('expected a program, got the folder %s%s' % (found, _plain()))
     return [found] if os.path.exists(found) else shlex.split(found)
 
 

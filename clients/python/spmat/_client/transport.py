@@ -4,12 +4,13 @@ from __future__ import annotations
 # a channel is open as long as its session, and each is asked alike
 # pylint: disable=consider-using-with,unused-argument
 
+import contextlib
 import os
 import select
 import socket
 import subprocess
 import tempfile
-from typing import TYPE_CHECKING, NamedTuple, Optional, Sequence, Union
+from typing import TYPE_CHECKING, Iterator, NamedTuple, Optional, Sequence, Union
 
 from .replies import PIECE
 
@@ -143,23 +144,24 @@ class Address(NamedTuple):
 
     def _to_file(self, timeout: Optional[float]) -> socket.socket:
         made = socket.socket(socket.AF_UNIX)
-        try:
+        with self._closing_on_fault(made):
             made.settimeout(timeout)
             made.connect(self.host)
-        except BaseException as fault:
-            made.close()
-            if isinstance(fault, OSError):
-                raise _placed(fault, self, '') from None
-            raise
         return made
 
     def _secured(self, made: socket.socket, tls: ssl.SSLContext) -> socket.socket:
-        try:
+        with self._closing_on_fault(made, 'TLS was refused: '):
             return tls.wrap_socket(made, server_hostname=self.host)
+
+    @contextlib.contextmanager
+    def _closing_on_fault(self, made: socket.socket, what: str = '') -> Iterator[None]:
+        """Closes a socket that can't be used, and says in which address the fault is."""
+        try:
+            yield
         except BaseException as fault:
             made.close()
             if isinstance(fault, OSError):
-                raise _placed(fault, self, 'TLS was refused: ') from None
+                raise _placed(fault, self, what) from None
             raise
 
 

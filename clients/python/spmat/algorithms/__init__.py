@@ -20,10 +20,11 @@ from .betweenness_centrality import betweenness as betweenness
 from .bfs import bfs_levels as bfs_levels, bfs_parents as bfs_parents
 from .bipartite import bipartite_sides as bipartite_sides
 from .centrality import Centrality as Centrality, closeness as closeness, eigenvector as eigenvector, hits as hits, katz as katz
-from .components import connected_components as connected_components, maximal_independent_set as maximal_independent_set
+from .components import connected_components as connected_components
 from .core_decomposition import core_numbers as core_numbers, k_core as k_core
 from .distance_measures import (Bounds as Bounds, diameter as diameter, distance_counts as distance_counts,
                                 eccentricity as eccentricity)
+from .independent_set import maximal_independent_set as maximal_independent_set
 from .label_propagation_communities import label_propagation as label_propagation
 from .louvain_communities import Communities as Communities, louvain as louvain, modularity as modularity
 from .multi_source_bfs import k_hop as k_hop

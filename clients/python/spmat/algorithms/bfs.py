@@ -147,7 +147,8 @@ def _fresh(told: Tally, got: Vector) -> Vector:
     return Vector([i for i, _ in kept], [value for _, value in kept])
 
 
-@algorithm('edges from a vertex to each other one', 'source', plot='levels')
+@algorithm('edges from a vertex to each other one', 'source', plot='levels',
+           runs=lambda g: 3 * (g.rounds + 1), steps=lambda g: 4 * g.entries + 4 * g.vertices * (g.rounds + 1))
 def bfs_levels(G: M, source: Sources, GT: Optional[M] = None, progress: Progress = None, *, depth: Optional[int] = None,
                target: Any = None, check: bool = True) -> M:
     """How many edges lead from the source to each vertex, as a column: 0 at the source; no entry where no path leads. Of several
@@ -172,7 +173,8 @@ def bfs_levels(G: M, source: Sources, GT: Optional[M] = None, progress: Progress
     return beside(G, run_search(fronts_of(G, GT, check), search, False).column(G, NONE))
 
 
-@algorithm('the tree of a breadth-first search', 'source', are_vertices=True)
+@algorithm('the tree of a breadth-first search', 'source', are_vertices=True,
+           runs=lambda g: 4 * (g.rounds + 1), steps=lambda g: 6 * g.entries + 7 * g.vertices * (g.rounds + 1))
 def bfs_parents(G: M, source: Sources, GT: Optional[M] = None, progress: Progress = None, *, depth: Optional[int] = None,
                 target: Any = None, check: bool = True) -> M:
     """From which vertex a breadth-first search comes to each one, as a column: of several the least; at a source itself; no entry

@@ -12,7 +12,7 @@ from ..operators import Semiring, binary
 from .bfs import lines_of
 from .cached_properties import extremes
 from .distance_measures import distance_counts
-from .frontier import Columns, FEW, Lines, Tally, Vector
+from .frontier import Columns, FEW, Lines, Tally, Vector, column_of
 from .protocols import M, Numbers
 from .registry import algorithm
 from .utils import Progress, beside, order, tell
@@ -109,17 +109,7 @@ def _fixed(G: M, numbers: Numbers, scale: int, error: float) -> 'Centrality[M]':
         values: Numbers = numpy.rint(numbers * scale).astype(numpy.int64)
     else:
         values = [round(number * scale) for number in numbers]
-    return Centrality(beside(G, _column(G, values)), scale, error)
-
-
-def _column(G: M, values: Numbers) -> M:
-    """A column with a value for each vertex."""
-    if is_array(values):
-        import numpy
-        at: Numbers = numpy.arange(len(values))
-    else:
-        at = list(range(len(values)))
-    return Columns(G, G).put(Vector(at, values))
+    return Centrality(beside(G, column_of(G, values)), scale, error)
 
 
 def _divided(numbers: Numbers, by: float) -> Numbers:
@@ -155,7 +145,7 @@ def closeness(G: Matrix, GT: Optional[Matrix] = None, scale: int = ONE, progress
         many.put(at, _sums(many.of(at), values, 1))
         total.put(at, _sums(total.of(at), values, level))
     found = [r * r * scale // (d * (count - 1)) if d else 0 for r, d in zip(many.numbers, total.numbers)]
-    return Centrality(beside(G, _column(G, found)), scale, 1 / scale)
+    return Centrality(beside(G, column_of(G, found)), scale, 1 / scale)
 
 
 def _sums(first: Numbers, second: Numbers, times: int) -> Numbers:

@@ -1,21 +1,17 @@
-"""Connected components, and maximal independent sets."""
+"""Connected components."""
 from __future__ import annotations
 
 import collections
 from typing import Any, Generic, List, Optional
 
 from ..io import matrix_text
-from ..io.matrix_text import Triples
 from ..operators import Semiring, binary
-from .bfs import lines_of
 from .cached_properties import check_undirected, found, is_both_ways, transpose_of
-from .frontier import Columns, FEW, Lines, Rows, Vector, ones_like
+from .frontier import Columns, FEW, Lines, Rows, Vector, column_of, ones_like
 from .protocols import M, Numbers
-from .random_vector import drawn
-from .registry import BOTH_WAYS, algorithm
-from .utils import Progress, beside, order, tell
+from .registry import algorithm
+from .utils import Progress, beside, order, root, tell
 
-THERE = Semiring(binary.first, binary.zero)      # "one of them is a neighbour", marked 0
 GREATEST = Semiring(binary.max, binary.first)
 LEAST = Semiring(binary.min, binary.first)
 
@@ -54,14 +50,8 @@ class Labels:
 
     def _join_lists(self, first: Numbers, second: Numbers) -> bool:
         labels, some = self.of, False
-
-        def root(at: int) -> int:
-            while labels[at] != at:
-                labels[at] = labels[labels[at]]
-                at = labels[at]
-            return at
         for i, j in zip(first, second):
-            a, b = root(i), root(j)
+            a, b = root(labels, i), root(labels, j)
             if a != b:
                 labels[max(a, b)], some = min(a, b), True
         for i, label in enumerate(labels):         # ascending: the label of a label is settled before
@@ -81,14 +71,6 @@ class Labels:
             return self.numpy.flatnonzero((self.of != self.numpy.argmax(sizes)) & done.near)
         most = max(collections.Counter(self.of).items(), key=lambda item: item[1], default=(0, 0))[0]
         return [i for i, label in enumerate(self.of) if label != most and done.near[i]]
-
-    def column(self) -> Triples:
-        """A column with the labels."""
-        count = len(self.of)
-        if self.numpy is not None:
-            at = self.numpy.arange(count)
-            return Triples(at, at * 0, self.of, count, 1)
-        return Triples(list(range(count)), [0] * count, self.of, count, 1)
 
 
 class Alone:
@@ -171,7 +153,8 @@ class Neighbours(Generic[M]):
         return some
 
 
-@algorithm("the least vertex of each one's component", are_vertices=True)
+@algorithm("the least vertex of each one's component", are_vertices=True,
+           runs=lambda g: 2 * g.rounds + 3, steps=lambda g: 10 * g.entries + 2 * g.vertices + 20 * g.entries * g.rounds)
 def connected_components(G: M, GT: Optional[M] = None, progress: Progress = None, *, check: bool = True) -> M:
     """The least vertex of each one's component, as a column; edges lead both ways (of a directed graph: the weak components).
 
@@ -201,35 +184,4 @@ def connected_components(G: M, GT: Optional[M] = None, progress: Progress = None
         if goes_on:
             number += 1
             tell(progress, 'round', number)
-    return beside(G, G.session.backend.keep(labels.column()))
-
-
-@algorithm('vertices of which no two are neighbours', 'seed', wanted=BOTH_WAYS)
-def maximal_independent_set(G: M, seed: int = 0, progress: Progress = None, *, check: bool = True) -> M:
-    """Vertices of which no two are neighbours, and to which no other can be added, as a column of ones. The graph is undirected;
-    loops don't count. The seed decides which of the sets it is.
-
-    `progress('round', k, 0)` is called after each round.
-
-    Runs: 7 a round, and 3. Rounds: about the logarithm of the number of vertices. Steps: up to 10 an edge and 16 a vertex, a
-    round; 5 an edge, 22 a vertex. Luby's algorithm: who has the greatest score among its neighbours is chosen. LAGraph:
-    `LAGraph_MaximalIndependentSet`. Raises ValueError where an edge leads one way alone (2 jobs, 3 runs, 13 steps an edge and 5
-    a vertex, once; `check=False` leaves it out).
-    """
-    order(G)
-    check_undirected(G, check, loops=True)
-    graph = G.select('offdiag', 0)
-    lines: Lines[M] = lines_of(graph, graph, False)
-    left = drawn(lines.all(1), seed)
-    chosen, number = lines.put(Vector([], [])), 0
-    while left.nvals:
-        best = lines.step(left, GREATEST, mask=left)
-        won = left.ewise_add(best, 'gt').select('nonzero', 0)    # who has no neighbour left keeps its score, which isn't 0
-        near = lines.step(won, THERE, mask=left)
-        chosen = chosen.ewise_add(won, 'first')
-        gone = won.apply('zero').ewise_add(near, 'first')
-        left = left.ewise_add(gone, 'zero').select('nonzero', 0)
-        number += 1
-        tell(progress, 'round', number)
-    at = lines.get(chosen).at
-    return beside(G, Columns(G, G).put(Vector(at, ones_like(at))))
+    return beside(G, column_of(G, labels.of))

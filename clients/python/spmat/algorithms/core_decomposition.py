@@ -91,7 +91,8 @@ class Peeling(Generic[M]):
         return out
 
 
-@algorithm('vertices with k neighbours or more', 'k', wanted=WITHOUT_LOOPS, ranked=True)
+@algorithm('vertices with k neighbours or more', 'k', wanted=WITHOUT_LOOPS, ranked=True,
+           runs=lambda g: 3 * g.rounds + 3, steps=lambda g: 10 * g.entries + 4 * g.vertices * g.rounds)
 def k_core(G: M, k: int, progress: Progress = None, *, check: bool = True) -> M:
     """The vertices of the largest part of an undirected graph without loops in which each has at least k neighbours, as a column;
     the value is the number of them. With k = 0 these are all vertices.
@@ -117,7 +118,8 @@ def k_core(G: M, k: int, progress: Progress = None, *, check: bool = True) -> M:
     return beside(G, Columns(G, G).put(Vector(at, peeling.left.of(at))))
 
 
-@algorithm('the greatest k of a core with each vertex', wanted=WITHOUT_LOOPS, ranked=True)
+@algorithm('the greatest k of a core with each vertex', wanted=WITHOUT_LOOPS, ranked=True,
+           runs=lambda g: 3 * g.rounds + 3, steps=lambda g: 10 * g.entries + 4 * g.vertices * g.rounds)
 def core_numbers(G: M, progress: Progress = None, *, check: bool = True) -> M:
     """The greatest k for each vertex of an undirected graph without loops with which it is in the k-core, as a column; 0 for a vertex
     without neighbours.

@@ -184,6 +184,16 @@ def ones_like(at: Numbers) -> Numbers:
     return at * 0 + 1 if matrix_text.is_array(at) else [1] * len(at)
 
 
+def column_of(like: M, values: Numbers) -> M:
+    """A column with a value for each vertex of a graph."""
+    if matrix_text.is_array(values):
+        import numpy
+        at: Numbers = numpy.arange(len(values))
+    else:
+        at = list(range(len(values)))
+    return like.session.backend.keep(Triples(at, zeros_like(at), values, len(values), 1))
+
+
 def read(text: bytes, field: int) -> Vector:
     """The vector of a text as the server writes it; `field` 1 of a row, 0 of a column."""
     start = matrix_text.head_of(text)[2]

@@ -7,6 +7,7 @@ from typing import Any, Dict, Generic, List, NamedTuple, Tuple
 
 from ..io.matrix_text import Triples
 from .cached_properties import check_undirected, extremes, has_loops, is_both_ways
+from .frontier import column_of
 from .protocols import M
 from .registry import BOTH_WAYS, algorithm
 from .utils import Progress, beside, order, product, tell
@@ -197,5 +198,4 @@ def louvain(G: M, resolution: float = 1.0, seed: int = 0, progress: Progress = N
         graph = _gathered(graph, numbers, many)
     first: Dict[int, int] = {}
     least_of = [first.setdefault(label, i) for i, label in enumerate(labels)]
-    column = G.session.backend.keep(Triples(list(range(count)), [0] * count, least_of, count, 1))
-    return Communities(beside(G, column), found, number)
+    return Communities(beside(G, column_of(G, least_of)), found, number)

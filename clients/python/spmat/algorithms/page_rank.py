@@ -5,11 +5,10 @@ import math
 from typing import Any, Generic, Mapping, NamedTuple, Optional, Tuple
 
 from ..io import matrix_text
-from ..io.matrix_text import Triples
 from ..operators import Semiring, asm, binary
 from .bfs import lines_of
 from .cached_properties import extremes, found, is_both_ways
-from .frontier import Columns, FEW, Lines, Vector
+from .frontier import Columns, FEW, Lines, Vector, column_of
 from .protocols import GraphMatrix, M, Numbers
 from .registry import algorithm
 from .triangle_counts import degrees
@@ -222,7 +221,8 @@ def kept_tolerance(count: int, weight: int, point: Point, tolerance: float, scal
     return tolerance - flows - result
 
 
-@algorithm('the PageRank of each vertex', 'damping', 'tolerance', scale=ONE, ranked=True)
+@algorithm('the PageRank of each vertex', 'damping', 'tolerance', scale=ONE, ranked=True,
+           runs=lambda g: 3 * g.rounds + 8, steps=lambda g: (5 * g.entries + 20 * g.vertices) * g.rounds + 5 * g.entries)
 def pagerank(G: M, GT: Optional[M] = None, damping: float = 0.85, tolerance: float = 1e-6, scale: Optional[int] = None,
              progress: Progress = None, *, weighted: bool = False, personalization: Optional[Weights] = None,
              dangling: Optional[Weights] = None, check: bool = True) -> M:
@@ -285,11 +285,8 @@ def _weight(G: M, out: M, weighted: bool, check: bool) -> int:
 
 def _column(G: M, ranks: Numbers, scale: int) -> M:
     """Ranks that add up to one, in units of 1/scale."""
-    count = G.nrows
     if matrix_text.is_array(ranks):
         import numpy
-        values = numpy.rint(ranks * (scale / float(ranks.sum()))).astype(numpy.int64)
-        at = numpy.arange(count)
-        return beside(G, G.session.backend.keep(Triples(at, at * 0, values, count, 1)))
+        return beside(G, column_of(G, numpy.rint(ranks * (scale / float(ranks.sum()))).astype(numpy.int64)))
     times = scale / float(sum(ranks))
-    return beside(G, G.session.backend.keep(Triples(list(range(count)), [0] * count, [round(rank * times) for rank in ranks], count, 1)))
+    return beside(G, column_of(G, [round(rank * times) for rank in ranks]))

@@ -20,11 +20,25 @@ class Wanted(enum.Enum):
 BOTH_WAYS, WITHOUT_LOOPS = Wanted.BOTH_WAYS, Wanted.WITHOUT_LOOPS
 
 
+class Size(NamedTuple):
+    """What the cost of a call grows with: a graph's vertices, its entries (an undirected edge has two) and triangles, and the rounds, or levels,
+    that `progress` was told."""
+    vertices: int
+    entries: int
+    triangles: int
+    rounds: int
+
+
+Bound = Callable[[Size], int]
+"""The most that a call takes, without the checks that are made once for a graph."""
+
+
 class Algorithm(NamedTuple):
     """An algorithm: its function, and what it gives in a few words. Then what the command line has to know: the options beside those of
     every graph, what a value is counted in (1 where it is a whole number), whether a value is a vertex, what draws the result, which graphs
     it is for, whether their values count, whether the greatest values can be asked for alone, the fields of a row of a list, and what the
-    command says of itself where that isn't what the function says."""
+    command says of itself where that isn't what the function says. `runs` and `steps` are what its docstring says of its cost, for tests: on
+    a graph whose rounds are few, and whose products aren't made by parts."""
     function: Callable[..., Any]
     gives: str
     options: Sequence[str]
@@ -37,6 +51,8 @@ class Algorithm(NamedTuple):
     fields: Sequence[str] = ()
     says: str = ''
     command: bool = True
+    runs: Optional[Bound] = None
+    steps: Optional[Bound] = None
 
     @property
     def parameters(self) -> List[str]:
@@ -53,10 +69,10 @@ class Algorithm(NamedTuple):
 ALGORITHMS: Dict[str, Algorithm] = {}
 
 
-def algorithm(gives: str, *options: str, **more: Any) -> Callable[[F], F]:
+def algorithm(gives: str, *options: str, runs: Optional[Bound] = None, steps: Optional[Bound] = None, **more: Any) -> Callable[[F], F]:
     """Puts a function on the list; see `Algorithm` for what may be said of it."""
     def register(function: F) -> F:
-        ALGORITHMS[function.__name__] = Algorithm(function, gives, options, **more)
+        ALGORITHMS[function.__name__] = Algorithm(function, gives, options, runs=runs, steps=steps, **more)
         return function
     return register
 

@@ -233,7 +233,8 @@ def _width(W: GraphMatrix, least: int, most: int) -> int:
     return max(1, WIDE * most * W.nrows // max(1, W.nvals))
 
 
-@algorithm('lengths of shortest paths from a vertex', 'source', values=True)
+@algorithm('lengths of shortest paths from a vertex', 'source', values=True,
+           runs=lambda g: 9 * g.rounds + 4, steps=lambda g: (7 * g.entries + 20 * g.vertices) * g.rounds)
 def sssp(W: M, source: Any, WT: Optional[M] = None, progress: Progress = None, *, cutoff: Optional[int] = None,
          target: Any = None, check: bool = True) -> M:
     """The length of the shortest path from the source to each vertex, as a column: 0 at the source; no entry where no path leads.

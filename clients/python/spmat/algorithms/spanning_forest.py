@@ -10,7 +10,7 @@ from .cached_properties import check_undirected, extremes, found, is_transpose
 from .frontier import FEW, zeros_like
 from .protocols import GraphMatrix, M, Numbers
 from .registry import BOTH_WAYS, algorithm
-from .utils import Progress, order, product, tell
+from .utils import Progress, order, product, root, tell
 
 LIGHTEST = ('min', 'first')
 
@@ -127,16 +127,8 @@ def _met(chosen: Chosen, count: int) -> Tuple[List[int], int]:
         if parents[other] == row and row < other:
             parents[row] = row
     numbers: Dict[int, int] = {}
-    met = [numbers.setdefault(_root(parents, row), len(numbers)) for row in chosen.rows]
+    met = [numbers.setdefault(root(parents, row), len(numbers)) for row in chosen.rows]
     return met, len(numbers)
-
-
-def _root(parents: List[int], at: int) -> int:
-    """The end of a component's chain, which becomes shorter."""
-    while parents[at] != at:
-        parents[at] = parents[parents[at]]
-        at = parents[at]
-    return at
 
 
 def _shrunk_label(label: Numbers, rows: Numbers, met: Numbers, count: int) -> Numbers:

@@ -8,13 +8,13 @@ from ..io.matrix_text import Triples
 from ..matrix import Matrix
 from .bfs import bfs_levels
 from .cached_properties import found, transpose_of
-from .frontier import FEW, zeros_like
+from .frontier import FEW, column_of, zeros_like
 from .protocols import Numbers
 from .random_vector import drawn
 from .registry import algorithm
 from .tarjan import strong_components
 from .topological_order import levelled
-from .utils import Progress, beside, column, loops, nothing, order, product, settle, tell, until_as_many
+from .utils import Progress, as_many, beside, column, loops, nothing, order, product, repeated, settle, tell
 
 DONE = -1                                          # the part of a vertex whose component is known
 AT_ONCE = 1 << 12                                  # edges of a graph that the client looks at whole
@@ -77,11 +77,6 @@ class Parts:
         values = self.part[at] if self.numpy is not None else [self.part[i] for i in at]
         return Triples(at, at, values, self.count, self.count)
 
-    def column(self) -> Triples:
-        """A column of the labels."""
-        at = self.numpy.arange(self.count) if self.numpy is not None else list(range(self.count))
-        return Triples(at, zeros_like(at), self.label, self.count, 1)
-
 
 @algorithm("the least vertex of each one's strong component", are_vertices=True)
 def strongly_connected_components(G: Matrix, GT: Optional[Matrix] = None, progress: Progress = None, *,
@@ -118,7 +113,7 @@ def strongly_connected_components(G: Matrix, GT: Optional[Matrix] = None, progre
         at, labels = strong_components(rows, columns)
         parts.close(at, labels)
         tell(progress, 'round', number + 1)
-    return beside(G, G.session.backend.keep(parts.column()))
+    return beside(G, column_of(G, parts.label))
 
 
 def _around(G: Matrix, GT: Optional[Matrix], parts: Parts) -> None:
@@ -233,7 +228,7 @@ def _coloured(near: Matrix, back: Matrix, left: Matrix, seed: int) -> Tuple[Numb
     first = colour.ewise_mult(own, 'eq').select('nonzero')
     colours = colour.diag()
     same = product(colours, near, 'any_first').ewise_mult(product(near, colours, 'any_second'), 'eq').select('nonzero')
-    reached = until_as_many(first, lambda had: had.ewise_add(same.mxv(had, 'any_pair'), 'first'), None)
+    reached = repeated(first, lambda had: had.ewise_add(same.mxv(had, 'any_pair'), 'first'), as_many)
     at, _, values = colour.ewise_mult(reached, 'first').to_coo()
     if matrix_text.is_array(at):
         import numpy

@@ -99,7 +99,7 @@ def levelled(G: Matrix, progress: Progress = None) -> Levels:
     return levels
 
 
-@algorithm('levels of a graph without cycles')
+@algorithm('levels of a graph without cycles', runs=lambda g: 6 * min(4 * g.rounds + 12, g.rounds + 128) + 5)
 def topological_levels(G: Matrix, progress: Progress = None) -> Matrix:
     """The number of edges of the longest path that ends at each vertex of a directed graph without cycles, as a column: an edge
     leads from a lower level to a higher one, so vertices by ascending levels are in a topological order.
@@ -119,7 +119,8 @@ def topological_levels(G: Matrix, progress: Progress = None) -> Matrix:
     return beside(G, levels.tally.column(G, None))
 
 
-@algorithm('lengths of longest paths in a graph without cycles', values=True, ranked=True)
+@algorithm('lengths of longest paths in a graph without cycles', values=True, ranked=True,
+           runs=lambda g: 8 * min(4 * g.rounds + 12, g.rounds + 128) + 9)
 def longest_paths(W: Matrix, progress: Progress = None, *, check: bool = True) -> Matrix:
     """The length of the longest path that ends at each vertex of a directed graph without cycles, as a column. An entry's value is the
     length of its edge; a path may begin anywhere, so no length is below 0.

@@ -15,7 +15,8 @@ from .utils import Progress, order, product, tell
 ANEW = 4                                           # where a quarter of the edges fall, triangles are counted anew
 
 
-@algorithm('edges that stand in k - 2 triangles or more', 'k', plot='spy', wanted=WITHOUT_LOOPS)
+@algorithm('edges that stand in k - 2 triangles or more', 'k', plot='spy', wanted=WITHOUT_LOOPS,
+           runs=lambda g: 8 * g.rounds + 3, steps=lambda g: 30 * g.triangles + (30 * g.triangles + 10 * g.entries) * g.rounds)
 def k_truss(G: M, k: int, progress: Progress = None, *, check: bool = True) -> M:
     """The edges of the largest part of an undirected graph without loops in which each edge stands in at least k - 2 triangles; the
     value of an edge is the number of them. With k = 2 these are all edges, and 0 stands at one in no triangle.

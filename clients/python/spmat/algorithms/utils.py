@@ -1,16 +1,17 @@
 """What the algorithms share: columns, checks of what is handed in, products by parts, and rounds until nothing changes."""
 from __future__ import annotations
 
-from typing import Any, Callable, List, Optional
+from typing import Any, Callable, Generic, List, Optional, Sequence, TypeVar
 
 from ..errors import NotSettled
 from ..io.matrix_text import Triples
 from ..operators import asm
 from ..pricing.upper_bounds import asked
 from .cached_properties import found
-from .protocols import GraphMatrix, M, Ring
+from .protocols import GraphMatrix, M, Numbers, Ring
 from .registry import algorithm
 
+S = TypeVar('S')
 Progress = Optional[Callable[[str, int, int], None]]
 """Called as a session's `progress` is: with a word ('level' or 'round'), the number of those that have ended, and of how
 many; 0 where that isn't known."""
@@ -72,18 +73,34 @@ def tell(progress: Progress, word: str, number: int, of: int = 0) -> None:
         progress(word, number, of)
 
 
-def until_as_many(first: M, step: Callable[[M], M], progress: Progress) -> M:
-    """What a step comes to that only adds entries, or only takes some away: the first result with as many as there were before.
-    `progress('round', i, 0)` is called after each step."""
-    now, number = first, 0
-    while True:
-        then = step(now)
+def repeated(start: S, step: Callable[[S], S], ends: Callable[[S, S], bool], progress: Progress = None, most: Optional[int] = None) -> S:
+    """`step(start)`, `step(step(start))` and so on, up to the first of which `ends(before, now)` is true. It is the answer.
+
+    Whatever is made until nothing changes is made by this loop. `progress('round', k, most or 0)` is called after each step. Raises
+    NotSettled where `most` steps are too few."""
+    before, number = start, 0
+    while most is None or number < most:
+        now = step(before)
         number += 1
-        settled = then.nvals == now.nvals
-        tell(progress, 'round', number)
-        if settled:
-            return then
-        now = then
+        has_ended = ends(before, now)
+        tell(progress, 'round', number, most or 0)
+        if has_ended:
+            return now
+        before = now
+    raise NotSettled('did not converge after %d rounds' % number)
+
+
+def as_many(before: GraphMatrix, now: GraphMatrix) -> bool:
+    """The end of a step that only adds entries, or only takes some away: there are as many as there were before."""
+    return now.nvals == before.nvals
+
+
+def root(parents: Numbers, at: int) -> int:
+    """The end of a vertex' chain of parents, which becomes shorter: whom it is joined with (union and find)."""
+    while parents[at] != at:
+        parents[at] = parents[parents[at]]
+        at = parents[at]
+    return at
 
 
 def product(a: M, b: M, semiring: Ring, mask: Optional[M] = None) -> M:
@@ -93,32 +110,39 @@ def product(a: M, b: M, semiring: Ring, mask: Optional[M] = None) -> M:
     return a.mxm(b, semiring, mask=None if mask is None else mask.S, parts=True)
 
 
-def settle(step: Callable[[M], M], start: M, progress: Progress = None, most: Optional[int] = None) -> M:
+class _Settling(Generic[M]):
+    """The last three results of a step, and where two that follow differ: that is looked up by jobs in the batches of the next two rounds."""
+
+    def __init__(self, results: Sequence[M], differ: Optional[M] = None, changed: Optional[M] = None) -> None:
+        self.results, self.differ, self.changed = results, differ, changed
+
+    def after(self, step: Callable[[M], M]) -> '_Settling[M]':
+        """One round more, in one run."""
+        new = step(self.results[-1])
+        changed = None if self.differ is None else self.differ.select('nonzero', 0)
+        differ = self.results[-1].ewise_mult(self.results[-2], 'ne') if len(self.results) > 1 else None
+        new.wait()                                                         # runs the batch
+        return _Settling([*self.results[-2:], new], differ, changed)
+
+    def found(self, before: '_Settling[M]') -> bool:
+        """Whether the two results that were compared by now are the same."""
+        return self.changed is not None and self.changed.nvals == 0 and before.results[-3].nvals == before.results[-2].nvals
+
+
+def settle(step: Callable[[M], M], start: M, most: Optional[int] = None) -> M:
     """`start`, `step(start)`, `step(step(start))` and so on, until two that follow are the same. Positions may be added on the way,
     and none may go.
 
     Runs: 1 a round. Round k and the comparison of rounds k-1 and k-2 stand in one batch, so two rounds too many are made. Raises
     NotSettled where `most` rounds are too few.
     """
-    older: Optional[M] = None
-    differs: Optional[M] = None
-    oldest_count, last, number = -1, start, 0
-    while True:
-        new = step(last)
-        changed = differs.select('nonzero', 0) if differs is not None else None
-        differs = last.ewise_mult(older, 'ne') if older is not None else None
-        new.wait()                                                         # runs the batch
-        number += 1
-        tell(progress, 'round', number)
-        if changed is not None and older is not None and changed.nvals == 0 and older.nvals == oldest_count:
-            return older
-        if most is not None and number > most + 2:
-            raise NotSettled('did not converge after %d rounds' % number)
-        oldest_count = older.nvals if older is not None else -1
-        older, last = last, new
+    settled = repeated(_Settling([start]), lambda before: before.after(step), lambda before, now: now.found(before),
+                       most=None if most is None else most + 3)
+    return settled.results[0]
 
 
-@algorithm('the graph without directions, weights and loops', command=False)
+@algorithm('the graph without directions, weights and loops', command=False,
+           runs=lambda g: 3, steps=lambda g: 16 * g.entries)
 def undirected(graph: M, GT: Optional[M] = None) -> M:
     """The graph without its directions, weights and loops: an entry 1 at (i, j) and (j, i) for each edge between two vertices.
 

@@ -7,7 +7,7 @@ from __future__ import annotations
 
 from typing import TYPE_CHECKING, Callable, Optional
 
-from .. import job_limits
+from .. import oversized_jobs
 from ..mask import Mask
 from ..operators import binary, indexunary, unary
 
@@ -55,4 +55,4 @@ def updated(matrix: 'BlockMatrix', inside: 'BlockMatrix', where: Mask, replace: 
 
 def in_parts(matrix: 'BlockMatrix', call: Callable[['BlockMatrix'], 'BlockMatrix']) -> 'BlockMatrix':
     """A product by parts of the rows of all blocks."""
-    return job_limits.in_parts(matrix, call)
+    return oversized_jobs.in_parts(matrix, call)

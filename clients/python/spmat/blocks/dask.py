@@ -9,7 +9,7 @@ import warnings
 from typing import Any, Callable, Dict, List, Optional, Sequence, cast
 
 from ..errors import Closed, without_frames
-from . import dask_scheduler, worker_tasks
+from . import dask_run_on_scheduler, worker_tasks
 from .dask_close_worker import leave
 from .dask_direct_calls import Call, Direct
 from .errors import AtBlock
@@ -57,7 +57,7 @@ class Dask(Engine):
         if sent is not None and hasattr(sent, 'interval'):
             sent.interval = min(sent.interval, QUICK)
         with contextlib.suppress(Exception):       # where the scheduler doesn't find this package, it counts nothing
-            client.run_on_scheduler(dask_scheduler.begin_counting)
+            client.run_on_scheduler(dask_run_on_scheduler.begin_counting)
 
     @property
     def places(self) -> int:
@@ -78,7 +78,7 @@ class Dask(Engine):
         return self._addresses[place]
 
     def submit(self, settings: Settings, place: int, label: str, function: Callable[..., Any], *args: Any) -> Any:
-        key = '%s%s-%s-%s' % (dask_scheduler.OURS, function.__name__, settings.token, uuid.uuid4().hex)
+        key = '%s%s-%s-%s' % (dask_run_on_scheduler.OURS, function.__name__, settings.token, uuid.uuid4().hex)
         with warnings.catch_warnings():            # a block's text in a task is what the task is made of again
             warnings.filterwarnings('ignore', 'Large object of size')
             return self._client.submit(_on_worker, settings, label, function, list(args), key=key, pure=False,
@@ -125,19 +125,19 @@ class Dask(Engine):
             progress('again', again, 0)
 
     def on_scheduler(self, function: Callable[..., Any], *args: Any) -> Any:
-        """What a function of `dask_scheduler` gives there."""
+        """What a function of `dask_run_on_scheduler` gives there."""
         return self._client.run_on_scheduler(function, *args)
 
     def end_stopped(self, settings: Settings, patience: float) -> None:
         """Ends programs that stand still amid a command; of workers that don't answer nothing is asked."""
-        late = set(self.on_scheduler(dask_scheduler.silent, min(patience, LOOK)))
+        late = set(self.on_scheduler(dask_run_on_scheduler.silent, min(patience, LOOK)))
         heard = [address for address in self._live() if address not in late]
         if heard:
             self._client.run(_apart, program_stopped, settings, patience, workers=heard, on_error='ignore')
 
     def again(self, settings: Settings) -> int:
         try:
-            return int(self.on_scheduler(dask_scheduler.counted, settings.token))
+            return int(self.on_scheduler(dask_run_on_scheduler.counted, settings.token))
         except Exception:                          # pylint: disable=broad-exception-caught  # the scheduler doesn't find this package
             return 0
 
@@ -182,11 +182,11 @@ class _Watch:
         """Looks at what holds them up, and gives up what stands still."""
         patience = self._settings.patience
         try:
-            self._engine.on_scheduler(dask_scheduler.loosen)
+            self._engine.on_scheduler(dask_run_on_scheduler.loosen)
             if patience is None:
                 return
-            for address in self._engine.on_scheduler(dask_scheduler.silent, patience):
-                self._engine.on_scheduler(dask_scheduler.give_up, address)
+            for address in self._engine.on_scheduler(dask_run_on_scheduler.silent, patience):
+                self._engine.on_scheduler(dask_run_on_scheduler.give_up, address)
         except Exception:                          # pylint: disable=broad-exception-caught  # the scheduler doesn't find this package
             return
         self._give_up_alone(patience)
@@ -197,7 +197,7 @@ class _Watch:
 
     def _give_up_alone(self, patience: float) -> None:
         """TimeoutError where no worker is there, and none came for long: nannies may be lost, too."""
-        if self._engine.on_scheduler(dask_scheduler.live):
+        if self._engine.on_scheduler(dask_run_on_scheduler.live):
             self._without = None
             return
         now = time.monotonic()
@@ -214,8 +214,8 @@ class _Watch:
         self._kin = self._kin or passed
         if waiting and not self._ended and passed > patience and passed > TIMES * self._kin:
             self._ended = True
-            for address in self._engine.on_scheduler(dask_scheduler.doing, [future.key for future in waiting]):
-                self._engine.on_scheduler(dask_scheduler.give_up, address)
+            for address in self._engine.on_scheduler(dask_run_on_scheduler.doing, [future.key for future in waiting]):
+                self._engine.on_scheduler(dask_run_on_scheduler.give_up, address)
 
 
 def _is_lost(told: Any) -> bool:

@@ -13,7 +13,7 @@ from typing import Any, List, NoReturn, Optional
 
 from .. import __version__
 from ..io.matrix_market import ENDINGS
-from . import algorithm_commands, completion, draw_commands, inspect_types_command, session_script_command
+from . import algorithm_commands, completion, draw_commands, session_script_command, verifier_types_command
 from .exit_status import MEANINGS, PROGRAM, Status, finish
 from .grammar import Parser
 
@@ -47,7 +47,7 @@ def parser(program: str = PROGRAM) -> argparse.ArgumentParser:
     made = Parser(prog=program, description=DESCRIPTION, epilog=epilog(), formatter_class=argparse.RawDescriptionHelpFormatter)
     made.add_argument('--version', action='version', version='spmat %s, the client' % __version__, help="tell the client's version")
     commands = made.add_subparsers(dest='command', metavar='COMMAND', required=True)
-    for module in (algorithm_commands, draw_commands, inspect_types_command):
+    for module in (algorithm_commands, draw_commands, verifier_types_command):
         module.add_commands(commands)
     session_script_command.add_commands(commands, () if program == PROGRAM else (FORMER,))
     completion.add_commands(commands)

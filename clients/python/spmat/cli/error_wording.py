@@ -33,6 +33,12 @@ def _with_value(flag: str) -> Callable[[Match[str]], str]:
     return lambda found: '%s %s' % (flag, found.group(1).strip('\'"'))
 
 
+def _flag(name: str, has_value: bool = False) -> List[Spelling]:
+    """An argument that is a flag of its own name, with the value that stands behind it where it has one."""
+    flag = '--' + name.replace('_', '-')
+    return [Spelling(r'%s=(%s)' % (name, VALUE), _with_value(flag))] * has_value + [Spelling(name + '=', _plain(flag))]
+
+
 # The first that fits is taken, so what has a value stands before what has none.
 SPELLINGS = (
     Spelling(r'columns=(\([^)]*\)|\[[^\]]*\])', _columns),
@@ -44,23 +50,19 @@ SPELLINGS = (
     Spelling(r'header=True', _plain('--header')),
     Spelling(r'header=False', _plain('--no-header')),
     Spelling(r'header=', _plain('--header or --no-header')),
-    Spelling(r'scale=(%s)' % VALUE, _with_value('--scale')),
-    Spelling(r'scale=', _plain('--scale')),
-    Spelling(r'dup_op=(%s)' % VALUE, _with_value('--dup-op')),
-    Spelling(r'dup_op=', _plain('--dup-op')),
-    Spelling(r'delimiter=(%s)' % VALUE, _with_value('--delimiter')),
-    Spelling(r'delimiter=', _plain('--delimiter')),
-    Spelling(r'format=(%s)' % VALUE, _with_value('--format')),
-    Spelling(r'format=', _plain('--format')),
+    *_flag('scale', True),
+    *_flag('dup_op', True),
+    *_flag('delimiter', True),
+    *_flag('format', True),
     Spelling(r'directed=(True|False)', _plain('--both-ways')),
     Spelling(r'bipartite=True', _plain('--bipartite')),
-    Spelling(r'bipartite=', _plain('--bipartite')),
+    *_flag('bipartite'),
     Spelling(r'name=', _plain('--function')),
     Spelling(r'tls\.load_cert_chain', _plain('--cert')),
-    Spelling(r'tls=', _plain('--tls')),
-    Spelling(r'program=', _plain('--program')),
-    Spelling(r'workers=', _plain('--workers')),
-    Spelling(r'steps=', _plain('--steps')),
+    *_flag('tls'),
+    *_flag('program'),
+    *_flag('workers'),
+    *_flag('steps'),
     Spelling(r'open a session with more steps, and other\.adopt\(G\) takes a matrix there(; spmat\.price\(lambda: \.\.\) tells beforehand what a '
              r'call takes)?', _plain('--steps gives more')),
     Spelling(r'algorithms\.undirected\(G\) is the graph', _plain('--undirected takes the graph')),

@@ -8,9 +8,10 @@ from typing import Any, Callable, Dict, Iterator, List, NamedTuple, NoReturn, Op
 from ..errors import refusal
 from ..limits import MOST_SIDE
 from ..metadata import Nodes, Notes
+from . import matrix_text
 from .coo import LEAST, MOST, checked, whole
 from .edge_values import Rounding, check_scale, scaled_one
-from .matrix_text import FEW, Triples, find_numpy
+from .matrix_text import FEW, Triples
 
 Neighbours = Dict[Any, Any]
 
@@ -28,7 +29,7 @@ def neighbourhoods(graph: Any) -> Dict[Any, Neighbours]:
 
 def row_numbers(counts: List[int]) -> Any:
     """Each row's number, as often as the row has entries: an array of numpy where it is there, else a list."""
-    numpy = find_numpy()
+    numpy = matrix_text.find_numpy()
     if numpy is None:
         return [row for row, count in enumerate(counts) for _ in range(count)]
     return numpy.repeat(numpy.arange(len(counts), dtype=numpy.int64), counts)
@@ -104,7 +105,7 @@ def _one_by_one(blocks: List[Neighbours], nodes: Nodes, folds: bool) -> _Rows:
 
 
 def _triples(rows: _Rows, nodes: Nodes, weight: Optional[str], rounding: Rounding) -> Triples:
-    numpy = find_numpy() if len(rows.ends) > FEW // 16 else None
+    numpy = matrix_text.find_numpy() if len(rows.ends) > FEW // 16 else None
     plain = all(type(node) is int for node in nodes) and nodes == list(range(len(nodes)))
     ends = rows.ends if plain else list(map(nodes.places.__getitem__, rows.ends))
     values: Any = 1 if weight is None else _weights(rows, nodes, weight, rounding)

@@ -4,7 +4,7 @@ from __future__ import annotations
 from typing import Any, Callable, Optional, TypeVar
 
 from ..algorithms.protocols import GraphMatrix
-from ..algorithms.utils import Progress, tell
+from ..algorithms.utils import Progress, repeated, tell
 from ..errors import NotSettled
 from ..pricing.upper_bounds import asked
 from . import Loop, NotAlike, NotTraced, State, Until
@@ -23,7 +23,7 @@ def fixpoint(matrix: M, step: Callable[[M], M], most: Optional[int] = None, prog
     `most` rounds. GraphBLAS: the loop around `GrB_mxm` that ends where nothing changes."""
     loop = _traced(matrix, step)
     if loop is None:
-        return _by_hand(matrix, step, most, progress)
+        return repeated(matrix, step, lambda before, now: now.isequal(before), progress, most)
     limit = 1 << 62 if most is None else most
 
     def heard(first: int, rounds: Any) -> None:
@@ -48,17 +48,3 @@ def _traced(matrix: M, step: Callable[[M], M]) -> Optional[Loop]:
         return Loop(compared, {'now': matrix}) if matrix.in_one_place and asked() is None else None
     except (NotTraced, NotAlike):
         return None
-
-
-def _by_hand(matrix: M, step: Callable[[M], M], most: Optional[int], progress: Progress) -> M:
-    """Round by round."""
-    number = 0
-    while most is None or number < most:
-        following = step(matrix)
-        number += 1
-        settled = following.isequal(matrix)
-        tell(progress, 'round', number, most or 0)
-        if settled:
-            return following
-        matrix = following
-    raise NotSettled('did not converge after %d rounds' % number)

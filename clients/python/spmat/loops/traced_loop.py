@@ -113,14 +113,7 @@ class Loop:
         end, begun = _until(until), self._resumed()
         most = self._default() if most is None else whole(most, 'number of rounds')
         self._check_names(end.names)
-
-        def heard(first: int, rounds: List[Round]) -> None:
-            for number, one in enumerate(rounds, first):
-                if each is not None:
-                    each(number, one.counts)
-                if progress is not None:
-                    progress('round', number, 0)
-        if not self.rounds(end, most, heard):
+        if not self.rounds(end, most, _tells(each, progress, 0)):
             raise NotSettled('did not converge after %d rounds: most= allows more, and advance() makes rounds without an end; the state is that '
                              'behind them' % most)
         return self.number - begun
@@ -129,14 +122,7 @@ class Loop:
         """Makes so many rounds, none in vain. `each` and `progress` are as in `run`."""
         self._resumed()
         rounds = whole(rounds, 'number of rounds')
-
-        def heard(first: int, made: List[Round]) -> None:
-            for number, one in enumerate(made, first):
-                if each is not None:
-                    each(number, one.counts)
-                if progress is not None:
-                    progress('round', number, rounds)
-        self.rounds(None, rounds, heard)
+        self.rounds(None, rounds, _tells(each, progress, rounds))
 
     def rounds(self, end: Optional[Until], most: int, heard: Callable[[int, List[Round]], Any]) -> bool:
         """Makes rounds until an end is met, or so many; whether it was met. `heard(first, rounds)` is told of all rounds of a trip."""
@@ -253,6 +239,17 @@ class Loop:
             for name in names:
                 if name not in self._results:
                     raise ValueError('until= looks at %r, which no step returns: it has %s' % (name, ', '.join(sorted(self._results))))
+
+
+def _tells(each: Optional[Each], progress: 'Progress', of: int) -> Callable[[int, List[Round]], None]:
+    """Tells both of rounds, of which the first has this number."""
+    def heard(first: int, rounds: List[Round]) -> None:
+        for number, one in enumerate(rounds, first):
+            if each is not None:
+                each(number, one.counts)
+            if progress is not None:
+                progress('round', number, of)
+    return heard
 
 
 def _first_met(end: Optional[Until], before: Counts, rounds: List[Round]) -> Optional[int]:

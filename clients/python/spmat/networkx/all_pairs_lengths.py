@@ -128,8 +128,7 @@ def distance_sums(G: SpmatGraph) -> Tuple[List[int], List[int]]:
     """How many nodes reach each one, itself too, and the sum of their distances."""
     many, total = [1] * len(G), [0] * len(G)
     for level, counts in enumerate(algorithms.distance_counts(G.A, G.AT, check=False), 1):
-        rows, _, values = counts.to_coo(arrays=False)
-        for i, value in zip(rows, values):
+        for i, value in counts.by_node().items():
             many[i] += value
             total[i] += level * value
     return many, total
@@ -140,8 +139,7 @@ def length_sums(G: SpmatGraph, weight: Any, signed: bool = False) -> Tuple[List[
     many, total = [0] * len(G), [0] * len(G)
     for first, far in blocks(G, weight, signed, back=True):
         for sums, found in ((many, far.apply('one').reduce_rowwise('plus')), (total, far.reduce_rowwise('plus'))):
-            rows, _, values = found.to_coo(arrays=False)
-            for i, value in zip(rows, values):
+            for i, value in found.by_node().items():
                 sums[first + i] = value
     return many, total
 
@@ -203,7 +201,7 @@ def harmonic_centrality(G: SpmatGraph, nbunch: Any = None, distance: Any = None,
     found: Dict[Any, Any] = dict.fromkeys(wanted, 0)
     if distance is None and len(starts) == len(G):
         for level, counts in enumerate(algorithms.distance_counts(G.A, G.AT, check=False), 1):
-            for node, many in G.by_node(counts).items():
+            for node, many in G.named(counts).by_node().items():
                 if node in found:
                     found[node] += many / level
         return found

@@ -17,25 +17,20 @@ NEVER = 1 << 62
 
 
 class Pays(NamedTuple):
-    """From how many edges on it pays to hand a function over: a graph that has to be converted, and one that is on the server."""
+    """From how many edges on it pays to hand a function over: a graph that has to be converted, and one that is on the server. `work` says
+    of which functions that is so; `tools/networkx_table` writes it all into docs/networkx.md."""
     first: int
     again: int
+    work: str
 
 
-# Triangles, and what is between all nodes: work that grows faster than the edges.
-MUCH = Pays(2_000, 1_000)
-# Some products with the whole graph.
-PRODUCTS = Pays(10_000, 8_000)
-# Searches by weights, which networkx does with a heap.
-WEIGHTS = Pays(100_000, 8_000)
-# Rounds in which few nodes change at a time.
-ROUNDS = Pays(100_000, 50_000)
-# One walk over the edges, which is what a conversion takes.
-WALK = Pays(1_000_000, 40_000)
-# What the conversion knows, and networkx looks up node by node.
-KNOWN = Pays(NEVER, 10_000)
-# What networkx has at hand, or where it ends early.
-LITTLE = Pays(NEVER, NEVER)
+MUCH = Pays(2_000, 1_000, 'work that grows faster than the edges')
+PRODUCTS = Pays(10_000, 8_000, 'some products with the whole graph')
+WEIGHTS = Pays(100_000, 8_000, 'paths by weights, spanning trees, forests')
+ROUNDS = Pays(100_000, 50_000, 'rounds in which few nodes change at a time')
+WALK = Pays(1_000_000, 40_000, 'one walk over the edges, as a conversion is')
+KNOWN = Pays(NEVER, 10_000, 'known from the conversion, or paths node by node')
+LITTLE = Pays(NEVER, NEVER, 'networkx has it at hand, or ends early')
 
 CLASSES = {'MUCH': MUCH, 'PRODUCTS': PRODUCTS, 'WEIGHTS': WEIGHTS, 'ROUNDS': ROUNDS, 'WALK': WALK, 'KNOWN': KNOWN, 'LITTLE': LITTLE}
 DECORATED = re.compile(r'^@serves\((?:.*, )?pays=([A-Z]+)\)\ndef (\w+)\(', re.M)
@@ -73,5 +68,5 @@ def _told(pays: Pays) -> str:
     if pays.again == NEVER:
         return 'Taken where backend="spmat" is given, and for a graph that is on the server.'
     return ('Taken by itself from %d edges on, from %d on for a graph that was converted before, and wherever backend="spmat" is given.'
-            % pays if pays.first < NEVER else
+            % (pays.first, pays.again) if pays.first < NEVER else
             'Taken by itself from %d edges on for a graph that was converted before, and wherever backend="spmat" is given.' % pays.again)

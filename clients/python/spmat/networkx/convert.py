@@ -24,8 +24,8 @@ def fold_of(name: Optional[str]) -> str:
 
 
 def odd_graph(graph: Any) -> Optional[str]:
-    """Why a graph can't be read by its adjacency, in words; None where it can."""
-    if isinstance(graph, SpmatGraph):
+    """Why a graph can't be read by its adjacency, in words; None where it can, or has been read."""
+    if isinstance(graph, SpmatGraph) or held(graph) is not None:
         return None
     if not isinstance(graph, nx.Graph):
         return 'no graph of networkx: %s' % type(graph).__name__
@@ -70,10 +70,12 @@ def convert_from_nx(graph: Any, *, edge_attrs: Optional[Dict[str, Any]] = None, 
     added to it. NotImplementedError, upon which networkx does the work itself, for weights that aren't whole."""
     if isinstance(graph, SpmatGraph):
         return graph
-    odd = odd_graph(graph)
-    if odd is not None:
-        raise NotImplementedError(odd)
-    made = held(graph) or SpmatGraph(graph)
+    made = held(graph)
+    if made is None:
+        odd = odd_graph(graph)
+        if odd is not None:
+            raise NotImplementedError(odd)
+        made = SpmatGraph(graph)
     made.take(_cache(graph).pop(WAITING, {}))
     made.keep(graph, preserve_node_attrs or bool(node_attrs), preserve_edge_attrs or bool(edge_attrs), preserve_graph_attrs)
     for attribute, default in (edge_attrs or {}).items():

@@ -8,6 +8,7 @@ from typing import Any, Dict, Iterator, List, Mapping, Optional
 
 from networkx import NetworkXError, NetworkXPointlessConcept
 
+from ..algorithms.frontier import column_of
 from ..io import matrix_text
 from ..matrix import Matrix
 from .backend_info import KNOWN, LITTLE, MUCH, PRODUCTS, WEIGHTS
@@ -114,10 +115,10 @@ def number_of_selfloops(G: SpmatGraph) -> int:
 
 @serves(UNDIRECTED, pays=PRODUCTS)
 def s_metric(G: SpmatGraph) -> float:
-    near, d = degree(G), degree(G)
-    column = G.column(d)
-    flow = G.many().mxv(column, 'plus_times').ewise_mult(column, 'times').to_list(0)
-    return float((sum(flow) + sum(near[i] ** 2 * many for i, many in G.loops.items())) // 2)
+    near, many = degree(G), G.many()
+    column = column_of(many, near)
+    flow = many.mxv(column, 'plus_times').ewise_mult(column, 'times').to_list(0)
+    return float((sum(flow) + sum(near[i] ** 2 * loops for i, loops in G.loops.items())) // 2)
 
 
 def _sides(arguments: Mapping[str, Any]) -> Optional[str]:
@@ -136,11 +137,11 @@ def average_neighbor_degree(G: SpmatGraph, source: str = 'out', target: str = 'o
         raise NetworkXError('source and target arguments are only supported for directed graphs')
     if weight is not None and G.is_directed():
         raise NotImplementedError('weights of directed graphs')
-    target_degree, column = _side_degree(G, target), G.column
+    target_degree = _side_degree(G, target)
     ways: List[Matrix] = [G.matrix(weight, back=back) for back, side in ((False, 'out'), (True, 'in')) if side in source]
     found = [0] * len(G)
     for way in ways:
-        for i, near in enumerate(way.mxv(column(target_degree), 'plus_times').to_list(0)):
+        for i, near in enumerate(way.mxv(column_of(way, target_degree), 'plus_times').to_list(0)):
             found[i] += near
     own = _side_degree(G, source) if weight is None else _weighted_degree(G, weight)
     return {node: found[i] / own[i] if own[i] else 0.0 for node, i in ((node, G.index[node]) for node in G.nbunch_iter(nodes))}

@@ -6,6 +6,7 @@ from typing import Any, Dict, Iterable, List, NamedTuple, Optional, Tuple
 
 from ..io import coo, matrix_text
 from ..io.networkx_adjacency import neighbourhoods, row_numbers
+from ..metadata import Nodes
 from . import process_session, weight_scaling
 
 
@@ -13,8 +14,7 @@ class Positions(NamedTuple):
     """Where a graph has edges: node i of `nodes` has `lengths[i]` neighbours, and entry k leads from `rows[k]` to `columns[k]`.
     An undirected edge stands both ways, a loop once; parallel edges are one entry, `counts` of them at each (None: one each).
     Arrays of numpy where it is there, else lists. `loops` has the edges from i to i by i."""
-    nodes: List[Any]
-    places: Dict[Any, int]
+    nodes: Nodes
     lengths: List[int]
     rows: Any
     columns: Any
@@ -48,18 +48,17 @@ def sequence(items: Iterable[int], count: int) -> Any:
 def positions(graph: Any) -> Positions:
     """The positions of a graph, in the order of its adjacency."""
     adjacency = neighbourhoods(graph)
-    nodes = list(graph)
-    places = {node: at for at, node in enumerate(nodes)}
+    nodes = Nodes(graph)
     lengths = list(map(len, adjacency.values()))
     ends: Iterable[Any] = itertools.chain.from_iterable(adjacency.values())
     if not (set(map(type, nodes)) <= {int} and nodes == list(range(len(nodes)))):
-        ends = map(places.__getitem__, ends)
+        ends = map(nodes.places.__getitem__, ends)
     columns = sequence(ends, sum(lengths))
     counts = [len(keys) for near in adjacency.values() for keys in near.values()] if graph.is_multigraph() else None
     rows = row_numbers(lengths)
     found = _loops(rows, columns)
     loops = dict.fromkeys(found, 1) if counts is None else {i: len(adjacency[nodes[i]][nodes[i]]) for i in found}
-    return Positions(nodes, places, lengths, rows, columns, counts if counts and max(counts) > 1 else None, loops)
+    return Positions(nodes, lengths, rows, columns, counts if counts and max(counts) > 1 else None, loops)
 
 
 def _loops(rows: Any, columns: Any) -> List[int]:

@@ -10,7 +10,7 @@ from networkx import NetworkXNotImplemented, NetworkXUnfeasible
 
 from .. import algorithms
 from ..algorithms.core_decomposition import Peeling
-from ..algorithms.utils import product, until_as_many
+from ..algorithms.utils import as_many, product, repeated
 from .backend_info import LITTLE, PRODUCTS, ROUNDS
 from .convert import copied
 from .registry import SIMPLE, SIMPLE_UNDIRECTED, UNDIRECTED, serves
@@ -39,7 +39,7 @@ def _cores(G: SpmatGraph) -> List[int]:
     core, k, left = [0] * len(G), 0, G.full()
     while left.nvals:
         k += 1
-        left = until_as_many(left, lambda had: near.mxv(had, 'plus_first', mask=had.S).select('valuege', k), None)
+        left = repeated(left, lambda had: near.mxv(had, 'plus_first', mask=had.S).select('valuege', k), as_many)
         for i in left.to_coo(arrays=False)[0]:
             core[i] = k
     return core
@@ -61,7 +61,7 @@ def _part(G: SpmatGraph, core: Optional[Cores], k: Optional[int], keep: Callable
 @serves(SIMPLE, pays=PRODUCTS)
 def k_core(G: SpmatGraph, k: Optional[int] = None, core_number: Optional[Cores] = None) -> Any:
     if core_number is None and k is not None and k >= 1 and not G.is_directed() and not G.loops:
-        return copied(G, set(G.by_node(algorithms.k_core(G.A, k, check=False))))
+        return copied(G, set(G.named(algorithms.k_core(G.A, k, check=False)).by_node()))
     return _part(G, core_number, k, lambda v, k, core: core[v] >= k)
 
 
@@ -83,7 +83,7 @@ def k_crust(G: SpmatGraph, k: Optional[int] = None, core_number: Optional[Cores]
 def k_corona(G: SpmatGraph, k: int, core_number: Optional[Cores] = None) -> Any:
     core: Cores = dict(zip(G, cores(G))) if core_number is None else core_number
     inside = G.spots([v for v in core if core[v] >= k])
-    near = G.by_node(G.A.mxv(inside, 'plus_pair'))
+    near = G.named(G.A.mxv(inside, 'plus_pair')).by_node()
     return _part(G, core, k, lambda v, k, core: core[v] == k == near.get(v, 0))
 
 
@@ -125,7 +125,7 @@ def node_boundary(G: SpmatGraph, nbunch1: Any, nbunch2: Any = None) -> Set[Any]:
     inside = {node for node in nbunch1 if node in G}
     if not inside:
         return set()
-    edge = set(map(G.nodes.__getitem__, G.spots_row(inside).mxm(G.A, 'any_pair').to_coo(arrays=False)[1])) - inside
+    edge = set(G.named(G.spots_row(inside).mxm(G.A, 'any_pair')).by_node()) - inside
     return edge if nbunch2 is None else edge & set(nbunch2)
 
 
@@ -142,4 +142,4 @@ def maximal_independent_set(G: SpmatGraph, nodes: Any = None, seed: Any = None) 
     keep = free.diag()
     rest = product(product(keep, G.A, 'any_pair'), keep, 'any_pair')
     more = algorithms.maximal_independent_set(rest, seed.getrandbits(32), check=False).ewise_mult(free, 'first')
-    return list(chosen) + list(G.by_node(more))
+    return list(chosen) + list(G.named(more).by_node())

@@ -82,8 +82,7 @@ def jaccard_coefficient(G: SpmatGraph, ebunch: Optional[Iterable[Pair]] = None) 
 
 def _far(G: SpmatGraph, sources: List[int]) -> Dict[Tuple[int, int], int]:
     """The lengths of paths from some nodes, by indices."""
-    rows, columns, values = algorithms.path_lengths(G.A, sources).to_coo(arrays=False)
-    return {(sources[i], j): value for i, j, value in zip(rows, columns, values)}
+    return {(sources[i], j): value for (i, j), value in algorithms.path_lengths(G.A, sources).to_dict().items()}
 
 
 @serves(SIMPLE_UNDIRECTED, pays=LITTLE)

@@ -16,7 +16,7 @@ from ..io import matrix_text
 from ..matrix import Matrix
 from .backend_info import KNOWN, LITTLE, WEIGHTS
 from .registry import SIGNED, Terms, serves
-from .single_source_lengths import NEGATIVE, check_method, check_weights, level_column, need, shortest
+from .single_source_lengths import NEGATIVE, check_method, check_weights, level_column, need, need_some, shortest
 from .spmat_graph import SpmatGraph
 
 Paths = Dict[Any, List[Any]]
@@ -44,10 +44,8 @@ class Query(NamedTuple):
 
 def search(G: SpmatGraph, sources: Sequence[Any], query: Query) -> Found:
     """A search from some nodes. NetworkXUnbounded for a cycle of negative length."""
-    column = _lengths(G, sources, query)
-    rows, _, values = column.to_coo(arrays=False)
+    far = _lengths(G, sources, query).by_node()
     starts = [G.index[source] for source in sources]
-    far = dict(zip(rows, values))
     if query.weight is not None and query.cutoff is not None:
         far = {at: x for at, x in far.items() if x <= query.cutoff or at in starts}
     near = _tight(G, far, query)
@@ -176,10 +174,7 @@ def _longest(cutoff: Any) -> Any:
 
 @serves(pays=WEIGHTS)
 def multi_source_dijkstra(G: SpmatGraph, sources: Any, target: Any = None, cutoff: Any = None, weight: Any = 'weight') -> Any:
-    if not sources:
-        raise ValueError('sources must not be empty')
-    for source in sources:
-        need(G, source)
+    need_some(G, sources)
     if target in sources:
         return 0, [target]
     starts = list(sources)

@@ -6,6 +6,7 @@ from __future__ import annotations
 
 import bisect
 import math
+import operator
 from typing import Any, Dict, Iterable, Iterator, List, Mapping, Optional, Sequence, Set
 
 import networkx as nx
@@ -33,15 +34,21 @@ def need(G: SpmatGraph, node: Any, said: str = 'Node %s not found in graph') -> 
         raise NodeNotFound(said % (node,))
 
 
+def need_some(G: SpmatGraph, sources: Any) -> None:
+    """Refuses no source, and one that is no node."""
+    if not sources:
+        raise ValueError('sources must not be empty')
+    for source in sources:
+        need(G, source)
+
+
 def nearest_first(G: SpmatGraph, column: Matrix) -> Lengths:
     """A column as {node: value} by ascending values."""
     if column.nvals > matrix_text.FEW // 16 and matrix_text.find_numpy() is not None:
         rows, _, values = column.to_coo(arrays=True)
         order = values.argsort(kind='stable')
         return dict(zip(map(G.nodes.__getitem__, rows[order].tolist()), values[order].tolist()))
-    rows, _, values = column.to_coo(arrays=False)
-    places = sorted(range(len(rows)), key=values.__getitem__)
-    return {G.nodes[rows[at]]: values[at] for at in places}
+    return dict(sorted(G.named(column).by_node().items(), key=operator.itemgetter(1)))
 
 
 def _depth(cutoff: Any) -> Optional[int]:
@@ -126,10 +133,7 @@ def single_target_shortest_path_length(G: SpmatGraph, target: Any, cutoff: Any =
 
 def _others(G: SpmatGraph, source: Any, back: bool) -> Set[Any]:
     need_node(G, source)
-    rows = level_column(G, [source], back=back).to_coo(arrays=False)[0]
-    found = set(map(G.nodes.__getitem__, rows))
-    found.discard(source)
-    return found
+    return set(G.named(level_column(G, [source], back=back)).by_node()) - {source}
 
 
 @serves(pays=WALK)
@@ -159,7 +163,7 @@ def descendants_at_distance(G: SpmatGraph, source: Any, distance: int) -> Set[An
     if distance < 0 or distance != int(distance):
         return set()
     found = level_column(G, [source], distance).select('valueeq', int(distance))
-    return set(G.by_node(found))
+    return set(G.named(found).by_node())
 
 
 def _both_ways(arguments: Mapping[str, Any]) -> Optional[str]:
@@ -177,7 +181,7 @@ def ego_graph(G: SpmatGraph, n: Any, radius: Any = 1, center: bool = True, undir
         need(G, n, 'Source %s is not in G')
         both = undirected and G.is_directed()
         found = algorithms.bfs_levels(G.around, G.index[n], depth=_depth(radius), check=False) if both else level_column(G, [n], radius)
-        near = G.by_node(found)
+        near = G.named(found).by_node()
     part = copied(G, set(near))
     if not center:
         part.remove_node(n)
@@ -211,10 +215,7 @@ def single_source_dijkstra_path_length(G: SpmatGraph, source: Any, cutoff: Any =
 
 @serves(pays=WEIGHTS)
 def multi_source_dijkstra_path_length(G: SpmatGraph, sources: Any, cutoff: Any = None, weight: Any = 'weight') -> Lengths:
-    if not sources:
-        raise ValueError('sources must not be empty')
-    for source in sources:
-        need(G, source)
+    need_some(G, sources)
     return lengths(G, list(sources), weight, cutoff=cutoff)
 
 
@@ -224,26 +225,26 @@ def single_source_bellman_ford_path_length(G: SpmatGraph, source: Any, weight: A
     return lengths(G, [source], weight, signed=True)
 
 
+def _far(G: SpmatGraph, source: Any, target: Any, weight: Any, said: str, signed: bool = False) -> Any:
+    """The length of the shortest path between two nodes, of which the first is there. NetworkXNoPath where there is none."""
+    if source == target:
+        return 0
+    far = length_to(G, source, target, weight, signed) if target in G else None
+    if far is None:
+        raise NetworkXNoPath(said % (target, source))
+    return far
+
+
 @serves(pays=KNOWN)
 def dijkstra_path_length(G: SpmatGraph, source: Any, target: Any, weight: Any = 'weight') -> Any:
     need(G, source)
-    if source == target:
-        return 0
-    far = length_to(G, source, target, weight) if target in G else None
-    if far is None:
-        raise NetworkXNoPath('Node %s not reachable from %s' % (target, source))
-    return far
+    return _far(G, source, target, weight, 'Node %s not reachable from %s')
 
 
 @serves(SIGNED, pays=WEIGHTS)
 def bellman_ford_path_length(G: SpmatGraph, source: Any, target: Any, weight: Any = 'weight') -> Any:
     need(G, source, 'Source %s not in G')
-    if source == target:
-        return 0
-    far = length_to(G, source, target, weight, signed=True) if target in G else None
-    if far is None:
-        raise NetworkXNoPath('node %s not reachable from %s' % (target, source))
-    return far
+    return _far(G, source, target, weight, 'node %s not reachable from %s', signed=True)
 
 
 @serves(SIGNED, pays=WEIGHTS)

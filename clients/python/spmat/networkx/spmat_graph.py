@@ -16,7 +16,6 @@ from .process_session import session
 
 FEW = 4096                                         # entries from which on text is written from arrays
 BOUND = 1 << 61                                    # what a weight times the nodes stays below: networkx' integers don't wrap
-Nodes = Iterable[Any]
 
 
 class SpmatGraph:
@@ -27,7 +26,7 @@ class SpmatGraph:
 
     def __init__(self, graph: Any) -> None:
         self.at: Positions = graph_arrays.positions(graph)
-        self.nodes, self.index = self.at.nodes, self.at.places
+        self.nodes, self.index = self.at.nodes, self.at.nodes.places
         self.kind = graph.__class__
         self.graph: Dict[Any, Any] = {}
         self.node_data: Optional[Dict[Any, Dict[Any, Any]]] = None
@@ -207,16 +206,12 @@ class SpmatGraph:
         """Ones both ways, with loops."""
         return self.made('around', lambda: self.A.ewise_add(self.AT, 'first')) if self._directed else self.A
 
-    def column(self, values: List[int]) -> Matrix:
-        """A column with a value for each node."""
-        return session().from_coo(range(len(self)), [0] * len(self), values, len(self), 1)
-
-    def spots(self, nodes: Nodes, value: int = 1) -> Matrix:
+    def spots(self, nodes: Iterable[Any], value: int = 1) -> Matrix:
         """A column with entries at some nodes."""
         at = sorted({self.index[node] for node in nodes})
         return session().from_coo(at, [0] * len(at), value, len(self), 1)
 
-    def spots_row(self, nodes: Nodes) -> Matrix:
+    def spots_row(self, nodes: Iterable[Any]) -> Matrix:
         """A row of ones at some nodes: a product with it costs what their edges cost."""
         at = sorted({self.index[node] for node in nodes})
         return session().from_coo([0] * len(at), at, 1, 1, len(self))
@@ -227,10 +222,10 @@ class SpmatGraph:
 
     # -- results
 
-    def by_node(self, column: Matrix) -> Dict[Any, int]:
-        """A column as {node: value}."""
-        rows, _, values = column.to_coo(arrays=False)
-        return dict(zip(map(self.nodes.__getitem__, rows), values))
+    def named(self, result: Matrix) -> Matrix:
+        """A column or a row, with the nodes as its names."""
+        result.nodes = self.nodes
+        return result
 
     def rows_of(self, matrix: Matrix, first: int = 0) -> Iterator[Tuple[Any, Dict[Any, int]]]:
         """A matrix as (node, {node: value}), a pair for each row; row 0 is node `first`."""

@@ -6,6 +6,8 @@ from typing import Any, Callable, Optional
 from .symbolic_operands import cdiv, cmod, udiv, ult, where
 from .symbolic_words import MEANINGS, Meaning, Word, flag, node_of
 
+Division = Callable[[Any, Any, int, int], Any]
+
 
 def _means(name: str) -> Callable[[Meaning], Meaning]:
     """Puts a function under the name of the operation that it is."""
@@ -47,6 +49,17 @@ def _right(x: Word, y: Word) -> Any:
 
 # -- division rounded down
 
+def _divides(name: str, op: str) -> Callable[[Division], Division]:
+    """Puts a function under the name of the division that it is. It gets the range of the divisor, and what needs a look at signs alone."""
+    def put(division: Division) -> Division:
+        def meaning(x: Any, y: Any) -> Any:
+            simple = _simple(op, x, y)
+            return division(x, y, *x.path.ranges.of(y.node)) if simple is None else simple
+        MEANINGS[name] = meaning
+        return division
+    return put
+
+
 def _simple(op: str, x: Any, y: Any) -> Optional[Any]:
     """Quotients (div) and rests (mod) that need no look at signs, else None."""
     path, divisor = x.path, y.node
@@ -58,12 +71,8 @@ def _simple(op: str, x: Any, y: Any) -> Optional[Any]:
     return x.operate(op, x, y) if path.ranges.of(x.node)[0] >= 0 and low >= 0 else None
 
 
-@_means('floordiv')
-def _quotient(x: Any, y: Any) -> Any:
-    low, high = x.path.ranges.of(y.node)
-    simple = _simple('div', x, y)
-    if simple is not None:
-        return simple
+@_divides('floordiv', 'div')
+def _quotient(x: Any, y: Any, low: int, high: int) -> Any:
     if low > 0:                                    # of -x - 1, and back, where x is below 0
         sign = x >> 63
         return udiv(x ^ sign, y) ^ sign
@@ -71,12 +80,8 @@ def _quotient(x: Any, y: Any) -> Any:
     return where(rest > 0 if high < 0 else (rest != 0) & (y != 0) & ((rest ^ y) < 0), quotient - 1, quotient)
 
 
-@_means('floormod')
-def _rest(x: Any, y: Any) -> Any:
-    low, high = x.path.ranges.of(y.node)
-    simple = _simple('mod', x, y)
-    if simple is not None:
-        return simple
+@_divides('floormod', 'mod')
+def _rest(x: Any, y: Any, low: int, high: int) -> Any:
     rest = cmod(x, y)
     made = where(rest < 0 if low >= 0 else rest > 0 if high < 0 else (rest != 0) & ((x ^ y) < 0), rest + y, rest)
     if low > 0 or high < 0:

@@ -1,5 +1,5 @@
-"""What is asked of Dask's scheduler itself, where it would wait for ever or for minutes: it runs there, so that process has to find this
-package too."""
+"""What `client.run_on_scheduler` runs in Dask's scheduler, where it would wait for ever or for minutes. So that process has to find this package
+too."""
 from __future__ import annotations
 
 import asyncio
