@@ -15,8 +15,7 @@ use Rattle.csr_store.specs.declared.error.StoreError.TheVariants.{PositionGivenT
 use Rattle.csr_store.specs.Grid.{Grid, Position, Entry, IsInside, pos_cmp, limit}
 use Rattle.csr_store.specs.Refusal.{put_fault}
 use Rattle.csr_store.specs.ByRows.{grid}
-use Rattle.csr_store.specs.Listed.{Listed}
-use Rattle.csr_store.specs.inner.Collected.{IsCollected, with_entries}
+use Rattle.csr_store.specs.inner.Collected.{IsCollected}
 use Rattle.csr_store.proofs.Order.{pos_total, pos_exact, sorted_from_keys}
 use Rattle.csr_store.proofs.Laws.{Fits, is_none, same_values, entries-from_entries, entries-empty, from_entries-entries, len-insert_new, insert-is_grid, empty-is_grid}
 
@@ -123,6 +122,18 @@ module _ (g : Grid) (es : List Entry) (p : Position) (h : IsCollected g es) (ins
   pub fits : get g.cells p ≡ None → value_at es p ≡ None → len g.cells + len (from_entries {R = pos_cmp} es) < limit → Fits (collected g es) p
   fits a b l = record { inside = inside; absent = nothing a b; room = let n = h.apart in omega arith }
 
+  still_first : (q : Position) (v : ℕ) → value_at es p ≡ None → (o : Ordering) → pos_cmp q p ≡ o → is_some (cond (is_eq o) (Some v) (get g.cells q)) ≡ true
+      → get (from_entries {R = pos_cmp} es) q ≡ None
+  still_first q v b Less e s = h.disjoint q s
+  still_first q v b Equal e s = ap (λ r. get (from_entries {R = pos_cmp} es) r) (pos_exact q p e) ∙ (get-value_at es p ∙ b)
+  still_first q v b Greater e s = h.disjoint q s
+
+  still_second : (q : Position) (v : ℕ) → get g.cells p ≡ None → is_some (get g.cells q) ≡ true → (o : Ordering) → pos_cmp q p ≡ o
+      → cond (is_eq o) (Some v) (value_at es q) ≡ None
+  still_second q v a s Less e = sym (get-value_at es q) ∙ h.disjoint q s
+  still_second q v a s Equal e = absurd (let t : is_some (get g.cells q) ≡ false = ap is_some (ap (get g.cells) (pos_exact q p e) ∙ a) in let u : true ≡ false = sym s ∙ t in cc)
+  still_second q v a s Greater e = sym (get-value_at es q) ∙ h.disjoint q s
+
   -- an entry more in the one
   pub first_collected : (new : Grid) (v : ℕ) → get g.cells p ≡ None → value_at es p ≡ None → len g.cells + len (from_entries {R = pos_cmp} es) < limit → v < 2 ^ 64
       → new ≡ record g { cells = insert g.cells p v } → IsCollected new es
@@ -133,6 +144,7 @@ module _ (g : Grid) (es : List Entry) (p : Position) (h : IsCollected g es) (ins
         apart =
             ap len (both_first g.cells es p v) ∙ len-insert_new (both g.cells es) p v (nothing a b)
             ∙ (let c = len-insert_new g.cells p v a in omega arith);
+        disjoint = λ q s. still_first q v b (pos_cmp q p) refl (sym (ap is_some (get-insert pos_total g.cells p v q)) ∙ s);
       })
 
   -- an entry more in the other
@@ -145,6 +157,7 @@ module _ (g : Grid) (es : List Entry) (p : Position) (h : IsCollected g es) (ins
         apart =
             ap len (both_second g.cells es fs p v a d) ∙ len-insert_new (both g.cells es) p v (nothing a b)
             ∙ (let c = ap len (one_put es fs p v d) ∙ len-insert_new (from_entries es) p v (get-value_at es p ∙ b) in omega arith);
+        disjoint = λ q s. get-value_at fs q ∙ (turned es fs p v d q ∙ still_second q v a s (pos_cmp q p) refl);
       }
 
 abbrev pub with_entry : Grid → Position → ℕ → Grid
@@ -170,29 +183,5 @@ collected_none g es r c e f =
     record {
       is_grid = rw alone (let k : g ≡ record { rows = g.rows; columns = g.columns; cells = empty } = ap (λ m. let x : Grid = record { rows = g.rows; columns = g.columns; cells = m } in x) e in rw k (empty-is_grid g.rows g.columns r c));
       apart = ap (λ (x : Grid). len x.cells) alone ∙ omega arith;
+      disjoint = λ q s. get-value_at es q ∙ ap (λ (xs : List Entry). value_at xs q) f;
     }
-
--- ---- the list of all entries
-
-listed_again : (l : Listed) (es fs : List Entry) → es ≡ fs → with_entries es l ≡ with_entries fs l
-listed_again l es fs e = ap (λ (xs : List Entry). with_entries xs l) e
-
-pub listed_none : (l : Listed) (es : List Entry) → es ≡ [] → l ≡ with_entries es l
-listed_none l es e = ap (λ (xs : List Entry). record l { entries = xs }) (sym (append-nil l.entries)) ∙ listed_again l [] es (sym e)
-
--- some entries more
-pub listed_more : (l m n : Listed) (es fs gs : List Entry) → m ≡ with_entries es l → n ≡ with_entries fs m → gs ≡ es ++ fs
-    → n ≡ with_entries gs l
-listed_more l m n es fs gs a b g =
-    b ∙ (ap (with_entries fs) a ∙ (ap (λ (xs : List Entry). record l { entries = xs }) (append_assoc l.entries es fs)
-    ∙ listed_again l (es ++ fs) gs (sym g)))
-
--- the next of those that are left
-pub listed_next : (l m : Listed) (left later : List Entry) (e : Entry) (all : Listed) → left ≡ e ∷ later → m ≡ with_entries (e ∷ []) l
-    → with_entries left l ≡ all → with_entries later m ≡ all
-listed_next l m left later e all c b h =
-    ap (with_entries later) b ∙ (ap (λ (xs : List Entry). record l { entries = xs }) (append_assoc l.entries (e ∷ []) later)
-    ∙ (listed_again l (e ∷ later) left (sym c) ∙ h))
-
-pub listed_all : (l : Listed) (left : List Entry) (all : Listed) → left ≡ [] → with_entries left l ≡ all → l ≡ all
-listed_all l left all e h = listed_none l left e ∙ h

@@ -10,6 +10,7 @@ pub mod Repeating
 pub mod Shuffled
 pub mod Slicing
 pub mod Collecting
+pub mod Union
 pub mod Runs
 pub mod Copies
 pub mod Valuing

@@ -1,15 +1,15 @@
 //! A matrix in the making.
-ghost use Rattle.std.specs.Prelude.{◌≡◌, ◌≤◌, ◌++◌, length, None, unwrap_or, OnOk, OnErr, IfOk, IfErr};
+ghost use Rattle.std.specs.Prelude.{◌≡◌, ◌≤◌, None, unwrap_or, OnOk, OnErr, IfOk, IfErr};
 ghost use Rattle.std.specs.FinMap as map;
-ghost use Rattle.csr_store.specs.Grid.{limit, at_row};
+ghost use Rattle.csr_store.specs.Grid.{limit};
 ghost use Rattle.csr_store.specs.Refusal.{put_fault};
-ghost use Rattle.csr_store.specs.inner.Collected.{with_entries};
 
 use crate::entry_list::EntryList;
 use crate::error::StoreError;
 use crate::filler::Filler;
 use crate::limits::MOST_ENTRIES;
-use crate::matrix::{Cell, Matrix};
+use crate::matrix::Matrix;
+use crate::merging::{merged, push_entries};
 use std::alloc::{AllocError, Global};
 use std::collections::BTreeMap;
 use std::marker::Model;
@@ -120,46 +120,20 @@ impl Builder {
         }
     }
 
-    /// The matrix of all entries, which are brought into order.
-    fn merged(&self) -> Result<Matrix, StoreError>
+    /// The matrix of all entries. The two are merged, so they stand in order, and nothing is sorted.
+    fn merged(&self) -> Result<Matrix, AllocError>
         ensures { IfOk result (λ m. m ≡ self.now) }
     {
-        let rows = self.ascending.rows();
-        let mut list = EntryList::new(self.alloc, rows, self.ascending.columns());
-        let many = (self.ascending.entries() as usize).saturating_add(self.others.len());
-        list.reserve(many).map_err(|_| StoreError::Memory)?;
-        push_rows(&mut list, &self.ascending)?;
-        push_others(&mut list, &self.others)?;
-        list.finish()
+        let entries = merged(self.alloc, &self.ascending, &self.others)?;
+        let for_proof_others = self.others.len();
+        let _ = for_proof_others;
+        let mut list = EntryList::new(self.alloc, self.ascending.rows(), self.ascending.columns());
+        push_entries(&mut list, &entries)?;
+        match list.finish() {
+            Ok(matrix) => Ok(matrix),
+            Err(StoreError::Memory) => Err(AllocError),
+            Err(StoreError::PositionGivenTwice) => unreachable!(),
+            Err(StoreError::IndexOutOfRange | StoreError::TooManyEntries) => unreachable!(),
+        }
     }
-}
-
-/// Adds the entries of a filler.
-fn push_rows(list: &mut EntryList, filler: &Filler) -> Result<(), StoreError>
-    ensures { OnOk result (list.new ≡ with_entries (map.entries filler.now.cells) list.old) }
-{
-    for row in 0..filler.rows() {
-        push_row(list, row, filler.row(row))?;
-    }
-    Ok(())
-}
-
-/// Adds the entries of a row.
-fn push_row(list: &mut EntryList, row: u64, cells: &[Cell]) -> Result<(), StoreError>
-    ensures { OnOk result (list.new ≡ with_entries (at_row row cells.now) list.old) }
-{
-    for (column, word) in cells {
-        list.push(row, *column, *word)?;
-    }
-    Ok(())
-}
-
-/// Adds the entries of a map.
-fn push_others(list: &mut EntryList, others: &BTreeMap<(u64, u64), u64>) -> Result<(), StoreError>
-    ensures { OnOk result (list.new ≡ with_entries others.now.entries list.old) }
-{
-    for (position, word) in others.iter() {
-        list.push(position.0, position.1, *word)?;
-    }
-    Ok(())
 }

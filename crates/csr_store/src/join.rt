@@ -10,7 +10,7 @@ use crate::starts::RowStarts;
 use std::alloc::{AllocError, Global};
 
 /// The matrix of runs of rows that follow one another from row 0 to the last, each with these columns and
-/// without an entry in its open row. Its two growths are taken first.
+/// without an entry in its open row. All memory is taken before the first cell is copied.
 pub fn join_rows(
     alloc: Global,
     rows: u64,
@@ -23,14 +23,15 @@ pub fn join_rows(
     requires small { length (numbered 0 (all_ended pieces.items)) ≤ limit }
     ensures { IfOk result (λ m. m ≡ grid rows columns (numbered 0 (all_ended pieces.items))) }
 {
+    let mut shared = RowStarts::room(alloc)?;
     let mut starts: Vec<u64> = Vec::with_capacity(alloc, rows as usize + 1)?;
     let mut cells = Vec::with_capacity(alloc, count_entries(&pieces))?;
     starts.push(0)?;
     for piece in &pieces {
         piece.append_to(&mut starts, &mut cells)?;
     }
-    let starts = RowStarts::new(alloc, starts)?;
-    Ok(Matrix::from_rows(rows, columns, starts, cells))
+    shared.give(starts)?;
+    Ok(Matrix::from_rows(rows, columns, shared, cells))
 }
 
 /// How many entries runs have.

@@ -15,9 +15,11 @@
 //! Read `specs/Grid.antt` and `specs/Refusal.antt` first, then `error`, `builder`, `matrix`, `rows` and
 //! `stack`; below them `cells` (one list of cells, or many), `starts` (where rows start, in a list that
 //! matrices may share), `growing` (where rows start while runs are stacked), `ends` (where the rows of a run
-//! end), `moving` (ends counted from another place), `filler` (rows filled in ascending order), `repeat` (the
-//! first entry that has the position of an earlier one), `kept` (cells of which some are kept), `reader` (rows
-//! one after the other) and `row` (parts of a list of cells, and searches in a row), over `specs/ByRows.antt`.
+//! end), `moving` (ends counted from another place), `filler` (rows filled in ascending order), `merging` (those
+//! entries and others by position, as one list), `sorting` (cells brought into order where they stand), `repeat`
+//! (the first entry that has the position of an earlier one), `kept` (cells of which some are kept), `reader`
+//! (rows one after the other) and `row` (parts of a list of cells, and searches in a row), over
+//! `specs/ByRows.antt`.
 #![tactic(auto)]
 
 pub mod builder;
@@ -32,12 +34,14 @@ mod join;
 mod kept;
 mod limits;
 pub mod matrix;
+mod merging;
 mod moving;
 mod reader;
 mod repeat;
 mod row;
 mod row_copy;
 mod rows;
+mod sorting;
 mod stack;
 mod starts;
 

@@ -1,5 +1,5 @@
 //! Where the rows of a matrix start: a list that matrices of which each row has as many entries may share.
-ghost use Rattle.std.specs.Prelude.{◌≡◌, IfOk, IfErr, IfSome};
+ghost use Rattle.std.specs.Prelude.{◌≡◌, IfOk, IfErr, IfSome, OnOk};
 
 use std::alloc::{AllocError, Global};
 use std::marker::Model;
@@ -32,7 +32,21 @@ impl RowStarts {
         Ok(RowStarts { list })
     }
 
-    /// The same, or the list back where there is no memory to share it.
+    /// Room for a list, which is given later.
+    pub(crate) fn room(alloc: Global) -> Result<Self, AllocError> {
+        let list = Arc::new(alloc, Vec::new(alloc))?;
+        Ok(RowStarts { list })
+    }
+
+    /// Puts a list into room that has one owner. Where it has more, the others keep theirs, and memory is taken; else none is.
+    pub(crate) fn give(&mut self, list: Vec<u64>) -> Result<(), AllocError>
+        ensures { OnOk result (self.new ≡ list.items) }
+    {
+        *Arc::make_mut(&mut self.list)? = list;
+        Ok(())
+    }
+
+    /// Of a list, or the list back where there is no memory to share it.
     pub(crate) fn or_back(alloc: Global, list: Vec<u64>) -> Result<Self, Vec<u64>>
         ensures ok { IfOk result (λ s. s ≡ list.items) }
         ensures err { IfErr result (λ l. l.items ≡ list.items) }

@@ -38,3 +38,27 @@ fn errors_are_shown_with_their_line(rt: HostRuntime) -> Result<(), Fail> {
     assert_eq!(rt; MarketRule::SymmetricNotSquare.name(), "M12");
     Ok(())
 }
+
+/// A text whose fourth line breaks a rule. No position is given again before it.
+const LATE_FAULT: &[u8] =
+    b"%%MatrixMarket matrix coordinate integer general\n2 2 3\n1 1 5\n2 2 x\n1 2 7\n";
+
+/// What reading a text is refused for, asked for once more where memory was refused.
+fn refusal_of(alloc: Global, text: &[u8]) -> Option<MarketError> {
+    match read(alloc, text) {
+        Ok(_) => None,
+        Err(MarketError::Memory) => read(alloc, text).err(),
+        Err(error) => Some(error),
+    }
+}
+
+/// Room for the entries is taken before the lines are read, and no more where a fault is found. So this passes whichever one
+/// allocation is refused.
+#[test]
+fn a_fault_that_is_found_is_told_without_memory(rt: HostRuntime) -> Result<(), Fail> {
+    match refusal_of(rt.alloc(), LATE_FAULT) {
+        Some(error) => assert_shown(&rt, rt.alloc(), error, "line 4: M5")?,
+        None => panic!(rt; "an entry line with a word"),
+    }
+    Ok(())
+}

@@ -28,7 +28,7 @@ pub from_rows-requires-clause-is_grid : goal.from_rows-requires-clause-is_grid
 from_rows-requires-clause-is_grid c =
     let v = c.deref-piece-items.ensures.value in
     let all : take c.loop-piece.piece-index c.deref-piece-items.result.now ≡ c.args.pieces.items = take_all c.loop-piece.piece-index c.deref-piece-items.result.now c.loop-piece-test.false ∙ v in
-    rw c.in_ok-starts-2.ensures
+    rw c.in_ok-give.ensures
     (joined_grid c.args.rows c.args.columns c.loop-piece.starts.items c.loop-piece.cells.items c.args.pieces.items c.requires.rows c.requires.columns c.requires.follow c.requires.small
     c.loop-piece.invariant.closed (c.loop-piece.invariant.listed ∙ ap all_ended all) (subst (λ (rs : List Run). AllByRecursion (λ q. IsRow c.args.columns q) (all_ended rs)) all c.loop-piece.invariant.are_rows))
 
@@ -36,7 +36,7 @@ pub from_rows-requires-clause-starts : goal.from_rows-requires-clause-starts
 from_rows-requires-clause-starts c =
     let v = c.deref-piece-items.ensures.value in
     let all : take c.loop-piece.piece-index c.deref-piece-items.result.now ≡ c.args.pieces.items = take_all c.loop-piece.piece-index c.deref-piece-items.result.now c.loop-piece-test.false ∙ v in
-    rw c.in_ok-starts-2.ensures
+    rw c.in_ok-give.ensures
     (joined_starts c.args.rows c.args.columns c.loop-piece.starts.items c.loop-piece.cells.items c.args.pieces.items c.requires.rows c.requires.columns c.requires.follow c.requires.small
     c.loop-piece.invariant.closed (c.loop-piece.invariant.listed ∙ ap all_ended all) (subst (λ (rs : List Run). AllByRecursion (λ q. IsRow c.args.columns q) (all_ended rs)) all c.loop-piece.invariant.are_rows))
 
@@ -44,7 +44,7 @@ pub returns : goal.returns
 returns c =
     let v = c.deref-piece-items.ensures.value in
     let all : take c.loop-piece.piece-index c.deref-piece-items.result.now ≡ c.args.pieces.items = take_all c.loop-piece.piece-index c.deref-piece-items.result.now c.loop-piece-test.false ∙ v in
-    c.from_rows.ensures ∙ ap (λ (ss : List ℕ). grid c.args.rows c.args.columns (by_rows (ends_of ss) c.loop-piece.cells.items)) c.in_ok-starts-2.ensures
+    c.from_rows.ensures ∙ ap (λ (ss : List ℕ). grid c.args.rows c.args.columns (by_rows (ends_of ss) c.loop-piece.cells.items)) c.in_ok-give.ensures
     ∙ ap (grid c.args.rows c.args.columns)
     (joined_entries c.args.rows c.args.columns c.loop-piece.starts.items c.loop-piece.cells.items c.args.pieces.items c.requires.rows c.requires.columns c.requires.follow c.requires.small
     c.loop-piece.invariant.closed (c.loop-piece.invariant.listed ∙ ap all_ended all) (subst (λ (rs : List Run). AllByRecursion (λ q. IsRow c.args.columns q) (all_ended rs)) all c.loop-piece.invariant.are_rows))
