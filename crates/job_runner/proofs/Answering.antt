@@ -1,7 +1,6 @@
 -- What a batch answers, from what its workers did.
-use Rattle.std.proofs.Common.{◌≡◌, ◌<◌, ◌≤◌, ◌∙◌, ℕ, List, Ok, Err, map, arith}
+use Rattle.std.proofs.Common.{◌≡◌, ◌<◌, ◌≤◌, ℕ, List, Ok, Err, map, arith}
 use Rattle.std.specs.List.{AllByRecursion}
-use Rattle.job_plan.specs.Chunks.{Cover}
 use Rattle.job_plan.specs.Job.{Job}
 use Rattle.job_plan.specs.Price.{IsWithinPrice}
 use Rattle.job_plan.specs.Refusal.{IsPriced}
@@ -12,20 +11,18 @@ use Rattle.job_runner.specs.Answers.{IsBatch, gave, broke}
 use Rattle.job_runner.specs.Batch.{AreResultsOf, result_of, total_steps}
 use Rattle.job_runner.specs.Crew.{crew_of}
 use Rattle.job_runner.specs.Whole.{IsRaced}
-use Rattle.job_runner.proofs.Racing.{whole_spent}
 use Rattle.job_runner.proofs.Theorem.{theorem_of}
 
-pub batch_gave : (workers : ℕ) (jobs : List Job) (a : BatchAnswer) → ((k : ℕ) (job : Job) → Cover k job)
+pub batch_gave : (workers : ℕ) (jobs : List Job) (a : BatchAnswer)
     → AllByRecursion IsPriced jobs → AllByRecursion IsWithinPrice jobs → AreResultsOf jobs (map result_of a.results.items)
-    → IsRaced (crew_of workers jobs) jobs (map result_of a.results.items) a.spent → IsBatch workers jobs (Ok a)
-batch_gave workers jobs a cover priced within are by = record {
+    → IsRaced (crew_of workers jobs) jobs (map result_of a.results.items) → IsBatch workers jobs (Ok a)
+batch_gave workers jobs a priced within are by = record {
   theorem = theorem_of jobs (map result_of a.results.items) priced within are;
   results = are;
   raced = by;
-  spent_all = by.recorded ∙ whole_spent cover jobs by.workers by.is_whole;
   spent = tt;
   thread = tt;
-  told = gave workers jobs (map result_of a.results.items) a.spent by;
+  told = gave workers jobs (map result_of a.results.items) by;
 }
 
 pub batch_broke : (workers count : ℕ) (jobs : List Job) (f : BatchFault) → count ≤ workers → f.spent ≤ total_steps jobs
@@ -36,7 +33,6 @@ batch_broke workers count jobs f few spent thread =
       theorem = tt;
       results = tt;
       raced = tt;
-      spent_all = tt;
       spent = spent;
       thread = several;
       told = broke workers jobs f.cause f.spent spent several;

@@ -1,18 +1,25 @@
--- Pieces put at the places of their chunks, and taken off in order.
-use Rattle.std.proofs.Common.{◌≡◌, ◌<◌, ◌⊎◌, inl, inr, ℕ, zero, suc, ◌+◌, List, [], ◌∷◌, ◌++◌}
-use Rattle.std.proofs.Common.{length, replicate, refl, sym, ap, ◌∙◌, subst, arith}
+-- Pieces put at the places of their chunks, and what they give, taken off in order.
+use Rattle.std.proofs.Common.{◌≡◌, ◌<◌, ◌⊎◌, inl, inr, ℕ, zero, suc, ◌+◌, List, [], ◌∷◌, ◌++◌, ◌-◌, map}
+use Rattle.std.proofs.Common.{length, replicate, Bool, true, false, cond, is_some, refl, sym, ap, ◌∙◌, subst, arith}
 use Rattle.std.specs.Prelude.{Option, Some, None}
 use Rattle.std.specs.List.{slice_get, AllByRecursion}
 use Rattle.std.proofs.Math.ListN.{set, replicate-append-replicate}
 use Rattle.std.proofs.lemmas.Option.{slice_get_within}
+use Rattle.std.proofs.lemmas.Bool.{lt-ltb, le-ltb}
 use Rattle.std.proofs.lemmas.Bool.Decides.{nat_tests}
 use Rattle.race_board.specs.Race.{one_if_same}
 use Rattle.race_board.specs.Chunks.{times_in}
 use Rattle.race_board.proofs.Sums.{sum_append}
+use Rattle.csr_store.specs.Along.{along}
+use Rattle.csr_store.specs.Run.{Run}
 use Rattle.job_plan.specs.Job.{Job}
 use Rattle.job_runner.specs.declared.piece.Piece.{Piece}
 use Rattle.job_runner.specs.Worked.{recorded, IsPieceOf}
-use Rattle.job_runner.specs.inner.Places.{ArePlaced, IsFull}
+use Rattle.job_runner.specs.Chunk.{chunks_in, chunk_total, run_in_job, steps_in_job, run_of, chunk_steps, none_run}
+use Rattle.job_runner.specs.inner.Pieces.{AreAll, given, given_at, job_gives, gives, listed}
+use Rattle.job_runner.specs.inner.Places.{ArePlaces, ArePlaced, IsFull}
+use Rattle.job_runner.proofs.Listed.{next-listed}
+use Rattle.job_runner.proofs.Located.{lt_or}
 use Rattle.job_runner.proofs.Working.{record_more}
 
 abbrev IsOther : ℕ → ℕ → Type 0
@@ -111,33 +118,71 @@ none_placed jobs n c p e = absurd (none_there n c p e)
 pub none_more : (n : ℕ) (places : List (Option Piece)) → places ≡ replicate n None → places ++ None ∷ [] ≡ replicate (n + 1) None
 none_more n places h = ap (λ xs. xs ++ None ∷ []) h ∙ replicate-append-replicate n 1 None
 
--- the front of what is left
-pub none_left : (places rest : List (Option Piece)) (i : ℕ)
-    → ((k : ℕ) → slice_get rest k ≡ slice_get places (i + k)) → length rest ≡ 0
-    → IsFull places i → ⊥
-none_left places rest i h e f =
-    let z : i + 0 ≡ i = omega arith in
-    let l = slice_get_within rest 0 (Some f.0) (h 0 ∙ (ap (slice_get places) z ∙ f.1)) in
-    omega (arith, l, e)
+-- what the pieces at the places give, all of them there
 
-pub first_there : (places rest : List (Option Piece)) (i : ℕ) (o : Option Piece)
-    → ((k : ℕ) → slice_get (o ∷ rest) k ≡ slice_get places (i + k))
-    → slice_get places i ≡ Some o
-first_there places rest i o h =
-    let z : i + 0 ≡ i = omega arith in
-    ap (slice_get places) (sym z) ∙ sym (h 0)
+mapped : {X T : Type 0} → (g : X → T) (f : ℕ → T) (xs : List X) (from : ℕ)
+    → ((k : ℕ) (x : X) → slice_get xs k ≡ Some x → g x ≡ f (from + k)) → map g xs ≡ along (λ c. f c ∷ []) from (length xs)
+mapped g f [] from h = refl
+mapped g f (x ∷ xs) from h =
+    let z : from + 0 ≡ from = omega arith in
+    let first = h 0 x refl ∙ ap f z in
+    ap (λ y. y ∷ map g xs) first ∙ ap (λ ys. f from ∷ ys) (mapped g f xs (suc from) (λ k y e.
+    let m : from + suc k ≡ suc from + k = omega arith in h (suc k) y e ∙ ap f m))
 
-pub rest_there : (places rest : List (Option Piece)) (i k : ℕ) (o : Option Piece)
-    → ((k : ℕ) → slice_get (o ∷ rest) k ≡ slice_get places (i + k))
-    → slice_get rest k ≡ slice_get places ((i + 1) + k)
-rest_there places rest i k o h =
-    let z : i + suc k ≡ (i + 1) + k = omega arith in
-    h (suc k) ∙ ap (slice_get places) z
+-- some rows and steps, and each of the two
+abbrev told : Run → ℕ → Option (Run × ℕ)
+told r n = Some (r, n)
 
-pub start_there : (places : List (Option Piece)) (k : ℕ) → slice_get places k ≡ slice_get places (0 + k)
-start_there places k = let z : k ≡ 0 + k = omega arith in ap (slice_get places) z
+abbrev rows_told : Option (Run × ℕ) → Run
+rows_told None = none_run
+rows_told (Some t) = t.0
 
--- a place that is full holds something
-pub full_some : (places : List (Option Piece)) (i : ℕ) (o : Option Piece) → IsFull places i → slice_get places i ≡ Some o
-    → o ≡ None → ⊥
-full_some places i o f e n = let a : Some (Some f.0) ≡ Some None = sym f.1 ∙ (e ∙ ap (λ x. Some x) n) in absurd (cc)
+abbrev steps_told : Option (Run × ℕ) → ℕ
+steps_told None = 0
+steps_told (Some t) = t.1
+
+gives_is : (jobs : List Job) (c : ℕ) → c < chunk_total jobs → gives jobs c ≡ told (run_of jobs c) (chunk_steps jobs c)
+gives_is [] c l = absurd (omega (arith, l))
+gives_is (job ∷ jobs) c l =
+    let rest = c - chunks_in job in
+    elim (lt_or c (chunks_in job)) [
+      | inl a ↦ let t = lt-ltb c (chunks_in job) a in
+          ap (λ b. cond b (job_gives job c) (gives jobs rest)) t
+          ∙ sym (ap (λ b. told (cond b (run_in_job job c) (run_of jobs rest)) (cond b (steps_in_job job c) (chunk_steps jobs rest))) t)
+      | inr m ↦ let t = le-ltb c (chunks_in job) m in
+          ap (λ b. cond b (job_gives job c) (gives jobs rest)) t
+          ∙ gives_is jobs rest (omega (arith, l, m))
+          ∙ sym (ap (λ b. told (cond b (run_in_job job c) (run_of jobs rest)) (cond b (steps_in_job job c) (chunk_steps jobs rest))) t)
+    ]
+
+pub all_given : (jobs : List Job) (places : List (Option Piece)) → ArePlaces jobs places
+    → ((c : ℕ) → c < chunk_total jobs → IsFull places c) → AreAll jobs places
+all_given jobs places are full =
+    mapped given (gives jobs) places 0 (λ k o e.
+    let long = are.long in
+    let within = slice_get_within places k o e in
+    let inside : k < chunk_total jobs = omega (arith, within, long) in
+    let there = full k inside in
+    let right = are.placed k there.0 there.1 in
+    let same : o ≡ Some there.0 = some_same o (Some there.0) (sym e ∙ there.1) in
+    let z : k ≡ 0 + k = omega arith in
+    ap given same ∙ ap (λ r. told r there.0.steps) (right.0.rows ∙ ap (run_of jobs) right.1)
+    ∙ ap (λ n. told (run_of jobs k) n) (right.0.steps ∙ ap (chunk_steps jobs) right.1)
+    ∙ sym (gives_is jobs k inside) ∙ ap (gives jobs) z)
+    ∙ ap (listed (gives jobs)) are.long
+
+-- what the next place gives
+pub next_given : (job : Job) (i n : ℕ) (p : Piece) (rest : List (Option Piece)) (others : List (Option (Run × ℕ))) → i < n
+    → given_at (Some p ∷ rest) ≡ along (λ c. job_gives job c ∷ []) i (n - i) ++ others
+    → (p.rows ≡ run_in_job job i) × (p.steps ≡ steps_in_job job i)
+    × (given_at rest ≡ along (λ c. job_gives job c ∷ []) (i + 1) (n - (i + 1)) ++ others)
+next_given job i n p rest others l h =
+    let next = next-listed (job_gives job) i n (given (Some p)) (given_at rest) others l h in
+    (ap rows_told next.0, ap steps_told next.0, next.1)
+
+-- a place is not empty, while some are left
+pub none_given : (job : Job) (i n : ℕ) (rest : List (Option Piece)) (others : List (Option (Run × ℕ))) → i < n
+    → given_at (None ∷ rest) ≡ along (λ c. job_gives job c ∷ []) i (n - i) ++ others → ⊥
+none_given job i n rest others l h =
+    let next = next-listed (job_gives job) i n (given None) (given_at rest) others l h in
+    let e : false ≡ true = ap is_some next.0 in absurd (cc)

@@ -11,20 +11,20 @@ use Rattle.job_runner.specs.Crew.{crew_of}
 use Rattle.job_runner.specs.Theorem.{BatchTheorem}
 use Rattle.job_runner.specs.Whole.{IsRaced}
 
--- What a batch says: what each job gave, in order, with the steps spent together; or why it broke off, with the steps spent by then.
+-- What a batch says: what each job gave, in order; or why it broke off, with the steps spent by then.
 pub data Said : Type 0 where
-  Gave : (results : List Result) → (spent : ℕ) → Said
+  Gave : (results : List Result) → Said
   Broke : Cause → (spent : ℕ) → Said
 
 abbrev pub said_of : std.Result BatchAnswer BatchFault → Said
-said_of (Ok a) = Gave (map result_of a.results.items) a.spent
+said_of (Ok a) = Gave (map result_of a.results.items)
 said_of (Err f) = Broke f.cause f.spent
 
 -- What a batch of these jobs may say that may have so many workers: what a race gave of just as many as `crew_of` tells; or, where it
 -- broke off, some of the steps, and for want of a thread only where it may have several.
 pub data MaySay : ℕ → List Job → Said → Type 0 where
-  gave : (workers : ℕ) (jobs : List Job) (results : List Result) (spent : ℕ)
-      → IsRaced (crew_of workers jobs) jobs results spent → MaySay workers jobs (Gave results spent)
+  gave : (workers : ℕ) (jobs : List Job) (results : List Result)
+      → IsRaced (crew_of workers jobs) jobs results → MaySay workers jobs (Gave results)
   broke : (workers : ℕ) (jobs : List Job) (why : Cause) (spent : ℕ) → spent ≤ total_steps jobs
       → (why ≡ Thread → 1 < workers) → MaySay workers jobs (Broke why spent)
 
@@ -32,8 +32,7 @@ pub data MaySay : ℕ → List Job → Said → Type 0 where
 pub record IsBatch (workers : ℕ) (jobs : List Job) (result : std.Result BatchAnswer BatchFault) : Type 0 where
   pub theorem : IfOk result (λ a. BatchTheorem jobs (map result_of a.results.items))
   pub results : IfOk result (λ a. AreResultsOf jobs (map result_of a.results.items))
-  pub raced : IfOk result (λ a. IsRaced (crew_of workers jobs) jobs (map result_of a.results.items) a.spent)
-  pub spent_all : IfOk result (λ a. a.spent ≡ total_steps jobs)
+  pub raced : IfOk result (λ a. IsRaced (crew_of workers jobs) jobs (map result_of a.results.items))
   pub spent : IfErr result (λ f. f.spent ≤ total_steps jobs)
   pub thread : IfErr result (λ f. f.cause ≡ Thread → 1 < workers)
   pub told : MaySay workers jobs (said_of result)

@@ -7,7 +7,7 @@ use Rattle.race_board.specs.Race.{Worker, IsLawful, IsToldEnd, AreNumbersBelow, 
 use Rattle.race_board.specs.Chunks.{AreEachOnce, CostJust, completed_by}
 use Rattle.job_plan.specs.Chunks.{prices_of}
 use Rattle.job_plan.specs.Job.{Job}
-use Rattle.job_runner.specs.Batch.{Result}
+use Rattle.job_runner.specs.Batch.{Result, total_steps}
 use Rattle.job_runner.specs.Chunk.{chunk_total, chunks_in, run_in_job, chunk_steps}
 
 -- the race of these workers is whole: they completed each chunk of the jobs exactly once, with the steps of its calls, and each of
@@ -29,8 +29,8 @@ abbrev pub all_rows : Grid → List Row
 all_rows g = along (λ i. row_of g i ∷ []) 0 g.rows
 
 -- So many workers, with the numbers from 0 on, ran one race over the chunks of the jobs, by the law of a board with these prices, and
--- it is whole. The results have the rows that it gives, and what was spent is what its workers recorded.
-pub record IsRaced (crew : ℕ) (jobs : List Job) (results : List Result) (spent : ℕ) : Type 0 where
+-- it is whole. The results have the rows that it gives, and the steps that its workers recorded are those of all jobs.
+pub record IsRaced (crew : ℕ) (jobs : List Job) (results : List Result) : Type 0 where
   pub workers : List Worker
   pub draws : ℕ
   pub many : length workers ≡ crew
@@ -38,4 +38,4 @@ pub record IsRaced (crew : ℕ) (jobs : List Job) (results : List Result) (spent
   pub lawful : IsLawful (prices_of jobs) draws workers
   pub is_whole : IsWhole jobs workers
   pub rows : map (λ (r : Result). all_rows r.matrix) results ≡ whole jobs
-  pub recorded : spent ≡ total_of steps_of workers
+  pub spent : total_of steps_of workers ≡ total_steps jobs

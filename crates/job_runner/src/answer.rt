@@ -9,11 +9,10 @@ pub struct JobResult {
     pub steps: u64,
 }
 
-/// What each job of a batch gave, in order of submission, and how many steps the workers spent together.
+/// What each job of a batch gave, in order of submission.
 #[derive(Drop)]
 pub struct BatchAnswer {
     pub results: Vec<JobResult>,
-    pub spent: u64,
 }
 
 /// Why a batch is refused.

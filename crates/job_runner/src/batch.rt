@@ -13,7 +13,6 @@ use crate::crew::{Means, work_all};
 use crate::gate::Gate;
 use crate::gathered::Gathered;
 use crate::join::join_jobs;
-use crate::places::in_order;
 use crate::size::crew_size;
 use crate::task::Task;
 use job_plan::Plan;
@@ -40,8 +39,7 @@ pub fn run_batch<H: Threads + Wait, G: Gate + Sync>(
     requires few { workers ≤ 64 }
     ensures theorem { IfOk result (λ a. BatchTheorem plan.now (map result_of a.results.items)) }
     ensures results { IfOk result (λ a. AreResultsOf plan.now (map result_of a.results.items)) }
-    ensures raced { IfOk result (λ a. IsRaced (crew_of workers plan.now) plan.now (map result_of a.results.items) a.spent) }
-    ensures spent_all { IfOk result (λ a. a.spent ≡ total_steps plan.now) }
+    ensures raced { IfOk result (λ a. IsRaced (crew_of workers plan.now) plan.now (map result_of a.results.items)) }
     ensures spent { IfErr result (λ f. f.spent ≤ total_steps plan.now) }
     ensures thread { IfErr result (λ f. f.cause ≡ Cause.Thread → 1 < workers) }
     ensures told { MaySay workers plan.now (said_of result) }
@@ -74,7 +72,7 @@ pub fn run_batch_with<H: Threads + Wait, G: Gate + Sync>(
     let outcome = results(Means { rt, alloc, gate }, plan, count, kept, &mut spent);
     kept.trim(plan);
     match outcome {
-        Ok(results) => Ok(BatchAnswer { results, spent }),
+        Ok(results) => Ok(BatchAnswer { results }),
         Err(cause) => Err(BatchFault { cause, spent }),
     }
 }
@@ -99,7 +97,7 @@ fn results<H: Threads + Wait, G: Gate + Sync>(
 ) -> Result<Vec<JobResult>, Cause>
     requires { (1 ≤ count) × (count ≤ 64) }
     ensures results { IfOk result (λ rs. AreResultsOf plan.now (map result_of rs.items)
-        × IsRaced count plan.now (map result_of rs.items) spent.new) }
+        × IsRaced count plan.now (map result_of rs.items)) }
     ensures spent { spent.new ≤ total_steps plan.now }
     ensures thread { IfErr result (λ why. why ≡ Cause.Thread → 1 < count) }
 {
@@ -125,6 +123,5 @@ fn results<H: Threads + Wait, G: Gate + Sync>(
     if failed {
         return Err(Cause::Memory);
     }
-    let pieces = in_order(alloc, plan, places)?;
-    Ok(join_jobs(alloc, plan, pieces)?)
+    Ok(join_jobs(alloc, plan, places)?)
 }

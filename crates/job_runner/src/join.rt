@@ -17,68 +17,69 @@ use std::alloc::{AllocError, Global};
 use std::sync::Arc;
 use std::vec::IntoIter;
 
-/// What each job of a plan gives, from the pieces of all chunks in order of their numbers. The cells
-/// stay where the pieces have them.
+/// What each job of a plan gives, from the pieces of all chunks, each at the place of its number. The cells stay where the pieces
+/// have them.
 pub(crate) fn join_jobs(
     alloc: Global,
     plan: &Plan,
-    pieces: Vec<Piece>,
+    places: Vec<Option<Piece>>,
 ) -> Result<Vec<JobResult>, AllocError>
-    requires all { AreAll plan.now pieces.items }
+    requires all { AreAll plan.now places.items }
     ensures { IfOk result (λ rs. AreResultsOf plan.now (map result_of rs.items)) }
 {
     plan.recall();
     let jobs = plan.jobs();
     let mut results = Vec::with_capacity(alloc, jobs.len())?;
-    let mut pieces = pieces.into_iter();
+    let mut places = places.into_iter();
     for job in jobs {
-        results.push(join_job(alloc, plan, job, &mut pieces)?)?;
+        results.push(join_job(alloc, plan, job, &mut places)?)?;
     }
     Ok(results)
 }
 
-/// What a job gives, from the next pieces.
+/// What a job gives, from the pieces at the next places.
 fn join_job(
     alloc: Global,
     plan: &Plan,
     job: &Priced,
-    pieces: &mut IntoIter<Piece>,
+    places: &mut IntoIter<Option<Piece>>,
 ) -> Result<JobResult, AllocError>
-    requires { BeginWith job.now (chunks_in job.now) (into_iter_items pieces.old) }
+    requires { BeginWith job.now (chunks_in job.now) (into_iter_items places.old) }
     ensures result { IfOk result (λ r. IsResultOf job.now (result_of r)) }
-    ensures left { OnOk result (AreBehind (chunks_in job.now) (into_iter_items pieces.old) (into_iter_items pieces.new)) }
+    ensures left { OnOk result (AreBehind (chunks_in job.now) (into_iter_items places.old) (into_iter_items places.new)) }
 {
     plan.recall();
     let for_proof_price = price(job);
     let job = job.job();
     let (rows, columns) = sizes(job);
-    let (runs, steps) = gather(alloc, job, rows.div_ceil(RUN_ROWS), pieces)?;
+    let (runs, steps) = gather(alloc, job, rows.div_ceil(RUN_ROWS), places)?;
     let matrix = stack_runs(alloc, rows, columns, runs, first_operand(job))?;
     matrix.recall();
     let version = Arc::new(alloc, matrix)?;
     Ok(JobResult { version, steps })
 }
 
-/// The rows of the next pieces, so many of them, and their steps added up.
+/// The rows of the pieces at the next places, so many of them, and their steps added up.
 fn gather(
     alloc: Global,
     job: &Job,
     count: u64,
-    pieces: &mut IntoIter<Piece>,
+    places: &mut IntoIter<Option<Piece>>,
 ) -> Result<(Vec<Rows>, u64), AllocError>
     requires few { summed (steps_in_job job.now) 0 count < 2 ^ 64 }
-    requires begin { BeginWith job.now count (into_iter_items pieces.old) }
+    requires begin { BeginWith job.now count (into_iter_items places.old) }
     ensures gathered { IfOk result (λ r. (r.0.items ≡ listed (run_in_job job.now) count)
         × (r.1 ≡ summed (steps_in_job job.now) 0 count)) }
-    ensures left { OnOk result (AreBehind count (into_iter_items pieces.old) (into_iter_items pieces.new)) }
+    ensures left { OnOk result (AreBehind count (into_iter_items places.old) (into_iter_items places.new)) }
 {
     let _ = job;
     let mut runs = Vec::with_capacity(alloc, count as usize)?;
     let mut steps = 0;
     for _next in 0..count {
-        let Some(piece) = pieces.next() else {
+        let Some(place) = places.next() else {
             unreachable!()
         };
+        let Some(piece) = place else { unreachable!() };
         steps += piece.steps;
         runs.push(piece.rows)?;
     }

@@ -2,8 +2,6 @@
 ghost use Rattle.std.specs.Prelude.{◌<◌, ◌⊎◌, ℕ, IfOk};
 ghost use Rattle.std.specs.List.{AllByRecursion};
 ghost use Rattle.race_board.specs.Chunks.{times_in};
-ghost use Rattle.job_runner.specs.Chunk.{chunk_total};
-ghost use Rattle.job_runner.specs.inner.Pieces.{AreAll};
 ghost use Rattle.job_runner.specs.Worked.{recorded, IsPieceOf};
 ghost use Rattle.job_runner.specs.inner.Places.{ArePlaces, IsFull};
 
@@ -37,28 +35,4 @@ pub(crate) fn put(plan: &Plan, places: &mut Vec<Option<Piece>>, pieces: Vec<Piec
         let place = piece.chunk as usize;
         places[place] = Some(piece);
     }
-}
-
-/// The pieces of all chunks, in order of their numbers.
-pub(crate) fn in_order(
-    alloc: Global,
-    plan: &Plan,
-    places: Vec<Option<Piece>>,
-) -> Result<Vec<Piece>, AllocError>
-    requires places { ArePlaces plan.now places.items }
-    requires full { (c : ℕ) → c < chunk_total plan.now → IsFull places.items c }
-    ensures { IfOk result (λ ps. AreAll plan.now ps.items) }
-{
-    let _ = plan;
-    let count = places.len();
-    let mut pieces = Vec::with_capacity(alloc, count)?;
-    let mut places = places.into_iter();
-    for _next in 0..count {
-        let Some(place) = places.next() else {
-            unreachable!()
-        };
-        let Some(piece) = place else { unreachable!() };
-        pieces.push(piece)?;
-    }
-    Ok(pieces)
 }

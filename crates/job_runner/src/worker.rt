@@ -1,10 +1,10 @@
 //! One worker.
-ghost use Rattle.std.specs.Prelude.{◌≡◌, ◌++◌, ◌∷◌, [], IfOk, IfErr, OnOk, OnErr};
+ghost use Rattle.std.specs.Prelude.{◌≡◌, ◌++◌, ◌∷◌, [], OnOk, OnErr};
 ghost use Rattle.csr_store.specs.Run.{Run};
 ghost use Rattle.race_board.specs.Race.{MayDrawAt};
 ghost use Rattle.job_plan.specs.Chunks.{prices_of};
 ghost use Rattle.job_runner.specs.Worked.{HasWorked};
-ghost use Rattle.job_runner.specs.inner.Worked.{IsHolding, IsMadeFor, IsCompleted, IsFailed};
+ghost use Rattle.job_runner.specs.inner.Worked.{IsHolding, IsMadeFor, IsRecorded};
 
 use crate::chunk::{Kept, Scratch, compute};
 use crate::gate::Gate;
@@ -82,8 +82,8 @@ fn work_with<G: Gate>(
         gate.enter(chunk);
         let made = compute(alloc, scratch, task.plan, chunk);
         match turn(task, seat, chunk, made, &mut pieces) {
-            Ok(steps) => spent += steps,
-            Err(steps) => {
+            ChunkEnd::Completed(steps) => spent += steps,
+            ChunkEnd::Failed(steps) => {
                 return Worked {
                     pieces,
                     spent: spent + steps,
@@ -123,33 +123,36 @@ fn fail_first<G: Gate>(alloc: Global, task: Task<'_>, seat: &mut BoardSeat, gate
     }
 }
 
+/// How the work on a chunk ended, with the steps of its calls; where there is no memory, of those that were made.
+#[derive(Clone, Copy)]
+pub(crate) enum ChunkEnd {
+    Completed(u64),
+    Failed(u64),
+}
+
 /// Records the chunk that the seat holds, for which this was made: as complete, with its piece behind the others, or as failed.
-/// Answers the steps of its calls; where there is no memory, of those that were made.
 fn turn(
     task: Task<'_>,
     seat: &mut BoardSeat,
     chunk: u64,
     made: Chunk,
     pieces: &mut Vec<Piece>,
-) -> Result<u64, u64>
+) -> ChunkEnd
     requires holds { IsHolding task.board.now chunk seat.old }
     requires made { IsMadeFor task.plan.now chunk made }
     requires prices { task.board.now.prices ≡ prices_of task.plan.now }
-    ensures completed { IfOk result (λ s. IsCompleted task.entry.board.now task.entry.plan.now chunk s seat.old seat.new
-        pieces.old.items pieces.new.items) }
-    ensures failed { IfErr result (λ s. IsFailed task.entry.board.now task.entry.plan.now chunk s seat.old seat.new
-        pieces.old.items pieces.new.items) }
+    ensures { IsRecorded task.entry.board.now task.entry.plan.now chunk result seat.old seat.new pieces.old.items pieces.new.items }
 {
     task.plan.recall();
     let steps = made.steps;
     match add(chunk, made, pieces) {
         Ok(()) => {
             task.board.complete(seat, chunk, steps);
-            Ok(steps)
+            ChunkEnd::Completed(steps)
         }
         Err(AllocError) => {
             task.board.fail(seat, chunk, steps);
-            Err(steps)
+            ChunkEnd::Failed(steps)
         }
     }
 }

@@ -145,7 +145,6 @@ fn three_chunks_of_a_diagonal(rt: HostRuntime) -> Result<(), Fail> {
     assert_eq!(rt; plan.chunks(), 3);
     let answer = answer(&rt, rt.alloc(), &plan);
     assert!(rt; is_incremented(&answer, 600, 3));
-    assert_eq!(rt; answer.spent, 1800);
     Ok(())
 }
 

@@ -1,6 +1,7 @@
 -- A line that is whole stays so, whatever follows.
 use Rattle.std.proofs.Common.{◌≡◌, ℕ, Bool, true, false, cond, List, [], ◌∷◌, ◌++◌, length, refl, ap, ◌∙◌, ltb, eqb}
-use Rattle.wire.specs.Lines.{Uncut, At, after_front, cut_line, without_cr, first, first_of, measured, Partial, Over, Line}
+use Rattle.std.specs.Str.Lines.{strip_carriage_return}
+use Rattle.wire.specs.Lines.{Uncut, At, after_front, cut_line, first, first_of, measured, Partial, Over, Line}
 use Rattle.wire.specs.Fetching.{Follows}
 use Rattle.wire.proofs.Known.{append_nil}
 
@@ -32,5 +33,5 @@ first-more true e bytes more line rest h f = rw (f.1, ended_same more bytes f.0,
 first-more false e bytes more line rest h f =
     elim (cut_line bytes) as (λ o. cut_line bytes ≡ o → first_of false bytes o ≡ Line line rest → first e (bytes ++ more) ≡ Line line (rest ++ more)) [
       | Uncut ↦ λ r k. absurd (elim (ltb (length bytes) 1026) as (λ t. cond t Partial Over ≡ Line line rest → ⊥) [ true ↦ λ q. cc | false ↦ λ q. cc ] k)
-      | At l m ↦ λ r k. rw (cut_line-append bytes more l m r) (measured-more (without_cr l) m more line rest k)
+      | At l m ↦ λ r k. rw (cut_line-append bytes more l m r) (measured-more (strip_carriage_return l) m more line rest k)
     ] refl h

@@ -2,6 +2,7 @@
 -- last line may lack its LF. A line is too long where it has over 1,024 bytes, LF and CR not counted.
 use Rattle.std.specs.Prelude.{ℕ, ◌==◌, ◌≤◌, nat_lt, Bool, true, false, if◌then◌else◌}
 use Rattle.std.specs.Prelude.{List, [], ◌∷◌, ◌++◌, length}
+use Rattle.std.specs.Str.Lines.{strip_carriage_return}
 
 -- bytes cut at their first LF: there is none, or there are bytes before it and after it
 pub data Cut : Type 0 where
@@ -15,12 +16,6 @@ after_front front (At line rest) = At (front ++ line) rest
 abbrev pub cut_line : List ℕ → Cut
 cut_line [] = Uncut
 cut_line (b ∷ bs) = if b == 10 then At [] bs else after_front (b ∷ []) (cut_line bs)
-
--- a line without the CR at its end
-abbrev pub without_cr : List ℕ → List ℕ
-without_cr [] = []
-without_cr (b ∷ []) = if b == 13 then [] else b ∷ []
-without_cr (b ∷ c ∷ bs) = b ∷ without_cr (c ∷ bs)
 
 -- What stands first in the bytes of a stream:
 pub data First : Type 0 where
@@ -46,7 +41,7 @@ unfinished false bs = if nat_lt (length bs) 1026 then Partial else Over
 
 abbrev pub first_of : Bool → List ℕ → Cut → First
 first_of ended bytes Uncut = unfinished ended bytes
-first_of ended bytes (At line rest) = measured (without_cr line) rest
+first_of ended bytes (At line rest) = measured (strip_carriage_return line) rest
 
 -- what stands first, where the stream has ended or not
 abbrev pub first : Bool → List ℕ → First

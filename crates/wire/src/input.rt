@@ -1,5 +1,5 @@
 //! The bytes that were read of a stream and not used yet, in room made at the start.
-ghost use Rattle.std.specs.Prelude.{◌≡◌, ◌<◌, ◌≤◌, ◌+◌, ◌↔◌, [], false, IsTrue};
+ghost use Rattle.std.specs.Prelude.{◌≡◌, ◌<◌, ◌≤◌, ◌+◌, [], false};
 ghost use Rattle.std.specs.Prelude.{length, take, drop, vec_capacity, IfOk, IfErr, OnOk};
 ghost use Rattle.std.specs.Io.KnownBytes.{ReadConsumes};
 ghost use Rattle.wire.specs.Devices.{IsRead};
@@ -81,13 +81,6 @@ impl Input {
         ensures { result ≡ self.now.ended }
     {
         self.ended
-    }
-
-    /// Whether there is no room for another byte.
-    pub fn is_full(&self) -> bool
-        ensures { IsTrue result ↔ (8192 ≤ length self.now.bytes) }
-    {
-        self.to - self.from >= ROOM
     }
 
     /// Uses up so many bytes.

@@ -1,6 +1,7 @@
 //! Lines in the bytes of a stream.
 ghost use Rattle.std.specs.Prelude.{◌≡◌, ◌<◌, ◌+◌, length, take, drop, MatchOption, Some, None};
-ghost use Rattle.wire.specs.Lines.{Uncut, At, cut_line, without_cr, first};
+ghost use Rattle.std.specs.Str.Lines.{strip_carriage_return};
+ghost use Rattle.wire.specs.Lines.{Uncut, At, cut_line, first};
 ghost use Rattle.wire.specs.inner.Found.{Matches};
 
 /// The most bytes that a line has, its line end not counted.
@@ -34,12 +35,12 @@ pub fn line_end(bytes: &[u8]) -> Option<usize>
 
 /// A line without the CR at its end.
 pub fn strip_cr(line: &[u8]) -> &[u8]
-    ensures { result.now ≡ without_cr line.now }
+    ensures { result.now ≡ strip_carriage_return line.now }
 {
-    let Some((last, front)) = line.split_last() else {
-        return line;
-    };
-    if *last == b'\r' { front } else { line }
+    match line {
+        [front @ .., b'\r'] => front,
+        _ => line,
+    }
 }
 
 /// Finds the first line of a stream, which has `ended` behind these bytes or may go on.

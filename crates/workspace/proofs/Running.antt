@@ -221,17 +221,17 @@ module _ {S : Type 0} (leads : S → Dealing → S → Type 0) (s t : S) where
       )
 
   -- the batch of a plan gave all, which is a turn of `run`
-  pub ran : (old mid new : State) (jobs : List Job) (results : List batch.Result) (spent : ℕ) (reply : List ℕ) → jobs ≡ old.queue
-      → mid ≡ record old { queue = [] } → AreResultsOf jobs results → MaySay mid.workers jobs (Gave results spent) → spent ≡ total_steps jobs
+  pub ran : (old mid new : State) (jobs : List Job) (results : List batch.Result) (reply : List ℕ) → jobs ≡ old.queue
+      → mid ≡ record old { queue = [] } → AreResultsOf jobs results → MaySay mid.workers jobs (Gave results)
       → Deals leads s (settled jobs results) t → reply ≡ run_text (total_steps jobs) (job_lines jobs results)
       → new ≡ record mid { matrices = all_bound mid.matrices jobs results }
       → (ds : List Dealing) × RunTurn old ds reply new × Deals leads s ds t
-  ran old mid new jobs results spent reply q m are say all d r n = (
+  ran old mid new jobs results reply q m are say d r n = (
     settled old.queue results,
     inl (
       results,
       subst (λ js. AreResultsOf js results) q are,
-      subst (λ js. MaySay old.workers js (Gave results (total_steps js))) q (subst (λ k. MaySay old.workers jobs (Gave results k)) all (subst (λ (x : State). MaySay x.workers jobs (Gave results spent)) m say)),
+      subst (λ js. MaySay old.workers js (Gave results)) q (subst (λ (x : State). MaySay x.workers jobs (Gave results)) m say),
       refl,
       r ∙ ap (λ js. run_text (total_steps js) (job_lines js results)) q,
       n ∙ ap (λ (x : State). record x { matrices = all_bound x.matrices jobs results }) m

@@ -220,7 +220,7 @@ batch_refusal cause.Thread spent = no.BatchThread spent
 abbrev pub Gives : State → List Dealing → List ℕ → State → Type 0
 Gives old dealings reply new =
     (results : List batch.Result) × AreResultsOf old.queue results
-    × MaySay old.workers old.queue (Gave results (total_steps old.queue))
+    × MaySay old.workers old.queue (Gave results)
     × (dealings ≡ settled old.queue results) × (reply ≡ run_text (total_steps old.queue) (job_lines old.queue results))
     × (new ≡ record old { matrices = all_bound old.matrices old.queue results; queue = [] })
 

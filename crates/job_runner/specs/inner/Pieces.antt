@@ -1,17 +1,25 @@
--- Pieces of a batch: what was computed for each of some chunks. This project's own.
-use Rattle.std.specs.Prelude.{◌≡◌, ℕ, List, [], ◌∷◌, ◌++◌, map, drop}
+-- Pieces of a batch, each at the place of its chunk's number, as its jobs take them. This project's own.
+use Rattle.std.specs.Prelude.{◌≡◌, ℕ, List, [], ◌∷◌, ◌++◌, Option, Some, None, map, drop}
 use Rattle.csr_store.specs.Along.{along}
 use Rattle.csr_store.specs.Run.{Run}
 use Rattle.job_plan.specs.Job.{Job}
 use Rattle.job_runner.specs.declared.piece.Piece.{Piece}
-use Rattle.job_runner.specs.Chunk.{chunk_total, run_of, chunk_steps, run_in_job, steps_in_job}
+use Rattle.job_runner.specs.Chunk.{chunk_total, run_in_job, steps_in_job, at_chunk}
 
--- their rows, and their steps
-abbrev pub runs_of : List Piece → List Run
-runs_of pieces = map (λ (p : Piece). p.rows) pieces
+-- what the piece at a place gives: its rows, and its steps
+abbrev pub given : Option Piece → Option (Run × ℕ)
+given None = None
+given (Some p) = Some (p.rows, p.steps)
 
-abbrev pub steps_of_each : List Piece → List ℕ
-steps_of_each pieces = map (λ (p : Piece). p.steps) pieces
+abbrev pub given_at : List (Option Piece) → List (Option (Run × ℕ))
+given_at places = map given places
+
+-- what chunk c of a job gives, and of the jobs
+abbrev pub job_gives : Job → ℕ → Option (Run × ℕ)
+job_gives job c = Some (run_in_job job c, steps_in_job job c)
+
+abbrev pub gives : List Job → ℕ → Option (Run × ℕ)
+gives jobs c = at_chunk job_gives None jobs c
 
 -- f 0, f 1 and so on, n of them
 abbrev pub listed : {T : Type 0} → (ℕ → T) → ℕ → List T
@@ -21,21 +29,14 @@ listed f n = along (λ c. f c ∷ []) 0 n
 abbrev pub BeginsWith : {T : Type 0} → (ℕ → T) → ℕ → List T → Type 0
 BeginsWith f n xs = xs ≡ listed f n ++ drop n xs
 
--- pieces begin with those of the first n chunks of a job
-pub record BeginWith (job : Job) (n : ℕ) (pieces : List Piece) : Type 0 where
-  pub runs : BeginsWith (run_in_job job) n (runs_of pieces)
-  pub steps : BeginsWith (steps_in_job job) n (steps_of_each pieces)
+-- the places have the pieces of all chunks of the jobs, in order of their numbers
+abbrev pub AreAll : List Job → List (Option Piece) → Type 0
+AreAll jobs places = given_at places ≡ listed (gives jobs) (chunk_total jobs)
+
+-- the first places have the pieces of the first n chunks of a job
+abbrev pub BeginWith : Job → ℕ → List (Option Piece) → Type 0
+BeginWith job n places = BeginsWith (job_gives job) n (given_at places)
 
 -- the later ones are those behind the first n of the earlier
-pub record AreBehind (n : ℕ) (before after : List Piece) : Type 0 where
-  pub runs : runs_of after ≡ drop n (runs_of before)
-  pub steps : steps_of_each after ≡ drop n (steps_of_each before)
-
--- those of the first n chunks of the jobs, in order of their numbers
-pub record AreFirst (jobs : List Job) (n : ℕ) (pieces : List Piece) : Type 0 where
-  pub runs : runs_of pieces ≡ listed (run_of jobs) n
-  pub steps : steps_of_each pieces ≡ listed (chunk_steps jobs) n
-
--- those of all chunks
-abbrev pub AreAll : List Job → List Piece → Type 0
-AreAll jobs pieces = AreFirst jobs (chunk_total jobs) pieces
+abbrev pub AreBehind : ℕ → List (Option Piece) → List (Option Piece) → Type 0
+AreBehind n before after = given_at after ≡ drop n (given_at before)

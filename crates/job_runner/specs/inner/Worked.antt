@@ -7,6 +7,8 @@ use Rattle.job_forms.specs.Region.{IsMade}
 use Rattle.job_plan.specs.Job.{Job}
 use Rattle.job_plan.specs.Chunks.{plan_chunks}
 use Rattle.job_runner.specs.declared.piece.Piece.{Piece}
+use Rattle.job_runner.specs.declared.worker.ChunkEnd.{ChunkEnd}
+use Rattle.job_runner.specs.declared.worker.ChunkEnd.TheVariants.{Completed, Failed}
 use Rattle.job_runner.specs.Chunk.{run_of, calls_of, chunk_steps}
 use Rattle.job_runner.specs.Worked.{IsPieceOf}
 
@@ -41,3 +43,8 @@ pub record IsFailed (board : BoardState) (jobs : List Job) (chunk steps : ℕ) (
   pub recorded : new.worker ≡ failed chunk steps old.worker
   pub kept : after ≡ before
   pub most : steps ≤ chunk_steps jobs chunk
+
+-- a turn that ends so
+abbrev pub IsRecorded : BoardState → List Job → ℕ → ChunkEnd → (old new : SeatState) (before after : List Piece) → Type 0
+IsRecorded board jobs chunk (Completed steps) old new before after = IsCompleted board jobs chunk steps old new before after
+IsRecorded board jobs chunk (Failed steps) old new before after = IsFailed board jobs chunk steps old new before after

@@ -168,10 +168,7 @@ fn runs<H: Threads + Wait + Abort, G: Gate + Sync>(
 {
     let plan = dear_increments(rt, alloc, rows)?;
     Ok(match run_batch(rt, alloc, &plan, workers, gate) {
-        Ok(answer) => {
-            answer.spent == u64::from(rows).wrapping_mul(DEAR)
-                && is_incremented(&answer, u64::from(rows), DEAR)
-        }
+        Ok(answer) => is_incremented(&answer, u64::from(rows), DEAR),
         Err(_) => false,
     })
 }

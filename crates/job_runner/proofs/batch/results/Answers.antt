@@ -4,7 +4,8 @@ use Rattle.race_board.specs.Race.{AreNumbersBelow, IsLawful, SeatState, workers_
 use Rattle.job_runner.specs.Whole.{IsRaced}
 use Rattle.job_runner.specs.Batch.{result_of}
 use Rattle.job_runner.proofs.Gathering.{gathered_spent, gathered_full}
-use Rattle.job_runner.proofs.Racing.{gathered_whole, one_race, whole_rows}
+use Rattle.job_runner.proofs.Placing.{all_given}
+use Rattle.job_runner.proofs.Racing.{gathered_whole, one_race, whole_rows, whole_spent}
 use Rattle.job_runner.proofs.batch.results.Given as given
 use Rattle.job_runner.proofs.batch.results.Goals as goal
 
@@ -18,8 +19,8 @@ work_all-gathered-requires-clause-room g c κs within =
       gathered = c.in_ok-gathered.ensures.gathered c.in_ok-board.board;
     }
 
-pub in_order-requires-clause-full : goal.in_order-requires-clause-full
-in_order-requires-clause-full g c =
+pub join_jobs-requires : goal.join_jobs-requires
+join_jobs-requires g c =
     let board = c.in_ok-board.board in
     let gathered = c.work_all-gathered.result.0 in
     let all = c.work_all-gathered.ensures.all (cc) in
@@ -29,8 +30,11 @@ in_order-requires-clause-full g c =
     let len = gathered.seats.ok.0 in
     let some : 0 < length gathered.seats.items = omega (arith, all, seats, count, len) in
     let whole : length gathered.seats.items ≡ board.workers = omega (arith, all, seats, workers, len) in
-    gathered_full board c.args.plan.now gathered c.work_all-gathered.ensures.gathered c.close.ensures.completed
-    c.in_ok-board.ensures.board.0 some whole c.if-failed.false
+    record {
+      all = all_given c.args.plan.now gathered.places.items c.work_all-gathered.ensures.gathered.places
+          (gathered_full board c.args.plan.now gathered c.work_all-gathered.ensures.gathered c.close.ensures.completed
+          c.in_ok-board.ensures.board.0 some whole c.if-failed.false);
+    }
 
 pub returns-in-Some-clause-spent : goal.returns-in-Some-clause-spent
 returns-in-Some-clause-spent g c =
@@ -40,12 +44,6 @@ returns-in-Some-clause-spent g c =
 
 pub returns-then-failed-clause-spent : goal.returns-then-failed-clause-spent
 returns-then-failed-clause-spent g c =
-    gathered_spent c.in_ok-board.board c.args.plan.now c.work_all-gathered.result.0 c.close.result.spent
-    c.work_all-gathered.ensures.gathered c.close.ensures.once c.close.ensures.spent
-    c.in_ok-board.ensures.board.0 c.recall.ensures.cover
-
-pub returns-in_err-pieces-clause-spent : goal.returns-in_err-pieces-clause-spent
-returns-in_err-pieces-clause-spent g c =
     gathered_spent c.in_ok-board.board c.args.plan.now c.work_all-gathered.result.0 c.close.result.spent
     c.work_all-gathered.ensures.gathered c.close.ensures.once c.close.ensures.spent
     c.in_ok-board.ensures.board.0 c.recall.ensures.cover
@@ -63,7 +61,7 @@ returns-clause-spent g c =
     c.in_ok-board.ensures.board.0 c.recall.ensures.cover
 
 raced : (g : given.Over) (c : goal.In_ok-join_jobs g)
-    → IsRaced c.args.count c.args.plan.now (map result_of c.in_ok-join_jobs.field-0.items) c.close.result.spent
+    → IsRaced c.args.count c.args.plan.now (map result_of c.in_ok-join_jobs.field-0.items)
 raced g c =
     let board = c.in_ok-board.board in
     let jobs = c.args.plan.now in
@@ -78,6 +76,8 @@ raced g c =
     let each = length-map gathered.seats.items (λ (s : SeatState). s.worker) in
     let alone = one_race board (workers_of gathered.seats.items) c.close.result.count c.close.result.recorded c.close.ensures.race
     (omega (arith, each, here)) in
+    let is_whole = gathered_whole board jobs gathered c.work_all-gathered.ensures.gathered c.close.ensures.completed
+    c.in_ok-board.ensures.board.0 some here c.if-failed.false in
     record {
       workers = workers_of gathered.seats.items;
       draws = c.close.result.count;
@@ -85,10 +85,9 @@ raced g c =
       numbers = subst (λ (n : ℕ). AreNumbersBelow n (workers_of gathered.seats.items)) workers alone.0;
       lawful = subst (λ (ps : List ℕ). IsLawful ps c.close.result.count (workers_of gathered.seats.items))
           c.in_ok-board.ensures.board.0 alone.1;
-      is_whole = gathered_whole board jobs gathered c.work_all-gathered.ensures.gathered c.close.ensures.completed
-          c.in_ok-board.ensures.board.0 some here c.if-failed.false;
+      is_whole = is_whole;
       rows = whole_rows c.recall.ensures.cover jobs (map result_of c.in_ok-join_jobs.field-0.items) c.in_ok-join_jobs.ensures;
-      recorded = c.close.ensures.spent;
+      spent = whole_spent c.recall.ensures.cover jobs (workers_of gathered.seats.items) is_whole;
     }
 
 pub returns-clause-results : goal.returns-clause-results

@@ -7,7 +7,6 @@ returns g c =
       theorem = is.theorem;
       results = is.results;
       raced = is.raced;
-      spent_all = is.spent_all;
       spent = is.spent;
       thread = is.thread;
       told = is.told;

@@ -8,8 +8,8 @@ pub returns-in-Ok : goal.returns-in-Ok
 returns-in-Ok g c =
     let jobs = c.args.plan.now in
     let is = c.in-Ok.ensures.results in
-    batch_gave c.args.workers jobs _ c.recall.ensures.cover c.recall.ensures.priced c.recall.ensures.within is.0
-    (subst (λ (n : ℕ). IsRaced n jobs (map result_of c.in-Ok.results.items) c.results-outcome.new.spent) c.crew_size-count.ensures.size is.1)
+    batch_gave c.args.workers jobs _ c.recall.ensures.priced c.recall.ensures.within is.0
+    (subst (λ (n : ℕ). IsRaced n jobs (map result_of c.in-Ok.results.items)) c.crew_size-count.ensures.size is.1)
 
 pub returns-in-Err : goal.returns-in-Err
 returns-in-Err g c =

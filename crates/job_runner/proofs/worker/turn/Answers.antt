@@ -21,8 +21,8 @@ fail-requires-clause-price c =
     price_there jobs chunk steps c.args.task.board.now.prices c.requires.prices c.recall.ensures.within c.requires.made.0
     (chunk_at_most jobs chunk steps c.args.made.result made.steps made.spent)
 
-pub returns-in-Ok-clause-completed : goal.returns-in-Ok-clause-completed
-returns-in-Ok-clause-completed c =
+pub returns-in-Ok : goal.returns-in-Ok
+returns-in-Ok c =
     let jobs = c.args.task.plan.now in
     let chunk = c.args.chunk in
     let made = c.requires.made.1 in
@@ -43,8 +43,8 @@ returns-in-Ok-clause-completed c =
       just = just;
     }
 
-pub returns-in-Err-clause-failed : goal.returns-in-Err-clause-failed
-returns-in-Err-clause-failed c =
+pub returns-in-Err : goal.returns-in-Err
+returns-in-Err c =
     let jobs = c.args.task.plan.now in
     let chunk = c.args.chunk in
     let made = c.requires.made.1 in

@@ -12,10 +12,10 @@ pub loop-chunk-preserved : goal.loop-chunk-preserved
 loop-chunk-preserved g c =
     let jobs = c.args.task.plan.now in
     let chunk = c.in-Some.chunk in
-    let steps = c.in-Ok.steps in
+    let steps = c.in-Completed.steps in
     let i = c.loop-chunk.invariant in
     let drew = c.in-Some.ensures.chunk.1 in
-    let turn = c.in-Ok.ensures.completed in
+    let turn = c.in-Completed.ensures in
     let done = turn.recorded in
     let just = turn.just in
     let old = c.loop-chunk.seat.worker in
@@ -43,10 +43,10 @@ overflow_add-spent g c =
     let chunk = c.in-Some.chunk in
     let i = c.loop-chunk.invariant in
     let plan = c.recall.ensures in
-    let just = c.in-Ok.ensures.completed.just in
+    let just = c.in-Completed.ensures.just in
     let listed = chunk_listed jobs chunk c.args.task.board.now.prices c.requires.prices c.in-Some.ensures.chunk.0 in
     let below = above_next c.loop-chunk.seat.worker c.loop-chunk.for_proof_next chunk i.drawn c.in-Some.ensures.above in
-    let room = room_of jobs c.loop-chunk.for_proof_next chunk c.loop-chunk.spent c.in-Ok.steps plan.cover plan.priced
+    let room = room_of jobs c.loop-chunk.for_proof_next chunk c.loop-chunk.spent c.in-Completed.steps plan.cover plan.priced
     plan.within plan.few (chunk_there jobs chunk listed) i.most below (omega (arith, just)) in
     omega (arith, room)
 
@@ -56,21 +56,21 @@ overflow_add-result g c =
     let chunk = c.in-Some.chunk in
     let i = c.loop-chunk.invariant in
     let plan = c.recall.ensures in
-    let most = c.in-Err.ensures.failed.most in
+    let most = c.in-Failed.ensures.most in
     let listed = chunk_listed jobs chunk c.args.task.board.now.prices c.requires.prices c.in-Some.ensures.chunk.0 in
     let below = above_next c.loop-chunk.seat.worker c.loop-chunk.for_proof_next chunk i.drawn c.in-Some.ensures.above in
-    let room = room_of jobs c.loop-chunk.for_proof_next chunk c.loop-chunk.spent c.in-Err.steps plan.cover plan.priced
+    let room = room_of jobs c.loop-chunk.for_proof_next chunk c.loop-chunk.spent c.in-Failed.steps plan.cover plan.priced
     plan.within plan.few (chunk_there jobs chunk listed) i.most below (omega (arith, most)) in
     omega (arith, room)
 
-pub returns-in-Err : goal.returns-in-Err
-returns-in-Err g c =
+pub returns-in-Failed : goal.returns-in-Failed
+returns-in-Failed g c =
     let jobs = c.args.task.plan.now in
     let chunk = c.in-Some.chunk in
-    let steps = c.in-Err.steps in
+    let steps = c.in-Failed.steps in
     let i = c.loop-chunk.invariant in
     let drew = c.in-Some.ensures.chunk.1 in
-    let turn = c.in-Err.ensures.failed in
+    let turn = c.in-Failed.ensures in
     let fails = turn.recorded in
     let listed = chunk_listed jobs chunk c.args.task.board.now.prices c.requires.prices c.in-Some.ensures.chunk.0 in
     record {

@@ -14,7 +14,7 @@ pub returns-in-Ok-run_batch_with-clause-turn : goal.returns-in-Ok-run_batch_with
 returns-in-Ok-run_batch_with-clause-turn g c =
     let is = c.in-Ok-run_batch_with.ensures in
     ran g.T.Steps.leads c.args.steps.now c.finish.new.steps (state_of c.args.workspace.now) (state_of c.begin.new.workspace) (state_of c.finish.new.workspace)
-    _ _ _ _ c.in-Ok.ensures.plan.0 c.in-Ok.ensures.taken is.results is.told is.spent_all c.finish.ensures.settled.0 c.finish.ensures.turn.0 c.finish.ensures.turn.1
+    _ _ _ c.in-Ok.ensures.plan.0 c.in-Ok.ensures.taken is.results is.told c.finish.ensures.settled.0 c.finish.ensures.turn.0 c.finish.ensures.turn.1
 
 pub returns-clause-turn : goal.returns-clause-turn
 returns-clause-turn g c =
