@@ -1,20 +1,20 @@
 -- What a command line asks for (this project's own).
-use Rattle.std.specs.Prelude.{ℕ, nat_lt, if◌then◌else◌, List, [], ◌∷◌, Option, None, Some, Result, Ok, Err, ok_or}
-use Rattle.std.specs.Prelude.{codes}
+use Rattle.std.specs.Prelude.{ℕ, ◌+◌, ◌&&◌, nat_le, nat_lt, Bool, true, false, if◌then◌else◌, List, [], ◌∷◌, length, drop, codes}
+use Rattle.std.specs.Prelude.{Option, None, Some, Result, Ok, Err, ok_or}
+use Rattle.std.specs.List.{find, list_any, slice_get}
+use Rattle.std.specs.Option.{option_map, option_and_then}
 use Rattle.std.specs.Str.{bytes_eq}
 use Rattle.matrix_market.specs.Values.{value_word}
-use Rattle.job_plan.specs.Form.{found, mask_found}
+use Rattle.job_plan.specs.Form.{found, mapped, mask_found}
 use Rattle.job_plan.specs.declared.form.Form as forms
 use Rattle.job_plan.specs.declared.form.Form.TheVariants.{Apply, Select, Union, Both, Product, Reduce}
 use Rattle.command_text.specs.Words.{is_name, length_of}
-use Rattle.command_text.specs.declared.request.Verb.{Verb}
-use Rattle.command_text.specs.declared.request.Verb.TheVariants as verbs
 use Rattle.command_text.specs.declared.rules.SessionRule.{SessionRule}
 use Rattle.command_text.specs.declared.rules.SessionRule.TheVariants.{UnknownCommand, MalformedWords, MalformedName}
 use Rattle.command_text.specs.declared.rules.FatalRule.{FatalRule}
 use Rattle.command_text.specs.declared.rules.FatalRule.TheVariants as fatal
 
--- a form of words, or of the names of operators and matrices
+-- a form of the names of operators and matrices
 abbrev pub Form : Type 0
 Form = forms.Form (List ℕ) (List ℕ)
 
@@ -57,6 +57,14 @@ pub data Request : Type 0 where
   Body : Header → (len : ℕ) → Request  -- a command whose body of so many bytes follows
   Fatal : FatalRule → Request  -- nothing that a session could go on after
 
+-- ---- names
+
+-- a word as a name, if it is one
+abbrev pub named : List ℕ → Option (List ℕ)
+named word = if is_name word then Some word else None
+
+-- ---- commands with a body
+
 -- the most bytes of a body
 abbrev pub body_limit : Header → ℕ
 body_limit (MatrixHeader name) = 268435456
@@ -68,22 +76,55 @@ abbrev pub with_length : Header → Option ℕ → Request
 with_length header None = Fatal fatal.MalformedWords
 with_length header (Some len) = if nat_lt (body_limit header) len then Fatal fatal.BodyTooLong else Body header len
 
--- ---- names
+-- `matrix NAME LEN`
+abbrev pub matrix_asked : List (List ℕ) → Request
+matrix_asked (name ∷ len ∷ []) = with_length (MatrixHeader name) (length_of len)
+matrix_asked _ = Fatal fatal.MalformedWords
 
--- a word as a name, if it is one
-abbrev pub named : List ℕ → Option (List ℕ)
-named word = if is_name word then Some word else None
-
--- the only word as a name, or the rule that it breaks
-abbrev pub only_name : List (List ℕ) → Result (List ℕ) SessionRule
-only_name (word ∷ []) = ok_or (named word) MalformedName
-only_name _ = Err MalformedWords
-
-abbrev pub of_name : (List ℕ → Command) → Result (List ℕ) SessionRule → Request
-of_name command (Ok name) = Plain (command name)
-of_name command (Err rule) = Plain (Refuse rule)
+-- `op NAME KIND LEN` and `asm NAME KIND LEN`
+abbrev pub operator_asked : (List ℕ → List ℕ → Header) → List (List ℕ) → Request
+operator_asked header (name ∷ kind ∷ len ∷ []) = with_length (header name kind) (length_of len)
+operator_asked header _ = Fatal fatal.MalformedWords
 
 -- ---- jobs
+
+-- How a form of job is written: `COMMAND OUT ..`, so many words behind the command, and perhaps `mask M`. Each number in the form is
+-- the place of a word: OUT has place 0.
+pub record JobWords : Type 0 where
+  pub command : List ℕ
+  pub count : ℕ
+  pub form : forms.Form ℕ ℕ
+
+abbrev pub all_forms : List JobWords
+all_forms =
+    record { command = codes "apply"; count = 3; form = Apply 1 None 2 }
+    ∷ record { command = codes "apply"; count = 4; form = Apply 1 (Some 3) 2 }
+    ∷ record { command = codes "select"; count = 4; form = Select 1 3 2 }
+    ∷ record { command = codes "union"; count = 4; form = Union 1 2 3 }
+    ∷ record { command = codes "both"; count = 4; form = Both 1 2 3 }
+    ∷ record { command = codes "product"; count = 5; form = Product 1 2 3 4 }
+    ∷ record { command = codes "reduce"; count = 3; form = Reduce 1 2 }
+    ∷ []
+
+-- nothing, or `mask` and one more word
+abbrev pub is_mask : List (List ℕ) → Bool
+is_mask [] = true
+is_mask (word ∷ name ∷ []) = bytes_eq word (codes "mask")
+is_mask _ = false
+
+-- so many words, and perhaps a mask behind them
+abbrev pub has_words : ℕ → List (List ℕ) → Bool
+has_words count words = nat_le count (length words) && is_mask (drop count words)
+
+-- whether a command and the words behind it are of a form
+abbrev pub is_of : List ℕ → List (List ℕ) → JobWords → Bool
+is_of command words form = bytes_eq form.command command && has_words form.count words
+
+-- the form, with the value that is written at the place of its thunk, if it has one
+abbrev pub with_thunk : (ℕ → Option ℕ) → forms.Form ℕ ℕ → Option (forms.Form ℕ ℕ)
+with_thunk value (Apply f (Some place) a) = option_map (λ thunk. Apply f (Some thunk) a) (value place)
+with_thunk value (Select f place a) = option_map (λ thunk. Select f thunk a) (value place)
+with_thunk value form = Some form
 
 abbrev pub joined : Option (List ℕ) → Option Form → Option (Option (List ℕ)) → Option Submission
 joined (Some output) (Some form) (Some mask) = Some (record { output = output; form = form; mask = mask })
@@ -91,101 +132,61 @@ joined (Some output) (Some form) None = None
 joined (Some output) None mask = None
 joined None form mask = None
 
--- the job of these words, if each is a name
-abbrev pub job_named : List ℕ → Form → Option (List ℕ) → Option Submission
-job_named output form mask = joined (named output) (found named named form) (mask_found named mask)
+-- the name that a word is, if it is there
+abbrev pub name_in : Option (List ℕ) → Option (List ℕ)
+name_in = option_and_then named
 
-abbrev pub submitted : Option Submission → Request
-submitted None = Plain (Refuse MalformedName)
-submitted (Some submission) = Plain (Submit submission)
+-- the job, if each of its words is a name; the mask's name is the second word behind the form's
+abbrev pub job_named : List (List ℕ) → ℕ → forms.Form ℕ ℕ → Option Submission
+job_named words count form =
+    joined (name_in (slice_get words 0)) (found name_in name_in (mapped (slice_get words) (slice_get words) form))
+    (mask_found named (slice_get words (count + 1)))
 
--- the words behind a job's own: none, or `mask` and a name; what else stands there is malformed
-abbrev pub mask_asked : List (List ℕ) → Option (Option (List ℕ))
-mask_asked [] = Some None
-mask_asked (word ∷ name ∷ []) = if bytes_eq word (codes "mask") then Some (Some name) else None
-mask_asked _ = None
+abbrev pub job_valued : List (List ℕ) → ℕ → Option (forms.Form ℕ ℕ) → Result Command SessionRule
+job_valued words count None = Err MalformedWords
+job_valued words count (Some form) = ok_or (option_map Submit (job_named words count form)) MalformedName
 
-abbrev pub with_mask : List ℕ → Form → Option (Option (List ℕ)) → Request
-with_mask output form None = Plain (Refuse MalformedWords)
-with_mask output form (Some mask) = submitted (job_named output form mask)
+abbrev pub job_written : List (List ℕ) → Option JobWords → Result Command SessionRule
+job_written words None = Err MalformedWords
+job_written words (Some form) =
+    job_valued words form.count (with_thunk (λ place. option_and_then value_word (slice_get words place)) form.form)
 
--- `OUT OP A` and `OUT OP A THUNK`, for apply
-abbrev pub apply_asked : List ℕ → List ℕ → List ℕ → Option ℕ → List (List ℕ) → Request
-apply_asked output operator operand None rest = Plain (Refuse MalformedWords)
-apply_asked output operator operand (Some thunk) rest = with_mask output (Apply operator (Some thunk) operand) (mask_asked rest)
+abbrev pub job_asked : List ℕ → List (List ℕ) → Result Command SessionRule
+job_asked command words =
+    if list_any (λ form. bytes_eq form.command command) all_forms
+    then job_written words (find (is_of command words) all_forms)
+    else Err UnknownCommand
 
-abbrev pub select_asked : List ℕ → List ℕ → List ℕ → Option ℕ → List (List ℕ) → Request
-select_asked output operator operand None rest = Plain (Refuse MalformedWords)
-select_asked output operator operand (Some thunk) rest = with_mask output (Select operator thunk operand) (mask_asked rest)
+-- ---- all commands
 
--- What a job's command asks for with the words behind it. Two words behind the operand of `apply` are a mask; else the first of
--- them is a thunk.
-abbrev pub job_asked : Verb → List (List ℕ) → Request
-job_asked verbs.Apply (output ∷ operator ∷ operand ∷ []) = with_mask output (Apply operator None operand) (Some None)
-job_asked verbs.Apply (output ∷ operator ∷ operand ∷ word ∷ name ∷ []) =
-    with_mask output (Apply operator None operand) (mask_asked (word ∷ name ∷ []))
-job_asked verbs.Apply (output ∷ operator ∷ operand ∷ thunk ∷ rest) =
-    apply_asked output operator operand (value_word thunk) rest
-job_asked verbs.Select (output ∷ operator ∷ operand ∷ thunk ∷ rest) =
-    select_asked output operator operand (value_word thunk) rest
-job_asked verbs.Union (output ∷ operator ∷ left ∷ right ∷ rest) =
-    with_mask output (Union operator left right) (mask_asked rest)
-job_asked verbs.Both (output ∷ operator ∷ left ∷ right ∷ rest) =
-    with_mask output (Both operator left right) (mask_asked rest)
-job_asked verbs.Product (output ∷ add ∷ mul ∷ left ∷ right ∷ rest) =
-    with_mask output (Product add mul left right) (mask_asked rest)
-job_asked verbs.Reduce (output ∷ operator ∷ operand ∷ rest) = with_mask output (Reduce operator operand) (mask_asked rest)
-job_asked _ _ = Plain (Refuse MalformedWords)
+-- the command of the only word, if that is a name
+abbrev pub of_name : (List ℕ → Command) → List (List ℕ) → Result Command SessionRule
+of_name command (word ∷ []) = ok_or (option_map command (named word)) MalformedName
+of_name command _ = Err MalformedWords
 
--- ---- commands
+-- the command, if no word follows it
+abbrev pub alone : Command → List (List ℕ) → Result Command SessionRule
+alone command [] = Ok command
+alone command _ = Err MalformedWords
 
--- What a command asks for with the words behind its first.
-abbrev pub asked : Verb → List (List ℕ) → Request
-asked verbs.Matrix (name ∷ len ∷ []) = with_length (MatrixHeader name) (length_of len)
-asked verbs.Matrix _ = Fatal fatal.MalformedWords
-asked verbs.Op (name ∷ kind ∷ len ∷ []) = with_length (OpHeader name kind) (length_of len)
-asked verbs.Op _ = Fatal fatal.MalformedWords
-asked verbs.Asm (name ∷ kind ∷ len ∷ []) = with_length (AsmHeader name kind) (length_of len)
-asked verbs.Asm _ = Fatal fatal.MalformedWords
-asked verbs.Dis words = of_name Dis (only_name words)
-asked verbs.Run [] = Plain Run
-asked verbs.Run _ = Plain (Refuse MalformedWords)
-asked verbs.Show words = of_name Show (only_name words)
-asked verbs.Types words = of_name Types (only_name words)
-asked verbs.Budget [] = Plain Budget
-asked verbs.Budget _ = Plain (Refuse MalformedWords)
-asked verbs.Quit [] = Plain Quit
-asked verbs.Quit _ = Plain (Refuse MalformedWords)
-asked verb words = job_asked verb words
+-- what a command without a body asks for with the words behind its first
+abbrev pub plain_asked : List ℕ → List (List ℕ) → Result Command SessionRule
+plain_asked command words =
+    if bytes_eq command (codes "dis") then of_name Dis words else
+    (if bytes_eq command (codes "run") then alone Run words else
+    (if bytes_eq command (codes "show") then of_name Show words else
+    (if bytes_eq command (codes "types") then of_name Types words else
+    (if bytes_eq command (codes "budget") then alone Budget words else
+    (if bytes_eq command (codes "quit") then alone Quit words else job_asked command words)))))
 
--- the job's command that a word names, if it names one
-abbrev pub job_verb_of : List ℕ → Option Verb
-job_verb_of word =
-    if bytes_eq word (codes "apply") then Some verbs.Apply else
-    (if bytes_eq word (codes "select") then Some verbs.Select else
-    (if bytes_eq word (codes "union") then Some verbs.Union else
-    (if bytes_eq word (codes "both") then Some verbs.Both else
-    (if bytes_eq word (codes "product") then Some verbs.Product else
-    (if bytes_eq word (codes "reduce") then Some verbs.Reduce else None)))))
-
--- the command that a word names, if it names one
-abbrev pub verb_of : List ℕ → Option Verb
-verb_of word =
-    if bytes_eq word (codes "matrix") then Some verbs.Matrix else
-    (if bytes_eq word (codes "op") then Some verbs.Op else
-    (if bytes_eq word (codes "asm") then Some verbs.Asm else
-    (if bytes_eq word (codes "dis") then Some verbs.Dis else
-    (if bytes_eq word (codes "run") then Some verbs.Run else
-    (if bytes_eq word (codes "show") then Some verbs.Show else
-    (if bytes_eq word (codes "types") then Some verbs.Types else
-    (if bytes_eq word (codes "budget") then Some verbs.Budget else
-    (if bytes_eq word (codes "quit") then Some verbs.Quit else job_verb_of word))))))))
-
-abbrev pub asked_by : Option Verb → List (List ℕ) → Request
-asked_by None words = Plain (Refuse UnknownCommand)
-asked_by (Some verb) words = asked verb words
+abbrev pub plain : Result Command SessionRule → Request
+plain (Ok command) = Plain command
+plain (Err rule) = Plain (Refuse rule)
 
 -- what the words of a line ask for: its first word alone tells the command
 abbrev pub request : List (List ℕ) → Request
 request [] = Plain Blank
-request (word ∷ words) = asked_by (verb_of word) words
+request (command ∷ words) =
+    if bytes_eq command (codes "matrix") then matrix_asked words else
+    (if bytes_eq command (codes "op") then operator_asked OpHeader words else
+    (if bytes_eq command (codes "asm") then operator_asked AsmHeader words else plain (plain_asked command words)))

@@ -26,7 +26,7 @@ pub use replies::{
     silent, tell_budget,
 };
 pub use reply::Reply;
-pub use request::{Command, Header, Request, Verb, parse};
+pub use request::{Command, Header, Request, parse};
 pub use rules::{FatalRule, SessionRule};
 pub use submission::Submission;
 pub use words::parse_kind;

@@ -1,5 +1,5 @@
 //! What a command line asks for.
-ghost use Rattle.std.specs.Prelude.{◌≡◌, ℕ, List, [], ◌∷◌, Ok, Err, MatchResult};
+ghost use Rattle.std.specs.Prelude.{◌≡◌, ℕ, List, Ok, Err, MatchResult};
 ghost use Rattle.text_words.specs.Words as text;
 ghost use Rattle.command_text.specs.Words.{length_of};
 ghost use Rattle.command_text.specs.Requests as spec;
@@ -7,32 +7,9 @@ ghost use Rattle.command_text.specs.Readings.{command_of, header_of, name_of, re
 
 use crate::name::Name;
 use crate::rules::{FatalRule, SessionRule};
-use crate::submission::{
-    Submission, apply_request, both_request, product_request, reduce_request, select_request,
-    union_request,
-};
-use crate::words::{only_word, three_words};
+use crate::submission::{Submission, parse_job};
+use crate::words::{only_word, three_words, two_words};
 use text_words::{decimal, first_word};
-
-/// The first word of a command.
-#[derive(Clone, Copy, Debug, PartialEq, Eq)]
-pub enum Verb {
-    Matrix,
-    Op,
-    Asm,
-    Dis,
-    Run,
-    Show,
-    Types,
-    Budget,
-    Quit,
-    Apply,
-    Select,
-    Union,
-    Both,
-    Product,
-    Reduce,
-}
 
 /// A command without a body, with its words.
 #[derive(Clone, Copy)]
@@ -79,73 +56,6 @@ pub enum Request<'a> {
     Fatal(FatalRule),
 }
 
-/// The command that a word names.
-fn parse_verb(word: &[u8]) -> Option<Verb>
-    ensures { result ≡ spec.verb_of word.now }
-{
-    if word == b"matrix".as_slice() {
-        Some(Verb::Matrix)
-    } else if word == b"op".as_slice() {
-        Some(Verb::Op)
-    } else if word == b"asm".as_slice() {
-        Some(Verb::Asm)
-    } else if word == b"dis".as_slice() {
-        Some(Verb::Dis)
-    } else if word == b"run".as_slice() {
-        Some(Verb::Run)
-    } else if word == b"show".as_slice() {
-        Some(Verb::Show)
-    } else if word == b"types".as_slice() {
-        Some(Verb::Types)
-    } else if word == b"budget".as_slice() {
-        Some(Verb::Budget)
-    } else if word == b"quit".as_slice() {
-        Some(Verb::Quit)
-    } else {
-        parse_job_verb(word)
-    }
-}
-
-/// The command of a job that a word names.
-fn parse_job_verb(word: &[u8]) -> Option<Verb>
-    ensures { result ≡ spec.job_verb_of word.now }
-{
-    if word == b"apply".as_slice() {
-        Some(Verb::Apply)
-    } else if word == b"select".as_slice() {
-        Some(Verb::Select)
-    } else if word == b"union".as_slice() {
-        Some(Verb::Union)
-    } else if word == b"both".as_slice() {
-        Some(Verb::Both)
-    } else if word == b"product".as_slice() {
-        Some(Verb::Product)
-    } else if word == b"reduce".as_slice() {
-        Some(Verb::Reduce)
-    } else {
-        None
-    }
-}
-
-/// A line that is refused.
-pub fn refuse<'a>(rule: SessionRule) -> Request<'a>
-    ensures { request_of result ≡ spec.Plain (spec.Refuse rule) }
-{
-    Request::Plain(Command::Refuse(rule))
-}
-
-/// The command, if no word follows it.
-fn alone<'a>(command: Command<'a>, rest: &[u8]) -> Request<'a>
-    ensures none { text.words rest.now ≡ [] → request_of result ≡ spec.Plain (command_of command.entry) }
-    ensures some { (word : List ℕ) (words : List (List ℕ)) → text.words rest.now ≡ word ∷ words →
-        request_of result ≡ spec.Plain (spec.Refuse SessionRule.MalformedWords) }
-{
-    match first_word(rest) {
-        None => Request::Plain(command),
-        Some(_) => refuse(SessionRule::MalformedWords),
-    }
-}
-
 /// The most bytes of a body.
 fn body_limit(header: Header<'_>) -> u64
     ensures { result ≡ spec.body_limit (header_of header.entry) }
@@ -175,23 +85,17 @@ fn with_length<'a>(header: Header<'a>, length: &[u8]) -> Request<'a>
 
 /// What follows the word `matrix`.
 fn matrix_request(rest: &[u8]) -> Request<'_>
-    ensures { request_of result ≡ spec.asked Verb.Matrix (text.words rest.now) }
+    ensures { request_of result ≡ spec.matrix_asked (text.words rest.now) }
 {
-    let Some((name, rest)) = first_word(rest) else {
-        return Request::Fatal(FatalRule::MalformedWords);
-    };
-    let Some((length, rest)) = first_word(rest) else {
-        return Request::Fatal(FatalRule::MalformedWords);
-    };
-    match first_word(rest) {
-        None => with_length(Header::Matrix { name }, length),
-        Some(_) => Request::Fatal(FatalRule::MalformedWords),
+    match two_words(rest) {
+        Some((name, length)) => with_length(Header::Matrix { name }, length),
+        None => Request::Fatal(FatalRule::MalformedWords),
     }
 }
 
 /// What follows the word `op`.
 fn operator_request(rest: &[u8]) -> Request<'_>
-    ensures { request_of result ≡ spec.asked Verb.Op (text.words rest.now) }
+    ensures { request_of result ≡ spec.operator_asked spec.OpHeader (text.words rest.now) }
 {
     match three_words(rest) {
         Some((name, kind, length)) => with_length(Header::Op { name, kind }, length),
@@ -201,7 +105,7 @@ fn operator_request(rest: &[u8]) -> Request<'_>
 
 /// What follows the word `asm`.
 fn assembly_request(rest: &[u8]) -> Request<'_>
-    ensures { request_of result ≡ spec.asked Verb.Asm (text.words rest.now) }
+    ensures { request_of result ≡ spec.operator_asked spec.AsmHeader (text.words rest.now) }
 {
     match three_words(rest) {
         Some((name, kind, length)) => with_length(Header::Asm { name, kind }, length),
@@ -211,63 +115,51 @@ fn assembly_request(rest: &[u8]) -> Request<'_>
 
 /// The only word of a text as a name, or the rule that it breaks.
 fn only_name(rest: &[u8]) -> Result<Name<'_>, SessionRule>
-    ensures { MatchResult result (λ name. spec.only_name (text.words rest.now) ≡ Ok (name_of name))
-        (λ rule. spec.only_name (text.words rest.now) ≡ Err rule) }
+    ensures { MatchResult result
+        (λ name. (command : List ℕ → spec.Command) →
+        spec.of_name command (text.words rest.now) ≡ Ok (command (name_of name)))
+        (λ rule. (command : List ℕ → spec.Command) → spec.of_name command (text.words rest.now) ≡ Err rule) }
 {
     let word = only_word(rest).ok_or(SessionRule::MalformedWords)?;
     Name::new(word).ok_or(SessionRule::MalformedName)
 }
 
-/// What follows the word `show`.
-fn show_request(rest: &[u8]) -> Request<'_>
-    ensures { request_of result ≡ spec.asked Verb.Show (text.words rest.now) }
+/// The command, if no word follows it.
+fn alone<'a>(command: Command<'a>, rest: &[u8]) -> Result<Command<'a>, SessionRule>
+    ensures { MatchResult result
+        (λ c. spec.alone (command_of command.entry) (text.words rest.now) ≡ Ok (command_of c))
+        (λ rule. spec.alone (command_of command.entry) (text.words rest.now) ≡ Err rule) }
 {
-    match only_name(rest) {
-        Ok(name) => Request::Plain(Command::Show { name }),
-        Err(rule) => refuse(rule),
+    match first_word(rest) {
+        None => Ok(command),
+        Some(_) => Err(SessionRule::MalformedWords),
     }
 }
 
-/// What follows the word `types`.
-fn types_request(rest: &[u8]) -> Request<'_>
-    ensures { request_of result ≡ spec.asked Verb.Types (text.words rest.now) }
+/// What a command without a body asks for with the words behind its first, or the rule by which it is refused.
+fn parse_plain<'a>(command: &[u8], rest: &'a [u8]) -> Result<Command<'a>, SessionRule>
+    ensures { MatchResult result
+        (λ c. spec.plain_asked command.now (text.words rest.now) ≡ Ok (command_of c))
+        (λ rule. spec.plain_asked command.now (text.words rest.now) ≡ Err rule) }
 {
-    match only_name(rest) {
-        Ok(name) => Request::Plain(Command::Types { name }),
-        Err(rule) => refuse(rule),
-    }
-}
-
-/// What follows the word `dis`.
-fn disassembly_request(rest: &[u8]) -> Request<'_>
-    ensures { request_of result ≡ spec.asked Verb.Dis (text.words rest.now) }
-{
-    match only_name(rest) {
-        Ok(name) => Request::Plain(Command::Dis { name }),
-        Err(rule) => refuse(rule),
-    }
-}
-
-/// What a command asks for with the words that follow its first.
-fn parse_rest(verb: Verb, rest: &[u8]) -> Request<'_>
-    ensures { request_of result ≡ spec.asked verb (text.words rest.now) }
-{
-    match verb {
-        Verb::Matrix => matrix_request(rest),
-        Verb::Op => operator_request(rest),
-        Verb::Asm => assembly_request(rest),
-        Verb::Dis => disassembly_request(rest),
-        Verb::Run => alone(Command::Run, rest),
-        Verb::Show => show_request(rest),
-        Verb::Types => types_request(rest),
-        Verb::Budget => alone(Command::Budget, rest),
-        Verb::Quit => alone(Command::Quit, rest),
-        Verb::Apply => apply_request(rest),
-        Verb::Select => select_request(rest),
-        Verb::Union => union_request(rest),
-        Verb::Both => both_request(rest),
-        Verb::Product => product_request(rest),
-        Verb::Reduce => reduce_request(rest),
+    if command == b"dis".as_slice() {
+        let name = only_name(rest)?;
+        Ok(Command::Dis { name })
+    } else if command == b"run".as_slice() {
+        alone(Command::Run, rest)
+    } else if command == b"show".as_slice() {
+        let name = only_name(rest)?;
+        Ok(Command::Show { name })
+    } else if command == b"types".as_slice() {
+        let name = only_name(rest)?;
+        Ok(Command::Types { name })
+    } else if command == b"budget".as_slice() {
+        alone(Command::Budget, rest)
+    } else if command == b"quit".as_slice() {
+        alone(Command::Quit, rest)
+    } else {
+        let submission = parse_job(command, rest)?;
+        Ok(Command::Submit(submission))
     }
 }
 
@@ -275,11 +167,19 @@ fn parse_rest(verb: Verb, rest: &[u8]) -> Request<'_>
 pub fn parse(line: &[u8]) -> Request<'_>
     ensures { request_of result ≡ spec.request (text.words line.now) }
 {
-    let Some((word, rest)) = first_word(line) else {
+    let Some((command, rest)) = first_word(line) else {
         return Request::Plain(Command::Blank);
     };
-    match parse_verb(word) {
-        Some(verb) => parse_rest(verb, rest),
-        None => refuse(SessionRule::UnknownCommand),
+    if command == b"matrix".as_slice() {
+        matrix_request(rest)
+    } else if command == b"op".as_slice() {
+        operator_request(rest)
+    } else if command == b"asm".as_slice() {
+        assembly_request(rest)
+    } else {
+        match parse_plain(command, rest) {
+            Ok(command) => Request::Plain(command),
+            Err(rule) => Request::Plain(Command::Refuse(rule)),
+        }
     }
 }

@@ -2,7 +2,7 @@
 ghost use Rattle.std.specs.Prelude.{◌≡◌, ◌∷◌, [], MatchOption};
 ghost use Rattle.text_words.specs.Words.{words};
 ghost use Rattle.command_text.specs.Words as spec;
-ghost use Rattle.command_text.specs.inner.Words.{IsNotOne, IsNotThree};
+ghost use Rattle.command_text.specs.inner.Words.{IsNotOne, IsNotTwo, IsNotThree};
 
 use bpf_insn::Kind;
 use text_words::first_word;
@@ -17,6 +17,18 @@ pub fn only_word(text: &[u8]) -> Option<&[u8]>
     let (word, rest) = first_word(text)?;
     match first_word(rest) {
         None => Some(word),
+        Some(_) => None,
+    }
+}
+
+/// The words of a text that has just two.
+pub fn two_words(text: &[u8]) -> Option<(&[u8], &[u8])>
+    ensures { MatchOption result (IsNotTwo (words text.now)) (λ w. words text.now ≡ w.0.now ∷ w.1.now ∷ []) }
+{
+    let (first, rest) = first_word(text)?;
+    let (second, rest) = first_word(rest)?;
+    match first_word(rest) {
+        None => Some((first, second)),
         Some(_) => None,
     }
 }

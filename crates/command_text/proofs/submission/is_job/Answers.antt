@@ -1,0 +1,11 @@
+use Rattle.std.proofs.Common.{rules, tests}
+use Rattle.std.specs.Str.{bytes_eq}
+use Rattle.std.proofs.lemmas.Iterator.{YieldsList-from_slice}
+use Rattle.std.proofs.lemmas.Iterator.Search.{any_from_yields_List}
+use Rattle.command_text.specs.declared.submission.JobWords.{JobWords}
+use Rattle.command_text.proofs.submission.is_job.Goals as goal
+
+pub returns : goal.returns
+returns c =
+    any_from_yields_List (λ (form : JobWords). bytes_eq form.command.now c.args.command.now) _ _ c.any.result c.any.ensures.ran
+    (YieldsList-from_slice _ c.iter.ensures.rest) (λ x b q k. search (rules, tests))
