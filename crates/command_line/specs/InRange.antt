@@ -11,7 +11,8 @@ IsWithin most number = IfSome number (λ n. (1 ≤ n) × (n ≤ most))
 abbrev pub HasRoom : ℕ → ℕ → Type 0
 HasRoom steps workers = (steps ≤ 2 ^ 62) × (1 ≤ workers) × (workers ≤ 64)
 
--- these and at most 1000000 seconds, and of a server a port from 1 to 65535, at most 1000000 sessions, and at most 2^62 steps for each
+-- these and at most 1000000 seconds, and of a server a port from 1 to 65535, at most 1000000 sessions, and at most 2^62 steps for
+-- each
 abbrev pub IsInRange : Settings → Type 0
 IsInRange (Run steps workers idle) = HasRoom steps workers × IsWithin 1000000 idle
 IsInRange (Serve port steps workers sessions idle session_steps session_reserve log log_format log_every) =

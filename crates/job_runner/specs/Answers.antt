@@ -20,8 +20,8 @@ abbrev pub said_of : std.Result BatchAnswer BatchFault → Said
 said_of (Ok a) = Gave (map result_of a.results.items)
 said_of (Err f) = Broke f.cause f.spent
 
--- What a batch of these jobs may say that may have so many workers: what a race gave of just as many as `crew_of` tells; or, where it
--- broke off, some of the steps, and for want of a thread only where it may have several.
+-- What a batch of these jobs may say that may have so many workers: what a race gave of just as many as `crew_of` tells; or,
+-- where it broke off, some of the steps, and for want of a thread only where it may have several.
 pub data MaySay : ℕ → List Job → Said → Type 0 where
   gave : (workers : ℕ) (jobs : List Job) (results : List Result)
       → IsRaced (crew_of workers jobs) jobs results → MaySay workers jobs (Gave results)

@@ -28,8 +28,8 @@ whole jobs = map rows_of_chunks jobs
 abbrev pub all_rows : Grid → List Row
 all_rows g = along (λ i. row_of g i ∷ []) 0 g.rows
 
--- So many workers, with the numbers from 0 on, ran one race over the chunks of the jobs, by the law of a board with these prices, and
--- it is whole. The results have the rows that it gives, and the steps that its workers recorded are those of all jobs.
+-- So many workers, with the numbers from 0 on, ran one race over the chunks of the jobs, by the law of a board with these prices,
+-- and it is whole. The results have the rows that it gives, and the steps that its workers recorded are those of all jobs.
 pub record IsRaced (crew : ℕ) (jobs : List Job) (results : List Result) : Type 0 where
   pub workers : List Worker
   pub draws : ℕ

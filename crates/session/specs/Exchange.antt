@@ -68,7 +68,8 @@ pub record Final {S : Type 0} (ahead : Ahead) (cut : Bool) (leads : S → Dealin
 -- nothing waits to be written
 abbrev pub FinalWhole : {S : Type 0} → Ahead → (S → Dealing → S → Type 0) → ℕ → Scene S → Scene S → Option End
     → Type 0
-FinalWhole ahead leads failed_reads old new end = Final ahead false leads failed_reads true old new end × (new.touched.out.waits ≡ [])
+FinalWhole ahead leads failed_reads old new end =
+    Final ahead false leads failed_reads true old new end × (new.touched.out.waits ≡ [])
 
 abbrev pub Exchanged : {S : Type 0} → Ahead → (S → Dealing → S → Type 0) → Scene S → Scene S
     → Result (Option End) ServeFault → Type 0

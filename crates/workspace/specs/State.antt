@@ -1,5 +1,5 @@
--- What a session holds between two commands: matrices and operators by their names, the jobs that wait, and how many workers may run
--- them (this project's own).
+-- What a session holds between two commands: matrices and operators by their names, the jobs that wait, and how many workers may
+-- run them (this project's own).
 use Rattle.std.specs.Prelude.{ℕ, List, [], Option, None, Some}
 use Rattle.std.specs.Str.{bytes_eq}
 use Rattle.std.specs.Map.{update}

@@ -43,8 +43,8 @@ Responds old heard dealings reply new (Some end) =
 abbrev pub IsEmptied : Outgoing → Outgoing → Type 0
 IsEmptied old new = Sent true [] old new × (new.waits ≡ [])
 
--- What was waited for came, and what was said before it may wait on. Or it isn't there, after a fault: all that was said is written,
--- but for where a write failed.
+-- What was waited for came, and what was said before it may wait on. Or it isn't there, after a fault: all that was said is
+-- written, but for where a write failed.
 abbrev pub Awaited : {A : Type 0} → Result A ServeFault → (came : A → List ℕ → Type 0) → (missing : List ℕ → Type 0)
     → Stream → Stream → Outgoing → Outgoing → Type 0
 Awaited (Ok a) came missing s t o p = Fetched 0 s t (came a) × Sent true [] o p
