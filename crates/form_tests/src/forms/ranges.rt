@@ -122,15 +122,28 @@ fn patterned(alloc: Global, columns: u64, one_of: u64) -> Result<Matrix, Fail> {
     matrix(alloc, (ROWS, columns), &entries)
 }
 
-/// The rows of a job's result, in any range, are the reference's: without a mask, with one, and of a matrix with itself.
+/// The same of two matrices without a mask and with one, and of the first with itself.
+fn assert_masked<'m>(
+    rt: &impl Abort,
+    alloc: Global,
+    job: Job,
+    operator: &Operator,
+    a: &'m Matrix,
+    b: &'m Matrix,
+    mask: &'m Matrix,
+) -> Result<(), Fail> {
+    assert_all_ranges(rt, alloc, job, operator, (a, b, None))?;
+    assert_all_ranges(rt, alloc, job, operator, (a, b, Some(mask)))?;
+    assert_all_ranges(rt, alloc, job, operator, (a, a, None))
+}
+
+/// The rows of a job's result, in any range, are those of the reference.
 fn assert_ranges(rt: &impl Abort, alloc: Global, job: Job) -> Result<(), Fail> {
     let operator = operator_for(alloc, job)?;
     let a = patterned(alloc, 3, 4)?;
     let b = patterned(alloc, 3, 7)?;
     let mask = patterned(alloc, columns_of(job, &a), 2)?;
-    assert_all_ranges(rt, alloc, job, &operator, (&a, &b, None))?;
-    assert_all_ranges(rt, alloc, job, &operator, (&a, &b, Some(&mask)))?;
-    assert_all_ranges(rt, alloc, job, &operator, (&a, &a, None))
+    assert_masked(rt, alloc, job, &operator, &a, &b, &mask)
 }
 
 #[test]
