@@ -8,7 +8,8 @@ ghost use Rattle.step_purse.specs.Shares.{whole};
 ghost use Rattle.session.specs.Rooms.{full_room};
 ghost use Rattle.spmat.specs.inner.Running.{Ran, RanOver};
 
-use listener::{End, FromRead, Room, ServeFault, Sink, Source, ToWrite, serve_pass};
+use listener::serve_pass;
+use session::{End, Room, ServeFault};
 use std::alloc::{AllocError, Global};
 use std::io::{Read, Write};
 use std::marker::Brand;
@@ -16,6 +17,7 @@ use std::sync::Wait;
 use std::sync::ledger::{Blank, Ledger};
 use std::thread::Threads;
 use step_purse::{Pass, Purse};
+use wire::{FromRead, Sink, Source, ToWrite};
 
 /// What a session works with: a purse, its one pass, and the room.
 #[derive(Drop)]
