@@ -12,16 +12,16 @@ use Rattle.bpf_insn.specs.Spelling.{Fits}
 use Rattle.bpf_insn.specs.Program.{slots_of, slot_count}
 use Rattle.bpf_text.specs.declared.argument.Argument.{Argument}
 use Rattle.bpf_text.specs.declared.argument.Argument.TheVariants as arguments
-use Rattle.bpf_text.specs.declared.form.Form.{Form}
-use Rattle.bpf_text.specs.declared.form.Form.TheVariants as forms
+use Rattle.bpf_text.specs.declared.mnemonic.Mnemonic.{Mnemonic}
+use Rattle.bpf_text.specs.declared.mnemonic.Mnemonic.TheVariants as mnemonics
 use Rattle.bpf_text.specs.declared.rule.AsmRule.{AsmRule}
 use Rattle.bpf_text.specs.declared.rule.AsmRule.TheVariants.{LineTooLong, UnknownMnemonic, MalformedOperands, UnknownRegister, NumberOutOfRange, BadLength}
 use Rattle.bpf_text.specs.Rule.{rule_number}
-use Rattle.bpf_text.specs.Forms.{form_of, operands_of, argument_of_operand}
+use Rattle.bpf_text.specs.Mnemonics.{mnemonic_of, operands_of, argument_of_operand}
 use Rattle.bpf_text.specs.Lines.{is_statement, mnemonic_in, arguments_in}
 use Rattle.bpf_text.specs.Text.{Names, StandsFor, kinds, is_unknown, Misnames, Breaks, IsLowestBroken}
 use Rattle.bpf_text.specs.inner.Reading.{IsLowestMisnamed}
-use Rattle.bpf_text.proofs.Mnemonics.{mnemonic-injective}
+use Rattle.bpf_text.proofs.Mnemonics.{mnemonic_text-injective}
 use Rattle.bpf_text.proofs.Statements.{no_unknown, known_operands}
 
 -- Of a statement.
@@ -80,33 +80,33 @@ operand-of : (s : Operand) → of_operand (argument_of_operand s) ≡ s
 operand-of (operands.Imm n) = refl
 operand-of (operands.Register r) = refl
 
-abbrev insn_from : Form → List Argument → Insn
-insn_from (forms.Alu w op) (arguments.Register d ∷ s ∷ []) = insns.Alu w op d (of_operand s)
-insn_from (forms.Neg w) (arguments.Register d ∷ []) = insns.Neg w d
-insn_from (forms.Movsx e) (arguments.Register d ∷ arguments.Register s ∷ []) = insns.Movsx e d s
-insn_from (forms.End o z) (arguments.Register d ∷ []) = insns.End o z d
-insn_from forms.Ja (arguments.Number n ∷ []) = insns.Ja n
-insn_from forms.Ja32 (arguments.Number n ∷ []) = insns.Ja32 n
-insn_from (forms.Jump w c) (arguments.Register l ∷ r ∷ arguments.Number n ∷ []) = insns.Jump w c l (of_operand r) n
-insn_from (forms.Ldx z) (arguments.Register d ∷ arguments.Register b ∷ arguments.Number n ∷ []) = insns.Ldx z d b n
-insn_from (forms.Ldsx z) (arguments.Register d ∷ arguments.Register b ∷ arguments.Number n ∷ []) = insns.Ldsx z d b n
-insn_from (forms.Stx z) (arguments.Register b ∷ arguments.Number n ∷ arguments.Register s ∷ []) = insns.Stx z b n s
-insn_from (forms.St z) (arguments.Register b ∷ arguments.Number n ∷ arguments.Number m ∷ []) = insns.St z b n m
-insn_from forms.Wide (arguments.Register d ∷ arguments.Number n ∷ []) = insns.Wide d (cast_unsigned w64 n)
+abbrev insn_from : Mnemonic → List Argument → Insn
+insn_from (mnemonics.Alu w op) (arguments.Register d ∷ s ∷ []) = insns.Alu w op d (of_operand s)
+insn_from (mnemonics.Neg w) (arguments.Register d ∷ []) = insns.Neg w d
+insn_from (mnemonics.Movsx e) (arguments.Register d ∷ arguments.Register s ∷ []) = insns.Movsx e d s
+insn_from (mnemonics.End o z) (arguments.Register d ∷ []) = insns.End o z d
+insn_from mnemonics.Ja (arguments.Number n ∷ []) = insns.Ja n
+insn_from mnemonics.Ja32 (arguments.Number n ∷ []) = insns.Ja32 n
+insn_from (mnemonics.Jump w c) (arguments.Register l ∷ r ∷ arguments.Number n ∷ []) = insns.Jump w c l (of_operand r) n
+insn_from (mnemonics.Ldx z) (arguments.Register d ∷ arguments.Register b ∷ arguments.Number n ∷ []) = insns.Ldx z d b n
+insn_from (mnemonics.Ldsx z) (arguments.Register d ∷ arguments.Register b ∷ arguments.Number n ∷ []) = insns.Ldsx z d b n
+insn_from (mnemonics.Stx z) (arguments.Register b ∷ arguments.Number n ∷ arguments.Register s ∷ []) = insns.Stx z b n s
+insn_from (mnemonics.St z) (arguments.Register b ∷ arguments.Number n ∷ arguments.Number m ∷ []) = insns.St z b n m
+insn_from mnemonics.Wide (arguments.Register d ∷ arguments.Number n ∷ []) = insns.Wide d (cast_unsigned w64 n)
 insn_from _ _ = insns.Exit
 
-insn-from : (i : Insn) → Fits i → insn_from (form_of i) (operands_of i) ≡ i
+insn-from : (i : Insn) → Fits i → insn_from (mnemonic_of i) (operands_of i) ≡ i
 insn-from (insns.Alu w op d s) f = ap (insns.Alu w op d) (operand-of s)
 insn-from (insns.Jump w c l r off) f = ap (λ o. insns.Jump w c l o off) (operand-of r)
 insn-from (insns.Wide d v) f = ap (insns.Wide d) (of_z-to_z w64 v f)
 insn-from _ f = refl
 
-pub one_insn : (i j : Insn) → Fits i → Fits j → form_of i ≡ form_of j → operands_of i ≡ operands_of j → i ≡ j
+pub one_insn : (i j : Insn) → Fits i → Fits j → mnemonic_of i ≡ mnemonic_of j → operands_of i ≡ operands_of j → i ≡ j
 one_insn i j f g e o = sym (insn-from i f) ∙ ((λ k. insn_from (e k) (o k)) ∙ insn-from j g)
 
 pub one_name : (word : List ℕ) (ops : List (Option Argument)) (i j : Insn) → Names word ops i → Names word ops j → i ≡ j
 one_name word ops i j m n =
-    one_insn i j m.fits n.fits (mnemonic-injective (form_of i) (form_of j) (m.mnemonic_is ∙ sym n.mnemonic_is))
+    one_insn i j m.fits n.fits (mnemonic_text-injective (mnemonic_of i) (mnemonic_of j) (m.mnemonic_is ∙ sym n.mnemonic_is))
     (known_operands (operands_of i) (operands_of j) (m.operands_are ∙ sym n.operands_are))
 
 pub one_stands : (line : List ℕ) (i j : Insn) → StandsFor line i → StandsFor line j → i ≡ j

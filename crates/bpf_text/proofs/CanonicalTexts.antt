@@ -22,10 +22,10 @@ use Rattle.bpf_insn.specs.Spelling.{Fits}
 use Rattle.bpf_insn.specs.Program.{IsProgram}
 use Rattle.bpf_text.specs.declared.argument.Argument.{Argument}
 use Rattle.bpf_text.specs.declared.argument.Argument.TheVariants.{Register, UnknownRegister, Number, HugeNumber}
-use Rattle.bpf_text.specs.declared.form.Form.{Form}
-use Rattle.bpf_text.specs.declared.form.Form.TheVariants.{Alu, Neg, Movsx, End, Ja, Ja32, Jump, Exit, Ldx, Ldsx, Stx, St, Wide}
+use Rattle.bpf_text.specs.declared.mnemonic.Mnemonic.{Mnemonic}
+use Rattle.bpf_text.specs.declared.mnemonic.Mnemonic.TheVariants.{Alu, Neg, Movsx, End, Ja, Ja32, Jump, Exit, Ldx, Ldsx, Stx, St, Wide}
 use Rattle.bpf_text.specs.Names.{register_name}
-use Rattle.bpf_text.specs.Forms.{form_of, mnemonic, operands_of}
+use Rattle.bpf_text.specs.Mnemonics.{mnemonic_of, mnemonic_text, operands_of}
 use Rattle.text_words.specs.Words.{is_blank}
 use Rattle.bpf_text.specs.Lines.{is_comment_mark, is_blank_text, code_part, first_word, behind_word, is_statement, operand_texts_of}
 use Rattle.bpf_text.specs.Lines.{argument_in}
@@ -40,8 +40,8 @@ use Rattle.bpf_text.proofs.Written.{IsWritten, IsWord, word_of, operand_word, op
 
 -- Mnemonics are words of 2 to 9 bytes: the whole table is computed.
 
-mnemonic_facts : (f : Form)
-    → (list_all is_word_byte (mnemonic f) ≡ true) × (0 < length (mnemonic f)) × (length (mnemonic f) ≤ 9)
+mnemonic_facts : (f : Mnemonic)
+    → (list_all is_word_byte (mnemonic_text f) ≡ true) × (0 < length (mnemonic_text f)) × (length (mnemonic_text f) ≤ 9)
 mnemonic_facts (Alu widths.W32 ops.Add) = (refl, omega arith, omega arith)
 mnemonic_facts (Alu widths.W32 _) = (refl, omega arith, omega arith)
 mnemonic_facts (Alu _ ops.Add) = (refl, omega arith, omega arith)
@@ -73,8 +73,8 @@ mnemonic_facts Ja32 = (refl, omega arith, omega arith)
 mnemonic_facts Exit = (refl, omega arith, omega arith)
 mnemonic_facts Wide = (refl, omega arith, omega arith)
 
-mnemonic_word : (f : Form) → IsWord (mnemonic f)
-mnemonic_word f = let facts = mnemonic_facts f in word_of (mnemonic f) facts.1 (word_bytes (mnemonic f) facts.0)
+mnemonic_word : (f : Mnemonic) → IsWord (mnemonic_text f)
+mnemonic_word f = let facts = mnemonic_facts f in word_of (mnemonic_text f) facts.1 (word_bytes (mnemonic_text f) facts.0)
 
 -- Bytes of a line: no line end and no comment mark.
 
@@ -112,8 +112,8 @@ list_line (a ∷ more) h = (space_byte, line-append (operand_text a) (flat_map f
 
 statement_line : (i : Insn) → Fits i → AreLineBytes (statement_text i)
 statement_line i f =
-    let w = mnemonic_word (form_of i) in
-    line-append (mnemonic (form_of i)) (operand_list (operands_of i)) (subst AreLineBytes (sym w.is) (word_line (w.first ∷ w.more) w.bytes)) (list_line (operands_of i) (all-written i f))
+    let w = mnemonic_word (mnemonic_of i) in
+    line-append (mnemonic_text (mnemonic_of i)) (operand_list (operands_of i)) (subst AreLineBytes (sym w.is) (word_line (w.first ∷ w.more) w.bytes)) (list_line (operands_of i) (all-written i f))
 
 -- no comment
 no_comment : (w : List ℕ) → AreLineBytes w → code_part w ≡ w
@@ -151,7 +151,7 @@ line_first w x l h =
     lines_of_cut (w ++ 10 ∷ x) w x (line_part w x h) ∙ ap (λ line. line ∷ lines x) (no_return w l h)
 
 some_statement : (i : Insn) → 0 < length (statement_text i)
-some_statement i = let facts = mnemonic_facts (form_of i) in let some = facts.1 in omega (arith, length-append (mnemonic (form_of i)) (operand_list (operands_of i)))
+some_statement i = let facts = mnemonic_facts (mnemonic_of i) in let some = facts.1 in omega (arith, length-append (mnemonic_text (mnemonic_of i)) (operand_list (operands_of i)))
 
 canonical_lines : (is : List Insn) → AllByRecursion Fits is → lines (flat_map canonical_line is) ≡ map statement_text is
 canonical_lines [] f = refl
@@ -188,9 +188,9 @@ said_line b bs (a ∷ more) h hs =
       operands = ap (λ t. map argument_in (operand_texts_of t)) behind ∙ operands_said a more hs.0 hs.1;
     }
 
-said_statement : (i : Insn) → Fits i → Said (statement_text i) (mnemonic (form_of i)) (operands_of i)
+said_statement : (i : Insn) → Fits i → Said (statement_text i) (mnemonic_text (mnemonic_of i)) (operands_of i)
 said_statement i f =
-    let w = mnemonic_word (form_of i) in
+    let w = mnemonic_word (mnemonic_of i) in
     subst (λ (m : List ℕ). Said (m ++ operand_list (operands_of i)) m (operands_of i)) (sym w.is) (said_line w.first w.more (operands_of i) w.bytes (all-written i f))
 
 stands : (i : Insn) → Fits i → StandsFor (statement_text i) i
@@ -229,9 +229,9 @@ list_length (a ∷ more) h = omega (arith, length-append (operand_text a) (flat_
 
 statement_short : (i : Insn) → Fits i → length (statement_text i) ≤ 1024
 statement_short i f =
-    let facts = mnemonic_facts (form_of i) in
+    let facts = mnemonic_facts (mnemonic_of i) in
     let most = facts.2 in
-    omega (arith, length-append (mnemonic (form_of i)) (operand_list (operands_of i)), list_length (operands_of i) (all-written i f), few_operands i)
+    omega (arith, length-append (mnemonic_text (mnemonic_of i)) (operand_list (operands_of i)), list_length (operands_of i) (all-written i f), few_operands i)
 
 -- All lines.
 

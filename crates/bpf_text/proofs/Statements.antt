@@ -13,36 +13,36 @@ use Rattle.bpf_insn.specs.declared.insn.Insn.TheVariants as insns
 use Rattle.bpf_insn.specs.Spelling.{Fits, OperandFits}
 use Rattle.bpf_text.specs.declared.argument.Argument.{Argument}
 use Rattle.bpf_text.specs.declared.argument.Argument.TheVariants as arguments
-use Rattle.bpf_text.specs.declared.form.Form.{Form}
-use Rattle.bpf_text.specs.declared.form.Form.TheVariants as forms
+use Rattle.bpf_text.specs.declared.mnemonic.Mnemonic.{Mnemonic}
+use Rattle.bpf_text.specs.declared.mnemonic.Mnemonic.TheVariants as mnemonics
 use Rattle.bpf_text.specs.declared.rule.AsmRule.{AsmRule}
 use Rattle.bpf_text.specs.declared.rule.AsmRule.TheVariants.{LineTooLong, UnknownMnemonic, MalformedOperands, UnknownRegister, NumberOutOfRange, BadLength}
 use Rattle.bpf_text.specs.Rule.{rule_number}
-use Rattle.bpf_text.specs.Forms.{form_of, mnemonic, operands_of}
+use Rattle.bpf_text.specs.Mnemonics.{mnemonic_of, mnemonic_text, operands_of}
 use Rattle.bpf_text.specs.Text.{is_register, kinds, is_unknown, Misnames}
 use Rattle.bpf_text.specs.inner.Reading.{cleared, IsLowestMisnamed}
-use Rattle.bpf_text.proofs.Mnemonics.{mnemonic-injective}
+use Rattle.bpf_text.proofs.Mnemonics.{mnemonic_text-injective}
 
 -- an instruction of each form
-insn_of_form : Form → Insn
-insn_of_form (forms.Alu w op) = insns.Alu w op R0 (operands.Register R0)
-insn_of_form (forms.Neg w) = insns.Neg w R0
-insn_of_form (forms.Movsx e) = insns.Movsx e R0 R0
-insn_of_form (forms.End o z) = insns.End o z R0
-insn_of_form forms.Ja = insns.Ja (pos 0)
-insn_of_form forms.Ja32 = insns.Ja32 (pos 0)
-insn_of_form (forms.Jump w c) = insns.Jump w c R0 (operands.Register R0) (pos 0)
-insn_of_form forms.Exit = insns.Exit
-insn_of_form (forms.Ldx z) = insns.Ldx z R0 R0 (pos 0)
-insn_of_form (forms.Ldsx z) = insns.Ldsx z R0 R0 (pos 0)
-insn_of_form (forms.Stx z) = insns.Stx z R0 (pos 0) R0
-insn_of_form (forms.St z) = insns.St z R0 (pos 0) (pos 0)
-insn_of_form forms.Wide = insns.Wide R0 0
+insn_of_mnemonic : Mnemonic → Insn
+insn_of_mnemonic (mnemonics.Alu w op) = insns.Alu w op R0 (operands.Register R0)
+insn_of_mnemonic (mnemonics.Neg w) = insns.Neg w R0
+insn_of_mnemonic (mnemonics.Movsx e) = insns.Movsx e R0 R0
+insn_of_mnemonic (mnemonics.End o z) = insns.End o z R0
+insn_of_mnemonic mnemonics.Ja = insns.Ja (pos 0)
+insn_of_mnemonic mnemonics.Ja32 = insns.Ja32 (pos 0)
+insn_of_mnemonic (mnemonics.Jump w c) = insns.Jump w c R0 (operands.Register R0) (pos 0)
+insn_of_mnemonic mnemonics.Exit = insns.Exit
+insn_of_mnemonic (mnemonics.Ldx z) = insns.Ldx z R0 R0 (pos 0)
+insn_of_mnemonic (mnemonics.Ldsx z) = insns.Ldsx z R0 R0 (pos 0)
+insn_of_mnemonic (mnemonics.Stx z) = insns.Stx z R0 (pos 0) R0
+insn_of_mnemonic (mnemonics.St z) = insns.St z R0 (pos 0) (pos 0)
+insn_of_mnemonic mnemonics.Wide = insns.Wide R0 0
 
-form-insn_of_form : (f : Form) → form_of (insn_of_form f) ≡ f
-unfolding insn_of_form
-form-insn_of_form forms.Exit = refl
-form-insn_of_form _ = refl
+mnemonic-insn_of_mnemonic : (f : Mnemonic) → mnemonic_of (insn_of_mnemonic f) ≡ f
+unfolding insn_of_mnemonic
+mnemonic-insn_of_mnemonic mnemonics.Exit = refl
+mnemonic-insn_of_mnemonic _ = refl
 
 -- an instruction with R0 in the place of each register, and 0 in that of each number
 cleared_operand : Operand → Operand
@@ -64,10 +64,10 @@ cleared_insn (insns.Stx z b off s) = insns.Stx z R0 (pos 0) R0
 cleared_insn (insns.St z b off n) = insns.St z R0 (pos 0) (pos 0)
 cleared_insn (insns.Wide d v) = insns.Wide R0 0
 
-cleared-form : (i : Insn) → form_of (cleared_insn i) ≡ form_of i
+cleared-mnemonic : (i : Insn) → mnemonic_of (cleared_insn i) ≡ mnemonic_of i
 unfolding cleared_insn
-cleared-form insns.Exit = refl
-cleared-form _ = refl
+cleared-mnemonic insns.Exit = refl
+cleared-mnemonic _ = refl
 
 cleared-operands : (i : Insn) → operands_of (cleared_insn i) ≡ map cleared (operands_of i)
 unfolding cleared_insn cleared_operand
@@ -167,8 +167,8 @@ known_some (x ∷ xs) (y ∷ ys) e =
 
 -- The lowest rule.
 
-pub no_mnemonic : (word : List ℕ) (ops : List (Option Argument)) → ((f : Form) → mnemonic f ≢ word) → IsLowestMisnamed word ops UnknownMnemonic
-no_mnemonic word ops none = record { broken = λ i. none (form_of i); lowest = lowest }
+pub no_mnemonic : (word : List ℕ) (ops : List (Option Argument)) → ((f : Mnemonic) → mnemonic_text f ≢ word) → IsLowestMisnamed word ops UnknownMnemonic
+no_mnemonic word ops none = record { broken = λ i. none (mnemonic_of i); lowest = lowest }
   where
     lowest : (lower : AsmRule) → rule_number lower < 2 → Misnames word ops lower → ⊥
     lowest LineTooLong h m = m
@@ -178,47 +178,47 @@ no_mnemonic word ops none = record { broken = λ i. none (form_of i); lowest = l
     lowest NumberOutOfRange h m = absurd (omega arith)
     lowest BadLength h m = m
 
-below_malformed : (f : Form) (ops : List (Option Argument)) (lower : AsmRule) → rule_number lower < 3 → Misnames (mnemonic f) ops lower → ⊥
+below_malformed : (f : Mnemonic) (ops : List (Option Argument)) (lower : AsmRule) → rule_number lower < 3 → Misnames (mnemonic_text f) ops lower → ⊥
 below_malformed f ops LineTooLong h m = m
-below_malformed f ops UnknownMnemonic h m = m (insn_of_form f) (ap mnemonic (form-insn_of_form f))
+below_malformed f ops UnknownMnemonic h m = m (insn_of_mnemonic f) (ap mnemonic_text (mnemonic-insn_of_mnemonic f))
 below_malformed f ops MalformedOperands h m = absurd (omega arith)
 below_malformed f ops UnknownRegister h m = absurd (omega arith)
 below_malformed f ops NumberOutOfRange h m = absurd (omega arith)
 below_malformed f ops BadLength h m = m
 
-pub not_operands : (f : Form) (ops : List (Option Argument)) → ((all : List Argument) → length all ≤ 3 → ops ≢ map (λ a. Some a) all) → IsLowestMisnamed (mnemonic f) ops MalformedOperands
+pub not_operands : (f : Mnemonic) (ops : List (Option Argument)) → ((all : List Argument) → length all ≤ 3 → ops ≢ map (λ a. Some a) all) → IsLowestMisnamed (mnemonic_text f) ops MalformedOperands
 not_operands f ops none = record {
   broken = λ i m k. let r = all_known (operands_of i) ops k in let few = few_operands i in none r.0 (omega arith) r.1;
   lowest = below_malformed f ops;
 }
 
-pub other_kinds : (f : Form) (xs : List Argument) → ((i : Insn) → Fits i → form_of i ≡ f → operands_of i ≢ map cleared xs) → IsLowestMisnamed (mnemonic f) (map (λ a. Some a) xs) MalformedOperands
+pub other_kinds : (f : Mnemonic) (xs : List Argument) → ((i : Insn) → Fits i → mnemonic_of i ≡ f → operands_of i ≢ map cleared xs) → IsLowestMisnamed (mnemonic_text f) (map (λ a. Some a) xs) MalformedOperands
 other_kinds f xs none = record {
-  broken = λ i m k. none (cleared_insn i) (cleared-fits i) (cleared-form i ∙ mnemonic-injective (form_of i) f m) (cleared-operands i ∙ kinds_cleared (operands_of i) xs k);
+  broken = λ i m k. none (cleared_insn i) (cleared-fits i) (cleared-mnemonic i ∙ mnemonic_text-injective (mnemonic_of i) f m) (cleared-operands i ∙ kinds_cleared (operands_of i) xs k);
   lowest = below_malformed f (map (λ a. Some a) xs);
 }
 
-below_unknown : (f : Form) (xs : List Argument) (i : Insn) → form_of i ≡ f → operands_of i ≡ map cleared xs
-    → (lower : AsmRule) → rule_number lower < 4 → Misnames (mnemonic f) (map (λ a. Some a) xs) lower → ⊥
+below_unknown : (f : Mnemonic) (xs : List Argument) (i : Insn) → mnemonic_of i ≡ f → operands_of i ≡ map cleared xs
+    → (lower : AsmRule) → rule_number lower < 4 → Misnames (mnemonic_text f) (map (λ a. Some a) xs) lower → ⊥
 below_unknown f xs i e o LineTooLong h m = m
-below_unknown f xs i e o UnknownMnemonic h m = m i (ap mnemonic e)
-below_unknown f xs i e o MalformedOperands h m = m i (ap mnemonic e) (ap (λ ys. kinds (map (λ a. Some a) ys)) o ∙ kinds-cleared xs)
+below_unknown f xs i e o UnknownMnemonic h m = m i (ap mnemonic_text e)
+below_unknown f xs i e o MalformedOperands h m = m i (ap mnemonic_text e) (ap (λ ys. kinds (map (λ a. Some a) ys)) o ∙ kinds-cleared xs)
 below_unknown f xs i e o UnknownRegister h m = absurd (omega arith)
 below_unknown f xs i e o NumberOutOfRange h m = absurd (omega arith)
 below_unknown f xs i e o BadLength h m = m
 
-pub unknown_register : (f : Form) (xs : List Argument) (i : Insn) → form_of i ≡ f → operands_of i ≡ map cleared xs → list_any is_unknown (map (λ a. Some a) xs) ≡ true
-    → IsLowestMisnamed (mnemonic f) (map (λ a. Some a) xs) UnknownRegister
+pub unknown_register : (f : Mnemonic) (xs : List Argument) (i : Insn) → mnemonic_of i ≡ f → operands_of i ≡ map cleared xs → list_any is_unknown (map (λ a. Some a) xs) ≡ true
+    → IsLowestMisnamed (mnemonic_text f) (map (λ a. Some a) xs) UnknownRegister
 unknown_register f xs i e o u = record { broken = u; lowest = below_unknown f xs i e o }
 
-pub out_of_range : (f : Form) (xs : List Argument) (i : Insn) → form_of i ≡ f → operands_of i ≡ map cleared xs → list_any is_unknown (map (λ a. Some a) xs) ≡ false
-    → ((j : Insn) → Fits j → form_of j ≡ f → operands_of j ≢ xs) → IsLowestMisnamed (mnemonic f) (map (λ a. Some a) xs) NumberOutOfRange
+pub out_of_range : (f : Mnemonic) (xs : List Argument) (i : Insn) → mnemonic_of i ≡ f → operands_of i ≡ map cleared xs → list_any is_unknown (map (λ a. Some a) xs) ≡ false
+    → ((j : Insn) → Fits j → mnemonic_of j ≡ f → operands_of j ≢ xs) → IsLowestMisnamed (mnemonic_text f) (map (λ a. Some a) xs) NumberOutOfRange
 out_of_range f xs i e o u none = record {
-  broken = λ j n. none j n.fits (mnemonic-injective (form_of j) f n.mnemonic_is) (known_some (operands_of j) xs n.operands_are);
+  broken = λ j n. none j n.fits (mnemonic_text-injective (mnemonic_of j) f n.mnemonic_is) (known_some (operands_of j) xs n.operands_are);
   lowest = lowest;
 }
   where
-    lowest : (lower : AsmRule) → rule_number lower < 5 → Misnames (mnemonic f) (map (λ a. Some a) xs) lower → ⊥
+    lowest : (lower : AsmRule) → rule_number lower < 5 → Misnames (mnemonic_text f) (map (λ a. Some a) xs) lower → ⊥
     lowest LineTooLong h m = m
     lowest UnknownMnemonic h m = below_unknown f xs i e o UnknownMnemonic (omega arith) m
     lowest MalformedOperands h m = below_unknown f xs i e o MalformedOperands (omega arith) m

@@ -22,7 +22,7 @@ use Rattle.bpf_insn.specs.Spelling.{Fits, OperandFits}
 use Rattle.bpf_text.specs.declared.argument.Argument.{Argument}
 use Rattle.bpf_text.specs.declared.argument.Argument.TheVariants.{Register, UnknownRegister, Number, HugeNumber}
 use Rattle.bpf_text.specs.Names.{register_name}
-use Rattle.bpf_text.specs.Forms.{operands_of, argument_of_operand}
+use Rattle.bpf_text.specs.Mnemonics.{operands_of, argument_of_operand}
 use Rattle.text_words.specs.Numbers.{decimal_in}
 use Rattle.text_words.proofs.Written.{decimal_written}
 use Rattle.bpf_text.specs.Lines.{positive, negative, argument_of, argument_in, known_or, is_comma, is_blank_text, operand_texts_of}

@@ -8,7 +8,7 @@ use Rattle.bpf_insn.specs.Program.{IsProgram}
 use Rattle.bpf_text.specs.declared.argument.Argument.{Argument}
 use Rattle.bpf_text.specs.declared.argument.Argument.TheVariants.{Register, UnknownRegister, Number, HugeNumber}
 use Rattle.bpf_text.specs.Names.{register_name}
-use Rattle.bpf_text.specs.Forms.{form_of, mnemonic, operands_of}
+use Rattle.bpf_text.specs.Mnemonics.{mnemonic_of, mnemonic_text, operands_of}
 use Rattle.bpf_text.specs.Text.{IsTextOf}
 
 -- an operand of an instruction is a register or a number
@@ -28,7 +28,7 @@ operand_list (a ∷ more) = codes " " ++ operand_text a ++ flat_map further_text
 
 -- an instruction without its line end
 abbrev pub statement_text : Insn → List ℕ
-statement_text i = mnemonic (form_of i) ++ operand_list (operands_of i)
+statement_text i = mnemonic_text (mnemonic_of i) ++ operand_list (operands_of i)
 
 abbrev pub canonical_line : Insn → List ℕ
 canonical_line i = statement_text i ++ 10 ∷ []

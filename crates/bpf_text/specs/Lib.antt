@@ -1,6 +1,6 @@
 pub mod Rule
 pub mod Names
-pub mod Forms
+pub mod Mnemonics
 pub mod Lines
 pub mod Text
 pub mod Canonical

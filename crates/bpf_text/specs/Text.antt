@@ -19,12 +19,12 @@ use Rattle.bpf_text.specs.declared.fault.AsmFault.{AsmFault}
 use Rattle.bpf_text.specs.declared.fault.AsmError.{AsmError}
 use Rattle.bpf_text.specs.declared.fault.AsmError.TheVariants as errors
 use Rattle.bpf_text.specs.Rule.{rule_number}
-use Rattle.bpf_text.specs.Forms.{form_of, mnemonic, operands_of}
+use Rattle.bpf_text.specs.Mnemonics.{mnemonic_of, mnemonic_text, operands_of}
 use Rattle.bpf_text.specs.Lines.{is_statement, mnemonic_in, arguments_in}
 
 -- a word and operands are those of the instruction, whose numbers have the widths of their fields
 pub record Names (word : List ℕ) (operands : List (Option Argument)) (i : Insn) : Type 0 where
-  pub mnemonic_is : mnemonic (form_of i) ≡ word
+  pub mnemonic_is : mnemonic_text (mnemonic_of i) ≡ word
   pub operands_are : map (λ a. Some a) (operands_of i) ≡ operands
   pub fits : Fits i
 
@@ -74,9 +74,9 @@ is_unknown _ = false
 
 -- The word and the operands of a line break the rule; with that of a lower number, this one may be broken too.
 abbrev pub Misnames : List ℕ → List (Option Argument) → AsmRule → Type 0
-Misnames word operands UnknownMnemonic = (i : Insn) → mnemonic (form_of i) ≢ word
+Misnames word operands UnknownMnemonic = (i : Insn) → mnemonic_text (mnemonic_of i) ≢ word
 Misnames word operands MalformedOperands =
-    (i : Insn) → mnemonic (form_of i) ≡ word → kinds (map (λ a. Some a) (operands_of i)) ≢ kinds operands
+    (i : Insn) → mnemonic_text (mnemonic_of i) ≡ word → kinds (map (λ a. Some a) (operands_of i)) ≢ kinds operands
 Misnames word operands UnknownRegister = list_any is_unknown operands ≡ true
 Misnames word operands NumberOutOfRange = (i : Insn) → Names word operands i → ⊥
 Misnames word operands LineTooLong = ⊥

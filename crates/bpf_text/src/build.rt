@@ -1,4 +1,4 @@
-//! Instructions, from a form and the operands of a line.
+//! Instructions, from a mnemonic and the operands of a line.
 ghost use Rattle.std.specs.Prelude.{◌≡◌, ◌≢◌, ◌<◌, ◌∷◌, ◌^◌, ℕ, ℤ, [], Any, MatchOption, IsTrue};
 ghost use Rattle.std.specs.Prelude.{◌↔◌, map};
 ghost use Rattle.std.specs.Int.{cast_signed, w16, w32, w64};
@@ -8,21 +8,21 @@ ghost use Rattle.bpf_insn.specs.declared.insn.Operand.{Operand};
 ghost use Rattle.bpf_insn.specs.declared.reg.Reg.{Reg};
 ghost use Rattle.bpf_insn.specs.Spelling.{Fits, OperandFits};
 ghost use Rattle.bpf_text.specs.declared.argument.Argument.TheVariants as argument;
-ghost use Rattle.bpf_text.specs.Forms.{form_of, operands_of, argument_of_operand};
+ghost use Rattle.bpf_text.specs.Mnemonics.{mnemonic_of, operands_of, argument_of_operand};
 ghost use Rattle.bpf_text.specs.inner.Arguments.{list_of};
 
 use crate::argument::{Argument, Arguments};
-use crate::form::Form;
+use crate::mnemonic::Mnemonic;
 use bpf_insn::{Insn, Operand, Reg};
 
-/// The instruction of this form with these operands, if there is one.
-pub fn build(form: Form, arguments: Arguments) -> Option<Insn>
+/// The instruction of this mnemonic with these operands, if there is one.
+pub fn build(mnemonic: Mnemonic, arguments: Arguments) -> Option<Insn>
     ensures { MatchOption result
-        ((i : Insn) → Fits i → form_of i ≡ form → operands_of i ≢ list_of arguments)
-        (λ i. Fits i × (form_of i ≡ form) × (operands_of i ≡ list_of arguments)) }
+        ((i : Insn) → Fits i → mnemonic_of i ≡ mnemonic → operands_of i ≢ list_of arguments)
+        (λ i. Fits i × (mnemonic_of i ≡ mnemonic) × (operands_of i ≡ list_of arguments)) }
 {
-    match form {
-        Form::Alu { width, op } => {
+    match mnemonic {
+        Mnemonic::Alu { width, op } => {
             let (dst, src) = arguments.register_operand()?;
             Some(Insn::Alu {
                 width,
@@ -31,11 +31,11 @@ pub fn build(form: Form, arguments: Arguments) -> Option<Insn>
                 src,
             })
         }
-        Form::Neg { width } => {
+        Mnemonic::Neg { width } => {
             let dst = arguments.register()?;
             Some(Insn::Neg { width, dst })
         }
-        Form::Movsx { extension } => {
+        Mnemonic::Movsx { extension } => {
             let (dst, src) = arguments.registers()?;
             Some(Insn::Movsx {
                 extension,
@@ -43,19 +43,19 @@ pub fn build(form: Form, arguments: Arguments) -> Option<Insn>
                 src,
             })
         }
-        Form::End { order, size } => {
+        Mnemonic::End { order, size } => {
             let dst = arguments.register()?;
             Some(Insn::End { order, size, dst })
         }
-        Form::Ja => {
+        Mnemonic::Ja => {
             let offset = arguments.offset()?;
             Some(Insn::Ja { offset })
         }
-        Form::Ja32 => {
+        Mnemonic::Ja32 => {
             let offset = arguments.imm()?;
             Some(Insn::Ja32 { offset })
         }
-        Form::Jump { width, cond } => {
+        Mnemonic::Jump { width, cond } => {
             let (left, right, offset) = arguments.register_operand_offset()?;
             Some(Insn::Jump {
                 width,
@@ -65,11 +65,11 @@ pub fn build(form: Form, arguments: Arguments) -> Option<Insn>
                 offset,
             })
         }
-        Form::Exit => match arguments {
+        Mnemonic::Exit => match arguments {
             Arguments::Empty => Some(Insn::Exit),
             _ => None,
         },
-        Form::Ldx { size } => {
+        Mnemonic::Ldx { size } => {
             let (dst, base, offset) = arguments.registers_offset()?;
             Some(Insn::Ldx {
                 size,
@@ -78,7 +78,7 @@ pub fn build(form: Form, arguments: Arguments) -> Option<Insn>
                 offset,
             })
         }
-        Form::Ldsx { size } => {
+        Mnemonic::Ldsx { size } => {
             let (dst, base, offset) = arguments.registers_offset()?;
             Some(Insn::Ldsx {
                 size,
@@ -87,7 +87,7 @@ pub fn build(form: Form, arguments: Arguments) -> Option<Insn>
                 offset,
             })
         }
-        Form::Stx { size } => {
+        Mnemonic::Stx { size } => {
             let (base, offset, src) = arguments.register_offset_register()?;
             Some(Insn::Stx {
                 size,
@@ -96,7 +96,7 @@ pub fn build(form: Form, arguments: Arguments) -> Option<Insn>
                 src,
             })
         }
-        Form::St { size } => {
+        Mnemonic::St { size } => {
             let (base, offset, imm) = arguments.register_offset_imm()?;
             Some(Insn::St {
                 size,
@@ -105,7 +105,7 @@ pub fn build(form: Form, arguments: Arguments) -> Option<Insn>
                 imm,
             })
         }
-        Form::Wide => {
+        Mnemonic::Wide => {
             let (dst, value) = arguments.register_word()?;
             Some(Insn::Wide { dst, value })
         }

@@ -2,12 +2,12 @@
 ghost use Rattle.std.specs.Prelude.{◌≡◌, ◌++◌, ◌∷◌, [], IfOk, OnOk, string_bytes};
 ghost use Rattle.std.specs.List.{flat_map};
 ghost use Rattle.bpf_text.specs.inner.Arguments.{list_of};
-ghost use Rattle.bpf_text.specs.Forms.{mnemonic, operands_of, argument_of_operand};
+ghost use Rattle.bpf_text.specs.Mnemonics.{mnemonic_text, operands_of, argument_of_operand};
 ghost use Rattle.bpf_text.specs.Canonical.{canonical_line, canonical_text, operand_list, operand_text, further_text, IsOnlyTextOf};
 ghost use Rattle.bpf_text.specs.Canonical.{CanonicalTextsStand};
 
 use crate::argument::{Argument, Arguments};
-use crate::form::Form;
+use crate::mnemonic::Mnemonic;
 use crate::names::register_name;
 use bpf_insn::{Insn, Operand, Program};
 use itoa::Buffer;
@@ -34,15 +34,15 @@ pub fn disassemble(alloc: Global, program: &Program) -> Result<String, AllocErro
 fn push_line(text: &mut String, insn: Insn) -> Result<(), AllocError>
     ensures { OnOk result (string_bytes text.new ≡ string_bytes text.old ++ canonical_line insn) }
 {
-    push_mnemonic(text, Form::of(insn))?;
+    push_mnemonic(text, Mnemonic::of(insn))?;
     push_arguments(text, Arguments::of(insn))?;
     text.push_str("\n")
 }
 
-fn push_mnemonic(text: &mut String, form: Form) -> Result<(), AllocError>
-    ensures { OnOk result (string_bytes text.new ≡ string_bytes text.old ++ mnemonic form) }
+fn push_mnemonic(text: &mut String, mnemonic: Mnemonic) -> Result<(), AllocError>
+    ensures { OnOk result (string_bytes text.new ≡ string_bytes text.old ++ mnemonic_text mnemonic) }
 {
-    let (letters, bits) = form.parts();
+    let (letters, bits) = mnemonic.parts();
     text.push_str(letters)?;
     text.push_str(bits)
 }

@@ -5,8 +5,8 @@
 //! lowest rule that it breaks. `disassemble` writes the canonical text of a program, which stands for
 //! that program and for no other: so assembling what was disassembled gives the program back.
 //!
-//! Read `rule` and `fault` (what can be wrong), `form` and `names` (mnemonics), `argument` (operands
-//! as a line has them) and `line` (how a line is cut); then `operand`, `shape` and `build` (a form and
+//! Read `rule` and `fault` (what can be wrong), `mnemonic` and `names` (mnemonics), `argument` (operands
+//! as a line has them) and `line` (how a line is cut); then `operand`, `shape` and `build` (a mnemonic and
 //! operands make an instruction), `statement` (a line), `listing` and `assembler` (a text), and
 //! `disassembler`. What it all means stands in specs/: Rule, Names, Forms, Lines, Text, Canonical.
 #![tactic(auto)]
@@ -16,9 +16,9 @@ mod assembler;
 mod build;
 mod disassembler;
 mod fault;
-mod form;
 mod line;
 mod listing;
+mod mnemonic;
 mod names;
 mod operand;
 mod rule;

@@ -6,7 +6,7 @@ ghost use Rattle.bpf_insn.specs.declared.insn.Operand.{Operand};
 ghost use Rattle.bpf_insn.specs.declared.reg.Reg.{Reg};
 ghost use Rattle.bpf_insn.specs.Spelling.{OperandFits};
 ghost use Rattle.bpf_text.specs.declared.argument.Argument.TheVariants as argument;
-ghost use Rattle.bpf_text.specs.Forms.{argument_of_operand};
+ghost use Rattle.bpf_text.specs.Mnemonics.{argument_of_operand};
 ghost use Rattle.bpf_text.specs.inner.Arguments.{list_of};
 
 use crate::argument::Arguments;

@@ -3,15 +3,15 @@ ghost use Rattle.std.specs.Prelude.{◌≡◌, ◌≢◌, ◌≤◌, List, Some,
 ghost use Rattle.bpf_insn.specs.declared.insn.Insn.{Insn};
 ghost use Rattle.bpf_insn.specs.Spelling.{Fits};
 ghost use Rattle.bpf_text.specs.inner.Arguments.{list_of};
-ghost use Rattle.bpf_text.specs.Forms.{form_of, mnemonic, operands_of};
+ghost use Rattle.bpf_text.specs.Mnemonics.{mnemonic_of, mnemonic_text, operands_of};
 ghost use Rattle.bpf_text.specs.Lines.{argument_in, operand_texts_of};
 ghost use Rattle.bpf_text.specs.Text.{Names, IsShort, IsLowestBroken};
 ghost use Rattle.bpf_text.specs.inner.Reading.{Gives, IsLowestMisnamed};
 
 use crate::argument::Arguments;
 use crate::build::build;
-use crate::form::Form;
 use crate::line::{MOST_BYTES, Separator, cut, first_word, is_blank_text};
+use crate::mnemonic::Mnemonic;
 use crate::rule::AsmRule;
 use bpf_insn::Insn;
 
@@ -42,25 +42,25 @@ fn read_statement(word: &[u8], operands: &[u8]) -> Result<Insn, AsmRule>
         (Names word.now (map argument_in (operand_texts_of operands.now)))
         (IsLowestMisnamed word.now (map argument_in (operand_texts_of operands.now))) }
 {
-    let Some(form) = Form::parse(word) else {
+    let Some(mnemonic) = Mnemonic::parse(word) else {
         return Err(AsmRule::UnknownMnemonic);
     };
     let Some(arguments) = Arguments::parse(operands) else {
         return Err(AsmRule::MalformedOperands);
     };
-    match build(form, arguments) {
+    match build(mnemonic, arguments) {
         Some(insn) => Ok(insn),
-        None => Err(broken_rule(form, arguments)),
+        None => Err(broken_rule(mnemonic, arguments)),
     }
 }
 
-/// The lowest rule that is broken where no instruction of the form has these operands.
-fn broken_rule(form: Form, arguments: Arguments) -> AsmRule
-    requires { (i : Insn) → Fits i → form_of i ≡ form → operands_of i ≢ list_of arguments }
-    ensures { IsLowestMisnamed (mnemonic form) (map Some (list_of arguments)) result }
+/// The lowest rule that is broken where no instruction of the mnemonic has these operands.
+fn broken_rule(mnemonic: Mnemonic, arguments: Arguments) -> AsmRule
+    requires { (i : Insn) → Fits i → mnemonic_of i ≡ mnemonic → operands_of i ≢ list_of arguments }
+    ensures { IsLowestMisnamed (mnemonic_text mnemonic) (map Some (list_of arguments)) result }
 {
     // An instruction with operands of these kinds is one with R0 and 0 in their places, too.
-    let Some(_) = build(form, arguments.cleared()) else {
+    let Some(_) = build(mnemonic, arguments.cleared()) else {
         return AsmRule::MalformedOperands;
     };
     if arguments.have_unknown_register() {

@@ -61,10 +61,10 @@ one_cell cs many from j d m f l =
     ∙ (ap (λ n. first_word (take 1 (drop n cs))) f ∙ ap (λ us. first_word (take 1 us)) (drop_more cs j d l))
 
 -- the first of the cells between two places
-pub first_there : (cs : List Cell) (from to place : ℕ) (d : Cell) (word : ℕ) → from ≤ to → to ≤ length cs → (from < to → place ≡ from)
-    → word ≡ (get_or cs place d).1
+pub first_there : (cs : List Cell) (from to nth : ℕ) (d : Cell) (word : ℕ) → from ≤ to → to ≤ length cs → (from < to → nth ≡ from)
+    → word ≡ (get_or cs nth d).1
     → first_word (take (to - from) (drop from cs)) ≡ (cond (nat_lt from to) (Some word) None)
-first_there cs from to place d word o w p e =
+first_there cs from to nth d word o w p e =
     ⊎_elim (λ (l : from < to).
     let s : to - from ≡ suc (to - from - 1) = omega arith in
     ap (λ us. first_word (take (to - from) us)) (drop_more cs from d (omega arith))

@@ -256,12 +256,12 @@ entries_are r = let n = length-cells_in r.ended in omega (arith, n, length-appen
 
 -- some of the values are given, and the others are to come
 pub record AreSet (from : ℕ) (values : List ℕ) (start : Row) (at next : ℕ) (now : Row) : Type 0 where
-  pub place : next ≡ from + at
+  pub nth : next ≡ from + at
   pub cells : valued_from next (drop at values) now ≡ valued_from from values start
   pub count : length now ≡ length start
 
 pub set_none : (from : ℕ) (values : List ℕ) (start : Row) → AreSet from values start 0 from start
-set_none from values start = record { place = omega arith; cells = refl; count = refl }
+set_none from values start = record { nth = omega arith; cells = refl; count = refl }
 
 pub set_more : (from : ℕ) (values : List ℕ) (start : Row) (at entry : ℕ) (now more : Row) (v : ℕ) → AreSet from values start at entry now → at < length values
     → v ≡ get_or values at 0 → more ≡ valued entry v now → AreSet from values start (at + 1) (entry + 1) more
@@ -269,7 +269,7 @@ set_more from values start at entry now more v h l e t =
     let d : drop at values ≡ v ∷ drop (at + 1) values = drop_more values at 0 l ∙ ap (λ x. x ∷ drop (at + 1) values) (sym e) in
     let n : suc entry ≡ entry + 1 = omega arith in
     record {
-      place = let p = h.place in omega (arith, p);
+      nth = let p = h.nth in omega (arith, p);
       cells = ap (valued_from (entry + 1) (drop (at + 1) values)) t
           ∙ (ap (λ k. valued_from k (drop (at + 1) values) (valued entry v now)) (sym n)
           ∙ (ap (λ vs. valued_from entry vs now) (sym d) ∙ h.cells));

@@ -78,6 +78,6 @@ fn set_bit(bits: &mut Vec<u64>, k: u64, stands: bool)
     ensures others { (j : ℕ) → (j ≡ k → ⊥) → bit_of bits.new.items j ≡ bit_of bits.old.items j }
     ensures wide { length bits.new.items ≡ length bits.old.items }
 {
-    let place = (k / 64) as usize;
-    bits[place] |= u64::from(stands) << (k % 64);
+    let nth = (k / 64) as usize;
+    bits[nth] |= u64::from(stands) << (k % 64);
 }

@@ -38,8 +38,8 @@ fn moved_block(ends: &[u64], distance: u64) -> [u64; BLOCK]
     ensures { result ≡ map (moved distance) ends.now }
 {
     let mut block = [0; BLOCK];
-    for place in 0..BLOCK {
-        block[place] = distance.wrapping_add(ends[place]);
+    for nth in 0..BLOCK {
+        block[nth] = distance.wrapping_add(ends[nth]);
     }
     block
 }

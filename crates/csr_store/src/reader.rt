@@ -70,8 +70,8 @@ impl<'m> RowReader<'m> {
     {
         let (cells, end) = self.list();
         let starts = self.starts;
-        let place = self.row as usize;
-        let many = starts[place + 1] - starts[place];
+        let nth = self.row as usize;
+        let many = starts[nth + 1] - starts[nth];
         let (row, later) = cells.split_at(many as usize);
         self.cells = later;
         self.end = end;

@@ -32,10 +32,10 @@ fn keys_of(alloc: Global, cells: &[Cell]) -> Result<Vec<u128>, AllocError>
     ensures { IfOk result (λ v. v.items ≡ keys_from 0 cells.now) }
 {
     let mut keys = Vec::with_capacity(alloc, cells.len())?;
-    let mut place = 0u64;
+    let mut nth = 0u64;
     for cell in cells {
-        keys.push(u128::from(cell.0) * PLACES + u128::from(place))?;
-        place += 1;
+        keys.push(u128::from(cell.0) * PLACES + u128::from(nth))?;
+        nth += 1;
     }
     Ok(keys)
 }
@@ -47,10 +47,10 @@ fn least_again(keys: &[u128]) -> Option<usize>
     let mut least = None;
     for k in 1..keys.len() {
         if keys[k] / PLACES == keys[k - 1] / PLACES {
-            let place = (keys[k] % PLACES) as usize;
+            let nth = (keys[k] % PLACES) as usize;
             least = match least {
-                Some(before) if before <= place => Some(before),
-                _ => Some(place),
+                Some(before) if before <= nth => Some(before),
+                _ => Some(nth),
             };
         }
     }

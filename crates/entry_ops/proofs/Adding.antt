@@ -5,8 +5,8 @@ use Rattle.csr_store.specs.Along.{cell_at}
 
 pub record IsAdding (results : List (Option ℕ)) (start : Run) (i : ℕ) (now : Run) : Type 0 where
   pub same : now ≡ record start { ended = now.ended; opened = [] }
-  pub coming : now.ended ++ map (cell_at 0) (drop i results) ≡ start.ended ++ map (cell_at 0) results
+  pub index_calls : now.ended ++ map (cell_at 0) (drop i results) ≡ start.ended ++ map (cell_at 0) results
 
 module _ (results : List (Option ℕ)) (start : Run) where
   pub adding-start : start.opened ≡ [] → IsAdding results start 0 start
-  adding-start e = record { same = ap (λ os. record start { opened = os }) e; coming = refl }
+  adding-start e = record { same = ap (λ os. record start { opened = os }) e; index_calls = refl }

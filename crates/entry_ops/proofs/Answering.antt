@@ -11,10 +11,10 @@ use Rattle.csr_store.proofs.Along.{row_of-ascends}
 use Rattle.bpf_run.specs.Calls.{Charges, calls_on, values_on, steps_of, entries_of}
 use Rattle.bpf_run.proofs.Charging.{Spends, spends-step, spends-stop, spends-room, charges-all, calls_on-append, values_on-append}
 use Rattle.entry_ops.specs.inner.Forms.{Select}
-use Rattle.entry_ops.specs.inner.Coming.{entries_along}
+use Rattle.entry_ops.specs.inner.IndexCalls.{entries_along}
 use Rattle.entry_ops.specs.inner.Walking.{form_row, form_rows, form_all_calls}
 use Rattle.entry_ops.proofs.Mapped.{length_values, length_entries}
-use Rattle.entry_ops.proofs.Lines.{alone-cells, alone-calls}
+use Rattle.entry_ops.proofs.OperandReader.{alone-cells, alone-calls}
 
 -- ---- some answers are there, and others are to come
 

@@ -9,9 +9,9 @@ use Rattle.bpf_run.specs.Calls.{Call, steps_of, Charges}
 use Rattle.bpf_run.proofs.Charging.{Spends, spends-start, spends-further, spends-stop, steps-append}
 use Rattle.entry_ops.specs.inner.Forms.{Form}
 use Rattle.entry_ops.specs.inner.Standing.{Standing, Adds, with_end, with_cells, IsOpen}
-use Rattle.entry_ops.specs.declared.line.Line.{Line}
+use Rattle.entry_ops.specs.declared.operand_rows.OperandRows.{OperandRows}
 use Rattle.entry_ops.specs.inner.Walking.{
-  IsLine,
+  AreOperandRows,
   cells_of,
   form_row,
   form_row_calls,
@@ -30,13 +30,13 @@ pub row_ascends : (g : Grid) (i columns : ℕ) (row : List Cell) → IsGrid g �
     → Ascends 0 columns row
 row_ascends g i columns row h e r = subst (λ n. Ascends 0 n row) e (subst (Ascends 0 g.columns) (sym r) (row_of-ascends g i h))
 
-pub line_is : (line : Line) (n : ℕ) → line.columns ≡ n → Ascends 0 n line.left.now → Ascends 0 n line.right.now → AscendsIn n
-    (cells_of line.mask)
-    → IsLine line
-line_is line n e l r m = record {
-  left = subst (λ k. Ascends 0 k line.left.now) (sym e) l;
-  right = subst (λ k. Ascends 0 k line.right.now) (sym e) r;
-  mask = subst (λ k. AscendsIn k (cells_of line.mask)) (sym e) m;
+pub line_is : (sides : OperandRows) (n : ℕ) → sides.columns ≡ n → Ascends 0 n sides.left.now → Ascends 0 n sides.right.now → AscendsIn n
+    (cells_of sides.mask)
+    → AreOperandRows sides
+line_is sides n e l r m = record {
+  left = subst (λ k. Ascends 0 k sides.left.now) (sym e) l;
+  right = subst (λ k. Ascends 0 k sides.right.now) (sym e) r;
+  mask = subst (λ k. AscendsIn k (cells_of sides.mask)) (sym e) m;
 }
 
 -- ---- a range under way

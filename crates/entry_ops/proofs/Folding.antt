@@ -18,7 +18,7 @@ use Rattle.entry_ops.specs.inner.Folding.{
   Folding,
   due,
   IsAmong,
-  places,
+  indices,
   Goes,
   Begins,
   target_of,
@@ -64,7 +64,7 @@ module _ (f : Accepted) (a : Grid) (mask : Option Grid) where
         record {
           leads = record {
             opened = subst (λ (xs : List Open). AllByRecursion (λ (l : Open). Some (fold_from f l.so_far l.terms)
-                ≡ target_of f a mask first l.place) xs) (sym ls) tt;
+                ≡ target_of f a mask first l.number) xs) (sym ls) tt;
             known = λ k b. absurd (omega (arith, n, b));
           };
           costs = omega (arith, t, d, s);
@@ -107,10 +107,10 @@ module _ (f : Accepted) (a : Grid) (mask : Option Grid) where
       folding-room = let c = h.costs in omega (arith, c)
 
       module _ (ls : e.lanes ≡ []) (n : length e.results ≡ many) where
-        known_all : (k : ℕ) → (get_or e.results k None ≡ target_of f a mask first k) ⊎ IsAmong k (places e.lanes)
+        known_all : (k : ℕ) → (get_or e.results k None ≡ target_of f a mask first k) ⊎ IsAmong k (indices e.lanes)
             → get_or e.results k None ≡ target_of f a mask first k
         known_all k (inl q) = q
-        known_all k (inr r) = absurd (subst (λ (xs : List Open). IsAmong k (places xs)) ls r)
+        known_all k (inr r) = absurd (subst (λ (xs : List Open). IsAmong k (indices xs)) ls r)
 
         pub folding-results : AreResults f a mask first many e.results
         folding-results = record { count = n; each = λ k b. known_all k (h.leads.known k (omega (arith, n, b))) }

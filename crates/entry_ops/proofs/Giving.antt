@@ -7,7 +7,7 @@ use Rattle.bpf_verify.specs.Accepted.{Accepted}
 use Rattle.csr_store.specs.Grid.{Cell}
 use Rattle.bpf_run.specs.Fold.{fold_from, fold_calls_from}
 use Rattle.bpf_run.specs.Calls.{steps_of}
-use Rattle.entry_ops.specs.inner.Folding.{words, Open, in_columns, in_two_columns, ArePlaced, IsAmong, places, LeadsTo, Gives}
+use Rattle.entry_ops.specs.inner.Folding.{words, Open, in_columns, in_two_columns, ArePlaced, IsAmong, indices, LeadsTo, Gives}
 use Rattle.entry_ops.specs.declared.open_rows.Lane.{Lane}
 use Rattle.entry_ops.proofs.OpenRows.{all_gone, among_gone, due_append, columns_push, two_columns_push, same_take, leads_found, gives_then}
 
@@ -21,10 +21,10 @@ all_turned-behind : (P : Open → Type 0) (ws xs : List Open) (z : Open) → All
 all_turned-behind P [] xs z h = all_turned P xs z h
 all_turned-behind P (w ∷ ws) xs z h = (h.0, all_turned-behind P ws xs z h.1)
 
-among_turned : (k : ℕ) (ws xs : List Open) (z : Open) → IsAmong k (places (ws ++ (xs ++ z ∷ []))) → IsAmong k (places (ws ++ z ∷ xs))
+among_turned : (k : ℕ) (ws xs : List Open) (z : Open) → IsAmong k (indices (ws ++ (xs ++ z ∷ []))) → IsAmong k (indices (ws ++ z ∷ xs))
 among_turned k [] xs z h = elim (among_gone k xs z [] h) [
   | inl e ↦ inl e
-  | inr r ↦ inr (subst (λ (ls : List Open). IsAmong k (places ls)) (append-nil xs) r)
+  | inr r ↦ inr (subst (λ (ls : List Open). IsAmong k (indices ls)) (append-nil xs) r)
 ]
 among_turned k (w ∷ ws) xs z (inl e) = inl e
 among_turned k (w ∷ ws) xs z (inr h) = inr (among_turned k ws xs z h)
@@ -32,7 +32,7 @@ among_turned k (w ∷ ws) xs z (inr h) = inr (among_turned k ws xs z h)
 leads_turned : (f : Accepted) (target : ℕ → Option ℕ) (ws xs : List Open) (z : Open) (results : List (Option ℕ))
     → LeadsTo f target (ws ++ (xs ++ z ∷ [])) results → LeadsTo f target (ws ++ z ∷ xs) results
 leads_turned f target ws xs z results h = record {
-  opened = all_turned-behind (λ (l : Open). Some (fold_from f l.so_far l.terms) ≡ target l.place) ws xs z h.opened;
+  opened = all_turned-behind (λ (l : Open). Some (fold_from f l.so_far l.terms) ≡ target l.number) ws xs z h.opened;
   known = λ k b. elim (h.known k b) [ inl e ↦ inl e | inr a ↦ inr (among_turned k ws xs z a) ];
 }
 
@@ -47,13 +47,13 @@ gives_turned f ws xs z results =
 -- ---- a row with no word left has its result
 
 gives_result : (f : Accepted) (xs : List Open) (x : Open) (ys : List Open) (results : List (Option ℕ)) → x.terms ≡ []
-    → x.place < length results → Gives f 0 (xs ++ x ∷ ys) results (xs ++ ys) (set results x.place (Some x.so_far))
+    → x.number < length results → Gives f 0 (xs ++ x ∷ ys) results (xs ++ ys) (set results x.number (Some x.so_far))
 gives_result f xs x ys results e within =
     let a = due_append f xs (x ∷ ys) in
     let b = due_append f xs ys in
     let z : steps_of (fold_calls_from f x.so_far x.terms) ≡ 0 = ap (λ ts. steps_of (fold_calls_from f x.so_far ts)) e in
     record {
-      rows = length-set results x.place (Some x.so_far);
+      rows = length-set results x.number (Some x.so_far);
       leads = λ target h. leads_found f target xs x ys results h within x.so_far (ap (λ ts. Some (fold_from f x.so_far ts)) (sym e));
       costs = omega (arith, a, b, z);
     }
@@ -150,7 +150,7 @@ module _ (start : List Open) (begun : List (Option ℕ)) (i left : ℕ) (lanes :
 
   -- the row whose turn it is
   abbrev here : Open
-  here = record { place = (get_or lanes i d).place; so_far = get_or so_far i 0; terms = words (get_or lanes i d).rest.now }
+  here = record { number = (get_or lanes i d).number; so_far = get_or so_far i 0; terms = words (get_or lanes i d).rest.now }
 
   parted : halfway (i + 1) left lanes so_far next ≡ before ++ here ∷ behind
   parted =
@@ -168,14 +168,14 @@ module _ (start : List Open) (begun : List (Option ℕ)) (i left : ℕ) (lanes :
   gives_now : (f : Accepted) → Gives f 0 start begun (before ++ here ∷ behind) results
   gives_now f = subst (λ os. Gives f 0 start begun os results) parted (h.gives f)
 
-  pub giving-place : (get_or lanes i d).place < length results
-  giving-place =
+  pub giving-number : (get_or lanes i d).number < length results
+  giving-number =
       let r = h.rows in
-      let p = (all_gone (λ (o : Open). o.place < length begun) before here behind placed_now).0 in
+      let p = (all_gone (λ (o : Open). o.number < length begun) before here behind placed_now).0 in
       omega (arith, r, p)
 
   -- it has a next word
-  pub giving-word : (c : Cell) (y : Lane) → y.place ≡ (get_or lanes i d).place → (get_or lanes i d).rest.now ≡ c ∷ y.rest.now
+  pub giving-word : (c : Cell) (y : Lane) → y.number ≡ (get_or lanes i d).number → (get_or lanes i d).rest.now ≡ c ∷ y.rest.now
       → IsGiving start begun i left (set lanes i y) so_far (set next i c.1) results
   giving-word c y p e =
       let s = short in
@@ -183,9 +183,9 @@ module _ (start : List Open) (begun : List (Option ℕ)) (i left : ℕ) (lanes :
       let v = h.folds in
       let n = h.nexts in
       let l : i < left = omega (arith, w) in
-      let same : here ≡ record { place = y.place; so_far = get_or so_far i 0; terms = c.1 ∷ words y.rest.now } =
-      ap (λ ts. record { place = (get_or lanes i d).place; so_far = get_or so_far i 0; terms = ts }) (ap words e)
-      ∙ ap (λ k. record { place = k; so_far = get_or so_far i 0; terms = c.1 ∷ words y.rest.now }) (sym p) in
+      let same : here ≡ record { number = y.number; so_far = get_or so_far i 0; terms = c.1 ∷ words y.rest.now } =
+      ap (λ ts. record { number = (get_or lanes i d).number; so_far = get_or so_far i 0; terms = ts }) (ap words e)
+      ∙ ap (λ k. record { number = k; so_far = get_or so_far i 0; terms = c.1 ∷ words y.rest.now }) (sym p) in
       let all : halfway i left (set lanes i y) so_far (set next i c.1) ≡ before ++ here ∷ behind =
       ap (λ (ls : List Lane). in_two_columns ls (take i so_far) ++ in_columns (part i left (set lanes i y)) (part i left so_far)
       (part i left (set next i c.1))) (take-set lanes i y)
@@ -214,12 +214,12 @@ module _ (start : List Open) (begun : List (Option ℕ)) (i left : ℕ) (lanes :
     then = halfway i (left - 1) (set lanes i (get_or lanes (left - 1) d)) (set so_far i (get_or so_far (left - 1) 0))
         (set next i (get_or next (left - 1) 0))
 
-    given : (f : Accepted) → Gives f 0 start begun (before ++ behind) (set results (get_or lanes i d).place (Some (get_or so_far i 0)))
+    given : (f : Accepted) → Gives f 0 start begun (before ++ behind) (set results (get_or lanes i d).number (Some (get_or so_far i 0)))
     given f = gives_then f 0 0 start (before ++ here ∷ behind) (before ++ behind) begun results _ (gives_now f)
-        (gives_result f before here behind results (ap words none) giving-place)
+        (gives_result f before here behind results (ap words none) giving-number)
 
     placed_left : ArePlaced (length begun) (before ++ behind)
-    placed_left = (all_gone (λ (o : Open). o.place < length begun) before here behind placed_now).1
+    placed_left = (all_gone (λ (o : Open). o.number < length begun) before here behind placed_now).1
 
     front : then ≡ before ++ in_columns (part i (left - 1) (set lanes i (get_or lanes (left - 1) d)))
         (part i (left - 1) (set so_far i (get_or so_far (left - 1) 0))) (part i (left - 1) (set next i (get_or next (left - 1) 0)))
@@ -233,7 +233,7 @@ module _ (start : List Open) (begun : List (Option ℕ)) (i left : ℕ) (lanes :
 
     record IsThen (os : List Open) : Type 0 where
       placed : ArePlaced (length begun) os
-      gives : (f : Accepted) → Gives f 0 start begun os (set results (get_or lanes i d).place (Some (get_or so_far i 0)))
+      gives : (f : Accepted) → Gives f 0 start begun os (set results (get_or lanes i d).number (Some (get_or so_far i 0)))
 
     is_then : (i < left - 1) ⊎ (left - 1 ≤ i) → IsThen then
     is_then (inl q) =
@@ -243,7 +243,7 @@ module _ (start : List Open) (begun : List (Option ℕ)) (i left : ℕ) (lanes :
         let b = h.fits in
         let xs = in_columns (part (i + 1) (left - 1) lanes) (part (i + 1) (left - 1) so_far) (part (i + 1) (left - 1) next) in
         let z : Open = record {
-          place = (get_or lanes (left - 1) d).place;
+          number = (get_or lanes (left - 1) d).number;
           so_far = get_or so_far (left - 1) 0;
           terms = get_or next (left - 1) 0 ∷ words (get_or lanes (left - 1) d).rest.now;
         } in
@@ -269,11 +269,11 @@ module _ (start : List Open) (begun : List (Option ℕ)) (i left : ℕ) (lanes :
         (get_or so_far (left - 1) 0 ∷ part (i + 1) (left - 1) so_far) ws)
         (part_set i (left - 1) next (get_or next (left - 1) 0) q (omega (arith, s, n)))) in
         record {
-          placed = subst (ArePlaced (length begun)) (sym new) (all_turned-behind (λ (o : Open). o.place < length begun) before xs z
+          placed = subst (ArePlaced (length begun)) (sym new) (all_turned-behind (λ (o : Open). o.number < length begun) before xs z
               (subst (λ os. ArePlaced (length begun) (before ++ os)) old placed_left));
-          gives = λ f. subst (λ os. Gives f 0 start begun os (set results (get_or lanes i d).place (Some (get_or so_far i 0)))) (sym new)
+          gives = λ f. subst (λ os. Gives f 0 start begun os (set results (get_or lanes i d).number (Some (get_or so_far i 0)))) (sym new)
               (gives_then f 0 0 start (before ++ (xs ++ z ∷ [])) (before ++ z ∷ xs) begun _ _
-              (subst (λ os. Gives f 0 start begun (before ++ os) (set results (get_or lanes i d).place (Some (get_or so_far i 0)))) old (given f))
+              (subst (λ os. Gives f 0 start begun (before ++ os) (set results (get_or lanes i d).number (Some (get_or so_far i 0)))) old (given f))
               (gives_turned f before xs z _));
         }
     is_then (inr q) =
@@ -286,12 +286,12 @@ module _ (start : List Open) (begun : List (Option ℕ)) (i left : ℕ) (lanes :
         (part_none i (left - 1) (set lanes i (get_or lanes (left - 1) d)) q) in
         record {
           placed = subst (ArePlaced (length begun)) (sym new) (subst (λ os. ArePlaced (length begun) (before ++ os)) old placed_left);
-          gives = λ f. subst (λ os. Gives f 0 start begun os (set results (get_or lanes i d).place (Some (get_or so_far i 0)))) (sym new)
-              (subst (λ os. Gives f 0 start begun (before ++ os) (set results (get_or lanes i d).place (Some (get_or so_far i 0)))) old (given f));
+          gives = λ f. subst (λ os. Gives f 0 start begun os (set results (get_or lanes i d).number (Some (get_or so_far i 0)))) (sym new)
+              (subst (λ os. Gives f 0 start begun (before ++ os) (set results (get_or lanes i d).number (Some (get_or so_far i 0)))) old (given f));
         }
 
     pub giving-result : IsGiving start begun i (left - 1) (set lanes i (get_or lanes (left - 1) d)) (set so_far i (get_or so_far (left - 1) 0))
-        (set next i (get_or next (left - 1) 0)) (set results (get_or lanes i d).place (Some (get_or so_far i 0)))
+        (set next i (get_or next (left - 1) 0)) (set results (get_or lanes i d).number (Some (get_or so_far i 0)))
     giving-result =
         let w = h.within in
         let b = h.fits in
@@ -306,7 +306,7 @@ module _ (start : List Open) (begun : List (Option ℕ)) (i left : ℕ) (lanes :
           fits = omega (arith, b, x);
           folds = omega (arith, v, x, y);
           nexts = omega (arith, n, x, z);
-          rows = length-set results (get_or lanes i d).place (Some (get_or so_far i 0)) ∙ h.rows;
+          rows = length-set results (get_or lanes i d).number (Some (get_or so_far i 0)) ∙ h.rows;
           placed = t.placed;
           gives = t.gives;
         }

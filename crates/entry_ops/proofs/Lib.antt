@@ -1,11 +1,11 @@
 pub mod Standing
 pub mod Placing
 pub mod Following
-pub mod Sifting
+pub mod SelectBuffer
 pub mod Nexts
 pub mod Masks
 pub mod Merging
-pub mod Lines
+pub mod OperandReader
 pub mod Mapped
 pub mod Whole
 pub mod Paired
@@ -22,6 +22,6 @@ pub mod Folding
 pub mod InOrder
 pub mod Reducing
 pub mod Heads
-pub mod Comings
+pub mod IndexCalls
 pub mod Answering
 pub mod Beside

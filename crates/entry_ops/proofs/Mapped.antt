@@ -29,14 +29,14 @@ module _ (f : Accepted) where
 
   -- no calls were made
   further-none : (m : Mapping) → IsFurther f [] m m
-  further-none m = record { alike = alike_same m.rows.run; place = omega arith; cells = refl; steps = omega arith }
+  further-none m = record { alike = alike_same m.rows.run; number = omega arith; cells = refl; steps = omega arith }
 
   further-then : (os ps : List Operands) (a b c : Mapping) → IsFurther f os a b → IsFurther f ps b c → IsFurther f (os ++ ps) a c
   further-then os ps a b c x y = record {
     alike = alike_then a.rows.run b.rows.run c.rows.run x.alike y.alike;
-    place = let p = x.place in let q = y.place in omega (arith, p, q, length-append os ps);
+    number = let p = x.number in let q = y.number in omega (arith, p, q, length-append os ps);
     cells = y.cells
-        ∙ (ap (λ n. valued_from n (values_on f ps) (all_cells b.rows.run)) x.place
+        ∙ (ap (λ n. valued_from n (values_on f ps) (all_cells b.rows.run)) x.number
         ∙ (ap (valued_from (a.rows.written + length os) (values_on f ps)) x.cells
         ∙ (ap (λ n. valued_from (a.rows.written + n) (values_on f ps) (valued_from a.rows.written (values_on f os) (all_cells a.rows.run))) (sym (length_values f os))
         ∙ (sym (valued_from-append a.rows.written (values_on f os) (values_on f ps) (all_cells a.rows.run))
@@ -72,7 +72,7 @@ module _ (f : Accepted) where
 
     pub mapping-step : (m : Mapping) → IsFurther f first now m → IsMapping all old rest m
     mapping-step m a = record {
-      entries = let e = i.entries in let l = a.place in let k = alike_entries now.rows.run m.rows.run a.alike in let n = many in omega (arith, e, l, k, n);
+      entries = let e = i.entries in let l = a.number in let k = alike_entries now.rows.run m.rows.run a.alike in let n = many in omega (arith, e, l, k, n);
       room = let r = i.room in let t = a.steps in let s = cost in omega (arith, r, t, s);
       ends = λ q b. i.ends q (subst (λ os. IsFurther f os now q) (sym p) (further-then first rest now m q a b));
     }
@@ -123,9 +123,9 @@ module _ (f : Accepted) (all : List Operands) (old now : Mapping) (to : ℕ) (ce
 
   pub words-made : (m : Mapping) → IsFurther f operands now m → IsMapping f all old (words_of (drop m.rows.written (all_cells m.rows.run))) m
   words-made m a =
-      let at : m.rows.written ≡ to = let n = words-count in let p = a.place in omega (arith, p, n, e) in
+      let at : m.rows.written ≡ to = let n = words-count in let p = a.number in omega (arith, p, n, e) in
       let rest : drop to (all_cells now.rows.run) ≡ drop m.rows.written (all_cells m.rows.run) =
       ap (λ q. drop q (all_cells now.rows.run)) (sym at)
-      ∙ (sym (valued_behind now.rows.written m.rows.written (values_on f operands) (all_cells now.rows.run) (let p = a.place in omega (arith, length_values f operands, p)))
+      ∙ (sym (valued_behind now.rows.written m.rows.written (values_on f operands) (all_cells now.rows.run) (let p = a.number in omega (arith, length_values f operands, p)))
       ∙ ap (drop m.rows.written) (sym a.cells)) in
       subst (λ cs. IsMapping f all old (words_of cs) m) rest (mapping-step f all old _ operands _ now i words-parts m a)

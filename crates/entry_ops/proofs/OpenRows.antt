@@ -25,7 +25,7 @@ use Rattle.entry_ops.specs.inner.Folding.{
   to_come,
   due,
   IsAmong,
-  places,
+  indices,
   LeadsTo,
   Gives,
   Goes,
@@ -45,18 +45,18 @@ pub all_gone : (P : Open → Type 0) (xs : List Open) (x : Open) (ys : List Open
 all_gone P [] x ys h = (h.0, h.1)
 all_gone P (z ∷ xs) x ys h = let r = all_gone P xs x ys h.1 in (r.0, (h.0, r.1))
 
-pub among_gone : (k : ℕ) (xs : List Open) (x : Open) (ys : List Open) → IsAmong k (places (xs ++ x ∷ ys))
-    → (k ≡ x.place) ⊎ IsAmong k (places (xs ++ ys))
+pub among_gone : (k : ℕ) (xs : List Open) (x : Open) (ys : List Open) → IsAmong k (indices (xs ++ x ∷ ys))
+    → (k ≡ x.number) ⊎ IsAmong k (indices (xs ++ ys))
 among_gone k [] x ys h = h
 among_gone k (z ∷ xs) x ys (inl e) = inr (inl e)
 among_gone k (z ∷ xs) x ys (inr h) = elim (among_gone k xs x ys h) [ inl e ↦ inl e | inr r ↦ inr (inr r) ]
 
-among_push : (k : ℕ) (xs : List Open) (x : Open) → IsAmong k (places xs) → IsAmong k (places (xs ++ x ∷ []))
+among_push : (k : ℕ) (xs : List Open) (x : Open) → IsAmong k (indices xs) → IsAmong k (indices (xs ++ x ∷ []))
 among_push k [] x h = absurd h
 among_push k (z ∷ xs) x (inl e) = inl e
 among_push k (z ∷ xs) x (inr h) = inr (among_push k xs x h)
 
-among_last : (k : ℕ) (xs : List Open) (x : Open) → k ≡ x.place → IsAmong k (places (xs ++ x ∷ []))
+among_last : (k : ℕ) (xs : List Open) (x : Open) → k ≡ x.number → IsAmong k (indices (xs ++ x ∷ []))
 among_last k [] x e = inl e
 among_last k (z ∷ xs) x e = inr (among_last k xs x e)
 
@@ -79,31 +79,31 @@ columns_same_three ks ls us vs ts ws a b c =
 
 pub columns_push : (ls : List Lane) (vs ws : List ℕ) (l : Lane) (v w : ℕ) → length vs ≡ length ls → length ws ≡ length ls
     → in_columns (ls ++ l ∷ []) (vs ++ v ∷ []) (ws ++ w ∷ [])
-    ≡ in_columns ls vs ws ++ record { place = l.place; so_far = v; terms = w ∷ words l.rest.now } ∷ []
+    ≡ in_columns ls vs ws ++ record { number = l.number; so_far = v; terms = w ∷ words l.rest.now } ∷ []
 columns_push [] [] [] l v w p q = refl
 columns_push [] (x ∷ vs) ws l v w p q = absurd (omega (arith, p))
 columns_push [] [] (y ∷ ws) l v w p q = absurd (omega (arith, q))
 columns_push (k ∷ ls) [] ws l v w p q = absurd (omega (arith, p))
 columns_push (k ∷ ls) (x ∷ vs) [] l v w p q = absurd (omega (arith, q))
 columns_push (k ∷ ls) (x ∷ vs) (y ∷ ws) l v w p q =
-    ap (λ os. record { place = k.place; so_far = x; terms = y ∷ words k.rest.now } ∷ os)
+    ap (λ os. record { number = k.number; so_far = x; terms = y ∷ words k.rest.now } ∷ os)
     (columns_push ls vs ws l v w (omega (arith, p)) (omega (arith, q)))
 
 pub columns_pushed : (ls : List Lane) (vs ws : List ℕ) (l : Lane) (v w : ℕ) → length vs ≡ length ls → length ws ≡ length ls
     → (ks : List Lane) (us ts : List ℕ) → ks ≡ ls ++ l ∷ [] → us ≡ vs ++ v ∷ [] → ts ≡ ws ++ w ∷ []
-    → in_columns ks us ts ≡ in_columns ls vs ws ++ record { place = l.place; so_far = v; terms = w ∷ words l.rest.now } ∷ []
+    → in_columns ks us ts ≡ in_columns ls vs ws ++ record { number = l.number; so_far = v; terms = w ∷ words l.rest.now } ∷ []
 columns_pushed ls vs ws l v w p q ks us ts a b c =
     ap (λ (xs : List Lane). in_columns xs us ts) a ∙ ap (λ xs. in_columns (ls ++ l ∷ []) xs ts) b
     ∙ ap (λ xs. in_columns (ls ++ l ∷ []) (vs ++ v ∷ []) xs) c ∙ columns_push ls vs ws l v w p q
 
 pub two_columns_push : (ls : List Lane) (vs : List ℕ) (l : Lane) (v : ℕ) → length vs ≡ length ls
     → in_two_columns (ls ++ l ∷ []) (vs ++ v ∷ [])
-    ≡ in_two_columns ls vs ++ record { place = l.place; so_far = v; terms = words l.rest.now } ∷ []
+    ≡ in_two_columns ls vs ++ record { number = l.number; so_far = v; terms = words l.rest.now } ∷ []
 two_columns_push [] [] l v p = refl
 two_columns_push [] (x ∷ vs) l v p = absurd (omega (arith, p))
 two_columns_push (k ∷ ls) [] l v p = absurd (omega (arith, p))
 two_columns_push (k ∷ ls) (x ∷ vs) l v p =
-    ap (λ os. record { place = k.place; so_far = x; terms = words k.rest.now } ∷ os) (two_columns_push ls vs l v (omega (arith, p)))
+    ap (λ os. record { number = k.number; so_far = x; terms = words k.rest.now } ∷ os) (two_columns_push ls vs l v (omega (arith, p)))
 
 pub take_columns : (n : ℕ) (ls : List Lane) (vs ws : List ℕ) → length vs ≡ length ls → length ws ≡ length ls
     → in_columns (take n ls) (take n vs) (take n ws) ≡ take n (in_columns ls vs ws)
@@ -112,7 +112,7 @@ take_columns (suc n) [] vs ws p q = refl
 take_columns (suc n) (l ∷ ls) [] ws p q = absurd (omega (arith, p))
 take_columns (suc n) (l ∷ ls) (x ∷ vs) [] p q = absurd (omega (arith, q))
 take_columns (suc n) (l ∷ ls) (x ∷ vs) (y ∷ ws) p q =
-    ap (λ os. record { place = l.place; so_far = x; terms = y ∷ words l.rest.now } ∷ os)
+    ap (λ os. record { number = l.number; so_far = x; terms = y ∷ words l.rest.now } ∷ os)
     (take_columns n ls vs ws (omega (arith, p)) (omega (arith, q)))
 
 pub columns_taken : (n : ℕ) (ls : List Lane) (vs ws : List ℕ) → length vs ≡ length ls → length ws ≡ length ls
@@ -135,11 +135,11 @@ split_last n xs x e here = sym (take_all (n + 1) xs (omega (arith, e))) ∙ take
 
 pub columns_last : (n : ℕ) (ls : List Lane) (vs ws : List ℕ) → length vs ≡ length ls → length ws ≡ length ls → n + 1 ≡ length ls
     → (l : Lane) (v w : ℕ) → l ≡ get_or ls n l → v ≡ get_or vs n v → w ≡ get_or ws n w
-    → in_columns ls vs ws ≡ take n (in_columns ls vs ws) ++ record { place = l.place; so_far = v; terms = w ∷ words l.rest.now } ∷ []
+    → in_columns ls vs ws ≡ take n (in_columns ls vs ws) ++ record { number = l.number; so_far = v; terms = w ∷ words l.rest.now } ∷ []
 columns_last n ls vs ws p q e l v w a b c =
     columns_pushed (take n ls) (take n vs) (take n ws) l v w (same_take n ls vs p) (same_take n ls ws q) ls vs ws
     (split_last n ls l e a) (split_last n vs v (omega (arith, e, p)) b) (split_last n ws w (omega (arith, e, q)) c)
-    ∙ ap (λ os. os ++ record { place = l.place; so_far = v; terms = w ∷ words l.rest.now } ∷ []) (take_columns n ls vs ws p q)
+    ∙ ap (λ os. os ++ record { number = l.number; so_far = v; terms = w ∷ words l.rest.now } ∷ []) (take_columns n ls vs ws p q)
 
 -- ---- a call of each
 
@@ -166,16 +166,16 @@ module _ (f : Accepted) where
       placed_called n ls vs ws (values_on f (pairs_of vs ws)) p q (k ∙ p) h
 
   called_places : (ls : List Lane) (vs ws : List ℕ) → length vs ≡ length ls → length ws ≡ length ls
-      → places (in_columns ls vs ws) ≡ places (in_two_columns ls (values_on f (pairs_of vs ws)))
+      → indices (in_columns ls vs ws) ≡ indices (in_two_columns ls (values_on f (pairs_of vs ws)))
   called_places [] vs ws p q = refl
   called_places (l ∷ ls) [] ws p q = absurd (omega (arith, p))
   called_places (l ∷ ls) (x ∷ vs) [] p q = absurd (omega (arith, q))
   called_places (l ∷ ls) (x ∷ vs) (y ∷ ws) p q =
-      ap (λ ps. l.place ∷ ps) (called_places ls vs ws (omega (arith, p)) (omega (arith, q)))
+      ap (λ ps. l.number ∷ ps) (called_places ls vs ws (omega (arith, p)) (omega (arith, q)))
 
   called_opened : (target : ℕ → Option ℕ) (ls : List Lane) (vs ws : List ℕ) → length vs ≡ length ls → length ws ≡ length ls
-      → AllByRecursion (λ (l : Open). Some (fold_from f l.so_far l.terms) ≡ target l.place) (in_columns ls vs ws)
-      → AllByRecursion (λ (l : Open). Some (fold_from f l.so_far l.terms) ≡ target l.place)
+      → AllByRecursion (λ (l : Open). Some (fold_from f l.so_far l.terms) ≡ target l.number) (in_columns ls vs ws)
+      → AllByRecursion (λ (l : Open). Some (fold_from f l.so_far l.terms) ≡ target l.number)
       (in_two_columns ls (values_on f (pairs_of vs ws)))
   called_opened target [] vs ws p q h = tt
   called_opened target (l ∷ ls) [] ws p q h = absurd (omega (arith, p))
@@ -236,21 +236,21 @@ module _ (f : Accepted) (ls : List Lane) (vs ws : List ℕ) (p : length vs ≡ l
 
 -- the row of a lane has its result
 pub leads_found : (f : Accepted) (target : ℕ → Option ℕ) (xs : List Open) (x : Open) (ys : List Open) (results : List (Option ℕ))
-    → LeadsTo f target (xs ++ x ∷ ys) results → x.place < length results → (v : ℕ)
-    → Some v ≡ Some (fold_from f x.so_far x.terms) → LeadsTo f target (xs ++ ys) (set results x.place (Some v))
+    → LeadsTo f target (xs ++ x ∷ ys) results → x.number < length results → (v : ℕ)
+    → Some v ≡ Some (fold_from f x.so_far x.terms) → LeadsTo f target (xs ++ ys) (set results x.number (Some v))
 leads_found f target xs x ys results h within v e =
-    let gone = all_gone (λ (l : Open). Some (fold_from f l.so_far l.terms) ≡ target l.place) xs x ys h.opened in
+    let gone = all_gone (λ (l : Open). Some (fold_from f l.so_far l.terms) ≡ target l.number) xs x ys h.opened in
     record {
       opened = gone.1;
-      known = λ k b. here (e ∙ gone.0) k (let n = length-set results x.place (Some v) in omega (arith, n, b)) (cases_eq k x.place);
+      known = λ k b. here (e ∙ gone.0) k (let n = length-set results x.number (Some v) in omega (arith, n, b)) (cases_eq k x.number);
     }
   where
-    here : Some v ≡ target x.place → (k : ℕ) → k < length results → (k ≡ x.place) ⊎ (k ≡ x.place → ⊥)
-        → (get_or (set results x.place (Some v)) k None ≡ target k) ⊎ IsAmong k (places (xs ++ ys))
-    here value k b (inl q) = inl (ap (λ j. get_or (set results x.place (Some v)) j None) q
-        ∙ get_or-set_same results x.place (Some v) None within ∙ value ∙ ap target (sym q))
+    here : Some v ≡ target x.number → (k : ℕ) → k < length results → (k ≡ x.number) ⊎ (k ≡ x.number → ⊥)
+        → (get_or (set results x.number (Some v)) k None ≡ target k) ⊎ IsAmong k (indices (xs ++ ys))
+    here value k b (inl q) = inl (ap (λ j. get_or (set results x.number (Some v)) j None) q
+        ∙ get_or-set_same results x.number (Some v) None within ∙ value ∙ ap target (sym q))
     here value k b (inr ne) = elim (h.known k b) [
-      | inl q ↦ inl (get_or-set_other results x.place k (Some v) None ne ∙ q)
+      | inl q ↦ inl (get_or-set_other results x.number k (Some v) None ne ∙ q)
       | inr a ↦ elim (among_gone k xs x ys a) [ inl q ↦ absurd (ne q) | inr r ↦ inr r ]
     ]
 
@@ -283,22 +283,22 @@ goes f lanes then rs results found back made steps more old is r g b m =
 -- ---- a row begins
 
 leads_open : (f : Accepted) (target : ℕ → Option ℕ) (lanes : List Open) (results : List (Option ℕ)) (r : Option ℕ) (x : Open)
-    → LeadsTo f target lanes results → x.place ≡ length results → Some (fold_from f x.so_far x.terms) ≡ target (length results)
+    → LeadsTo f target lanes results → x.number ≡ length results → Some (fold_from f x.so_far x.terms) ≡ target (length results)
     → LeadsTo f target (lanes ++ x ∷ []) (results ++ r ∷ [])
 leads_open f target lanes results r x h p e = record {
-  opened = all_push (λ (l : Open). Some (fold_from f l.so_far l.terms) ≡ target l.place) lanes x h.opened (e ∙ ap target (sym p));
+  opened = all_push (λ (l : Open). Some (fold_from f l.so_far l.terms) ≡ target l.number) lanes x h.opened (e ∙ ap target (sym p));
   known = λ k b. here k b (cases_lt k (length results));
 }
   where
     here : (k : ℕ) → k < length (results ++ r ∷ []) → (k < length results) ⊎ (length results ≤ k)
-        → (get_or (results ++ r ∷ []) k None ≡ target k) ⊎ IsAmong k (places (lanes ++ x ∷ []))
+        → (get_or (results ++ r ∷ []) k None ≡ target k) ⊎ IsAmong k (indices (lanes ++ x ∷ []))
     here k b (inl l) = elim (h.known k l) [
       | inl q ↦ inl (get_or_append_left results (r ∷ []) None k l ∙ q)
       | inr a ↦ inr (among_push k lanes x a)
     ]
     here k b (inr l) =
         let n = length_push results r in
-        let same : k ≡ x.place = omega (arith, n, b, l, p) in
+        let same : k ≡ x.number = omega (arith, n, b, l, p) in
         inr (among_last k lanes x same)
 
 module _ (lanes then : List Open) (results more : List (Option ℕ)) (steps : ℕ) (r : Option ℕ) (old : Folding)
@@ -308,7 +308,7 @@ module _ (lanes then : List Open) (results more : List (Option ℕ)) (steps : �
 
   -- that has a lane
   pub begins_open : (x : Open) (c : Cell) (rest : List Cell) → then ≡ lanes ++ x ∷ [] → cells ≡ c ∷ rest → x.terms ≡ words rest
-      → x.so_far ≡ c.1 → x.place ≡ length results
+      → x.so_far ≡ c.1 → x.number ≡ length results
       → (f : Accepted) → Begins f cells old (record { lanes = then; results = more; steps = steps })
   begins_open x c rest t e ws s p f =
       let all : fold f (words cells) ≡ Some (fold_from f x.so_far x.terms) =

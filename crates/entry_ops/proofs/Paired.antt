@@ -14,7 +14,7 @@ use Rattle.csr_store.proofs.Along.{row_of-ascends, along-none}
 use Rattle.csr_store.specs.Mask.{mask_of}
 use Rattle.bpf_run.specs.Calls.{Gathered, calls_on, values_on}
 use Rattle.entry_ops.specs.inner.Forms.{Form, Apply, Select, Union, Both}
-use Rattle.entry_ops.specs.declared.line.Sources.{Sources}
+use Rattle.entry_ops.specs.declared.operand_rows.Sources.{Sources}
 use Rattle.entry_ops.specs.inner.Paired.{columns_of, pairs_in, AreInStep, range_pairs, ArePaired}
 use Rattle.job_forms.specs.declared.region.Chunk.{Chunk}
 use Rattle.entry_ops.specs.inner.Walking.{kind_for, is_joint, form_at, form_calls, row_cells, row_calls, IsFormMade}
@@ -78,12 +78,12 @@ same_columns (x ∷ xs) (y ∷ ys) d l h =
 
 pub record IsGathering (left right : List Cell) (start : Gathered) (i : ℕ) (now : Gathered) : Type 0 where
   pub same : now ≡ record start { operands = now.operands }
-  pub coming : now.operands ++ pairs_in (drop i left) (drop i right) ≡ start.operands ++ pairs_in left right
+  pub index_calls : now.operands ++ pairs_in (drop i left) (drop i right) ≡ start.operands ++ pairs_in left right
   pub many : length now.operands ≡ length start.operands + i
 
 module _ (left right : List Cell) (start : Gathered) (l : length right ≡ length left) where
   pub gathering-start : IsGathering left right start 0 start
-  gathering-start = record { same = refl; coming = refl; many = omega arith }
+  gathering-start = record { same = refl; index_calls = refl; many = omega arith }
 
   pub gathering-step : (i : ℕ) (now next : Gathered) (d : Cell) → IsGathering left right start i now → i < length left
       → next ≡ record now { operands = now.operands ++ Binary (get_or left i d).1 (get_or right i d).1 ∷ [] }
@@ -96,9 +96,9 @@ module _ (left right : List Cell) (start : Gathered) (l : length right ≡ lengt
       ∙ ap (pairs_in (get_or left i d ∷ drop (i + 1) left)) (drop_more right i d (omega (arith, u, l))) in
       record {
         same = e ∙ ap (λ (g : Gathered). record g { operands = now.operands ++ o ∷ [] }) h.same ∙ ap (λ ps. record start { operands = ps }) (sym os);
-        coming = ap (λ ps. ps ++ pairs_in (drop (i + 1) left) (drop (i + 1) right)) os
+        index_calls = ap (λ ps. ps ++ pairs_in (drop (i + 1) left) (drop (i + 1) right)) os
             ∙ (append_assoc now.operands (o ∷ []) (pairs_in (drop (i + 1) left) (drop (i + 1) right))
-            ∙ (ap (λ ps. now.operands ++ ps) (sym first) ∙ h.coming));
+            ∙ (ap (λ ps. now.operands ++ ps) (sym first) ∙ h.index_calls));
         many = let m = h.many in let n = ap (λ (ps : List Operands). length ps) os in omega (arith, m, n, length-append now.operands (o ∷ []));
       }
 
@@ -107,7 +107,7 @@ module _ (left right : List Cell) (start : Gathered) (l : length right ≡ lengt
   gathering-end i now h u =
       let none : pairs_in (drop i left) (drop i right) ≡ [] = ap (λ cs. pairs_in cs (drop i right)) (drop_all i left u) in
       h.same ∙ ap (λ ps. record start { operands = ps })
-      (sym (append-nil now.operands) ∙ (ap (λ ps. now.operands ++ ps) (sym none) ∙ h.coming))
+      (sym (append-nil now.operands) ∙ (ap (λ ps. now.operands ++ ps) (sym none) ∙ h.index_calls))
 
 -- ---- rows that follow one another
 

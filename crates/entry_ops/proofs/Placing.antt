@@ -99,15 +99,15 @@ placed-set (q ∷ ps) (w ∷ vs) p v run l = placed-set ps vs p v (with_value q 
 
 -- ---- values are put in place one by one
 
-pub record IsPlacing (places values : List ℕ) (start : Run) (i : ℕ) (now : Run) : Type 0 where
-  pub have : HavePlaces (drop i places) (drop i values) (entries_of now)
-  pub same : placed (drop i places) (drop i values) now ≡ placed places values start
+pub record IsPlacing (indices values : List ℕ) (start : Run) (i : ℕ) (now : Run) : Type 0 where
+  pub have : HavePlaces (drop i indices) (drop i values) (entries_of now)
+  pub same : placed (drop i indices) (drop i values) now ≡ placed indices values start
 
-module _ (places values : List ℕ) (start : Run) where
-  pub placing-start : HavePlaces places values (entries_of start) → IsPlacing places values start 0 start
+module _ (indices values : List ℕ) (start : Run) where
+  pub placing-start : HavePlaces indices values (entries_of start) → IsPlacing indices values start 0 start
   placing-start h = record { have = h; same = refl }
 
-  module _ (i : ℕ) (now : Run) (h : IsPlacing places values start i now) where
+  module _ (i : ℕ) (now : Run) (h : IsPlacing indices values start i now) where
     module _ (l : i < length values) where
       value_first : drop i values ≡ get_or values i 0 ∷ drop (i + 1) values
       value_first = drop_more values i 0 l
@@ -116,32 +116,32 @@ module _ (places values : List ℕ) (start : Run) where
       has_one [] v vs n h = absurd h
       has_one (p ∷ ps) v vs n h = omega arith
 
-      pub place-inside : i < length places
-      place-inside =
-          let o = has_one (drop i places) (get_or values i 0) (drop (i + 1) values) (entries_of now) (subst (λ vs. HavePlaces (drop i places) vs (entries_of now)) value_first h.have) in
-          let n = length-drop i places in omega arith
+      pub number-inside : i < length indices
+      number-inside =
+          let o = has_one (drop i indices) (get_or values i 0) (drop (i + 1) values) (entries_of now) (subst (λ vs. HavePlaces (drop i indices) vs (entries_of now)) value_first h.have) in
+          let n = length-drop i indices in omega arith
 
-      place_first : drop i places ≡ get_or places i 0 ∷ drop (i + 1) places
-      place_first = drop_more places i 0 place-inside
+      place_first : drop i indices ≡ get_or indices i 0 ∷ drop (i + 1) indices
+      place_first = drop_more indices i 0 number-inside
 
-      have_here : HavePlaces (get_or places i 0 ∷ drop (i + 1) places) (get_or values i 0 ∷ drop (i + 1) values) (entries_of now)
+      have_here : HavePlaces (get_or indices i 0 ∷ drop (i + 1) indices) (get_or values i 0 ∷ drop (i + 1) values) (entries_of now)
       have_here = subst (λ ps. HavePlaces ps (get_or values i 0 ∷ drop (i + 1) values) (entries_of now)) place_first
-          (subst (λ vs. HavePlaces (drop i places) vs (entries_of now)) value_first h.have)
+          (subst (λ vs. HavePlaces (drop i indices) vs (entries_of now)) value_first h.have)
 
-      pub entry-inside : get_or places i 0 < entries_of now
+      pub entry-inside : get_or indices i 0 < entries_of now
       entry-inside = have_here.0
 
-      pub placing-step : (new : Run) → new ≡ with_value (get_or places i 0) (get_or values i 0) now → IsPlacing places values start (i + 1) new
+      pub placing-step : (new : Run) → new ≡ with_value (get_or indices i 0) (get_or values i 0) now → IsPlacing indices values start (i + 1) new
       placing-step new is = record {
-        have = subst (λ (r : Run). HavePlaces (drop (i + 1) places) (drop (i + 1) values) (entries_of r)) (sym is)
-            (have-entries _ _ _ _ (sym (entries_with_value (get_or places i 0) (get_or values i 0) now)) have_here.1);
-        same = ap (placed (drop (i + 1) places) (drop (i + 1) values)) is
+        have = subst (λ (r : Run). HavePlaces (drop (i + 1) indices) (drop (i + 1) values) (entries_of r)) (sym is)
+            (have-entries _ _ _ _ (sym (entries_with_value (get_or indices i 0) (get_or values i 0) now)) have_here.1);
+        same = ap (placed (drop (i + 1) indices) (drop (i + 1) values)) is
             ∙ (ap (λ ps. placed ps (get_or values i 0 ∷ drop (i + 1) values) now) (sym place_first)
-            ∙ (ap (λ vs. placed (drop i places) vs now) (sym value_first) ∙ h.same));
+            ∙ (ap (λ vs. placed (drop i indices) vs now) (sym value_first) ∙ h.same));
       }
 
-    pub placing-end : length values ≤ i → now ≡ placed places values start
-    placing-end l = ap (λ vs. placed (drop i places) vs now) (sym (drop_all i values l)) ∙ h.same
+    pub placing-end : length values ≤ i → now ≡ placed indices values start
+    placing-end l = ap (λ vs. placed (drop i indices) vs now) (sym (drop_all i values l)) ∙ h.same
 
 -- ---- what is done
 
@@ -160,9 +160,9 @@ module _ (f : Accepted) where
   does-flush e n g k rows steps none kind =
       let values : values_on f k.operands ≡ [] = ap (values_on f) none in
       let gone : calls_on f k.operands ≡ [] = ap (calls_on f) none in record {
-        holds = record { kind = kind; places = subst (λ vs. HavePlaces n.places vs (entries_of n.rows)) (sym values) tt; rise = subst (Rise 0 n.places) (sym values) tt };
+        holds = record { kind = kind; indices = subst (λ vs. HavePlaces n.indices vs (entries_of n.rows)) (sym values) tt; rise = subst (Rise 0 n.indices) (sym values) tt };
         adds = record {
-          rows = ap (λ vs. placed n.places vs n.rows) values ∙ rows;
+          rows = ap (λ vs. placed n.indices vs n.rows) values ∙ rows;
           spends = λ rest. subst (λ cs. Spends (calls_on f g.operands ++ rest) e.steps (cs ++ rest) n.steps) (sym gone)
               (spends-step (calls_on f g.operands ++ rest) e.steps (calls_on f g.operands ++ rest) e.steps
               (calls_on f g.operands) rest n.steps (spends-start (calls_on f g.operands ++ rest) e.steps) refl steps);
@@ -173,15 +173,15 @@ module _ (f : Accepted) where
     -- what may be added at last may be added now
     pub can-push : (c : ℕ) → CanPush c (final f e g) → CanPush c e.rows
     can-push c p = (
-      let n = placed-columns e.places (values_on f g.operands) e.rows in let b = p.0 in omega arith,
-      placed-above c e.places (values_on f g.operands) e.rows p.1,
+      let n = placed-columns e.indices (values_on f g.operands) e.rows in let b = p.0 in omega arith,
+      placed-above c e.indices (values_on f g.operands) e.rows p.1,
     )
 
     pub can-follow : (cells : Row) → FollowIn cells (final f e g) → FollowIn cells e.rows
     can-follow cells b = record {
       low = b.low;
-      above = placed-above b.low e.places (values_on f g.operands) e.rows b.above;
-      ascend = subst (λ n. Ascends b.low n cells) (placed-columns e.places (values_on f g.operands) e.rows) b.ascend;
+      above = placed-above b.low e.indices (values_on f g.operands) e.rows b.above;
+      ascend = subst (λ n. Ascends b.low n cells) (placed-columns e.indices (values_on f g.operands) e.rows) b.ascend;
     }
 
     -- a cell whose value is known
@@ -189,11 +189,11 @@ module _ (f : Accepted) where
     does-copy c x n is = subst (λ (m : Emission). Does f [] (with_cell c x) e g m g) (sym is) (record {
       holds = record {
         kind = h.kind;
-        places = have-more e.places (values_on f g.operands) (entries_of e.rows) _ (let m = entries_push e.rows (c, x) in omega arith) h.places;
+        indices = have-more e.indices (values_on f g.operands) (entries_of e.rows) _ (let m = entries_push e.rows (c, x) in omega arith) h.indices;
         rise = h.rise;
       };
       adds = adds-waiting [] (with_cell c x) (standing f e g) (standing f (record e { rows = with_cell c x e.rows }) g)
-          (placed-push c x e.places (values_on f g.operands) e.rows h.places) (sym (append-nil (calls_on f g.operands))) refl;
+          (placed-push c x e.indices (values_on f g.operands) e.rows h.indices) (sym (append-nil (calls_on f g.operands))) refl;
     })
 
     -- cells whose values are known
@@ -201,12 +201,12 @@ module _ (f : Accepted) where
     does-copies cells n is = subst (λ (m : Emission). Does f [] (with_cells cells) e g m g) (sym is) (record {
       holds = record {
         kind = h.kind;
-        places = have-more e.places (values_on f g.operands) (entries_of e.rows) _
-            (let m = length-append e.rows.opened cells in omega arith) h.places;
+        indices = have-more e.indices (values_on f g.operands) (entries_of e.rows) _
+            (let m = length-append e.rows.opened cells in omega arith) h.indices;
         rise = h.rise;
       };
       adds = adds-waiting [] (with_cells cells) (standing f e g) (standing f (record e { rows = with_cells cells e.rows }) g)
-          (placed-cells cells e.places (values_on f g.operands) e.rows h.places) (sym (append-nil (calls_on f g.operands))) refl;
+          (placed-cells cells e.indices (values_on f g.operands) e.rows h.indices) (sym (append-nil (calls_on f g.operands))) refl;
     })
 
     -- the open row ends
@@ -214,78 +214,78 @@ module _ (f : Accepted) where
     does-end n is = subst (λ (m : Emission). Does f [] with_end e g m g) (sym is) (record {
       holds = record {
         kind = h.kind;
-        places = have-entries e.places (values_on f g.operands) (entries_of e.rows) _ (sym (entries_end e.rows)) h.places;
+        indices = have-entries e.indices (values_on f g.operands) (entries_of e.rows) _ (sym (entries_end e.rows)) h.indices;
         rise = h.rise;
       };
       adds = adds-waiting [] with_end (standing f e g) (standing f (record e { rows = with_end e.rows }) g)
-          (placed-end e.places (values_on f g.operands) e.rows h.places) (sym (append-nil (calls_on f g.operands))) refl;
+          (placed-end e.indices (values_on f g.operands) e.rows h.indices) (sym (append-nil (calls_on f g.operands))) refl;
     })
 
     -- a cell whose value is that of a call
-    pub does-call : (c x : ℕ) (o : Operands) (n : Emission) (k : Gathered) → length g.operands < length e.places
-        → n ≡ record e { rows = with_cell c x e.rows; places = set e.places (length g.operands) (entries_of e.rows) }
+    pub does-call : (c x : ℕ) (o : Operands) (n : Emission) (k : Gathered) → length g.operands < length e.indices
+        → n ≡ record e { rows = with_cell c x e.rows; indices = set e.indices (length g.operands) (entries_of e.rows) }
         → k ≡ record g { operands = g.operands ++ o ∷ [] } → Does f (call_of f o ∷ []) (with_cell c (value_of f o)) e g n k
     does-call c x o n k l is more =
         let vs = values_on f g.operands in
         let count : length g.operands ≡ length vs = sym (values-count f g.operands) in
-        let room : length vs < length e.places = omega arith in
-        let places : n.places ≡ set e.places (length vs) (entries_of e.rows) =
-        ap (λ (m : Emission). m.places) is ∙ ap (λ i. set e.places i (entries_of e.rows)) count in
+        let room : length vs < length e.indices = omega arith in
+        let indices : n.indices ≡ set e.indices (length vs) (entries_of e.rows) =
+        ap (λ (m : Emission). m.indices) is ∙ ap (λ i. set e.indices i (entries_of e.rows)) count in
         let rows : n.rows ≡ with_cell c x e.rows = ap (λ (m : Emission). m.rows) is in
         let operands = ap (λ (m : Gathered). m.operands) more in
         let values : values_on f k.operands ≡ vs ++ value_of f o ∷ [] = ap (values_on f) operands ∙ values_on-append f g.operands (o ∷ []) in
         let calls : calls_on f k.operands ≡ calls_on f g.operands ++ call_of f o ∷ [] = ap (calls_on f) operands ∙ calls_on-append f g.operands (o ∷ []) in
         let pushed : entries_of (with_cell c x e.rows) ≡ entries_of e.rows + 1 = entries_push e.rows (c, x) in
-        let here : HavePlaces (set e.places (length vs) (entries_of e.rows)) (vs ++ value_of f o ∷ []) (entries_of (with_cell c x e.rows))
-        = have-set e.places vs (entries_of e.rows) (value_of f o) _ room (omega arith) (have-more e.places vs (entries_of e.rows) _ (omega arith) h.places) in
-        let behind : Rise 0 (set e.places (length vs) (entries_of e.rows)) (vs ++ value_of f o ∷ [])
-        = rise-set 0 e.places vs (entries_of e.rows) (value_of f o) (entries_of e.rows) room (omega arith) (omega arith) h.places h.rise in record {
+        let here : HavePlaces (set e.indices (length vs) (entries_of e.rows)) (vs ++ value_of f o ∷ []) (entries_of (with_cell c x e.rows))
+        = have-set e.indices vs (entries_of e.rows) (value_of f o) _ room (omega arith) (have-more e.indices vs (entries_of e.rows) _ (omega arith) h.indices) in
+        let behind : Rise 0 (set e.indices (length vs) (entries_of e.rows)) (vs ++ value_of f o ∷ [])
+        = rise-set 0 e.indices vs (entries_of e.rows) (value_of f o) (entries_of e.rows) room (omega arith) (omega arith) h.indices h.rise in record {
           holds = record {
             kind = ap (λ (m : Gathered). m.kind) more ∙ h.kind;
-            places = subst (λ (r : Run). HavePlaces n.places (values_on f k.operands) (entries_of r)) (sym rows)
-                (subst (λ ps. HavePlaces ps (values_on f k.operands) (entries_of (with_cell c x e.rows))) (sym places)
-                (subst (λ us. HavePlaces (set e.places (length vs) (entries_of e.rows)) us (entries_of (with_cell c x e.rows))) (sym values) here));
-            rise = subst (λ ps. Rise 0 ps (values_on f k.operands)) (sym places)
-                (subst (Rise 0 (set e.places (length vs) (entries_of e.rows))) (sym values) behind);
+            indices = subst (λ (r : Run). HavePlaces n.indices (values_on f k.operands) (entries_of r)) (sym rows)
+                (subst (λ ps. HavePlaces ps (values_on f k.operands) (entries_of (with_cell c x e.rows))) (sym indices)
+                (subst (λ us. HavePlaces (set e.indices (length vs) (entries_of e.rows)) us (entries_of (with_cell c x e.rows))) (sym values) here));
+            rise = subst (λ ps. Rise 0 ps (values_on f k.operands)) (sym indices)
+                (subst (Rise 0 (set e.indices (length vs) (entries_of e.rows))) (sym values) behind);
           };
           adds = adds-waiting (call_of f o ∷ []) (with_cell c (value_of f o)) (standing f e g) (standing f n k)
-              (ap (placed n.places (values_on f k.operands)) rows
-              ∙ (ap (λ ps. placed ps (values_on f k.operands) (with_cell c x e.rows)) places
-              ∙ (ap (λ us. placed (set e.places (length vs) (entries_of e.rows)) us (with_cell c x e.rows)) values
-              ∙ (placed-set e.places vs (entries_of e.rows) (value_of f o) (with_cell c x e.rows) room
-              ∙ (ap (with_value (entries_of e.rows) (value_of f o)) (placed-push c x e.places vs e.rows h.places)
-              ∙ (ap (λ p. with_value p (value_of f o) (with_cell c x (placed e.places vs e.rows))) (sym (placed-entries e.places vs e.rows))
-              ∙ with_value_last c x (value_of f o) (placed e.places vs e.rows)))))))
+              (ap (placed n.indices (values_on f k.operands)) rows
+              ∙ (ap (λ ps. placed ps (values_on f k.operands) (with_cell c x e.rows)) indices
+              ∙ (ap (λ us. placed (set e.indices (length vs) (entries_of e.rows)) us (with_cell c x e.rows)) values
+              ∙ (placed-set e.indices vs (entries_of e.rows) (value_of f o) (with_cell c x e.rows) room
+              ∙ (ap (with_value (entries_of e.rows) (value_of f o)) (placed-push c x e.indices vs e.rows h.indices)
+              ∙ (ap (λ p. with_value p (value_of f o) (with_cell c x (placed e.indices vs e.rows))) (sym (placed-entries e.indices vs e.rows))
+              ∙ with_value_last c x (value_of f o) (placed e.indices vs e.rows)))))))
               calls (ap (λ (m : Emission). m.steps) is);
         }
 
 -- ---- the same by what an emitter keeps, after room was made
 
 module _ (f : Accepted) (e : Emission) (g : Gathered) (m : Emission) (h : Gathered) (room : Does f [] (λ run. run) e g m h)
-    (rows : Run) (places : List ℕ) (steps : ℕ) (is : record { rows = rows; places = places; steps = steps } ≡ m) where
-  kept : Does f [] (λ run. run) e g (record { rows = rows; places = places; steps = steps }) h
+    (rows : Run) (indices : List ℕ) (steps : ℕ) (is : record { rows = rows; indices = indices; steps = steps } ≡ m) where
+  kept : Does f [] (λ run. run) e g (record { rows = rows; indices = indices; steps = steps }) h
   kept = subst (λ (n : Emission). Does f [] (λ run. run) e g n h) (sym is) room
 
   pub called-fits : (c : ℕ) → CanPush c (final f e g) → CanPush c rows
-  called-fits c p = can-push f (record { rows = rows; places = places; steps = steps }) h kept.holds c (subst (CanPush c) (sym kept.adds.rows) p)
+  called-fits c p = can-push f (record { rows = rows; indices = indices; steps = steps }) h kept.holds c (subst (CanPush c) (sym kept.adds.rows) p)
 
-  pub called : (c x : ℕ) (o : Operands) (k : Gathered) (now : Run) (at entry : ℕ) → length places ≡ 64 → length h.operands < 64
+  pub called : (c x : ℕ) (o : Operands) (k : Gathered) (now : Run) (at entry : ℕ) → length indices ≡ 64 → length h.operands < 64
       → now ≡ with_cell c x rows → at ≡ length h.operands → entry ≡ entries_of rows → k ≡ record h { operands = h.operands ++ o ∷ [] }
-      → Does f (call_of f o ∷ []) (with_cell c (value_of f o)) e g (record { rows = now; places = set places at entry; steps = steps }) k
+      → Does f (call_of f o ∷ []) (with_cell c (value_of f o)) e g (record { rows = now; indices = set indices at entry; steps = steps }) k
   called c x o k now at entry all few pushed at_is entry_is more =
-      let n : Emission = record { rows = now; places = set places at entry; steps = steps } in
-      does-then f [] (call_of f o ∷ []) (λ run. run) (with_cell c (value_of f o)) e (record { rows = rows; places = places; steps = steps }) n g h k kept
-      (does-call f (record { rows = rows; places = places; steps = steps }) h kept.holds c x o n k (omega arith)
-      (ap (λ r. record { rows = r; places = set places at entry; steps = steps }) pushed
-      ∙ (ap (λ i. record { rows = with_cell c x rows; places = set places i entry; steps = steps }) at_is
-      ∙ ap (λ j. record { rows = with_cell c x rows; places = set places (length h.operands) j; steps = steps }) entry_is)) more)
+      let n : Emission = record { rows = now; indices = set indices at entry; steps = steps } in
+      does-then f [] (call_of f o ∷ []) (λ run. run) (with_cell c (value_of f o)) e (record { rows = rows; indices = indices; steps = steps }) n g h k kept
+      (does-call f (record { rows = rows; indices = indices; steps = steps }) h kept.holds c x o n k (omega arith)
+      (ap (λ r. record { rows = r; indices = set indices at entry; steps = steps }) pushed
+      ∙ (ap (λ i. record { rows = with_cell c x rows; indices = set indices i entry; steps = steps }) at_is
+      ∙ ap (λ j. record { rows = with_cell c x rows; indices = set indices (length h.operands) j; steps = steps }) entry_is)) more)
 
   -- no memory
   pub called-spent : Charges (calls_on f g.operands) e.steps steps
-  called-spent = adds-charged (λ run. run) (standing f e g) (standing f (record { rows = rows; places = places; steps = steps }) h) kept.adds
+  called-spent = adds-charged (λ run. run) (standing f e g) (standing f (record { rows = rows; indices = indices; steps = steps }) h) kept.adds
 
 -- ---- nothing was added yet
 
 pub begin-final : (f : Accepted) (e : Emission) (g : Gathered) (first columns : ℕ) → e.rows ≡ empty_run first columns → g.operands ≡ []
     → final f e g ≡ empty_run first columns
-begin-final f e g first columns rows none = ap (λ os. placed e.places (values_on f os) e.rows) none ∙ rows
+begin-final f e g first columns rows none = ap (λ os. placed e.indices (values_on f os) e.rows) none ∙ rows

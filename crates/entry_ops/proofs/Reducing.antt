@@ -39,7 +39,7 @@ use Rattle.csr_store.proofs.Along.{along-split, along-over, length-row_of, Fills
 use Rattle.bpf_run.specs.Calls.{Call, steps_of, Charges}
 use Rattle.bpf_run.proofs.Charging.{Spends, spends-start, spends-step, spends-none, spends-end, spends-room}
 use Rattle.job_forms.specs.Forms.{reduce_at, reduce_calls_at, row_words}
-use Rattle.job_forms.specs.Region.{IsPartOf, Adds, nothing_made, told}
+use Rattle.job_forms.specs.Region.{IsPartOf, Adds, nothing_made, finished}
 use Rattle.job_forms.specs.declared.region.Region.{Region}
 use Rattle.job_forms.specs.declared.region.Chunk.{Chunk}
 use Rattle.job_forms.specs.declared.region.Making.{Making}
@@ -167,7 +167,7 @@ module _ (f : Accepted) (a : Grid) (mask : Option Grid) where
 
 -- what was begun with nothing and reduced is that part of the result
 pub reduced : (f : Accepted) (a : Grid) (region : Region) (old new : Making) (filled : Result (Unit {0}) AllocError) (made : Chunk)
-    → old ≡ nothing_made region.range.start 1 → AddsReduced f a region old new filled → made ≡ told new filled
+    → old ≡ nothing_made region.range.start 1 → AddsReduced f a region old new filled → made ≡ finished new filled
     → IsPartOf 1 (reduce_at f a) (reduce_calls_at f a) region made
 reduced f a region old new filled made o h e =
     subst (IsPartOf 1 (reduce_at f a) (reduce_calls_at f a) region) (sym e)

@@ -6,7 +6,7 @@ use Rattle.csr_store.specs.Run.{Row, Run}
 use Rattle.bpf_run.specs.Calls.{Call, steps_of, Charges}
 use Rattle.bpf_run.proofs.Charging.{charges-all, charges-none}
 use Rattle.std.specs.declared.alloc.AllocError.{AllocError}
-use Rattle.job_forms.specs.Region.{IsMade, told}
+use Rattle.job_forms.specs.Region.{IsMade, finished}
 use Rattle.job_forms.specs.declared.region.Chunk.{Chunk}
 use Rattle.job_forms.specs.declared.region.Making.{Making}
 use Rattle.entry_ops.specs.inner.Forms.{Form}
@@ -48,14 +48,14 @@ begin-room f form a b mask start to s z n is kind grid within =
     omega arith
 
 -- what was being made is told, unless memory was refused
-pub told_is : (filled : Result (Unit {0}) AllocError) (run : Run) (calls : List Call) (m : Making) (made : Chunk) → made ≡ told m filled
+pub told_is : (filled : Result (Unit {0}) AllocError) (run : Run) (calls : List Call) (m : Making) (made : Chunk) → made ≡ finished m filled
     → OnOk filled (m.rows ≡ run) → OnOk filled (m.steps ≡ steps_of calls) → OnErr filled (Charges calls 0 m.steps)
     → IsMade run calls made
 told_is (Ok x) run calls m made e r s q = rw e (record { rows = r; steps = s; spent = tt })
 told_is (Err x) run calls m made e r s q = rw e (record { rows = tt; steps = tt; spent = q })
 
 -- no call was made
-pub told_none : (filled : Result (Unit {0}) AllocError) (run : Run) (m : Making) (made : Chunk) → made ≡ told m filled
+pub told_none : (filled : Result (Unit {0}) AllocError) (run : Run) (m : Making) (made : Chunk) → made ≡ finished m filled
     → OnOk filled (m.rows ≡ run) → m.steps ≡ 0 → IsMade run [] made
 told_none filled run m made e r s =
     told_is filled run [] m made e r (holds filled s) (failed filled (rw s (charges-none [] 0)))

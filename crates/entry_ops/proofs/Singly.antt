@@ -11,9 +11,9 @@ use Rattle.entry_ops.proofs.OpenRows.{all_gone, due_append, leads_found, next_so
 
 module _ (f : Accepted) (lanes left : List Open) (results : List (Option ℕ)) (steps : ℕ) (old : Folding)
     (is : record { lanes = lanes; results = results; steps = steps } ≡ old) (row : OpenRow) (split : lanes ≡ left ++ open_of row ∷ []) where
-  pub last_placed : ArePlaced (length results) lanes → (row.place < length results) × ArePlaced (length results) left
+  pub last_placed : ArePlaced (length results) lanes → (row.number < length results) × ArePlaced (length results) left
   last_placed h =
-      let g = all_gone (λ (o : Open). o.place < length results) left (open_of row) [] (subst (ArePlaced (length results)) split h) in
+      let g = all_gone (λ (o : Open). o.number < length results) left (open_of row) [] (subst (ArePlaced (length results)) split h) in
       (g.0, subst (ArePlaced (length results)) (append-nil left) g.1)
 
   dues : due f lanes ≡ due f left + steps_of (fold_calls_from f row.so_far (row.next ∷ words row.rest.now))
@@ -27,12 +27,12 @@ module _ (f : Accepted) (lanes left : List Open) (results : List (Option ℕ)) (
 
   module _ (cost more value : ℕ) (found : List (Option ℕ)) (v : value ≡ fold_from f row.so_far (row.next ∷ words row.rest.now))
       (c : cost ≡ steps_of (fold_calls_from f row.so_far (row.next ∷ words row.rest.now))) (m : more ≡ steps + cost)
-      (r : found ≡ set results row.place (Some value)) where
+      (r : found ≡ set results row.number (Some value)) where
     pub last_goes : ArePlaced (length results) lanes → Goes f old (record { lanes = left; results = found; steps = more })
     last_goes h =
         let q = dues in
         subst (λ (o : Folding). Goes f o (record { lanes = left; results = found; steps = more })) is (record {
-          rows = ap (λ (os : List (Option ℕ)). length os) r ∙ length-set results row.place (Some value);
+          rows = ap (λ (os : List (Option ℕ)). length os) r ∙ length-set results row.number (Some value);
           leads = λ target l. subst (λ (xs : List Open). LeadsTo f target xs found) (append-nil left)
               (subst (λ (os : List (Option ℕ)). LeadsTo f target (left ++ []) os) (sym r)
               (leads_found f target left (open_of row) [] results

@@ -71,35 +71,35 @@ adds-charged change s t d =
 
 -- ---- a row under way: what is still to come completes it
 
-pub record Completes (cells : Row) (calls : List Call) (old : Standing) (coming : Row) (left : List Call) (now : Standing) : Type 0 where
-  pub rows : with_cells coming now.rows ≡ with_cells cells old.rows
+pub record Completes (cells : Row) (calls : List Call) (old : Standing) (index_calls : Row) (left : List Call) (now : Standing) : Type 0 where
+  pub rows : with_cells index_calls now.rows ≡ with_cells cells old.rows
   pub spends : (rest : List Call) → Spends (old.waiting ++ (calls ++ rest)) old.steps (now.waiting ++ (left ++ rest)) now.steps
 
 pub completes-start : (cells : Row) (calls : List Call) (old : Standing) → Completes cells calls old cells calls old
 completes-start cells calls old = record { rows = refl; spends = λ rest. spends-start (old.waiting ++ (calls ++ rest)) old.steps }
 
 module _ (cells : Row) (calls : List Call) (old : Standing) where
-  pub completes-same : (coming coming' : Row) (left left' : List Call) (now : Standing) → Completes cells calls old coming left now
-      → coming ≡ coming' → left ≡ left' → Completes cells calls old coming' left' now
-  completes-same coming coming' left left' now h c l =
-      subst (λ (cs : Row). Completes cells calls old cs left' now) c (subst (λ (cs : List Call). Completes cells calls old coming cs now) l h)
+  pub completes-same : (index_calls coming' : Row) (left left' : List Call) (now : Standing) → Completes cells calls old index_calls left now
+      → index_calls ≡ coming' → left ≡ left' → Completes cells calls old coming' left' now
+  completes-same index_calls coming' left left' now h c l =
+      subst (λ (cs : Row). Completes cells calls old cs left' now) c (subst (λ (cs : List Call). Completes cells calls old index_calls cs now) l h)
 
   -- the first of what is still to come is added
-  pub completes-step : (here coming : Row) (made left : List Call) (now next : Standing)
-      → Completes cells calls old (here ++ coming) (made ++ left) now → Adds made (with_cells here) now next
-      → Completes cells calls old coming left next
-  completes-step here coming made left now next h d = record {
-    rows = ap (with_cells coming) d.rows
-        ∙ ap (λ cs. record now.rows { opened = cs }) (append_assoc now.rows.opened here coming) ∙ h.rows;
+  pub completes-step : (here index_calls : Row) (made left : List Call) (now next : Standing)
+      → Completes cells calls old (here ++ index_calls) (made ++ left) now → Adds made (with_cells here) now next
+      → Completes cells calls old index_calls left next
+  completes-step here index_calls made left now next h d = record {
+    rows = ap (with_cells index_calls) d.rows
+        ∙ ap (λ cs. record now.rows { opened = cs }) (append_assoc now.rows.opened here index_calls) ∙ h.rows;
     spends = λ rest. spends-further _ old.steps _ now.steps _ next.steps (h.spends rest)
         (subst (λ cs. Spends (now.waiting ++ cs) now.steps (next.waiting ++ (left ++ rest)) next.steps) (sym (append_assoc made left rest))
         (d.spends (left ++ rest)));
   }
 
   -- a call more fits in
-  pub completes-room : (coming : Row) (left : List Call) (now : Standing) → Completes cells calls old coming left now
+  pub completes-room : (index_calls : Row) (left : List Call) (now : Standing) → Completes cells calls old index_calls left now
       → old.steps + (steps_of old.waiting + steps_of calls) < 2 ^ 64 → now.steps + steps_of now.waiting < 2 ^ 64
-  completes-room coming left now h r =
+  completes-room index_calls left now h r =
       let s = (h.spends []).counted in
       let a = steps-append old.waiting (calls ++ []) in
       let b = steps-append calls [] in
@@ -107,9 +107,9 @@ module _ (cells : Row) (calls : List Call) (old : Standing) where
       omega arith
 
   -- no memory
-  pub completes-stop : (coming : Row) (left : List Call) (now : Standing) → Completes cells calls old coming left now → (steps : ℕ)
+  pub completes-stop : (index_calls : Row) (left : List Call) (now : Standing) → Completes cells calls old index_calls left now → (steps : ℕ)
       → Charges now.waiting now.steps steps → (rest : List Call) → Charges (old.waiting ++ (calls ++ rest)) old.steps steps
-  completes-stop coming left now h steps c rest = spends-stop _ old.steps _ now.steps now.waiting _ steps (h.spends rest) refl c
+  completes-stop index_calls left now h steps c rest = spends-stop _ old.steps _ now.steps now.waiting _ steps (h.spends rest) refl c
 
   -- nothing is left
   pub completes-end : (now : Standing) → Completes cells calls old [] [] now → Adds calls (with_cells cells) old now

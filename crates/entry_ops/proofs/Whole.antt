@@ -213,7 +213,7 @@ module _ (form : Form) (f : Accepted) (a : Grid) (b : Option Grid) (os : ℕ →
         let e = copied-entries a os first n mapped.many in
         let r = ap (λ (q : Run). entries_in_run q) begun in
         let k = alike_entries m.rows.run o.rows.run added.alike in
-        let p = added.place in
+        let p = added.number in
         omega (arith, e, r, k, p, none_done)
 
     pub made-rows : o.rows.run ≡ record { first = first; columns = a.columns; ended = form_rows form f a b None first n; opened = [] }

@@ -1,13 +1,13 @@
 -- What serves this crate's own modules: contracts between them, invariants and proofs. No public contract reaches it.
 pub mod Blank
-pub mod Coming
+pub mod IndexCalls
 pub mod Folding
 pub mod Heads
 pub mod Mapped
 pub mod Masked
 pub mod Paired
 pub mod Placing
-pub mod Sifting
+pub mod SelectBuffer
 pub mod Standing
 pub mod Walking
 pub mod Forms

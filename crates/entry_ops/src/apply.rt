@@ -6,12 +6,12 @@ ghost use Rattle.job_forms.specs.Region.{IsRegion, IsPartOf};
 
 use crate::blank::{blank_region, is_blank, is_shut};
 use crate::form::EntryForm;
-use crate::keeping::keep_region;
-use crate::line::Sources;
 use crate::mapping::map_region;
+use crate::operand_rows::Sources;
 use crate::rows::fill_region;
 use crate::runs::is_in_run;
 use crate::select::{Masked, sift_region};
+use crate::select_unmasked::keep_region;
 use bpf_run::Calls;
 use bpf_verify::Operator;
 use csr_store::Matrix;

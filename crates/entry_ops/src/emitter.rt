@@ -4,11 +4,11 @@ ghost use Rattle.bpf_insn.specs.Machine.{kind_of};
 ghost use Rattle.bpf_run.specs.Meaning.{value_of};
 ghost use Rattle.bpf_run.specs.Calls.{call_of, calls_on, steps_of};
 ghost use Rattle.csr_store.specs.Valued.{entries_of};
-ghost use Rattle.job_forms.specs.Region.{told};
+ghost use Rattle.job_forms.specs.Region.{finished};
 ghost use Rattle.entry_ops.specs.inner.Standing.{CanPush, FollowIn, with_cell, with_cells, with_end};
 ghost use Rattle.entry_ops.specs.inner.Placing.{placed, HavePlaces, Rise, Holds, Does, CanAdd, Puts, IsFlushed};
 
-use crate::line::Cell;
+use crate::operand_rows::Cell;
 use bpf_insn::Operands;
 use bpf_run::{Calls, MOST_CALLS};
 use bpf_verify::Operator;
@@ -22,7 +22,7 @@ use std::marker::Model;
 pub struct Emitter {
     rows: Rows,
     /// The entry of each call that waits, in step with the gathered operands.
-    places: [usize; MOST_CALLS],
+    indices: [usize; MOST_CALLS],
     steps: u64,
 }
 
@@ -32,9 +32,9 @@ impl Model for Emitter {
 
     ghost Value = { Emission };
 
-    ghost view = { λ e. record { rows = e.rows; places = e.places; steps = e.steps } };
+    ghost view = { λ e. record { rows = e.rows; indices = e.indices; steps = e.steps } };
 
-    ghost invariant = { λ e. length e.places ≡ 64 };
+    ghost invariant = { λ e. length e.indices ≡ 64 };
 }
 
 impl Emitter {
@@ -45,7 +45,7 @@ impl Emitter {
     {
         Emitter {
             rows: Rows::begin(alloc, first, columns),
-            places: [0; MOST_CALLS],
+            indices: [0; MOST_CALLS],
             steps: 0,
         }
     }
@@ -60,7 +60,7 @@ impl Emitter {
 
     /// What was made: the rows, unless memory was refused, and the steps. What is left of the room that was made is given back.
     pub fn finish(self, filled: Result<(), AllocError>) -> Chunk
-        ensures { result ≡ told (record { rows = self.rows; steps = self.steps }) filled }
+        ensures { result ≡ finished (record { rows = self.rows; steps = self.steps }) filled }
     {
         let Emitter {
             mut rows,
@@ -78,7 +78,7 @@ impl Emitter {
         ensures { IsFlushed operator.now self.old calls.old self.new calls.new }
     {
         self.steps += calls.make(operator);
-        place(&self.places, calls.values(), &mut self.rows);
+        put_values(&self.indices, calls.values(), &mut self.rows);
     }
 
     /// Flushes where no further call fits in.
@@ -109,7 +109,7 @@ impl Emitter {
             self.old calls.old self.new calls.new result }
     {
         self.make_room(operator, calls);
-        self.places[calls.len()] = self.rows.entries();
+        self.indices[calls.len()] = self.rows.entries();
         calls.gather(operands);
         self.rows.push(column, 0)?;
         Ok(())
@@ -144,18 +144,18 @@ impl Emitter {
 }
 
 /// Puts values in their places: all at once where these follow one another.
-fn place(places: &[usize], values: &[u64], rows: &mut Rows)
-    requires have { HavePlaces places.now values.now (entries_of rows.old) }
-    requires rise { Rise 0 places.now values.now }
-    ensures { rows.new ≡ placed places.now values.now rows.old }
+fn put_values(indices: &[usize], values: &[u64], rows: &mut Rows)
+    requires have { HavePlaces indices.now values.now (entries_of rows.old) }
+    requires rise { Rise 0 indices.now values.now }
+    ensures { rows.new ≡ placed indices.now values.now rows.old }
 {
     let many = values.len();
-    if many > 0 && places[many - 1] - places[0] == many - 1 {
-        rows.set_values(places[0], values);
+    if many > 0 && indices[many - 1] - indices[0] == many - 1 {
+        rows.set_values(indices[0], values);
         return;
     }
     for next in 0..many {
-        rows.set_value(places[next], values[next]);
+        rows.set_value(indices[next], values[next]);
     }
 }
 

@@ -5,7 +5,7 @@ ghost use Rattle.bpf_verify.specs.Accepted.{Accepted};
 ghost use Rattle.csr_store.specs.Along.{cell_at};
 ghost use Rattle.csr_store.specs.Grid.{row_of};
 ghost use Rattle.csr_store.specs.Mask.{mask_of, passes};
-ghost use Rattle.entry_ops.specs.inner.Coming.{NoneWaits};
+ghost use Rattle.entry_ops.specs.inner.IndexCalls.{NoneWaits};
 ghost use Rattle.entry_ops.specs.inner.Folding.{
   Goes,
   TakesSteps,
@@ -18,8 +18,8 @@ ghost use Rattle.entry_ops.specs.inner.Folding.{
   IsFolded,
 };
 
-use crate::line::Cell;
 use crate::open_rows::{OpenRow, OpenRows};
+use crate::operand_rows::Cell;
 use bpf_insn::Kind;
 use bpf_run::{Calls, MOST_CALLS, fold};
 use bpf_verify::Operator;
@@ -87,7 +87,7 @@ impl<'m> Folds<'m> {
         ensures steps { self.new.steps ≡ self.old.steps }
         ensures folds { (f : Accepted) → Begins f cells.entry.now self.old self.new }
     {
-        let place = self.results.len();
+        let number = self.results.len();
         let Some((first, behind)) = cells.split_first() else {
             self.results.push(None).unwrap();
             return;
@@ -95,7 +95,7 @@ impl<'m> Folds<'m> {
         self.results.push(Some(first.1)).unwrap();
         if let Some((next, rest)) = behind.split_first() {
             self.lanes.push(OpenRow {
-                place,
+                number,
                 so_far: first.1,
                 next: next.1,
                 rest,
@@ -138,7 +138,7 @@ impl<'m> Folds<'m> {
         let row = self.lanes.pop();
         let folded = fold(operator, row.so_far, row.next, row.rest);
         self.steps += folded.steps;
-        self.results[row.place] = Some(folded.value);
+        self.results[row.number] = Some(folded.value);
     }
 
     /// Makes the next calls: those of the lanes together, unless they are few.

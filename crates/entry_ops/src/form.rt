@@ -26,7 +26,7 @@ pub enum EntryForm {
 
 /// What stands at a position in the operands.
 #[derive(Clone, Copy)]
-pub struct Place {
+pub struct WordPair {
     pub row: u64,
     pub column: u64,
     pub left: Option<u64>,
@@ -40,30 +40,30 @@ pub fn emit(
     operator: &Operator,
     calls: &mut Calls,
     emitter: &mut Emitter,
-    place: Place,
+    pair: WordPair,
 ) -> Result<(), AllocError>
     requires form { Suits (form_of form) operator.now }
-    requires can { CanAdd operator.now place.column emitter.old calls.old }
-    ensures { Puts operator.now (form_calls (form_of form) operator.now (place.row, place.column) place.left place.right)
-        (with_cells (cell_at place.column (form_at (form_of form) operator.now (place.row, place.column) place.left place.right)))
+    requires can { CanAdd operator.now pair.column emitter.old calls.old }
+    ensures { Puts operator.now (form_calls (form_of form) operator.now (pair.row, pair.column) pair.left pair.right)
+        (with_cells (cell_at pair.column (form_at (form_of form) operator.now (pair.row, pair.column) pair.left pair.right)))
         emitter.old calls.old emitter.new calls.new result }
 {
-    let column = place.column;
+    let column = pair.column;
     match form {
         EntryForm::Apply(thunk) => {
-            let Some(x) = place.left else {
+            let Some(x) = pair.left else {
                 return Ok(());
             };
-            let operands = operands_of(thunk, place.row, column, x);
+            let operands = operands_of(thunk, pair.row, column, x);
             emitter.call(operator, calls, column, operands)
         }
-        EntryForm::Union => match (place.left, place.right) {
+        EntryForm::Union => match (pair.left, pair.right) {
             (Some(x), Some(y)) => emitter.call(operator, calls, column, Operands::Binary { x, y }),
             (Some(x), None) => emitter.copy(column, x),
             (None, Some(y)) => emitter.copy(column, y),
             (None, None) => Ok(()),
         },
-        EntryForm::Both => match (place.left, place.right) {
+        EntryForm::Both => match (pair.left, pair.right) {
             (Some(x), Some(y)) => emitter.call(operator, calls, column, Operands::Binary { x, y }),
             _ => Ok(()),
         },

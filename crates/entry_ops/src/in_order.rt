@@ -6,7 +6,7 @@ ghost use Rattle.bpf_run.specs.Fold as folds;
 ghost use Rattle.entry_ops.specs.inner.Folding.{words, CanReduce, AddsReduced};
 
 use crate::folds::{add_row, shown_cells};
-use crate::line::{Cell, entries_between};
+use crate::operand_rows::{Cell, entries_between};
 use bpf_run::fold;
 use bpf_verify::Operator;
 use csr_store::Matrix;

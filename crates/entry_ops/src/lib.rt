@@ -5,36 +5,36 @@
 //!
 //! Calls are gathered across rows and made many together, so a cell stands before its value is known. Without a mask apply copies
 //! rows of one run (`runs`) and gives their entries the values of calls (`mapping`); so do union and both where their operands have
-//! the same positions (`pairs`). Select without a mask makes all calls first (`keeping`). Otherwise rows are filled cell by cell
-//! (`rows`): by two rows read side by side (`joint`), or along the row of a mask (`masked`); `form` says what a form makes of a
-//! position, and `emitter` puts values in their places. Under a mask select's last cells wait for their answers (`select`, over
-//! `sieve`). Rows are reduced one after the other by a short operator (`in_order`), many at once by a longer one (`folds`, over
-//! `open_rows`).
+//! the same positions (`pairs`). Select without a mask makes all calls first (`select_unmasked`). Otherwise rows are filled cell by
+//! cell (`rows`): by two rows read side by side (`merge`), or along the row of a mask (`masked`); `form` says what a form makes of
+//! a position, and `emitter` puts values in their places. Under a mask select's last cells wait for their answers (`select`, over
+//! `select_buffer`). Rows are reduced one after the other by a short operator (`in_order`), many at once by a longer one (`folds`,
+//! over `open_rows`).
 //!
 //! Read `ranges`, `apply`, `union` and `reduce` first, then `rows` with `specs/inner/Walking.antt` and `specs/inner/Placing.antt`.
 #![tactic(auto)]
 
-mod ahead;
 mod apply;
 mod blank;
-mod coming;
 mod emitter;
 mod folds;
 mod form;
 mod in_order;
-mod joint;
-mod keeping;
-mod line;
+mod index_calls;
 mod mapping;
 mod masked;
+mod merge;
 mod open_rows;
+mod operand_rows;
 mod pairs;
 mod ranges;
 mod reduce;
+mod row_cursor;
 mod rows;
 mod runs;
 mod select;
-mod sieve;
+mod select_buffer;
+mod select_unmasked;
 mod union;
 
 pub use apply::{apply_region, select_region};

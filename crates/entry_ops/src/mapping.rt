@@ -9,13 +9,13 @@ ghost use Rattle.csr_store.specs.Valued.{all_cells, entries_of};
 ghost use Rattle.entry_ops.specs.inner.Forms.{form_of};
 ghost use Rattle.entry_ops.specs.inner.Forms as forms;
 ghost use Rattle.job_forms.specs.Forms.{apply_kind};
-ghost use Rattle.entry_ops.specs.inner.Coming.{NoneWaits};
+ghost use Rattle.entry_ops.specs.inner.IndexCalls.{NoneWaits};
 ghost use Rattle.entry_ops.specs.inner.Mapped.{range_operands, HasRoom, IsCopied, IsFurther};
 ghost use Rattle.entry_ops.specs.inner.Walking.{Joins, HaveRows, IsFormMade};
 
-use crate::coming::Coming;
 use crate::form::EntryForm;
-use crate::line::Sources;
+use crate::index_calls::IndexCalls;
+use crate::operand_rows::Sources;
 use crate::pairs::Pairs;
 use crate::rows::fill_region;
 use bpf_run::{Calls, MOST_CALLS};
@@ -62,13 +62,13 @@ impl Mapping<'_> {
     }
 
     /// Makes the calls on all entries that come.
-    fn add_entries(&mut self, operator: &Operator, calls: &mut Calls, mut coming: Coming)
+    fn add_entries(&mut self, operator: &Operator, calls: &mut Calls, mut index_calls: IndexCalls)
         requires kind { operator.now.kind ≡ kinds.Index }
         requires waits { NoneWaits kinds.Index calls.old }
-        requires room { HasRoom operator.now coming self.old }
-        ensures { IsFurther operator.now coming.entry self.old self.new }
+        requires room { HasRoom operator.now index_calls self.old }
+        ensures { IsFurther operator.now index_calls.entry self.old self.new }
     {
-        while coming.gather(calls) {
+        while index_calls.gather(calls) {
             self.make(operator, calls);
         }
     }
@@ -113,7 +113,7 @@ impl Mapping<'_> {
         match thunk {
             None => self.add_words(operator, calls),
             Some(thunk) => {
-                self.add_entries(operator, calls, Coming::of_rows(a, thunk, range));
+                self.add_entries(operator, calls, IndexCalls::of_rows(a, thunk, range));
             }
         }
     }
@@ -149,7 +149,7 @@ pub fn map_region(
 /// The rows of a range of a union, or of where both have a word. Where these rows are of one run and alike in both operands, and
 /// there is no mask, they are copied with the values of calls, and their memory is taken first, so that on want of it no call was
 /// made.
-pub fn joint_region(
+pub fn merge_region(
     alloc: Global,
     calls: &mut Calls,
     form: EntryForm,

@@ -3,12 +3,12 @@ ghost use Rattle.std.specs.Prelude.{Some};
 ghost use Rattle.entry_ops.specs.inner.Forms.{form_of};
 ghost use Rattle.entry_ops.specs.inner.Standing.{with_cells};
 ghost use Rattle.entry_ops.specs.inner.Placing.{IsReady, Fills};
-ghost use Rattle.entry_ops.specs.inner.Walking.{Suits, IsLine, cells_along, calls_along};
+ghost use Rattle.entry_ops.specs.inner.Walking.{Suits, AreOperandRows, cells_along, calls_along};
 
-use crate::ahead::{begin_walk, second_for, value_here, walk_to};
 use crate::emitter::Emitter;
-use crate::form::{EntryForm, Place, emit};
-use crate::line::{Cell, Line};
+use crate::form::{EntryForm, WordPair, emit};
+use crate::operand_rows::{Cell, OperandRows};
+use crate::row_cursor::{begin_walk, second_for, value_here, walk_to};
 use bpf_run::Calls;
 use bpf_verify::Operator;
 use std::alloc::AllocError;
@@ -20,31 +20,32 @@ pub fn fill_masked(
     operator: &Operator,
     calls: &mut Calls,
     emitter: &mut Emitter,
-    line: Line,
+    sides: OperandRows,
     mask: &[Cell],
 ) -> Result<(), AllocError>
     requires form { Suits (form_of form) operator.now }
-    requires line { IsLine (record line { mask = Some mask }) }
-    requires ready { IsReady operator.now line.columns (calls_along (form_of form) operator.now (record line { mask = Some mask }))
+    requires sides { AreOperandRows (record sides { mask = Some mask }) }
+    requires ready { IsReady operator.now sides.columns
+        (calls_along (form_of form) operator.now (record sides { mask = Some mask }))
         emitter.old calls.old }
-    ensures { Fills operator.now (calls_along (form_of form) operator.now (record line.entry { mask = Some mask.entry }))
-        (with_cells (cells_along (form_of form) operator.now (record line.entry { mask = Some mask.entry })))
+    ensures { Fills operator.now (calls_along (form_of form) operator.now (record sides.entry { mask = Some mask.entry }))
+        (with_cells (cells_along (form_of form) operator.now (record sides.entry { mask = Some mask.entry })))
         emitter.old calls.old emitter.new calls.new result }
 {
-    let mut lefts = begin_walk(line.left);
-    let mut rights = begin_walk(second_for(form, line.right));
+    let mut lefts = begin_walk(sides.left);
+    let mut rights = begin_walk(second_for(form, sides.right));
     let mut masks = mask;
     while let Some((shown, rest)) = masks.split_first() {
         let column = shown.0;
         lefts = walk_to(lefts, column);
         rights = walk_to(rights, column);
-        let place = Place {
-            row: line.row,
+        let pair = WordPair {
+            row: sides.row,
             column,
             left: value_here(lefts, column),
             right: value_here(rights, column),
         };
-        emit(form, operator, calls, emitter, place)?;
+        emit(form, operator, calls, emitter, pair)?;
         masks = rest;
     }
     Ok(())

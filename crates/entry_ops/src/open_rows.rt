@@ -3,10 +3,10 @@
 ghost use Rattle.std.specs.Prelude.{◌≡◌, ◌<◌, ◌≤◌, ◌++◌, ◌∷◌, [], length, take, IfOk};
 ghost use Rattle.bpf_insn.specs.declared.operands.Kind.TheVariants as kinds;
 ghost use Rattle.bpf_verify.specs.Accepted.{Accepted, IsAccepted};
-ghost use Rattle.entry_ops.specs.inner.Coming.{NoneWaits};
+ghost use Rattle.entry_ops.specs.inner.IndexCalls.{NoneWaits};
 ghost use Rattle.entry_ops.specs.inner.Folding.{open_of, in_columns, in_two_columns, ArePlaced, Gives};
 
-use crate::line::Cell;
+use crate::operand_rows::Cell;
 use bpf_run::{Calls, MOST_CALLS};
 use bpf_verify::Operator;
 use std::alloc::{AllocError, Global};
@@ -15,7 +15,7 @@ use std::marker::Model;
 /// A row that is open: its number in the block, its fold so far, its next word, and the cells behind that.
 #[derive(Clone, Copy)]
 pub struct OpenRow<'m> {
-    pub place: usize,
+    pub number: usize,
     pub so_far: u64,
     pub next: u64,
     pub rest: &'m [Cell],
@@ -24,7 +24,7 @@ pub struct OpenRow<'m> {
 /// What is not read for a call: the row's number in the block, and the cells behind its next word.
 #[derive(Clone, Copy)]
 pub struct Lane<'m> {
-    place: usize,
+    number: usize,
     rest: &'m [Cell],
 }
 
@@ -84,7 +84,7 @@ impl<'m> OpenRows<'m> {
         ensures { self.new ≡ self.old ++ open_of row.entry ∷ [] }
     {
         let lane = Lane {
-            place: row.place,
+            number: row.number,
             rest: row.rest,
         };
         self.lanes.push(lane).unwrap();
@@ -100,7 +100,7 @@ impl<'m> OpenRows<'m> {
         let last = self.lanes.len() - 1;
         let lane = self.lanes[last];
         let row = OpenRow {
-            place: lane.place,
+            number: lane.number,
             so_far: self.so_far[last],
             next: self.next[last],
             rest: lane.rest,
@@ -171,7 +171,7 @@ fn take_next<'m>(
             next[i] = first.1;
             lanes[i].rest = rest;
         } else {
-            results[lanes[i].place] = Some(so_far[i]);
+            results[lanes[i].number] = Some(so_far[i]);
             left -= 1;
             lanes[i] = lanes[left];
             so_far[i] = so_far[left];

@@ -4,11 +4,11 @@ ghost use Rattle.std.specs.Prelude.{◌≡◌, ◌<◌, ◌≤◌, ◌+◌, ◌-
 ghost use Rattle.bpf_insn.specs.declared.operands.Kind.TheVariants as kinds;
 ghost use Rattle.csr_store.specs.Grid.{row_of};
 ghost use Rattle.csr_store.specs.Run.{IsInRun};
-ghost use Rattle.entry_ops.specs.inner.Coming.{NoneWaits, Gathers};
+ghost use Rattle.entry_ops.specs.inner.IndexCalls.{NoneWaits, Gathers};
 ghost use Rattle.entry_ops.specs.inner.Paired.{columns_of, pairs_in, ArePaired};
 ghost use Rattle.entry_ops.specs.inner.Walking.{HaveRows};
 
-use crate::line::{Cell, Sources};
+use crate::operand_rows::{Cell, Sources};
 use crate::runs::is_in_run;
 use bpf_run::{Calls, MOST_CALLS};
 use csr_store::Matrix;

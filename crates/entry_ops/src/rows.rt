@@ -6,7 +6,7 @@ ghost use Rattle.entry_ops.specs.inner.Standing.{with_cells};
 ghost use Rattle.entry_ops.specs.inner.Placing.{IsReady, Fills};
 ghost use Rattle.entry_ops.specs.inner.Walking.{
   Suits,
-  IsLine,
+  AreOperandRows,
   HaveRows,
   cells_along,
   calls_along,
@@ -18,9 +18,9 @@ ghost use Rattle.entry_ops.specs.inner.Walking.{
 
 use crate::emitter::Emitter;
 use crate::form::EntryForm::{self, Apply, Both, Union};
-use crate::joint::fill_joint;
-use crate::line::{Line, Lines, MOST_ROOM, Sources, entries_between};
 use crate::masked::fill_masked;
+use crate::merge::fill_merged;
+use crate::operand_rows::{MOST_ROOM, OperandReader, OperandRows, Sources, entries_between};
 use bpf_run::Calls;
 use bpf_verify::Operator;
 use job_forms::Chunk;
@@ -28,30 +28,30 @@ use std::alloc::{AllocError, Global};
 use std::ops::Range;
 
 /// Adds the cells of a row, each form by a loop of its own.
-fn fill_line(
+fn fill_operands(
     form: EntryForm,
     operator: &Operator,
     calls: &mut Calls,
     emitter: &mut Emitter,
-    line: Line,
+    sides: OperandRows,
 ) -> Result<(), AllocError>
     requires form { Suits (form_of form) operator.now }
-    requires line { IsLine line }
-    requires ready { IsReady operator.now line.columns (calls_along (form_of form) operator.now line) emitter.old calls.old }
-    ensures { Fills operator.now (calls_along (form_of form) operator.now line.entry)
-        (with_cells (cells_along (form_of form) operator.now line.entry)) emitter.old calls.old emitter.new calls.new result }
+    requires sides { AreOperandRows sides }
+    requires ready { IsReady operator.now sides.columns (calls_along (form_of form) operator.now sides) emitter.old calls.old }
+    ensures { Fills operator.now (calls_along (form_of form) operator.now sides.entry)
+        (with_cells (cells_along (form_of form) operator.now sides.entry)) emitter.old calls.old emitter.new calls.new result }
 {
-    match (form, line.mask) {
+    match (form, sides.mask) {
         (Apply(thunk), Some(mask)) => {
-            fill_masked(Apply(thunk), operator, calls, emitter, line, mask)
+            fill_masked(Apply(thunk), operator, calls, emitter, sides, mask)
         }
         (Apply(thunk), None) => {
-            fill_masked(Apply(thunk), operator, calls, emitter, line, line.left)
+            fill_masked(Apply(thunk), operator, calls, emitter, sides, sides.left)
         }
-        (Union, Some(mask)) => fill_masked(Union, operator, calls, emitter, line, mask),
-        (Union, None) => fill_joint(Union, operator, calls, emitter, line),
-        (Both, Some(mask)) => fill_masked(Both, operator, calls, emitter, line, mask),
-        (Both, None) => fill_joint(Both, operator, calls, emitter, line),
+        (Union, Some(mask)) => fill_masked(Union, operator, calls, emitter, sides, mask),
+        (Union, None) => fill_merged(Union, operator, calls, emitter, sides),
+        (Both, Some(mask)) => fill_masked(Both, operator, calls, emitter, sides, mask),
+        (Both, None) => fill_merged(Both, operator, calls, emitter, sides),
     }
 }
 
@@ -72,10 +72,10 @@ fn fill(
         (with_rows (rows_from (form_of form) operator.now sources.entry range.start range.end))
         emitter.old calls.old emitter.new calls.new result }
 {
-    let mut lines = Lines::begin(sources, range.start);
+    let mut operand_reader = OperandReader::begin(sources, range.start);
     for row in range.start..range.end {
-        let line = lines.next_line(sources, row);
-        fill_line(form, operator, calls, emitter, line)?;
+        let sides = operand_reader.next_operands(sources, row);
+        fill_operands(form, operator, calls, emitter, sides)?;
         emitter.end_row()?;
     }
     Ok(())

@@ -4,13 +4,13 @@ ghost use Rattle.bpf_insn.specs.declared.operands.Kind.TheVariants as kinds;
 ghost use Rattle.csr_store.specs.Mask.{HasShape};
 ghost use Rattle.entry_ops.specs.inner.Forms as forms;
 ghost use Rattle.entry_ops.specs.inner.Standing.{with_cells};
-ghost use Rattle.entry_ops.specs.inner.Sifting.{IsReady, Fills};
+ghost use Rattle.entry_ops.specs.inner.SelectBuffer.{IsReady, Fills};
 ghost use Rattle.entry_ops.specs.inner.Masked.{HasMaskedRows, rows_kept, calls_kept};
 ghost use Rattle.entry_ops.specs.inner.Walking.{with_rows, form_row, form_row_calls, IsFormMade};
 
-use crate::ahead::{begin_walk, value_here, walk_to};
 use crate::form::operands_of;
-use crate::sieve::Sieve;
+use crate::row_cursor::{begin_walk, value_here, walk_to};
+use crate::select_buffer::SelectBuffer;
 use bpf_run::Calls;
 use bpf_verify::Operator;
 use csr_store::Matrix;
@@ -30,7 +30,7 @@ fn keep_row(
     thunk: u64,
     operator: &Operator,
     calls: &mut Calls,
-    sieve: &mut Sieve,
+    sieve: &mut SelectBuffer,
     masked: Masked,
     row: u64,
 ) -> Result<(), AllocError>
@@ -64,7 +64,7 @@ fn keep_rows(
     thunk: u64,
     operator: &Operator,
     calls: &mut Calls,
-    sieve: &mut Sieve,
+    sieve: &mut SelectBuffer,
     masked: Masked,
     range: Range<u64>,
 ) -> Result<(), AllocError>
@@ -98,7 +98,7 @@ pub fn sift_region(
         (range.end - range.start) result }
 {
     operator.recall();
-    let mut sieve = match Sieve::begin(alloc, range.start, masked.a.columns()) {
+    let mut sieve = match SelectBuffer::begin(alloc, range.start, masked.a.columns()) {
         Ok(sieve) => sieve,
         Err(error) => return Chunk::refused(error),
     };

@@ -6,8 +6,8 @@ ghost use Rattle.job_forms.specs.Region.{IsRegion, IsPartOf};
 
 use crate::blank::{blank_region, is_blank, is_shut};
 use crate::form::EntryForm;
-use crate::line::Sources;
-use crate::mapping::joint_region;
+use crate::mapping::merge_region;
+use crate::operand_rows::Sources;
 use bpf_run::Calls;
 use bpf_verify::Operator;
 use csr_store::Matrix;
@@ -39,7 +39,7 @@ pub fn union_region<'m>(
         right: Some(b),
         mask: region.mask,
     };
-    joint_region(
+    merge_region(
         alloc,
         calls,
         EntryForm::Union,
@@ -74,7 +74,7 @@ pub fn both_region<'m>(
         right: Some(b),
         mask: region.mask,
     };
-    joint_region(
+    merge_region(
         alloc,
         calls,
         EntryForm::Both,

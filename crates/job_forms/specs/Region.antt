@@ -43,6 +43,6 @@ abbrev pub nothing_made : ℕ → ℕ → Making
 nothing_made first columns = record { rows = record { first = first; columns = columns; ended = []; opened = [] }; steps = 0 }
 
 -- what was being made, told as a chunk, unless memory was refused
-abbrev pub told : Making → Result (Unit {0}) AllocError → Chunk
-told making (Ok x) = record { result = Ok making.rows; steps = making.steps }
-told making (Err e) = record { result = Err e; steps = making.steps }
+abbrev pub finished : Making → Result (Unit {0}) AllocError → Chunk
+finished making (Ok x) = record { result = Ok making.rows; steps = making.steps }
+finished making (Err e) = record { result = Err e; steps = making.steps }

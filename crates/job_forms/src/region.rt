@@ -2,7 +2,7 @@
 ghost use Rattle.std.specs.Prelude.{◌≡◌, List};
 ghost use Rattle.bpf_run.specs.Calls.{Call};
 ghost use Rattle.csr_store.specs.Run.{Run};
-ghost use Rattle.job_forms.specs.Region.{nothing_made, told, IsMade};
+ghost use Rattle.job_forms.specs.Region.{nothing_made, finished, IsMade};
 
 use csr_store::{Matrix, Rows};
 use std::alloc::{AllocError, Global};
@@ -55,7 +55,7 @@ impl Making {
 
     /// What was made: the rows, unless memory was refused, and the steps.
     pub fn finish(self, filled: Result<(), AllocError>) -> Chunk
-        ensures { result ≡ told self filled }
+        ensures { result ≡ finished self filled }
     {
         let Making { rows, steps } = self;
         match filled {

@@ -100,8 +100,8 @@ adds_one gs g job by new fits = record {
   given = record { factor = g; by = by.factor; at = record { copy = g; there = last_there gs g; same = refl } };
 }
 
-pub adds_new : (gs after : List Grid) (g : Grid) (job : Job) (place : Option ℕ) → IsBy g job → IsNew gs g
-    → MatchOption place (after ≡ gs) (λ p. (p ≡ length gs) × (after ≡ gs ++ g ∷ []) × FitsBehind gs g) → Adds gs after job place
+pub adds_new : (gs after : List Grid) (g : Grid) (job : Job) (nth : Option ℕ) → IsBy g job → IsNew gs g
+    → MatchOption nth (after ≡ gs) (λ p. (p ≡ length gs) × (after ≡ gs ++ g ∷ []) × FitsBehind gs g) → Adds gs after job nth
 adds_new gs after g job None by new e = subst (λ (us : List Grid). Adds gs us job None) (sym e) (adds_nothing gs job)
 adds_new gs after g job (Some p) by new (n, e, fits) =
     subst (λ (q : ℕ). Adds gs after job (Some q)) (sym n)
@@ -129,21 +129,21 @@ contains_at jobs k job there =
     subst (λ (j : Job). Contains jobs j) (get_or_from_slice_get jobs k job job there)
     (Contains-get_or jobs k job (slice_get_within jobs k job there))
 
-pub for_more : (jobs : List Job) (gs after : List Grid) (places : List (Option ℕ)) (k : ℕ) (job : Job) (place : Option ℕ)
-    → AreFor jobs gs places → Adds gs after job place → slice_get jobs k ≡ Some job → k < length places
-    → AreFor jobs after (set places k place)
-for_more jobs gs after places k job place now adds there l = record {
+pub for_more : (jobs : List Job) (gs after : List Grid) (places : List (Option ℕ)) (k : ℕ) (job : Job) (nth : Option ℕ)
+    → AreFor jobs gs places → Adds gs after job nth → slice_get jobs k ≡ Some job → k < length places
+    → AreFor jobs after (set places k nth)
+for_more jobs gs after places k job nth now adds there l = record {
   copied = adds.copied jobs (contains_at jobs k job there) now.copied;
   each = λ j p e. elim (eqb_tells j k) [
     | inl q ↦
-        let is : place ≡ Some p =
-        sym (get_or-set_same places k place None l) ∙ (ap (λ i. get_or (set places k place) i None) (sym q.1) ∙ e) in (
+        let is : nth ≡ Some p =
+        sym (get_or-set_same places k nth None l) ∙ (ap (λ i. get_or (set places k nth) i None) (sym q.1) ∙ e) in (
           job,
           ap (λ i. slice_get jobs i) q.1 ∙ there,
           subst (λ (o : Option ℕ). IfSome o (λ n. IsFor after n job)) is adds.given,
         )
     | inr q ↦
-        let f = now.each j p (sym (get_or-set_other places k j place None q.1) ∙ e) in
+        let f = now.each j p (sym (get_or-set_other places k j nth None q.1) ∙ e) in
         let at = f.2.at in (
           f.0,
           f.1,

@@ -125,9 +125,9 @@ fn find(copies: &[Copied], column: &Matrix) -> Found
     ensures { IsFound copies.now column.now result }
 {
     let mut left = PATIENCE * column.rows();
-    for (place, copy) in copies.iter().enumerate() {
+    for (nth, copy) in copies.iter().enumerate() {
         let Some(row) = copy.difference(column) else {
-            return Found::At(place as u64);
+            return Found::At(nth as u64);
         };
         if row > left {
             return Found::Unknown;
@@ -160,9 +160,9 @@ fn add(alloc: Global, copies: &mut Vec<Copied>, matrix: &Version) -> Option<u64>
     let Ok(copy) = Copied::of(alloc, matrix) else {
         return None;
     };
-    let place = copies.len() as u64;
+    let nth = copies.len() as u64;
     match copies.push(copy) {
-        Ok(()) => Some(place),
+        Ok(()) => Some(nth),
         Err(_) => None,
     }
 }
@@ -189,7 +189,7 @@ fn place_for(alloc: Global, copies: &mut Vec<Copied>, priced: &Priced) -> Option
         return None;
     };
     match find(copies, column) {
-        Found::At(place) => Some(place),
+        Found::At(nth) => Some(nth),
         Found::Nowhere => add(alloc, copies, column),
         Found::Unknown => None,
     }
@@ -224,11 +224,11 @@ impl Columns {
     }
 
     /// The place of a job's copy, if it has one.
-    pub(crate) fn place(&self, job: u64) -> Option<u64>
+    pub(crate) fn nth(&self, job: u64) -> Option<u64>
         ensures { result ≡ get_or self.now.places job None }
     {
         match self.places.get(job as usize) {
-            Some(place) => *place,
+            Some(nth) => *nth,
             None => None,
         }
     }

@@ -101,11 +101,11 @@ impl Plan {
     pub fn column(&self, job: u64) -> Option<&Column>
         ensures { (j : is.Job) → slice_get self.now job ≡ Some j → IsCopyFor j.form result }
     {
-        let Some(place) = self.columns.place(job) else {
+        let Some(nth) = self.columns.nth(job) else {
             return None;
         };
         let copies = self.columns.copies();
-        Some(copies[place as usize].column())
+        Some(copies[nth as usize].column())
     }
 
     /// How many chunks there are.
@@ -155,22 +155,22 @@ pub(crate) fn cut(alloc: Global, jobs: &[Priced]) -> Result<Vec<ChunkRows>, Allo
     ensures { IfOk result (λ chunks. chunks.items ≡ rows_from 0 jobs.now) }
 {
     let mut chunks = Vec::new(alloc);
-    for (place, priced) in jobs.iter().enumerate() {
-        cut_job(&mut chunks, place as u64, priced.job())?;
+    for (nth, priced) in jobs.iter().enumerate() {
+        cut_job(&mut chunks, nth as u64, priced.job())?;
     }
     Ok(chunks)
 }
 
 /// Adds the chunks of a job.
-fn cut_job(chunks: &mut Vec<ChunkRows>, place: u64, job: &Job) -> Result<(), AllocError>
-    ensures { OnOk result (chunks.new.items ≡ chunks.old.items ++ rows_of_job place job.now) }
+fn cut_job(chunks: &mut Vec<ChunkRows>, nth: u64, job: &Job) -> Result<(), AllocError>
+    ensures { OnOk result (chunks.new.items ≡ chunks.old.items ++ rows_of_job nth job.now) }
 {
     let rows = job.form().rows();
     for number in 0..rows.div_ceil(RUN_ROWS) {
         let first = RUN_ROWS * number;
         let last = (first + RUN_ROWS).min(rows);
         chunks.push(ChunkRows {
-            job: place,
+            job: nth,
             first,
             last,
         })?;

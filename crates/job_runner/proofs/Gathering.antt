@@ -4,9 +4,9 @@ use Rattle.std.proofs.Common.{length, Bool, true, false, ◌||◌, refl, sym, ap
 use Rattle.std.specs.Prelude.{All}
 use Rattle.std.specs.List.{AllByRecursion}
 use Rattle.csr_store.specs.Along.{summed}
-use Rattle.race_board.specs.declared.stand.Stand.{Stand}
-use Rattle.race_board.specs.declared.stand.Stand.TheVariants.{ToldEnd}
-use Rattle.race_board.specs.Race.{Worker, BoardState, SeatState, IsToldEnd, total_of, times_completed, times_drawn}
+use Rattle.race_board.specs.declared.worker_state.WorkerState.{WorkerState}
+use Rattle.race_board.specs.declared.worker_state.WorkerState.TheVariants.{Drained}
+use Rattle.race_board.specs.Race.{Worker, BoardState, SeatState, IsDrained, total_of, times_completed, times_drawn}
 use Rattle.race_board.specs.Race.{one_if_same, one_if_below, steps_of, workers_of, IsFinished}
 use Rattle.race_board.specs.Chunks.{CostAtMost, CostJust, completed_by, recorded_by, failed_chunk, sum_below, times_in}
 use Rattle.race_board.proofs.Sums.{sum_append}
@@ -15,15 +15,15 @@ use Rattle.race_board.proofs.Seats.{workers_snoc}
 use Rattle.race_board.proofs.Chunks.{cost_append as just_append, completed_snoc, recorded_steps, recorded_at_most, closed_recorded, closed_completed, below_one}
 use Rattle.job_plan.specs.Job.{Job}
 use Rattle.job_runner.specs.declared.piece.Piece.{Piece}
-use Rattle.job_runner.specs.declared.gathered.Ended.{Ended}
-use Rattle.job_runner.specs.declared.gathered.Gathered.{Gathered}
+use Rattle.job_runner.specs.declared.worker_outputs.Ended.{Ended}
+use Rattle.job_runner.specs.declared.worker_outputs.WorkerOutputs.{WorkerOutputs}
 use Rattle.job_plan.specs.Chunks.{Cover, prices_of}
 use Rattle.job_runner.specs.Batch.{total_steps}
-use Rattle.race_board.proofs.Finishing.{all_told, told_finished}
+use Rattle.race_board.proofs.Finishing.{all_drained, drained_finished}
 use Rattle.job_runner.specs.Chunk.{chunk_total, chunk_steps}
-use Rattle.job_runner.specs.inner.Places.{IsFull}
+use Rattle.job_runner.specs.inner.CompletedPieces.{IsFull}
 use Rattle.job_runner.specs.Worked.{recorded, IsPieceOf, StandsAfter}
-use Rattle.job_runner.specs.inner.Crew.{IsEnded, IsGathered}
+use Rattle.job_runner.specs.inner.Crew.{IsEnded, AreWorkerOutputs}
 use Rattle.job_runner.proofs.Listed.{summed-split}
 use Rattle.job_runner.proofs.Joined.{total_of_jobs}
 use Rattle.job_runner.proofs.Costs.{all_listed}
@@ -44,27 +44,27 @@ cost_pieces : (jobs : List Job) (ps : List Piece) → AllByRecursion (IsPieceOf 
 cost_pieces jobs [] h = tt
 cost_pieces jobs (p ∷ ps) h = (let e = h.0.steps in omega (arith, e), cost_pieces jobs ps h.1)
 
-cost_failed : (jobs : List Job) (failed : Bool) (stand : Stand) → StandsAfter jobs failed stand
-    → CostAtMost (chunk_steps jobs) (failed_chunk stand)
-cost_failed jobs false stand h = subst (λ (t : Stand). CostAtMost (chunk_steps jobs) (failed_chunk t)) (sym h) tt
-cost_failed jobs true stand h = subst (λ (t : Stand). CostAtMost (chunk_steps jobs) (failed_chunk t)) (sym h.2) (h.4, tt)
+cost_failed : (jobs : List Job) (failed : Bool) (state : WorkerState) → StandsAfter jobs failed state
+    → CostAtMost (chunk_steps jobs) (failed_chunk state)
+cost_failed jobs false state h = subst (λ (t : WorkerState). CostAtMost (chunk_steps jobs) (failed_chunk t)) (sym h) tt
+cost_failed jobs true state h = subst (λ (t : WorkerState). CostAtMost (chunk_steps jobs) (failed_chunk t)) (sym h.2) (h.4, tt)
 
 -- the steps of a worker that has ended
 cost_ended : (board : BoardState) (jobs : List Job) (e : Ended) → IsEnded board jobs e
-    → CostAtMost (chunk_steps jobs) (e.seat.worker.done ++ failed_chunk e.seat.worker.stand)
+    → CostAtMost (chunk_steps jobs) (e.seat.worker.done ++ failed_chunk e.seat.worker.state)
 cost_ended board jobs e h =
-    cost_append (chunk_steps jobs) e.seat.worker.done (failed_chunk e.seat.worker.stand)
+    cost_append (chunk_steps jobs) e.seat.worker.done (failed_chunk e.seat.worker.state)
     (subst (CostAtMost (chunk_steps jobs)) (sym h.done) (cost_pieces jobs e.worked.pieces.items h.pieces))
-    (cost_failed jobs e.worked.failed e.seat.worker.stand h.stands)
+    (cost_failed jobs e.worked.failed e.seat.worker.state h.stands)
 
 cost_more : (g : ℕ → ℕ) (ws : List Worker) (w : Worker) → CostAtMost g (recorded_by ws)
-    → CostAtMost g (w.done ++ failed_chunk w.stand)
+    → CostAtMost g (w.done ++ failed_chunk w.state)
     → CostAtMost g (recorded_by (ws ++ w ∷ []))
-cost_more g [] w h k = cost_append g (w.done ++ failed_chunk w.stand) [] k tt
+cost_more g [] w h k = cost_append g (w.done ++ failed_chunk w.state) [] k tt
 cost_more g (v ∷ ws) w h k =
-    cost_append g (v.done ++ failed_chunk v.stand) (recorded_by (ws ++ w ∷ []))
-    (cost_first g (v.done ++ failed_chunk v.stand) (recorded_by ws) h)
-    (cost_more g ws w (cost_rest g (v.done ++ failed_chunk v.stand) (recorded_by ws) h) k)
+    cost_append g (v.done ++ failed_chunk v.state) (recorded_by (ws ++ w ∷ []))
+    (cost_first g (v.done ++ failed_chunk v.state) (recorded_by ws) h)
+    (cost_more g ws w (cost_rest g (v.done ++ failed_chunk v.state) (recorded_by ws) h) k)
 
 pub gathered_cost : (board : BoardState) (jobs : List Job) (seats : List SeatState) (e : Ended) → IsEnded board jobs e
     → CostAtMost (chunk_steps jobs) (recorded_by (workers_of seats))
@@ -104,15 +104,15 @@ completed_or board jobs seats e c h l =
     ∙ ap (λ ds. times_in c (completed_by (workers_of seats)) + times_in c ds) h.done)))
     l
 
-ended_told : (jobs : List Job) (failed : Bool) (stand : Stand) → StandsAfter jobs failed stand → failed ≡ false → stand ≡ ToldEnd
-ended_told jobs false stand h e = h
-ended_told jobs true stand h e = absurd (cc)
+ended_told : (jobs : List Job) (failed : Bool) (state : WorkerState) → StandsAfter jobs failed state → failed ≡ false → state ≡ Drained
+ended_told jobs false state h e = h
+ended_told jobs true state h e = absurd (cc)
 
 pub gathered_told : (board : BoardState) (jobs : List Job) (seats : List SeatState) (e : Ended) → IsEnded board jobs e
-    → e.worked.failed ≡ false → All (λ (s : SeatState). IsToldEnd s.worker) seats
-    → All (λ (s : SeatState). IsToldEnd s.worker) (seats ++ e.seat ∷ [])
+    → e.worked.failed ≡ false → All (λ (s : SeatState). IsDrained s.worker) seats
+    → All (λ (s : SeatState). IsDrained s.worker) (seats ++ e.seat ∷ [])
 gathered_told board jobs seats e h f k =
-    all_snoc (λ (s : SeatState). IsToldEnd s.worker) seats e.seat k (ended_told jobs e.worked.failed e.seat.worker.stand h.stands f)
+    all_snoc (λ (s : SeatState). IsDrained s.worker) seats e.seat k (ended_told jobs e.worked.failed e.seat.worker.state h.stands f)
 
 pub neither : (a b : Bool) → (a || b) ≡ false → (a ≡ false) × (b ≡ false)
 neither false b h = (refl, h)
@@ -152,7 +152,7 @@ all_completed board workers n c e done l =
     omega (arith, each, one)
 
 -- what closing the board tells was spent is at most the steps of all jobs
-pub gathered_spent : (board : BoardState) (jobs : List Job) (g : Gathered) (spent : ℕ) → IsGathered board jobs g
+pub gathered_spent : (board : BoardState) (jobs : List Job) (g : WorkerOutputs) (spent : ℕ) → AreWorkerOutputs board jobs g
     → ((c : ℕ) → total_of (times_drawn c) (workers_of g.seats.items) ≤ one_if_below c (length board.prices))
     → spent ≡ total_of steps_of (workers_of g.seats.items) → board.prices ≡ prices_of jobs → ((k : ℕ) (job : Job) → Cover k job)
     → spent ≤ total_steps jobs
@@ -164,12 +164,12 @@ gathered_spent board jobs g spent h once s prices cover =
     omega (arith, most, all)
 
 -- where all workers are here and none failed, each chunk has its piece
-pub gathered_full : (board : BoardState) (jobs : List Job) (g : Gathered) → IsGathered board jobs g
-    → (IsFinished board (workers_of g.seats.items) → All IsToldEnd (workers_of g.seats.items)
+pub gathered_full : (board : BoardState) (jobs : List Job) (g : WorkerOutputs) → AreWorkerOutputs board jobs g
+    → (IsFinished board (workers_of g.seats.items) → All IsDrained (workers_of g.seats.items)
     → (c : ℕ) → total_of (times_completed c) (workers_of g.seats.items) ≡ one_if_below c (length board.prices))
     → board.prices ≡ prices_of jobs → 0 < length g.seats.items → length g.seats.items ≡ board.workers → g.failed ≡ false
-    → (c : ℕ) → c < chunk_total jobs → IsFull g.places.items c
+    → (c : ℕ) → c < chunk_total jobs → IsFull g.completed_pieces.items c
 gathered_full board jobs g h completed prices some whole failed c l =
     let told = h.told failed in
-    let done = completed (told_finished board g.seats.items some whole told) (all_told g.seats.items told) in
+    let done = completed (drained_finished board g.seats.items some whole told) (all_drained g.seats.items told) in
     h.there c (all_completed board (workers_of g.seats.items) (chunk_total jobs) c (all_listed jobs board.prices prices) done l)

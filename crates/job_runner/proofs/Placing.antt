@@ -17,7 +17,7 @@ use Rattle.job_runner.specs.declared.piece.Piece.{Piece}
 use Rattle.job_runner.specs.Worked.{recorded, IsPieceOf}
 use Rattle.job_runner.specs.Chunk.{chunks_in, chunk_total, run_in_job, steps_in_job, run_of, chunk_steps, none_run}
 use Rattle.job_runner.specs.inner.Pieces.{AreAll, given, given_at, job_gives, gives, listed}
-use Rattle.job_runner.specs.inner.Places.{ArePlaces, ArePlaced, IsFull}
+use Rattle.job_runner.specs.inner.CompletedPieces.{AreCompletedPieces, ArePlaced, IsFull}
 use Rattle.job_runner.proofs.Listed.{next-listed}
 use Rattle.job_runner.proofs.Located.{lt_or}
 use Rattle.job_runner.proofs.Working.{record_more}
@@ -51,26 +51,26 @@ set_other (y ∷ ys) (suc i) (suc k) x n =
     set_other ys i k x (elim n [ inl l ↦ inl (omega (arith, l)) | inr l ↦ inr (omega (arith, l)) ])
 
 -- a piece is put at its place
-pub put_placed : (jobs : List Job) (places : List (Option Piece)) (p : Piece) → p.chunk < length places → IsPieceOf jobs p
-    → ArePlaced jobs places → ArePlaced jobs (set places p.chunk (Some p))
-put_placed jobs places p l r h c q e = elim (same_or c p.chunk) [
+pub put_placed : (jobs : List Job) (completed_pieces : List (Option Piece)) (p : Piece) → p.chunk < length completed_pieces → IsPieceOf jobs p
+    → ArePlaced jobs completed_pieces → ArePlaced jobs (set completed_pieces p.chunk (Some p))
+put_placed jobs completed_pieces p l r h c q e = elim (same_or c p.chunk) [
   | inl s ↦
-      let here = subst (λ k. slice_get (set places p.chunk (Some p)) k ≡ Some (Some q)) s e in
-      let same = some_same p q (some_same (Some p) (Some q) (sym (set_here places p.chunk (Some p) l) ∙ here)) in
+      let here = subst (λ k. slice_get (set completed_pieces p.chunk (Some p)) k ≡ Some (Some q)) s e in
+      let same = some_same p q (some_same (Some p) (Some q) (sym (set_here completed_pieces p.chunk (Some p) l) ∙ here)) in
       (subst (IsPieceOf jobs) same r, ap (λ (x : Piece). x.chunk) (sym same) ∙ sym s)
-  | inr o ↦ h c q (sym (set_other places p.chunk c (Some p) o) ∙ e)
+  | inr o ↦ h c q (sym (set_other completed_pieces p.chunk c (Some p) o) ∙ e)
 ]
 
-pub put_kept : (places : List (Option Piece)) (p : Piece) (c : ℕ) → p.chunk < length places → IsFull places c
-    → IsFull (set places p.chunk (Some p)) c
-put_kept places p c l h = elim (same_or c p.chunk) [
-  | inl s ↦ (p, ap (λ k. slice_get (set places p.chunk (Some p)) k) s ∙ set_here places p.chunk (Some p) l)
-  | inr o ↦ (h.0, set_other places p.chunk c (Some p) o ∙ h.1)
+pub put_kept : (completed_pieces : List (Option Piece)) (p : Piece) (c : ℕ) → p.chunk < length completed_pieces → IsFull completed_pieces c
+    → IsFull (set completed_pieces p.chunk (Some p)) c
+put_kept completed_pieces p c l h = elim (same_or c p.chunk) [
+  | inl s ↦ (p, ap (λ k. slice_get (set completed_pieces p.chunk (Some p)) k) s ∙ set_here completed_pieces p.chunk (Some p) l)
+  | inr o ↦ (h.0, set_other completed_pieces p.chunk c (Some p) o ∙ h.1)
 ]
 
-pub put_here : (places : List (Option Piece)) (p : Piece) (c : ℕ) → p.chunk < length places → c ≡ p.chunk
-    → IsFull (set places p.chunk (Some p)) c
-put_here places p c l s = (p, ap (λ k. slice_get (set places p.chunk (Some p)) k) s ∙ set_here places p.chunk (Some p) l)
+pub put_here : (completed_pieces : List (Option Piece)) (p : Piece) (c : ℕ) → p.chunk < length completed_pieces → c ≡ p.chunk
+    → IsFull (set completed_pieces p.chunk (Some p)) c
+put_here completed_pieces p c l s = (p, ap (λ k. slice_get (set completed_pieces p.chunk (Some p)) k) s ∙ set_here completed_pieces p.chunk (Some p) l)
 
 same_number : (c d : ℕ) → 0 < one_if_same c d → c ≡ d
 same_number c d h = grind (arith, nat_tests)
@@ -87,15 +87,15 @@ last_or rest p c l =
     (ap (times_in c) (record_more rest p) ∙ sum_append (λ (d : ℕ × ℕ). one_if_same c d.0) (recorded rest) ((p.chunk, p.steps) ∷ []))
     l
 
-pub put_there : (places : List (Option Piece)) (rest pieces : List Piece) (p : Piece) (c : ℕ) → p.chunk < length places
-    → pieces ≡ rest ++ p ∷ [] → (0 < times_in c (recorded pieces)) ⊎ IsFull places c
-    → (0 < times_in c (recorded rest)) ⊎ IsFull (set places p.chunk (Some p)) c
-put_there places rest pieces p c l e h = elim h [
+pub put_there : (completed_pieces : List (Option Piece)) (rest pieces : List Piece) (p : Piece) (c : ℕ) → p.chunk < length completed_pieces
+    → pieces ≡ rest ++ p ∷ [] → (0 < times_in c (recorded pieces)) ⊎ IsFull completed_pieces c
+    → (0 < times_in c (recorded rest)) ⊎ IsFull (set completed_pieces p.chunk (Some p)) c
+put_there completed_pieces rest pieces p c l e h = elim h [
   | inl a ↦ elim (last_or rest p c (subst (λ (ps : List Piece). 0 < times_in c (recorded ps)) e a)) [
     | inl b ↦ inl b
-    | inr s ↦ inr (put_here places p c l s)
+    | inr s ↦ inr (put_here completed_pieces p c l s)
   ]
-  | inr f ↦ inr (put_kept places p c l f)
+  | inr f ↦ inr (put_kept completed_pieces p c l f)
 ]
 
 pub all_front : {X : Type 0} (P : X → Type 0) (xs : List X) (x : X) → AllByRecursion P (xs ++ x ∷ []) → AllByRecursion P xs
@@ -115,8 +115,8 @@ none_there (suc n) (suc c) p e = none_there n c p e
 pub none_placed : (jobs : List Job) (n : ℕ) → ArePlaced jobs (replicate n None)
 none_placed jobs n c p e = absurd (none_there n c p e)
 
-pub none_more : (n : ℕ) (places : List (Option Piece)) → places ≡ replicate n None → places ++ None ∷ [] ≡ replicate (n + 1) None
-none_more n places h = ap (λ xs. xs ++ None ∷ []) h ∙ replicate-append-replicate n 1 None
+pub none_more : (n : ℕ) (completed_pieces : List (Option Piece)) → completed_pieces ≡ replicate n None → completed_pieces ++ None ∷ [] ≡ replicate (n + 1) None
+none_more n completed_pieces h = ap (λ xs. xs ++ None ∷ []) h ∙ replicate-append-replicate n 1 None
 
 -- what the pieces at the places give, all of them there
 
@@ -155,12 +155,12 @@ gives_is (job ∷ jobs) c l =
           ∙ sym (ap (λ b. told (cond b (run_in_job job c) (run_of jobs rest)) (cond b (steps_in_job job c) (chunk_steps jobs rest))) t)
     ]
 
-pub all_given : (jobs : List Job) (places : List (Option Piece)) → ArePlaces jobs places
-    → ((c : ℕ) → c < chunk_total jobs → IsFull places c) → AreAll jobs places
-all_given jobs places are full =
-    mapped given (gives jobs) places 0 (λ k o e.
+pub all_given : (jobs : List Job) (completed_pieces : List (Option Piece)) → AreCompletedPieces jobs completed_pieces
+    → ((c : ℕ) → c < chunk_total jobs → IsFull completed_pieces c) → AreAll jobs completed_pieces
+all_given jobs completed_pieces are full =
+    mapped given (gives jobs) completed_pieces 0 (λ k o e.
     let long = are.long in
-    let within = slice_get_within places k o e in
+    let within = slice_get_within completed_pieces k o e in
     let inside : k < chunk_total jobs = omega (arith, within, long) in
     let there = full k inside in
     let right = are.placed k there.0 there.1 in

@@ -7,33 +7,33 @@ use Rattle.csr_store.specs.Along.{along, cell_at, row_by}
 use Rattle.csr_store.specs.Grid.{Grid, row_of}
 use Rattle.csr_store.specs.Run.{Row, Run}
 use Rattle.csr_store.proofs.Along.{along-same, row_by-row_of}
-use Rattle.race_board.specs.Race.{Worker, BoardState, IsLawful, IsToldEnd, IsFinished, AreNumbersBelow, RanOneRace, total_of}
+use Rattle.race_board.specs.Race.{Worker, BoardState, IsLawful, IsDrained, IsFinished, AreNumbersBelow, RanOneRace, total_of}
 use Rattle.race_board.specs.Race.{times_completed, one_if_below, steps_of, workers_of}
 use Rattle.race_board.specs.Chunks.{AreEachOnce, completed_by, steps_in}
 use Rattle.race_board.proofs.Chunks.{closed_completed, completed_steps, recorded_completed, recorded_steps}
-use Rattle.race_board.proofs.Finishing.{all_told, told_finished}
+use Rattle.race_board.proofs.Finishing.{all_drained, drained_finished}
 use Rattle.job_plan.specs.Chunks.{Cover, prices_of}
 use Rattle.job_plan.specs.Job.{Job}
 use Rattle.job_plan.specs.Meaning.{IsMatrixOf, row_count, column_count, rows_in, value_at}
-use Rattle.job_runner.specs.declared.gathered.Gathered.{Gathered}
+use Rattle.job_runner.specs.declared.worker_outputs.WorkerOutputs.{WorkerOutputs}
 use Rattle.job_runner.specs.Batch.{Result, AreResultsOf, total_steps}
 use Rattle.job_runner.specs.Chunk.{chunk_total, chunks_in, chunk_steps, run_in_job}
 use Rattle.job_runner.specs.Whole.{IsWhole, all_rows, rows_of_chunks, whole}
-use Rattle.job_runner.specs.inner.Crew.{IsGathered}
+use Rattle.job_runner.specs.inner.Crew.{AreWorkerOutputs}
 use Rattle.job_runner.proofs.Costs.{all_listed}
 use Rattle.job_runner.proofs.Gathering.{below_summed}
 use Rattle.job_runner.proofs.Joined.{ended_all, flat-ones, total_of_jobs}
 
 -- where all workers are here and none failed
-pub gathered_whole : (board : BoardState) (jobs : List Job) (g : Gathered) → IsGathered board jobs g
-    → (IsFinished board (workers_of g.seats.items) → All IsToldEnd (workers_of g.seats.items)
+pub gathered_whole : (board : BoardState) (jobs : List Job) (g : WorkerOutputs) → AreWorkerOutputs board jobs g
+    → (IsFinished board (workers_of g.seats.items) → All IsDrained (workers_of g.seats.items)
     → (c : ℕ) → total_of (times_completed c) (workers_of g.seats.items) ≡ one_if_below c (length board.prices))
     → board.prices ≡ prices_of jobs → 0 < length g.seats.items → length g.seats.items ≡ board.workers → g.failed ≡ false
     → IsWhole jobs (workers_of g.seats.items)
 gathered_whole board jobs g h completed prices some all failed =
     let told = h.told failed in
-    let ended = all_told g.seats.items told in
-    let done = completed (told_finished board g.seats.items some all told) ended in
+    let ended = all_drained g.seats.items told in
+    let done = completed (drained_finished board g.seats.items some all told) ended in
     record {
       once = subst (λ n. AreEachOnce n (completed_by (workers_of g.seats.items))) (all_listed jobs board.prices prices)
           (closed_completed (length board.prices) (workers_of g.seats.items) done);

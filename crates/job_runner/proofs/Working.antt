@@ -3,8 +3,8 @@ use Rattle.std.proofs.Common.{◌≡◌, ◌<◌, ◌≤◌, ℕ, zero, suc, ◌
 use Rattle.std.proofs.Common.{refl, sym, ap, ◌∙◌, subst, arith, append_assoc}
 use Rattle.std.specs.List.{AllByRecursion}
 use Rattle.csr_store.specs.Along.{summed}
-use Rattle.race_board.specs.declared.stand.Stand.{Stand}
-use Rattle.race_board.specs.declared.stand.Stand.TheVariants.{Free}
+use Rattle.race_board.specs.declared.worker_state.WorkerState.{WorkerState}
+use Rattle.race_board.specs.declared.worker_state.WorkerState.TheVariants.{Free}
 use Rattle.race_board.specs.Race.{Worker, times_drawn, steps_of, steps_now, holding, completed, failed, IsAboveDraws}
 use Rattle.race_board.proofs.Sums.{sum_append}
 use Rattle.race_board.proofs.Turns.{completed_drew}
@@ -42,18 +42,18 @@ above_next w (suc n) c h a =
     omega (arith, k)
 
 -- the worker's record after a turn
-pub turn_steps : (w v u : Worker) (c s : ℕ) → w.stand ≡ Free → v ≡ holding c w → u ≡ completed c s v → steps_of u ≡ steps_of w + s
+pub turn_steps : (w v u : Worker) (c s : ℕ) → w.state ≡ Free → v ≡ holding c w → u ≡ completed c s v → steps_of u ≡ steps_of w + s
 turn_steps w v u c s f d e =
     let a = ap steps_of (e ∙ ap (completed c s) d) in
     let b = sum_append (λ (d : ℕ × ℕ). d.1) w.done ((c, s) ∷ []) in
-    let z = ap (λ (t : Stand). steps_now t) f in
+    let z = ap (λ (t : WorkerState). steps_now t) f in
     omega (arith, a, b, z)
 
-pub fail_steps : (w v u : Worker) (c s : ℕ) → w.stand ≡ Free → v ≡ holding c w → u ≡ failed c s v
+pub fail_steps : (w v u : Worker) (c s : ℕ) → w.state ≡ Free → v ≡ holding c w → u ≡ failed c s v
     → steps_of u ≡ steps_of w + s
 fail_steps w v u c s f d e =
     let a = ap steps_of (e ∙ ap (failed c s) d) in
-    let z = ap (λ (t : Stand). steps_now t) f in
+    let z = ap (λ (t : WorkerState). steps_now t) f in
     omega (arith, a, z)
 
 pub turn_drawn : (v u : Worker) (c s : ℕ) → u ≡ completed c s v → 0 < times_drawn ((c + 1) - 1) u

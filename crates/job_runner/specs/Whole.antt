@@ -3,7 +3,7 @@ use Rattle.std.specs.Prelude.{◌≡◌, ℕ, List, [], ◌∷◌, map, length, 
 use Rattle.csr_store.specs.Along.{along}
 use Rattle.csr_store.specs.Grid.{Grid, row_of}
 use Rattle.csr_store.specs.Run.{Row}
-use Rattle.race_board.specs.Race.{Worker, IsLawful, IsToldEnd, AreNumbersBelow, total_of, steps_of}
+use Rattle.race_board.specs.Race.{Worker, IsLawful, IsDrained, AreNumbersBelow, total_of, steps_of}
 use Rattle.race_board.specs.Chunks.{AreEachOnce, CostJust, completed_by}
 use Rattle.job_plan.specs.Chunks.{prices_of}
 use Rattle.job_plan.specs.Job.{Job}
@@ -15,7 +15,7 @@ use Rattle.job_runner.specs.Chunk.{chunk_total, chunks_in, run_in_job, chunk_ste
 pub record IsWhole (jobs : List Job) (workers : List Worker) : Type 0 where
   pub once : AreEachOnce (chunk_total jobs) (completed_by workers)
   pub steps : CostJust (chunk_steps jobs) (completed_by workers)
-  pub ended : All IsToldEnd workers
+  pub ended : All IsDrained workers
 
 -- what it then gives: of each job the rows of its chunks, in order of their numbers
 abbrev pub rows_of_chunks : Job → List Row

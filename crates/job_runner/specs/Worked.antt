@@ -2,8 +2,8 @@
 use Rattle.std.specs.Prelude.{◌≡◌, ℕ, ◌+◌, ◌<◌, ◌≤◌, Bool, true, false, List, ◌++◌, map}
 use Rattle.std.specs.List.{AllByRecursion}
 use Rattle.race_board.specs.Race.{BoardState, SeatState, IsSeatOf, steps_of}
-use Rattle.race_board.specs.declared.stand.Stand.{Stand}
-use Rattle.race_board.specs.declared.stand.Stand.TheVariants.{ToldEnd, Failed}
+use Rattle.race_board.specs.declared.worker_state.WorkerState.{WorkerState}
+use Rattle.race_board.specs.declared.worker_state.WorkerState.TheVariants.{Drained, Failed}
 use Rattle.job_plan.specs.Job.{Job}
 use Rattle.job_runner.specs.declared.piece.Piece.{Piece}
 use Rattle.job_runner.specs.declared.worker.Worked.{Worked}
@@ -20,10 +20,10 @@ abbrev pub recorded : List Piece → List (ℕ × ℕ)
 recorded pieces = map (λ (p : Piece). (p.chunk, p.steps)) pieces
 
 -- how a worker stands in the end: it was told the end; or it failed a chunk, with no more steps than the chunk's
-abbrev pub StandsAfter : List Job → Bool → Stand → Type 0
-StandsAfter jobs false stand = stand ≡ ToldEnd
-StandsAfter jobs true stand =
-    (c : ℕ) × (s : ℕ) × (stand ≡ Failed c s) × (c < chunk_total jobs) × (s ≤ chunk_steps jobs c)
+abbrev pub StandsAfter : List Job → Bool → WorkerState → Type 0
+StandsAfter jobs false state = state ≡ Drained
+StandsAfter jobs true state =
+    (c : ℕ) × (s : ℕ) × (state ≡ Failed c s) × (c < chunk_total jobs) × (s ≤ chunk_steps jobs c)
 
 -- what a worker did between two states of its seat: its pieces are right, and its record gained just these, with their steps
 pub record HasWorked (board : BoardState) (jobs : List Job) (before after : SeatState) (w : Worked) : Type 0 where
@@ -31,5 +31,5 @@ pub record HasWorked (board : BoardState) (jobs : List Job) (before after : Seat
   pub number : after.worker.number ≡ before.worker.number
   pub gained : after.worker.done ≡ before.worker.done ++ recorded w.pieces.items
   pub pieces : AllByRecursion (IsPieceOf jobs) w.pieces.items
-  pub stands : StandsAfter jobs w.failed after.worker.stand
+  pub stands : StandsAfter jobs w.failed after.worker.state
   pub spent : steps_of after.worker ≡ steps_of before.worker + w.spent

@@ -1,5 +1,5 @@
 -- What serves this crate's own modules: contracts between them, invariants and proofs. No public contract reaches it.
 pub mod Crew
 pub mod Pieces
-pub mod Places
+pub mod CompletedPieces
 pub mod Worked

@@ -8,13 +8,13 @@ ghost use Rattle.job_runner.specs.Whole.{IsRaced};
 
 use crate::answer::{BatchAnswer, BatchFault, Cause, JobResult};
 use crate::board::open_board;
-use crate::chunk::Kept;
-use crate::crew::{Means, work_all};
+use crate::chunk::SpareScratch;
+use crate::crew::{BatchContext, work_all};
 use crate::gate::Gate;
-use crate::gathered::Gathered;
 use crate::join::join_jobs;
 use crate::size::crew_size;
 use crate::task::Task;
+use crate::worker_outputs::WorkerOutputs;
 use job_plan::Plan;
 use std::alloc::{AllocError, Global};
 use std::sync::Wait;
@@ -44,7 +44,7 @@ pub fn run_batch<H: Threads + Wait, G: Gate + Sync>(
     ensures thread { IfErr result (λ f. f.cause ≡ Cause.Thread → 1 < workers) }
     ensures told { MaySay workers plan.now (said_of result) }
 {
-    let mut kept = Kept::new();
+    let mut kept = SpareScratch::new();
     run_batch_with(rt, alloc, plan, workers, gate, &mut kept)
 }
 
@@ -60,7 +60,7 @@ pub fn run_batch_with<H: Threads + Wait, G: Gate + Sync>(
     plan: &Plan,
     workers: u64,
     gate: &G,
-    kept: &mut Kept,
+    kept: &mut SpareScratch,
 ) -> Result<BatchAnswer, BatchFault>
     requires some { 1 ≤ workers }
     requires few { workers ≤ 64 }
@@ -69,7 +69,13 @@ pub fn run_batch_with<H: Threads + Wait, G: Gate + Sync>(
     plan.recall();
     let count = crew_size(plan, workers);
     let mut spent = 0;
-    let outcome = results(Means { rt, alloc, gate }, plan, count, kept, &mut spent);
+    let outcome = results(
+        BatchContext { rt, alloc, gate },
+        plan,
+        count,
+        kept,
+        &mut spent,
+    );
     kept.trim(plan);
     match outcome {
         Ok(results) => Ok(BatchAnswer { results }),
@@ -89,10 +95,10 @@ impl From<AllocError> for Cause {
 
 /// What each job gives that so many workers compute. The steps of all calls are told, also where the batch is refused.
 fn results<H: Threads + Wait, G: Gate + Sync>(
-    means: Means<'_, H, G>,
+    context: BatchContext<'_, H, G>,
     plan: &Plan,
     count: u64,
-    kept: &mut Kept,
+    kept: &mut SpareScratch,
     spent: &mut u64,
 ) -> Result<Vec<JobResult>, Cause>
     requires { (1 ≤ count) × (count ≤ 64) }
@@ -103,19 +109,19 @@ fn results<H: Threads + Wait, G: Gate + Sync>(
 {
     plan.recall();
     *spent = 0;
-    let alloc = means.alloc;
-    let gathered = Gathered::new(alloc, plan, count)?;
+    let alloc = context.alloc;
+    let outputs = WorkerOutputs::new(alloc, plan, count)?;
     let (board, seats) = open_board(alloc, plan, count)?;
     let task = Task {
         plan,
         board: &board,
     };
-    let (gathered, refused) = work_all(means, task, seats, gathered, kept);
-    let Gathered {
+    let (outputs, refused) = work_all(context, task, seats, outputs, kept);
+    let WorkerOutputs {
         seats,
-        places,
+        completed_pieces,
         failed,
-    } = gathered;
+    } = outputs;
     *spent = board.close(seats).spent;
     if let Some(cause) = refused {
         return Err(cause);
@@ -123,5 +129,5 @@ fn results<H: Threads + Wait, G: Gate + Sync>(
     if failed {
         return Err(Cause::Memory);
     }
-    Ok(join_jobs(alloc, plan, places)?)
+    Ok(join_jobs(alloc, plan, completed_pieces)?)
 }

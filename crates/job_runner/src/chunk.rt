@@ -38,14 +38,14 @@ const KEPT_COLUMNS: u64 = 262_144;
 
 /// What the worker of a batch on one thread works with, kept for the next batch. It is made by the first one.
 #[derive(Drop)]
-pub struct Kept {
+pub struct SpareScratch {
     scratch: Option<Scratch>,
 }
 
-impl Kept {
+impl SpareScratch {
     /// Nothing yet. Takes no memory.
-    pub fn new() -> Kept {
-        Kept { scratch: None }
+    pub fn new() -> SpareScratch {
+        SpareScratch { scratch: None }
     }
 
     /// What is kept, which is made where there is nothing.

@@ -4,14 +4,14 @@ ghost use Rattle.std.specs.Prelude.{vec_len, vec_capacity};
 ghost use Rattle.std.specs.List.{AllByRecursion};
 ghost use Rattle.race_board.specs.Race.{MayDrawAt};
 ghost use Rattle.job_plan.specs.Chunks.{prices_of};
-ghost use Rattle.job_runner.specs.inner.Crew.{AreFresh, IsEnded, IsGathered, IsRoomFor, IsStarted, IsWorked};
+ghost use Rattle.job_runner.specs.inner.Crew.{AreFresh, IsEnded, AreWorkerOutputs, IsRoomFor, IsStarted, IsWorked};
 
 use crate::answer::Cause;
-use crate::chunk::Kept;
+use crate::chunk::SpareScratch;
 use crate::gate::Gate;
-use crate::gathered::{Ended, Gathered};
 use crate::task::Task;
 use crate::worker::work_by;
+use crate::worker_outputs::{Ended, WorkerOutputs};
 use race_board::BoardSeat;
 use std::alloc::Global;
 use std::sync::Wait;
@@ -26,7 +26,7 @@ impl<'a> Promise<Ended> for Task<'a> {
 
 /// What workers run by: threads, memory, and what is called around the work on a chunk.
 #[derive(Drop)]
-pub(crate) struct Means<'a, H, G> {
+pub(crate) struct BatchContext<'a, H, G> {
     pub rt: &'a H,
     pub alloc: Global,
     pub gate: &'a G,
@@ -38,7 +38,7 @@ pub type Handle<'a> = PromisedHandle<Ended, Task<'a>>;
 /// A worker from a fresh seat to its end.
 fn work_at<G: Gate>(
     alloc: Global,
-    kept: &mut Kept,
+    kept: &mut SpareScratch,
     task: Task<'_>,
     seat: BoardSeat,
     gate: &G,
@@ -60,13 +60,13 @@ fn work_once<G: Gate>(alloc: Global, task: Task<'_>, seat: BoardSeat, gate: &G) 
     requires prices { task.board.now.prices ≡ prices_of task.plan.now }
     ensures { IsEnded task.entry.board.now task.entry.plan.now result }
 {
-    let mut kept = Kept::new();
+    let mut kept = SpareScratch::new();
     work_at(alloc, &mut kept, task, seat, gate)
 }
 
 /// Starts a thread for each of these seats, and answers whether the start of one was refused, whose seat is then lost.
 fn start<'s, 'a, H, G: Gate + Sync>(
-    means: Means<'a, H, G>,
+    context: BatchContext<'a, H, G>,
     scope: &Scope<'s, &'a ()>,
     task: Task<'a>,
     seats: Vec<BoardSeat>,
@@ -77,7 +77,7 @@ fn start<'s, 'a, H, G: Gate + Sync>(
     ensures promised { AllByRecursion (λ h. h.promise ≡ task.entry) handles.new.items }
     ensures started { IsStarted (vec_len seats) (vec_len handles.new) result }
 {
-    let Means { rt: _, alloc, gate } = means;
+    let BatchContext { rt: _, alloc, gate } = context;
     let Task { plan, board } = task;
     let mut seats = seats;
     let mut refused = false;
@@ -97,16 +97,21 @@ fn start<'s, 'a, H, G: Gate + Sync>(
 }
 
 /// Joins these threads, one after another, and gathers what their workers did.
-fn join_all<H: Threads>(rt: &H, task: Task<'_>, handles: Vec<Handle<'_>>, gathered: &mut Gathered)
+fn join_all<H: Threads>(
+    rt: &H,
+    task: Task<'_>,
+    handles: Vec<Handle<'_>>,
+    outputs: &mut WorkerOutputs,
+)
     requires promised { AllByRecursion (λ h. h.promise ≡ task) handles.items }
-    requires room { vec_len gathered.old.seats + vec_len handles ≤ vec_capacity gathered.old.seats }
-    requires gathered { IsGathered task.board.now task.plan.now gathered.old }
-    ensures gathered { IsGathered task.entry.board.now task.entry.plan.now gathered.new }
-    ensures len { vec_len gathered.new.seats ≡ vec_len gathered.old.seats + vec_len handles.entry }
+    requires room { vec_len outputs.old.seats + vec_len handles ≤ vec_capacity outputs.old.seats }
+    requires outputs { AreWorkerOutputs task.board.now task.plan.now outputs.old }
+    ensures outputs { AreWorkerOutputs task.entry.board.now task.entry.plan.now outputs.new }
+    ensures len { vec_len outputs.new.seats ≡ vec_len outputs.old.seats + vec_len handles.entry }
 {
     let mut handles = handles;
     while let Some(handle) = handles.pop() {
-        gathered.add(task, handle.join(rt));
+        outputs.add(task, handle.join(rt));
     }
 }
 
@@ -114,69 +119,75 @@ fn join_all<H: Threads>(rt: &H, task: Task<'_>, handles: Vec<Handle<'_>>, gather
 /// what was refused: the start of a thread, or memory for the threads' handles. Then the workers that had started went on to their
 /// ends, and the calling thread's did nothing.
 fn work_beside<'s, 'a, H: Threads, G: Gate + Sync>(
-    means: Means<'a, H, G>,
+    context: BatchContext<'a, H, G>,
     scope: &Scope<'s, &'a ()>,
     task: Task<'a>,
     own: BoardSeat,
     seats: Vec<BoardSeat>,
-    gathered: Gathered,
-) -> (Gathered, Option<Cause>)
+    outputs: WorkerOutputs,
+) -> (WorkerOutputs, Option<Cause>)
     requires own { MayDrawAt task.board.now own × (own.worker.done ≡ []) }
     requires fresh { AreFresh task.board.now task.plan.now seats.items }
-    requires room { IsRoomFor task.board.now task.plan.now (vec_len seats + 1) gathered }
+    requires room { IsRoomFor task.board.now task.plan.now (vec_len seats + 1) outputs }
     ensures { IsWorked task.entry.board.now task.entry.plan.now (vec_len seats + 1) result.0 result.1 }
 {
-    let Means { rt, alloc, gate } = means;
-    let mut gathered = gathered;
+    let BatchContext { rt, alloc, gate } = context;
+    let mut outputs = outputs;
     let Ok(mut handles) = Vec::with_capacity(alloc, seats.len()) else {
-        return (gathered, Some(Cause::Memory));
+        return (outputs, Some(Cause::Memory));
     };
-    let refused = start(Means { rt, alloc, gate }, scope, task, seats, &mut handles);
+    let refused = start(
+        BatchContext { rt, alloc, gate },
+        scope,
+        task,
+        seats,
+        &mut handles,
+    );
     if refused {
-        join_all(rt, task, handles, &mut gathered);
-        return (gathered, Some(Cause::Thread));
+        join_all(rt, task, handles, &mut outputs);
+        return (outputs, Some(Cause::Thread));
     }
-    gathered.add(task, work_once(alloc, task, own, gate));
-    join_all(rt, task, handles, &mut gathered);
-    (gathered, None)
+    outputs.add(task, work_once(alloc, task, own, gate));
+    join_all(rt, task, handles, &mut outputs);
+    (outputs, None)
 }
 
 /// A worker at each of these seats: the last on the calling thread, the others in threads of their own. Answers what they did, and
 /// what was refused, as `work_beside` does. One worker starts no thread, and works with what is kept.
 pub(crate) fn work_all<H: Threads + Wait, G: Gate + Sync>(
-    means: Means<'_, H, G>,
+    context: BatchContext<'_, H, G>,
     task: Task<'_>,
     seats: Vec<BoardSeat>,
-    gathered: Gathered,
-    kept: &mut Kept,
-) -> (Gathered, Option<Cause>)
+    outputs: WorkerOutputs,
+    kept: &mut SpareScratch,
+) -> (WorkerOutputs, Option<Cause>)
     requires fresh { AreFresh task.board.now task.plan.now seats.items }
-    requires room { IsRoomFor task.board.now task.plan.now (vec_len seats) gathered }
+    requires room { IsRoomFor task.board.now task.plan.now (vec_len seats) outputs }
     ensures { IsWorked task.entry.board.now task.entry.plan.now (vec_len seats) result.0 result.1 }
 {
-    let Means { rt, alloc, gate } = means;
+    let BatchContext { rt, alloc, gate } = context;
     let Task { plan, board } = task;
     let mut seats = seats;
     let Some(own) = seats.pop() else {
-        return (gathered, None);
+        return (outputs, None);
     };
     if seats.is_empty() {
-        let mut gathered = gathered;
-        gathered.add(task, work_at(alloc, kept, task, own, gate));
-        return (gathered, None);
+        let mut outputs = outputs;
+        outputs.add(task, work_at(alloc, kept, task, own, gate));
+        return (outputs, None);
     }
     thread::scope(
         thread::scope_env(),
         rt,
-        move |scope| -> (Gathered, Option<Cause>)
+        move |scope| -> (WorkerOutputs, Option<Cause>)
             requires own { MayDrawAt board.now own × (own.worker.done ≡ []) }
             requires fresh { AreFresh board.now plan.now seats.items }
-            requires room { IsRoomFor board.now plan.now (vec_len seats + 1) gathered }
+            requires room { IsRoomFor board.now plan.now (vec_len seats + 1) outputs }
             ensures { IsWorked board.entry.now plan.entry.now (vec_len seats + 1) result.0 result.1 }
         {
-            let means = Means { rt, alloc, gate };
+            let context = BatchContext { rt, alloc, gate };
             let task = Task { plan, board };
-            work_beside(means, scope, task, own, seats, gathered)
+            work_beside(context, scope, task, own, seats, outputs)
         },
     )
 }

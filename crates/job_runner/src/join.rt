@@ -22,17 +22,17 @@ use std::vec::IntoIter;
 pub(crate) fn join_jobs(
     alloc: Global,
     plan: &Plan,
-    places: Vec<Option<Piece>>,
+    completed_pieces: Vec<Option<Piece>>,
 ) -> Result<Vec<JobResult>, AllocError>
-    requires all { AreAll plan.now places.items }
+    requires all { AreAll plan.now completed_pieces.items }
     ensures { IfOk result (λ rs. AreResultsOf plan.now (map result_of rs.items)) }
 {
     plan.recall();
     let jobs = plan.jobs();
     let mut results = Vec::with_capacity(alloc, jobs.len())?;
-    let mut places = places.into_iter();
+    let mut completed_pieces = completed_pieces.into_iter();
     for job in jobs {
-        results.push(join_job(alloc, plan, job, &mut places)?)?;
+        results.push(join_job(alloc, plan, job, &mut completed_pieces)?)?;
     }
     Ok(results)
 }
@@ -42,17 +42,18 @@ fn join_job(
     alloc: Global,
     plan: &Plan,
     job: &Priced,
-    places: &mut IntoIter<Option<Piece>>,
+    completed_pieces: &mut IntoIter<Option<Piece>>,
 ) -> Result<JobResult, AllocError>
-    requires { BeginWith job.now (chunks_in job.now) (into_iter_items places.old) }
+    requires { BeginWith job.now (chunks_in job.now) (into_iter_items completed_pieces.old) }
     ensures result { IfOk result (λ r. IsResultOf job.now (result_of r)) }
-    ensures left { OnOk result (AreBehind (chunks_in job.now) (into_iter_items places.old) (into_iter_items places.new)) }
+    ensures left { OnOk result
+        (AreBehind (chunks_in job.now) (into_iter_items completed_pieces.old) (into_iter_items completed_pieces.new)) }
 {
     plan.recall();
     let for_proof_price = price(job);
     let job = job.job();
     let (rows, columns) = sizes(job);
-    let (runs, steps) = gather(alloc, job, rows.div_ceil(RUN_ROWS), places)?;
+    let (runs, steps) = gather(alloc, job, rows.div_ceil(RUN_ROWS), completed_pieces)?;
     let matrix = stack_runs(alloc, rows, columns, runs, first_operand(job))?;
     matrix.recall();
     let version = Arc::new(alloc, matrix)?;
@@ -64,22 +65,22 @@ fn gather(
     alloc: Global,
     job: &Job,
     count: u64,
-    places: &mut IntoIter<Option<Piece>>,
+    completed_pieces: &mut IntoIter<Option<Piece>>,
 ) -> Result<(Vec<Rows>, u64), AllocError>
     requires few { summed (steps_in_job job.now) 0 count < 2 ^ 64 }
-    requires begin { BeginWith job.now count (into_iter_items places.old) }
-    ensures gathered { IfOk result (λ r. (r.0.items ≡ listed (run_in_job job.now) count)
+    requires begin { BeginWith job.now count (into_iter_items completed_pieces.old) }
+    ensures outputs { IfOk result (λ r. (r.0.items ≡ listed (run_in_job job.now) count)
         × (r.1 ≡ summed (steps_in_job job.now) 0 count)) }
-    ensures left { OnOk result (AreBehind count (into_iter_items places.old) (into_iter_items places.new)) }
+    ensures left { OnOk result (AreBehind count (into_iter_items completed_pieces.old) (into_iter_items completed_pieces.new)) }
 {
     let _ = job;
     let mut runs = Vec::with_capacity(alloc, count as usize)?;
     let mut steps = 0;
     for _next in 0..count {
-        let Some(place) = places.next() else {
+        let Some(nth) = completed_pieces.next() else {
             unreachable!()
         };
-        let Some(piece) = place else { unreachable!() };
+        let Some(piece) = nth else { unreachable!() };
         steps += piece.steps;
         runs.push(piece.rows)?;
     }

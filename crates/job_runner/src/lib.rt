@@ -9,27 +9,28 @@
 //! what a worker did at its seat.
 //!
 //! Read `answer` first, then `chunk` (the work on one chunk), `board`, `task` and `worker` (one worker's chunks), `crew` (workers
-//! in threads), `gathered` and `places` (what came back of them), `join` (pieces of chunks as matrices of jobs), `size` (how many workers) and `batch`.
+//! in threads), `worker_outputs` and `completed_pieces` (what came back of them), `join` (pieces of chunks as matrices of jobs),
+//! `size` (how many workers) and `batch`.
 #![tactic(auto)]
 
 mod answer;
 mod batch;
 mod board;
 mod chunk;
+mod completed_pieces;
 mod crew;
 mod gate;
-mod gathered;
 mod join;
 mod piece;
-mod places;
 mod size;
 mod task;
 mod worker;
+mod worker_outputs;
 
 pub use answer::{BatchAnswer, BatchFault, Cause, JobResult};
 pub use batch::{run_batch, run_batch_with};
 pub use board::open_board;
-pub use chunk::{Kept, Scratch, compute};
+pub use chunk::{Scratch, SpareScratch, compute};
 pub use gate::{Gate, Open};
 pub use piece::Piece;
 pub use worker::{Worked, work};

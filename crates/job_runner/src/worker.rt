@@ -6,7 +6,7 @@ ghost use Rattle.job_plan.specs.Chunks.{prices_of};
 ghost use Rattle.job_runner.specs.Worked.{HasWorked};
 ghost use Rattle.job_runner.specs.inner.Worked.{IsHolding, IsMadeFor, IsRecorded};
 
-use crate::chunk::{Kept, Scratch, compute};
+use crate::chunk::{Scratch, SpareScratch, compute};
 use crate::gate::Gate;
 use crate::piece::Piece;
 use crate::task::Task;
@@ -36,14 +36,14 @@ pub fn work<G: Gate>(
     requires prices { board.now.prices ≡ prices_of plan.now }
     ensures { HasWorked board.now plan.now seat.old seat.new result }
 {
-    let mut kept = Kept::new();
+    let mut kept = SpareScratch::new();
     work_by(alloc, &mut kept, Task { plan, board }, seat, gate)
 }
 
 /// The same, with what is kept from batch to batch.
 pub(crate) fn work_by<G: Gate>(
     alloc: Global,
-    kept: &mut Kept,
+    kept: &mut SpareScratch,
     task: Task<'_>,
     seat: &mut BoardSeat,
     gate: &G,
@@ -81,7 +81,7 @@ fn work_with<G: Gate>(
     while let Some(chunk) = task.board.draw(seat) {
         gate.enter(chunk);
         let made = compute(alloc, scratch, task.plan, chunk);
-        match turn(task, seat, chunk, made, &mut pieces) {
+        match record_chunk(task, seat, chunk, made, &mut pieces) {
             ChunkEnd::Completed(steps) => spent += steps,
             ChunkEnd::Failed(steps) => {
                 return Worked {
@@ -131,7 +131,7 @@ pub(crate) enum ChunkEnd {
 }
 
 /// Records the chunk that the seat holds, for which this was made: as complete, with its piece behind the others, or as failed.
-fn turn(
+fn record_chunk(
     task: Task<'_>,
     seat: &mut BoardSeat,
     chunk: u64,

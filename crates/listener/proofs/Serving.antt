@@ -6,7 +6,7 @@ use Rattle.step_budget.specs.Drawing.{Draws}
 use Rattle.step_purse.specs.Passes.{PassState}
 use Rattle.step_purse.specs.declared.dealings.Dealing.{Dealing}
 use Rattle.wire.specs.Devices.{SourceState, SinkState}
-use Rattle.session.specs.Rooms.{RoomState}
+use Rattle.session.specs.Sessions.{SessionState}
 use Rattle.session.specs.Talk.{Outcome, Outside, Said, SaidAll, Counts}
 use Rattle.session.specs.declared.end.End.{End}
 use Rattle.session.specs.declared.end.ServeFault.{ServeFault}
@@ -49,7 +49,7 @@ counts_drawn : (limit m n : ℕ) (old new : Outside Metered) → Counts limit m 
 counts_drawn limit m n old new c = record { reads = c.reads; failed_reads = c.failed_reads; failed_writes = c.failed_writes }
 
 -- how a session by a meter without limits went is how one by its pass goes
-pub outcome_drawn : (room : RoomState) (old new : Outside Metered) (result : Result End ServeFault) → old.budget.limits ≡ unbounded
+pub outcome_drawn : (room : SessionState) (old new : Outside Metered) (result : Result End ServeFault) → old.budget.limits ≡ unbounded
     → Outcome Meters room old new result → Outcome Draws room (unmetered old) (unmetered new) result
 outcome_drawn room old new (Ok end) none o = (said_all_drawn room.workers old new (Some end) none o.0, counts_drawn room.reads 0 0 old new o.1)
 outcome_drawn room old new (Err faults.Read) none o = (said_all_drawn room.workers old new None none o.0, counts_drawn room.reads 1 0 old new o.1)
@@ -58,7 +58,7 @@ outcome_drawn room old new (Err faults.Write) none o = ((o.0.0, said_drawn room.
 outcome_drawn room old new (Err faults.Memory) none o = ap unmetered o
 
 -- a session's calls of its meter
-pub calls_in : (room : RoomState) (old new : Outside Metered) (result : Result End ServeFault) → Outcome Meters room old new result
+pub calls_in : (room : SessionState) (old new : Outside Metered) (result : Result End ServeFault) → Outcome Meters room old new result
     → (ds : List Dealing) × Deals Meters old.budget ds new.budget
 calls_in room old new (Ok end) o = let said = o.0.0 in (_, said.dealt)
 calls_in room old new (Err faults.Read) o = let said = o.0.0 in (_, said.dealt)
@@ -74,7 +74,7 @@ by_parts m p s l pass spent limits =
     (subst (λ (k : ℕ). record { pass = m.pass; spent = k; limits = l } ≡ m) (sym spent)
     (ap (λ (x : Limits). record { pass = m.pass; spent = m.spent; limits = x }) limits)))
 
-module _ (room : RoomState) (old new : Metered) (pass left : PassState) (limits : Limits) (spent : ℕ) (src src' : SourceState) (snk snk' : SinkState)
+module _ (room : SessionState) (old new : Metered) (pass left : PassState) (limits : Limits) (spent : ℕ) (src src' : SourceState) (snk snk' : SinkState)
     (result : Result End ServeFault) (was : old ≡ record { pass = pass; spent = 0; limits = limits }) (is : left ≡ new.pass) (told : spent ≡ new.spent)
     (said : Outcome Meters room (record { budget = old; source = src; sink = snk }) (record { budget = new; source = src'; sink = snk' }) result) where
   abbrev first : Metered

@@ -1,14 +1,14 @@
 -- A session over devices that were made anew.
 use Rattle.std.proofs.Common.{◌≡◌, subst, Result}
 use Rattle.wire.specs.Devices.{SourceState, SinkState}
-use Rattle.session.specs.Rooms.{RoomState}
+use Rattle.session.specs.Sessions.{SessionState}
 use Rattle.session.specs.Talk.{Outcome}
 use Rattle.session.specs.declared.end.End.{End}
 use Rattle.session.specs.declared.end.ServeFault.{ServeFault}
 use Rattle.listener.specs.Limits.{Metered, Meters}
 
 -- by what is told of the devices at their start
-pub spoke : (room : RoomState) (first last : Metered) (src src' told : SourceState) (snk snk' told' : SinkState)
+pub spoke : (room : SessionState) (first last : Metered) (src src' told : SourceState) (snk snk' told' : SinkState)
     (result : Result End ServeFault) → src ≡ told → snk ≡ told'
     → Outcome Meters room (record { budget = first; source = src; sink = snk }) (record { budget = last; source = src'; sink = snk' }) result
     → (x : SourceState) × (y : SinkState) × Outcome Meters room (record { budget = first; source = told; sink = told' })

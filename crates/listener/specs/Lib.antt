@@ -1,4 +1,4 @@
-pub mod Entrances
+pub mod Acceptors
 pub mod Limits
 pub mod Listening
 pub mod Metering

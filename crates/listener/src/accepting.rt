@@ -5,14 +5,14 @@ ghost use Rattle.step_purse.specs.Passes.{IsPassOf};
 ghost use Rattle.listener.specs.Listening.{Listened};
 ghost use Rattle.listener.specs.inner.Starting.{IsReady};
 
+use crate::acceptor::{AcceptFailed, Acceptor, FromListener};
 use crate::connection::admit;
-use crate::entrance::{AcceptFailed, Entrance, FromListener};
 use crate::fault::ListenFault;
-use crate::house::{House, Terms};
 use crate::journal::Journal;
 use crate::limits::Limits;
 use crate::seats::SEATS;
-use session::Room;
+use crate::server::{ServerState, ServerTerms};
+use session::Session;
 use std::alloc::Global;
 use std::marker::Brand;
 use std::net::{OpenListener, TcpStream};
@@ -27,7 +27,7 @@ use step_purse::{Pass, Purse};
 #[derive(Drop)]
 struct Ready {
     pass: Pass,
-    room: Option<Room>,
+    room: Option<Session>,
 }
 
 /// Accepts connections until a session was started for one. Answers with what the one after it is started.
@@ -39,31 +39,31 @@ struct Ready {
 fn start_next<
     's,
     'a,
-    E: Entrance + Drop,
+    E: Acceptor + Drop,
     R: Threads + Wait + Clock + Sync,
     L: Ledger + Send + Sync,
 >(
     scope: &Scope<'s, &'a ()>,
     rt: &'a R,
-    house: &'a House<'a, L>,
-    entrance: &mut E,
+    server: &'a ServerState<'a, L>,
+    acceptor: &mut E,
     ready: Ready,
 ) -> Result<Ready, AcceptFailed>
-    requires ready { IsReady house.now.purse.now house.now.terms.workers ready }
-    ensures ready { IfOk result (λ next. IsReady house.now.purse.now house.now.terms.workers next) }
-    ensures accepted { OnOk result ((E.state entrance.old).accepted < (E.state entrance.new).accepted) }
-    ensures failures { (E.state entrance.new).failures ≡ (E.state entrance.old).failures + failures_in result }
+    requires ready { IsReady server.now.purse.now server.now.terms.workers ready }
+    ensures ready { IfOk result (λ next. IsReady server.now.purse.now server.now.terms.workers next) }
+    ensures accepted { OnOk result ((E.state acceptor.old).accepted < (E.state acceptor.new).accepted) }
+    ensures failures { (E.state acceptor.new).failures ≡ (E.state acceptor.old).failures + failures_in result }
 {
     let Ready { mut pass, mut room } = ready;
     for _ in rt.forever() {
-        let caller = match entrance.accept() {
+        let caller = match acceptor.accept() {
             Ok(caller) => caller,
             Err(refused) => return Err(refused),
         };
-        let (kept, given) = house.purse.split(rt, pass);
+        let (kept, given) = server.purse.split(rt, pass);
         pass = kept;
-        let is_started = admit(scope, rt, house, room, given, caller);
-        room = house.room();
+        let is_started = admit(scope, rt, server, room, given, caller);
+        room = server.room();
         if is_started {
             return Ok(Ready { pass, room });
         }
@@ -79,42 +79,42 @@ fn start_next<
 fn start_some<
     's,
     'a,
-    E: Entrance + Drop,
+    E: Acceptor + Drop,
     R: Threads + Wait + Clock + Sync,
     L: Ledger + Send + Sync,
 >(
     scope: &Scope<'s, &'a ()>,
     rt: &'a R,
-    house: &'a House<'a, L>,
-    entrance: &mut E,
+    server: &'a ServerState<'a, L>,
+    acceptor: &mut E,
     ready: Ready,
     count: u64,
 ) -> Result<(), AcceptFailed>
-    requires ready { IsReady house.now.purse.now house.now.terms.workers ready }
-    ensures accepted { OnOk result ((E.state entrance.old).accepted + count ≤ (E.state entrance.new).accepted) }
-    ensures failures { (E.state entrance.new).failures ≡ (E.state entrance.old).failures + failures_in result }
+    requires ready { IsReady server.now.purse.now server.now.terms.workers ready }
+    ensures accepted { OnOk result ((E.state acceptor.old).accepted + count ≤ (E.state acceptor.new).accepted) }
+    ensures failures { (E.state acceptor.new).failures ≡ (E.state acceptor.old).failures + failures_in result }
 {
     let mut ready = ready;
     for _ in 0..count {
-        ready = start_next(scope, rt, house, entrance, ready)?;
+        ready = start_next(scope, rt, server, acceptor, ready)?;
     }
     Ok(())
 }
 
 /// Starts sessions until a connection can't be accepted, and tells that fault.
-fn start_all<'s, 'a, E: Entrance + Drop, R: Threads + Wait + Clock + Sync, L: Ledger + Send + Sync>(
+fn start_all<'s, 'a, E: Acceptor + Drop, R: Threads + Wait + Clock + Sync, L: Ledger + Send + Sync>(
     scope: &Scope<'s, &'a ()>,
     rt: &'a R,
-    house: &'a House<'a, L>,
-    entrance: &mut E,
+    server: &'a ServerState<'a, L>,
+    acceptor: &mut E,
     ready: Ready,
 ) -> AcceptFailed
-    requires { IsReady house.now.purse.now house.now.terms.workers ready }
-    ensures { (E.state entrance.new).failures ≡ (E.state entrance.old).failures + 1 }
+    requires { IsReady server.now.purse.now server.now.terms.workers ready }
+    ensures { (E.state acceptor.new).failures ≡ (E.state acceptor.old).failures + 1 }
 {
     let mut ready = ready;
     for _ in rt.forever() {
-        match start_next(scope, rt, house, entrance, ready) {
+        match start_next(scope, rt, server, acceptor, ready) {
             Ok(next) => ready = next,
             Err(failed) => return failed,
         }
@@ -127,23 +127,23 @@ fn start_all<'s, 'a, E: Entrance + Drop, R: Threads + Wait + Clock + Sync, L: Le
 /// # Errors
 ///
 /// A connection could not be accepted before.
-fn start<'s, 'a, E: Entrance + Drop, R: Threads + Wait + Clock + Sync, L: Ledger + Send + Sync>(
+fn start<'s, 'a, E: Acceptor + Drop, R: Threads + Wait + Clock + Sync, L: Ledger + Send + Sync>(
     scope: &Scope<'s, &'a ()>,
     rt: &'a R,
-    house: &'a House<'a, L>,
-    entrance: &mut E,
+    server: &'a ServerState<'a, L>,
+    acceptor: &mut E,
     ready: Ready,
 ) -> Result<(), ListenFault>
-    requires { IsReady house.now.purse.now house.now.terms.workers ready }
-    ensures { Listened house.now.terms.sessions (E.state entrance.old) (E.state entrance.new) result }
+    requires { IsReady server.now.purse.now server.now.terms.workers ready }
+    ensures { Listened server.now.terms.sessions (E.state acceptor.old) (E.state acceptor.new) result }
 {
-    match house.terms.sessions {
-        Some(count) => match start_some(scope, rt, house, entrance, ready, count) {
+    match server.terms.sessions {
+        Some(count) => match start_some(scope, rt, server, acceptor, ready, count) {
             Ok(()) => Ok(()),
             Err(failed) => Err(ListenFault::Network(failed.cause)),
         },
         None => {
-            let failed = start_all(scope, rt, house, entrance, ready);
+            let failed = start_all(scope, rt, server, acceptor, ready);
             Err(ListenFault::Network(failed.cause))
         }
     }
@@ -156,31 +156,36 @@ fn start<'s, 'a, E: Entrance + Drop, R: Threads + Wait + Clock + Sync, L: Ledger
 /// # Errors
 ///
 /// As those of `serve_listener`, beside the entrance.
-pub fn serve_entrance<
+pub fn serve_acceptor<
     'a,
-    E: Entrance + Drop,
+    E: Acceptor + Drop,
     R: Threads + Wait + Clock + Sync,
     L: Ledger + Send + Sync,
->(rt: &'a R, house: &'a House<'a, L>, entrance: E, pass: Pass) -> (E, Result<(), ListenFault>)
-    requires own { IsPassOf house.now.purse.now pass }
+>(
+    rt: &'a R,
+    server: &'a ServerState<'a, L>,
+    acceptor: E,
+    pass: Pass,
+) -> (E, Result<(), ListenFault>)
+    requires own { IsPassOf server.now.purse.now pass }
     requires whole { 0 < pass.known.share.wholes }
-    ensures { Listened house.now.terms.sessions (E.state entrance) (E.state result.0) result.1 }
+    ensures { Listened server.now.terms.sessions (E.state acceptor) (E.state result.0) result.1 }
 {
-    let room = house.room();
+    let room = server.room();
     if room.is_none() {
-        return (entrance, Err(ListenFault::Memory));
+        return (acceptor, Err(ListenFault::Memory));
     }
     let ready = Ready { pass, room };
     thread::scope(
         thread::scope_env(),
         rt,
         move |scope| -> (E, Result<(), ListenFault>)
-            requires ready { IsReady house.now.purse.now house.now.terms.workers ready }
-            ensures ended { Listened house.entry.now.terms.sessions (E.state entrance) (E.state result.0) result.1 }
+            requires ready { IsReady server.now.purse.now server.now.terms.workers ready }
+            ensures ended { Listened server.entry.now.terms.sessions (E.state acceptor) (E.state result.0) result.1 }
         {
-            let mut entrance = entrance;
-            let ended = start(scope, rt, house, &mut entrance, ready);
-            (entrance, ended)
+            let mut acceptor = acceptor;
+            let ended = start(scope, rt, server, &mut acceptor, ready);
+            (acceptor, ended)
         },
     )
 }
@@ -204,7 +209,7 @@ fn serve_counted<
     rt: &R,
     listener: &N,
     supply: Supply<'_>,
-    terms: Terms,
+    terms: ServerTerms,
     journal: Option<&Journal>,
     blanks: (Blank, Blank, Blank),
 ) -> Result<(), ListenFault>
@@ -215,9 +220,9 @@ fn serve_counted<
 {
     let Supply { alloc, purse, pass } = supply;
     let (seats, accepted, failures) = blanks;
-    let house = House::<L>::new(alloc, purse, terms, journal, seats);
-    let entrance = FromListener::<N, C, F>::new(listener, accepted, failures);
-    let (_entrance, ended) = serve_entrance(rt, &house, entrance, pass);
+    let server = ServerState::<L>::new(alloc, purse, terms, journal, seats);
+    let acceptor = FromListener::<N, C, F>::new(listener, accepted, failures);
+    let (_entrance, ended) = serve_acceptor(rt, &server, acceptor, pass);
     ended
 }
 
@@ -244,7 +249,7 @@ pub fn serve_listener<N: OpenListener<Stream = TcpStream>, R: Threads + Wait + C
     ensures { OnOk result (sessions ≢ None) }
 {
     let supply = Supply { alloc, purse, pass };
-    let terms = Terms {
+    let terms = ServerTerms {
         workers,
         sessions,
         idle: None,
@@ -262,7 +267,7 @@ pub fn serve_on_terms<N: OpenListener<Stream = TcpStream>, R: Threads + Wait + C
     rt: &R,
     listener: &N,
     supply: Supply<'_>,
-    terms: Terms,
+    terms: ServerTerms,
     journal: Option<&Journal>,
 ) -> Result<(), ListenFault>
     requires own { IsPassOf supply.purse.now supply.pass }

@@ -2,20 +2,20 @@
 ghost use Rattle.std.specs.Prelude.{◌≡◌, ◌⊎◌, true, false, Err, IfOk, IfErr, IfSome};
 ghost use Rattle.wire.specs.Devices.{IsNewCount};
 ghost use Rattle.step_purse.specs.Passes.{IsPassOf};
-ghost use Rattle.session.specs.Rooms.{full_room};
+ghost use Rattle.session.specs.Sessions.{full_session};
 ghost use Rattle.listener.specs.Limits.{IsWithin};
 ghost use Rattle.listener.specs.inner.Speaking.{SpokeOver, beginning};
 
-use crate::entrance::Caller;
+use crate::acceptor::Caller;
 use crate::entry::{Account, Ending, Event};
-use crate::house::House;
 use crate::journal::Journal;
 use crate::notice::{Notice, Noticing};
-use crate::patient::{Patient, Traffic, set_idle};
+use crate::retrying::{Retrying, Traffic, set_idle};
 use crate::roster::Watch;
 use crate::seats::{Seat, take_seat};
+use crate::server::ServerState;
 use crate::streams::{Given, Served, serve_within};
-use session::{End, FromRead, Room, ServeFault, ToWrite};
+use session::{End, FromRead, ServeFault, Session, ToWrite};
 use std::io::{Read, Write};
 use std::marker::Brand;
 use std::net::{Shutdown, SocketAddr, TcpStream};
@@ -55,8 +55,12 @@ fn turn_away(stream: &TcpStream) {
 }
 
 /// Leaves a line in the log, if there is one, for a client that was turned away.
-fn note_turned_away<R: Wait + Clock, L: Ledger>(rt: &R, house: &House<'_, L>, client: SocketAddr) {
-    if let Some(journal) = house.journal {
+fn note_turned_away<R: Wait + Clock, L: Ledger>(
+    rt: &R,
+    server: &ServerState<'_, L>,
+    client: SocketAddr,
+) {
+    if let Some(journal) = server.journal {
         let account = Account {
             ending: Ending::TurnedAway,
             time: Some(Duration::ZERO),
@@ -103,21 +107,22 @@ fn serve_counted<
 /// As `serve_within`, over a reader and a writer, within the purse of a house, in a room and within limits that are its.
 fn serve_sides<R: Read + Drop, W: Write + Drop, H: Threads + Wait, L: Ledger>(
     rt: &H,
-    house: &House<'_, L>,
+    server: &ServerState<'_, L>,
     given: Given<'_>,
     reader: R,
     writer: W,
 ) -> Served
-    requires own { IsPassOf house.now.purse.now given.pass }
-    requires within { IsWithin (beginning given.pass house.now.terms.limits) }
-    requires full { (given.room ≡ full_room house.now.terms.workers) × (given.limits ≡ house.now.terms.limits) }
-    ensures { SpokeOver (full_room house.now.terms.workers) (beginning given.entry.pass house.now.terms.limits) (R.remaining reader)
+    requires own { IsPassOf server.now.purse.now given.pass }
+    requires within { IsWithin (beginning given.pass server.now.terms.limits) }
+    requires full { (given.room ≡ full_session server.now.terms.workers) × (given.limits ≡ server.now.terms.limits) }
+    ensures { SpokeOver (full_session server.now.terms.workers) (beginning given.entry.pass server.now.terms.limits)
+        (R.remaining reader)
         (W.contents writer) result }
 {
     let blanks = (Blank::new(1), Blank::new(1), Blank::new(1), Blank::new(1));
     serve_counted::<R, W, H, Brand, Brand, Brand, Brand>(
         rt,
-        house.purse,
+        server.purse,
         given,
         reader,
         writer,
@@ -152,18 +157,18 @@ fn watch_in<'j>(journal: Option<&'j Journal>, client: SocketAddr) -> Option<Watc
 /// client that saw the end finds it.
 fn attend<'a, R: Threads + Wait + Clock, L: Ledger>(
     rt: &'a R,
-    house: &'a House<'a, L>,
-    room: Room,
+    server: &'a ServerState<'a, L>,
+    room: Session,
     pass: Pass,
     caller: Caller,
     seat: Seat<'a, R, L>,
 )
-    requires own { IsPassOf house.now.purse.now pass }
-    requires within { IsWithin (record { pass = pass; spent = 0; limits = house.now.terms.limits }) }
-    requires full { room ≡ full_room house.now.terms.workers }
+    requires own { IsPassOf server.now.purse.now pass }
+    requires within { IsWithin (record { pass = pass; spent = 0; limits = server.now.terms.limits }) }
+    requires full { room ≡ full_session server.now.terms.workers }
 {
     let Caller { stream, address } = caller;
-    let began = match house.journal {
+    let began = match server.journal {
         Some(journal) => {
             journal.note_start(rt, address);
             Instant::now(rt).ok()
@@ -171,18 +176,18 @@ fn attend<'a, R: Threads + Wait + Clock, L: Ledger>(
         None => None,
     };
     let (mut received, mut sent, mut refused) = (Traffic::none(), Traffic::none(), 0);
-    let reader = Patient::new(&stream, &mut received);
-    let notice = Notice::of(rt, house.journal, address);
-    let writer = Noticing::new(Patient::new(&stream, &mut sent), notice, &mut refused);
+    let reader = Retrying::new(&stream, &mut received);
+    let notice = Notice::of(rt, server.journal, address);
+    let writer = Noticing::new(Retrying::new(&stream, &mut sent), notice, &mut refused);
     let given = Given {
         room,
         pass,
-        limits: house.terms.limits,
-        watch: watch_in(house.journal, address),
+        limits: server.terms.limits,
+        watch: watch_in(server.journal, address),
     };
-    let served = serve_sides(rt, house, given, reader, writer);
+    let served = serve_sides(rt, server, given, reader, writer);
     drop(seat);
-    if let Some(journal) = house.journal {
+    if let Some(journal) = server.journal {
         let account = Account {
             ending: ending_of(served.outcome, received.is_idle || sent.is_idle),
             time: began.and_then(|began| began.elapsed(rt).ok()),
@@ -202,36 +207,36 @@ fn attend<'a, R: Threads + Wait + Clock, L: Ledger>(
 pub fn admit<'s, 'a, R: Threads + Wait + Clock + Sync, L: Ledger + Send + Sync>(
     scope: &Scope<'s, &'a ()>,
     rt: &'a R,
-    house: &'a House<'a, L>,
-    room: Option<Room>,
+    server: &'a ServerState<'a, L>,
+    room: Option<Session>,
     pass: Pass,
     caller: Caller,
 ) -> bool
-    requires own { IsPassOf house.now.purse.now pass }
-    requires within { IsWithin (record { pass = pass; spent = 0; limits = house.now.terms.limits }) }
-    requires full { IfSome room (λ r. r ≡ full_room house.now.terms.workers) }
+    requires own { IsPassOf server.now.purse.now pass }
+    requires within { IsWithin (record { pass = pass; spent = 0; limits = server.now.terms.limits }) }
+    requires full { IfSome room (λ r. r ≡ full_session server.now.terms.workers) }
 {
     let client = caller.address;
     let _ = caller.stream.set_nodelay(true);
-    if set_idle(&caller.stream, house.terms.idle).is_err() {
+    if set_idle(&caller.stream, server.terms.idle).is_err() {
         turn_away(&caller.stream);
-        note_turned_away(rt, house, client);
+        note_turned_away(rt, server, client);
         return false;
     }
-    let (Some(room), Some(seat)) = (room, take_seat(rt, &house.seats)) else {
+    let (Some(room), Some(seat)) = (room, take_seat(rt, &server.seats)) else {
         turn_away(&caller.stream);
-        note_turned_away(rt, house, client);
+        note_turned_away(rt, server, client);
         return false;
     };
     let second = caller.stream.try_clone();
-    match scope.spawn(move || attend(rt, house, room, pass, caller, seat)) {
+    match scope.spawn(move || attend(rt, server, room, pass, caller, seat)) {
         Ok(_running) => true,
         Err(refused) => {
             drop(refused);
             if let Ok(second) = second {
                 turn_away(&second);
             }
-            note_turned_away(rt, house, client);
+            note_turned_away(rt, server, client);
             false
         }
     }

@@ -39,7 +39,7 @@ struct Waiting {
 
 /// What is to be written next.
 #[derive(Clone, Copy)]
-enum Next {
+enum NextLine {
     /// A line.
     Line(Entry),
     /// That so many lines were dropped.
@@ -70,7 +70,7 @@ impl Waiting {
     }
 
     /// Takes what is to be written next: the first line that waits, then how many were dropped. None, where there is nothing yet.
-    fn take(&mut self) -> Option<Next>
+    fn take(&mut self) -> Option<NextLine>
         ensures taken { IsTaken result self.old self.new }
         ensures same { self.new.is_over ≡ self.old.is_over }
     {
@@ -80,14 +80,14 @@ impl Waiting {
             is_over,
         } = self;
         if let Some(entry) = entries.pop_front() {
-            return Some(Next::Line(entry));
+            return Some(NextLine::Line(entry));
         }
         if *dropped > 0 {
             let count = *dropped;
             *dropped = 0;
-            return Some(Next::Dropped(count));
+            return Some(NextLine::Dropped(count));
         }
-        if *is_over { Some(Next::Over) } else { None }
+        if *is_over { Some(NextLine::Over) } else { None }
     }
 }
 
@@ -193,7 +193,7 @@ impl Journal {
     }
 
     /// What is to be written next, once there is something. None, where there is nothing for so long, if a time is given.
-    fn next<R: Wait + Clock>(&self, rt: &R, longest: Option<Duration>) -> Option<Next> {
+    fn next<R: Wait + Clock>(&self, rt: &R, longest: Option<Duration>) -> Option<NextLine> {
         let mut waiting = self.waiting.lock(rt);
         for _ in rt.forever() {
             if let Some(next) = waiting.take() {
@@ -232,8 +232,8 @@ impl Journal {
     /// Writes what each session has reserved and spent.
     fn write_roster<R: Wait + Clock + Eprint>(&self, rt: &R) {
         let at = SystemTime::now(rt).ok();
-        for place in 0..SEATS as usize {
-            if let Some(row) = self.roster.at(rt, place) {
+        for nth in 0..SEATS as usize {
+            if let Some(row) = self.roster.at(rt, nth) {
                 let event = runs(rt, &row);
                 let client = row.client;
                 self.write(rt, &Entry { at, client, event });
@@ -262,9 +262,9 @@ impl Journal {
                 continue;
             }
             match self.next(rt, longest) {
-                Some(Next::Line(entry)) => self.write(rt, &entry),
-                Some(Next::Dropped(count)) => self.write_dropped(rt, count),
-                Some(Next::Over) => return,
+                Some(NextLine::Line(entry)) => self.write(rt, &entry),
+                Some(NextLine::Dropped(count)) => self.write_dropped(rt, count),
+                Some(NextLine::Over) => return,
                 None => {}
             }
         }

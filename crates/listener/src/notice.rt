@@ -34,15 +34,15 @@ impl<'s, R> Notice<'s, R> {
 
 /// The line that a client is being sent: as much of it as a refusal may be long.
 #[derive(Clone, Copy)]
-struct Line {
+struct SentLine {
     front: [u8; LONGEST],
     length: usize,
 }
 
-impl Line {
+impl SentLine {
     /// Nothing of it was sent.
     fn new() -> Self {
-        Line {
+        SentLine {
             front: [0; LONGEST],
             length: 0,
         }
@@ -69,7 +69,12 @@ impl Line {
 }
 
 /// Looks at what was sent, line by line. Each refusal is counted, and told to the log.
-fn look<R: Wait + Clock>(notice: &Notice<'_, R>, line: &mut Line, refused: &mut u64, sent: &[u8]) {
+fn look<R: Wait + Clock>(
+    notice: &Notice<'_, R>,
+    line: &mut SentLine,
+    refused: &mut u64,
+    sent: &[u8],
+) {
     for piece in sent.split_inclusive(|byte| *byte == b'\n') {
         line.add(piece);
         if piece.ends_with(b"\n") {
@@ -79,7 +84,7 @@ fn look<R: Wait + Clock>(notice: &Notice<'_, R>, line: &mut Line, refused: &mut 
                     .journal
                     .note_refusal(notice.rt, notice.client, refusal);
             }
-            *line = Line::new();
+            *line = SentLine::new();
         }
     }
 }
@@ -91,7 +96,7 @@ pub struct Noticing<'s, W: Drop, R> {
     side: W,
     notice: Option<Notice<'s, R>>,
     refused: &'s mut u64,
-    line: Line,
+    line: SentLine,
 }
 
 impl<'s, W: Drop, R: Wait + Clock> Noticing<'s, W, R> {
@@ -103,7 +108,7 @@ impl<'s, W: Drop, R: Wait + Clock> Noticing<'s, W, R> {
             side,
             notice,
             refused,
-            line: Line::new(),
+            line: SentLine::new(),
         }
     }
 }

@@ -60,15 +60,15 @@ impl Roster {
     /// Takes a session out that has ended.
     pub fn leave<R: Wait>(&self, rt: &R, client: SocketAddr) {
         let mut rows = self.rows.lock(rt);
-        let place = rows.iter().position(|row| row.client == client);
-        if let Some(place) = place {
-            rows.swap_remove(place);
+        let nth = rows.iter().position(|row| row.client == client);
+        if let Some(nth) = nth {
+            rows.swap_remove(nth);
         }
     }
 
     /// The session at a place, if there is one.
-    pub fn at<R: Wait>(&self, rt: &R, place: usize) -> Option<Row> {
-        self.rows.lock(rt).get(place).copied()
+    pub fn at<R: Wait>(&self, rt: &R, nth: usize) -> Option<Row> {
+        self.rows.lock(rt).get(nth).copied()
     }
 }
 

@@ -11,7 +11,7 @@ ghost use Rattle.listener.specs.Metering.{told_steps, spent_by};
 use crate::limits::Limits;
 use crate::meter::Meter;
 use crate::roster::Watch;
-use session::{End, Room, ServeFault, Sink, Source, Wallet};
+use session::{End, ServeFault, Session, Sink, Source, Wallet};
 use std::sync::Wait;
 use std::thread::Threads;
 use step_purse::{Pass, Purse};
@@ -33,7 +33,7 @@ pub struct Served {
 /// has reserved and spent, if anywhere.
 #[derive(Drop)]
 pub struct Given<'w> {
-    pub room: Room,
+    pub room: Session,
     pub pass: Pass,
     pub limits: Limits,
     pub watch: Option<Watch<'w>>,
@@ -96,7 +96,7 @@ pub fn serve_within<I: Source, O: Sink, H: Threads + Wait>(
 /// and each fault every reservation that is still held is settled with 0.
 pub fn serve_pass<I: Source, O: Sink, H: Threads + Wait>(
     rt: &H,
-    room: Room,
+    room: Session,
     source: &mut I,
     sink: &mut O,
     purse: &Purse,

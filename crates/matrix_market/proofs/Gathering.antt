@@ -13,7 +13,7 @@ use Rattle.matrix_market.specs.declared.kinds.Banner.{Banner}
 use Rattle.matrix_market.specs.declared.kinds.Size.{Size}
 use Rattle.matrix_market.specs.declared.kinds.Header.{Header}
 use Rattle.matrix_market.specs.declared.kinds.Found.{Found}
-use Rattle.matrix_market.specs.declared.place.Place.{Place}
+use Rattle.matrix_market.specs.declared.cursor.Cursor.{Cursor}
 use Rattle.matrix_market.specs.declared.usual.UsualLine.{UsualLine}
 use Rattle.text_words.specs.Words.{words}
 use Rattle.matrix_market.specs.declared.rule.MarketRule.TheVariants.{IndexOutsideMatrix, ValueOutOfRange}
@@ -222,7 +222,7 @@ filled_run text b s before es rest end n given (suc j) many h few r once =
     filled_same text b s end end (n + length x.between + 1 + r.1) (n + many) (given + 1 + j) (given + suc j) ((before ++ own) ++ x.entries) (before ++ es) rest_filled refl (omega arith) (omega arith) (sym split)
 
 -- the lines of a list that has none twice break no rule
-pub adds_filled : (text : List ℕ) (h : Header) (start : Place) (l : Listed) (end : List ℕ) (last given : ℕ) → Begun text h start → given ≤ h.size.entries → Adds h (nothing h) l start.rest.now start.at given end last → NoneTwice l.entries
+pub adds_filled : (text : List ℕ) (h : Header) (start : Cursor) (l : Listed) (end : List ℕ) (last given : ℕ) → Begun text h start → given ≤ h.size.entries → Adds h (nothing h) l start.rest.now start.at given end last → NoneTwice l.entries
     → Filled text h.banner h.size (grid l.rows l.columns l.entries) end last given
 adds_filled text h start l end last given begun few a once =
     let m = a.last_is in

@@ -14,7 +14,7 @@ use Rattle.matrix_market.specs.declared.kinds.Banner.{Banner}
 use Rattle.matrix_market.specs.declared.kinds.Size.{Size}
 use Rattle.matrix_market.specs.declared.kinds.Header.{Header}
 use Rattle.matrix_market.specs.declared.kinds.Found.{Found}
-use Rattle.matrix_market.specs.declared.place.Place.{Place}
+use Rattle.matrix_market.specs.declared.cursor.Cursor.{Cursor}
 use Rattle.matrix_market.specs.declared.rule.MarketRule.TheVariants.{PositionGivenTwice}
 use Rattle.text_words.specs.Words.{words}
 use Rattle.matrix_market.specs.Market.{mirrored, is_skipped, entry_words, IsFault}
@@ -113,7 +113,7 @@ once_spots symmetric r c w es h n =
 -- ---- going along the lines
 
 -- so far the lines give no position again, and the entries of those that follow are the list's from this place on
-pub record Walk (h : Header) (start : Place) (l : Listed) (repeat : ℕ) (rest : List ℕ) (at before : ℕ) : Type 0 where
+pub record Walk (h : Header) (start : Cursor) (l : Listed) (repeat : ℕ) (rest : List ℕ) (at before : ℕ) : Type 0 where
   pub left : ℕ
   pub many : ℕ
   pub end : List ℕ
@@ -121,7 +121,7 @@ pub record Walk (h : Header) (start : Place) (l : Listed) (repeat : ℕ) (rest :
   pub upto : before ≤ repeat
   pub filled : (text : List ℕ) → Begun text h start → (given : ℕ) × (given + left ≤ h.size.entries) × Filled text h.banner h.size (grid h.size.rows h.size.columns (take before l.entries)) rest at given
 
-pub walk_start : (h : Header) (start : Place) (l : Listed) (repeat : ℕ) → IsRead h start l → Walk h start l repeat start.rest.now start.at 0
+pub walk_start : (h : Header) (start : Cursor) (l : Listed) (repeat : ℕ) → IsRead h start l → Walk h start l repeat start.rest.now start.at 0
 walk_start h start l repeat r =
     let few = r.few in
     record {
@@ -150,7 +150,7 @@ head_of : (b : Banner) (s : Size) (left : ℕ) (rest : List ℕ) (many : ℕ) (e
 head_of b s zero rest many es end r l = let e = ap length r.2 in absurd (omega arith)
 head_of b s (suc left) rest many es end r l = record { taken = r.0; fewer = left; many = r.1; is = refl; run = r.3 }
 
-module _ (h : Header) (start : Place) (l : Listed) (repeat : ℕ) (rest : List ℕ) (at before : ℕ) (walk : Walk h start l repeat rest at before) (first : IsFirstRepeat l.entries repeat) where
+module _ (h : Header) (start : Cursor) (l : Listed) (repeat : ℕ) (rest : List ℕ) (at before : ℕ) (walk : Walk h start l repeat rest at before) (first : IsFirstRepeat l.entries repeat) where
   pub walk_within : before < length l.entries
   walk_within = let u = walk.upto in let w = repeat_within l.entries repeat first in omega arith
 

@@ -6,7 +6,7 @@ use Rattle.csr_store.specs.Grid.{Grid}
 use Rattle.csr_store.specs.ByRows.{grid}
 use Rattle.csr_store.specs.Listed.{Listed, NoneTwice}
 use Rattle.matrix_market.specs.declared.kinds.Header.{Header}
-use Rattle.matrix_market.specs.declared.place.Place.{Place}
+use Rattle.matrix_market.specs.declared.cursor.Cursor.{Cursor}
 use Rattle.matrix_market.specs.declared.rule.MarketError.{MarketError}
 use Rattle.matrix_market.specs.declared.rule.MarketError.TheVariants.{Memory}
 use Rattle.matrix_market.specs.Market.{IsTextOf}
@@ -17,25 +17,25 @@ use Rattle.matrix_market.proofs.Sizes.{has_sizes}
 
 -- ---- what stopped a list
 
-pub tells_fault : (h : Header) (start place : Place) (l : Listed) (given : ℕ) (e : MarketError) → Adds h (nothing h) l start.rest.now start.at given place.rest.now place.at → given < h.size.entries → IsFaultAt h place e → Tells h start l (Some e)
-tells_fault h start place l given e a few f text begun once =
-    f text (grid l.rows l.columns l.entries) given (adds_filled text h start l place.rest.now place.at given begun (omega arith) a once) few
+pub tells_fault : (h : Header) (start cursor : Cursor) (l : Listed) (given : ℕ) (e : MarketError) → Adds h (nothing h) l start.rest.now start.at given cursor.rest.now cursor.at → given < h.size.entries → IsFaultAt h cursor e → Tells h start l (Some e)
+tells_fault h start cursor l given e a few f text begun once =
+    f text (grid l.rows l.columns l.entries) given (adds_filled text h start l cursor.rest.now cursor.at given begun (omega arith) a once) few
 
-pub tells_end : (h : Header) (start place : Place) (l : Listed) (given : ℕ) (o : Option MarketError) → Adds h (nothing h) l start.rest.now start.at given place.rest.now place.at → given ≡ h.size.entries → IsEnd place o → Tells h start l o
-tells_end h start place l given o a all f text begun once =
-    f text h.banner h.size (grid l.rows l.columns l.entries) given (adds_filled text h start l place.rest.now place.at given begun (omega arith) a once) (omega arith)
+pub tells_end : (h : Header) (start cursor : Cursor) (l : Listed) (given : ℕ) (o : Option MarketError) → Adds h (nothing h) l start.rest.now start.at given cursor.rest.now cursor.at → given ≡ h.size.entries → IsEnd cursor o → Tells h start l o
+tells_end h start cursor l given o a all f text begun once =
+    f text h.banner h.size (grid l.rows l.columns l.entries) given (adds_filled text h start l cursor.rest.now cursor.at given begun (omega arith) a once) (omega arith)
 
 -- ---- answers
 
-pub answers_memory : (h : Header) (start : Place) (e : MarketError) → e ≡ Memory → IsAnswer h start (Err e)
+pub answers_memory : (h : Header) (start : Cursor) (e : MarketError) → e ≡ Memory → IsAnswer h start (Err e)
 answers_memory h start e m text begun =
     subst (λ (x : MarketError). NamesFault text x) (sym m) (has_sizes text h.banner h.size (record { rows = h.size.rows; columns = h.size.columns; cells = fin.empty }) start.rest.now start.at 0 begun)
 
-pub answers_matrix : (h : Header) (start : Place) (l : Listed) (o : Option MarketError) (m : Grid) → Tells h start l o → o ≡ None → NoneTwice l.entries → m ≡ grid l.rows l.columns l.entries → IsAnswer h start (Ok m)
+pub answers_matrix : (h : Header) (start : Cursor) (l : Listed) (o : Option MarketError) (m : Grid) → Tells h start l o → o ≡ None → NoneTwice l.entries → m ≡ grid l.rows l.columns l.entries → IsAnswer h start (Ok m)
 answers_matrix h start l o m t n once e text begun =
     subst (λ (g : Grid). IsTextOf text g) (sym e) (subst (λ (x : Option MarketError). MatchOption x (IsTextOf text (grid l.rows l.columns l.entries)) (NamesFault text)) n (t text begun once))
 
-pub answers_fault : (h : Header) (start : Place) (l : Listed) (o : Option MarketError) (f : MarketError) → Tells h start l o → o ≡ Some f → NoneTwice l.entries → IsAnswer h start (Err f)
+pub answers_fault : (h : Header) (start : Cursor) (l : Listed) (o : Option MarketError) (f : MarketError) → Tells h start l o → o ≡ Some f → NoneTwice l.entries → IsAnswer h start (Err f)
 answers_fault h start l o f t e once text begun =
     subst (λ (x : Option MarketError). MatchOption x (IsTextOf text (grid l.rows l.columns l.entries)) (NamesFault text)) e (t text begun once)
 

@@ -3,9 +3,9 @@ ghost use Rattle.std.specs.Prelude.{◌≡◌, ◌<◌, ◌≤◌, ◌+◌, ◌+
 ghost use Rattle.csr_store.specs.Listed.{push_fault};
 ghost use Rattle.matrix_market.specs.inner.Gathering.{Adds, HasRoom, IsEnd, IsFaultAt, IsRead, Takes, Tells};
 
+use crate::cursor::Cursor;
 use crate::kinds::{Found, Header, read_entry};
-use crate::lines::{Next, next_content};
-use crate::place::Place;
+use crate::lines::{Content, next_content};
 use crate::rule::{MarketError, MarketRule};
 use crate::usual::{behind_feeds, entry_line, feed_before};
 use csr_store::{EntryList, StoreError};
@@ -26,7 +26,7 @@ struct Run {
 }
 
 /// Gathers the entries that a size line says.
-pub fn gather(alloc: Global, header: Header, start: Place<'_>) -> Result<Gathering, AllocError>
+pub fn gather(alloc: Global, header: Header, start: Cursor<'_>) -> Result<Gathering, AllocError>
     ensures read { IfOk result (λ g. IsRead header start.entry g.list) }
     ensures told { IfOk result (λ g. Tells header start.entry g.list g.fault) }
 {
@@ -51,36 +51,36 @@ fn room_for(header: Header, bytes: usize) -> usize {
 fn gather_lines(
     list: &mut EntryList,
     header: Header,
-    start: Place<'_>,
+    start: Cursor<'_>,
 ) -> Result<Option<MarketError>, AllocError>
     requires { list.old ≡ record { rows = header.size.rows; columns = header.size.columns; entries = [] } }
     ensures read { OnOk result (IsRead header start.entry list.new) }
     ensures told { IfOk result (Tells header start.entry list.new) }
 {
-    let mut place = start;
-    let behind = behind_feeds(place.rest);
+    let mut cursor = start;
+    let behind = behind_feeds(cursor.rest);
     let mut given = 0;
     while given < header.size.entries {
         let run = gather_run(
             list,
             header,
-            place.rest,
+            cursor.rest,
             behind,
             header.size.entries - given,
         )?;
-        place = place_behind(place, run);
+        cursor = cursor_behind(cursor, run);
         given += run.given;
         if given < header.size.entries {
-            match gather_line(list, header, place)? {
+            match gather_line(list, header, cursor)? {
                 Ok(behind) => {
-                    place = behind;
+                    cursor = behind;
                     given += 1;
                 }
                 Err(fault) => return Ok(Some(fault)),
             }
         }
     }
-    Ok(fault_behind(place))
+    Ok(fault_behind(cursor))
 }
 
 /// Gathers the entries of the lines that a text begins with, so many at most, up to the first line that has not the usual form.
@@ -131,24 +131,24 @@ fn gather_run(
 fn gather_line<'a>(
     list: &mut EntryList,
     header: Header,
-    place: Place<'a>,
-) -> Result<Result<Place<'a>, MarketError>, AllocError>
+    cursor: Cursor<'a>,
+) -> Result<Result<Cursor<'a>, MarketError>, AllocError>
     requires { HasRoom header list.old 1 }
     ensures added { IfOk result (λ r. IfOk r (λ p.
-        Adds header list.old list.new place.entry.rest.now place.entry.at 1 p.rest.now p.at)) }
+        Adds header list.old list.new cursor.entry.rest.now cursor.entry.at 1 p.rest.now p.at)) }
     ensures kept { IfOk result (λ r. OnErr r (list.new ≡ list.old)) }
-    ensures fault { IfOk result (λ r. IfErr r (IsFaultAt header place.entry)) }
+    ensures fault { IfOk result (λ r. IfErr r (IsFaultAt header cursor.entry)) }
 {
-    match next_content(place) {
-        Next::End(line) => Ok(Err(MarketError::Fault {
+    match next_content(cursor) {
+        Content::End(line) => Ok(Err(MarketError::Fault {
             rule: MarketRule::TooFewEntries,
             line: line + 1,
         })),
-        Next::TooLong(line) => Ok(Err(MarketError::Fault {
+        Content::TooLong(line) => Ok(Err(MarketError::Fault {
             rule: MarketRule::LineTooLong,
             line,
         })),
-        Next::Line(content, behind) => match read_entry(header, content) {
+        Content::Line(content, behind) => match read_entry(header, content) {
             Ok(found) => {
                 push_entry(list, header, found)?;
                 Ok(Ok(behind))
@@ -194,16 +194,16 @@ fn push_word(list: &mut EntryList, row: u64, column: u64, word: u64) -> Result<(
 }
 
 /// The fault of what follows the last entry, if it has one.
-fn fault_behind(place: Place<'_>) -> Option<MarketError>
-    ensures { IsEnd place.entry result }
+fn fault_behind(cursor: Cursor<'_>) -> Option<MarketError>
+    ensures { IsEnd cursor.entry result }
 {
-    match next_content(place) {
-        Next::End(_) => None,
-        Next::TooLong(line) => Some(MarketError::Fault {
+    match next_content(cursor) {
+        Content::End(_) => None,
+        Content::TooLong(line) => Some(MarketError::Fault {
             rule: MarketRule::LineTooLong,
             line,
         }),
-        Next::Line(_, behind) => Some(MarketError::Fault {
+        Content::Line(_, behind) => Some(MarketError::Fault {
             rule: MarketRule::LineAfterLastEntry,
             line: behind.at,
         }),
@@ -211,16 +211,16 @@ fn fault_behind(place: Place<'_>) -> Option<MarketError>
 }
 
 /// The place behind a run of lines.
-fn place_behind<'a>(place: Place<'a>, run: Run) -> Place<'a>
+fn cursor_behind<'a>(cursor: Cursor<'a>, run: Run) -> Cursor<'a>
     requires lines { run.given ≤ run.next }
-    requires within { run.next ≤ length place.rest.now }
-    ensures rest { result.rest.now ≡ drop run.next place.entry.rest.now }
-    ensures at { result.at ≡ place.entry.at + run.given }
+    requires within { run.next ≤ length cursor.rest.now }
+    ensures rest { result.rest.now ≡ drop run.next cursor.entry.rest.now }
+    ensures at { result.at ≡ cursor.entry.at + run.given }
 {
-    let rest = text_behind(place.rest, run.next);
-    Place {
+    let rest = text_behind(cursor.rest, run.next);
+    Cursor {
         rest,
-        at: place.at + run.given,
+        at: cursor.at + run.given,
     }
 }
 

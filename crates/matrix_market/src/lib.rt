@@ -11,10 +11,10 @@
 //! which tells the line that gives a position again.
 #![tactic(auto)]
 
+mod cursor;
 mod gather;
 mod kinds;
 mod lines;
-mod place;
 mod reader;
 mod repeat;
 mod rule;

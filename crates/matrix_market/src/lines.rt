@@ -1,8 +1,8 @@
 //! The lines of a text.
-ghost use Rattle.matrix_market.specs.inner.Answers.{NextOf};
+ghost use Rattle.matrix_market.specs.inner.Answers.{ContentOf};
 
+use crate::cursor::Cursor;
 use crate::kinds::skipped;
-use crate::place::Place;
 use text_words::first_line;
 
 /// The most bytes that a line has, its line end not counted.
@@ -10,9 +10,9 @@ pub const MOST_BYTES: usize = 1024;
 
 /// What comes behind blank lines and comments.
 #[derive(Clone, Copy)]
-pub enum Next<'a> {
+pub enum Content<'a> {
     /// A line, and the place behind it.
-    Line(&'a [u8], Place<'a>),
+    Line(&'a [u8], Cursor<'a>),
     /// The end, and the number of the last line.
     End(u64),
     /// A line that is too long, by its number.
@@ -20,20 +20,20 @@ pub enum Next<'a> {
 }
 
 /// What comes behind blank lines and comments.
-pub fn next_content(place: Place<'_>) -> Next<'_>
-    ensures { NextOf result place.entry }
+pub fn next_content(cursor: Cursor<'_>) -> Content<'_>
+    ensures { ContentOf result cursor.entry }
 {
-    let mut rest = place.rest;
-    let mut at = place.at;
+    let mut rest = cursor.rest;
+    let mut at = cursor.at;
     while let Some((line, more)) = first_line(rest) {
         at += 1;
         if line.len() > MOST_BYTES {
-            return Next::TooLong(at);
+            return Content::TooLong(at);
         }
         if !skipped(line) {
-            return Next::Line(line, Place { rest: more, at });
+            return Content::Line(line, Cursor { rest: more, at });
         }
         rest = more;
     }
-    Next::End(at)
+    Content::End(at)
 }

@@ -8,10 +8,10 @@ ghost use Rattle.matrix_market.specs.inner.Gathering.{Begun, IsAnswer, IsRead, T
 ghost use Rattle.matrix_market.specs.inner.Refusal.{NamesFault};
 ghost use Rattle.matrix_market.specs.declared.rule.MarketError.TheVariants.{Memory};
 
+use crate::cursor::Cursor;
 use crate::gather::{Gathering, gather};
 use crate::kinds::{Header, read_banner, read_size};
-use crate::lines::{MOST_BYTES, Next, next_content};
-use crate::place::Place;
+use crate::lines::{Content, MOST_BYTES, next_content};
 use crate::repeat::line_of_repeat;
 use crate::rule::{MarketError, MarketRule};
 use csr_store::{EntryList, Matrix, StoreError};
@@ -43,7 +43,7 @@ fn read_text(alloc: Global, text: &[u8]) -> Result<Matrix, MarketError>
 }
 
 /// What the lines before the entries say, and where the entries begin.
-fn read_header(text: &[u8]) -> Result<(Header, Place<'_>), MarketError>
+fn read_header(text: &[u8]) -> Result<(Header, Cursor<'_>), MarketError>
     ensures begun { IfOk result (λ p. Begun text.now p.0 p.1) }
     ensures err { IfErr result (λ e. NamesFault text.now e) }
 {
@@ -65,16 +65,16 @@ fn read_header(text: &[u8]) -> Result<(Header, Place<'_>), MarketError>
         Err(rule) => return Err(MarketError::Fault { rule, line: 1 }),
         Ok(banner) => banner,
     };
-    match next_content(Place { rest, at: 1 }) {
-        Next::End(at) => Err(MarketError::Fault {
+    match next_content(Cursor { rest, at: 1 }) {
+        Content::End(at) => Err(MarketError::Fault {
             rule: MarketRule::MalformedSize,
             line: at + 1,
         }),
-        Next::TooLong(at) => Err(MarketError::Fault {
+        Content::TooLong(at) => Err(MarketError::Fault {
             rule: MarketRule::LineTooLong,
             line: at,
         }),
-        Next::Line(line, start) => match read_size(banner.symmetric, line) {
+        Content::Line(line, start) => match read_size(banner.symmetric, line) {
             Err(rule) => Err(MarketError::Fault {
                 rule,
                 line: start.at,
@@ -86,7 +86,7 @@ fn read_header(text: &[u8]) -> Result<(Header, Place<'_>), MarketError>
 
 /// Reads the entries that a size line says. Where a line breaks a rule and no position before it is given again, its fault is told
 /// without further memory.
-fn read_entries(alloc: Global, header: Header, start: Place<'_>) -> Result<Matrix, MarketError>
+fn read_entries(alloc: Global, header: Header, start: Cursor<'_>) -> Result<Matrix, MarketError>
     ensures { IsAnswer header start.entry result }
 {
     let Gathering { list, fault } = gather(alloc, header, start)?;
@@ -106,14 +106,14 @@ fn read_entries(alloc: Global, header: Header, start: Place<'_>) -> Result<Matri
 
 /// The answer to a text of which a position is given again. Its entries are gathered once more, since the sort that found this has
 /// left them in another order.
-fn read_again(alloc: Global, header: Header, start: Place<'_>) -> Result<Matrix, MarketError>
+fn read_again(alloc: Global, header: Header, start: Cursor<'_>) -> Result<Matrix, MarketError>
     ensures { IsAnswer header start.entry result }
 {
-    settle(header, start, gather(alloc, header, start)?)
+    conclude(header, start, gather(alloc, header, start)?)
 }
 
 /// The answer to a text of which this was gathered: the fault of the first position that is given again stands before the other.
-fn settle(header: Header, start: Place<'_>, gathering: Gathering) -> Result<Matrix, MarketError>
+fn conclude(header: Header, start: Cursor<'_>, gathering: Gathering) -> Result<Matrix, MarketError>
     requires read { IsRead header start gathering.list }
     requires told { Tells header start gathering.list gathering.fault }
     ensures { IsAnswer header start.entry result }

@@ -2,10 +2,10 @@
 use Rattle.std.proofs.Common.{◌≡◌, ℕ, zero, suc, ◌+◌, ◌<◌, ◌≤◌, List, [], ◌∷◌, ◌++◌, length, set, Some, Bool, true, false, refl, subst, arith, ◌∙◌}
 use Rattle.std.specs.Prelude.{slice_index, slice_get, nat_lt, min, if◌then◌else◌}
 use Rattle.std.proofs.lemmas.Bool.Decides.{nat_tests}
-use Rattle.race_board.specs.declared.stand.Stand.{Stand}
-use Rattle.race_board.specs.declared.stand.Stand.TheVariants.{Free, Holds, ToldEnd, Failed}
+use Rattle.race_board.specs.declared.worker_state.WorkerState.{WorkerState}
+use Rattle.race_board.specs.declared.worker_state.WorkerState.TheVariants.{Free, Holds, Drained, Failed}
 use Rattle.race_board.specs.Race.{Worker, worker, drawn, one_if_same, one_if_below, times_drawn, draws_of, steps_of, AreWithin, ends_of, ends_now}
-use Rattle.race_board.specs.inner.Balance.{held_price, IsBalanced, IsTrueStand, IsSound, AllSound}
+use Rattle.race_board.specs.inner.Balance.{held_price, IsBalanced, IsTrueState, IsSound, AllSound}
 use Rattle.race_board.proofs.Sums.{sum_append, prices_more, prices_whole}
 
 -- one worker is replaced by another
@@ -22,7 +22,7 @@ pub draw_balanced : (prices : List ℕ) (count spent n : ℕ) (d : List (ℕ × 
     → IsBalanced prices count spent weigh → IsBalanced prices (count + 1) spent later
 draw_balanced prices count spent n d weigh later m h = go (nat_lt count (length prices)) refl m
   where
-    go : (b : Bool) → nat_lt count (length prices) ≡ b → Moves weigh later (worker n d Free) (worker n d (if b then Holds count else ToldEnd)) → IsBalanced prices (count + 1) spent later
+    go : (b : Bool) → nat_lt count (length prices) ≡ b → Moves weigh later (worker n d Free) (worker n d (if b then Holds count else Drained)) → IsBalanced prices (count + 1) spent later
     go true is mv =
         let low : count < length prices = grind (arith, nat_tests) in
         let pm = prices_more prices count low in
@@ -108,12 +108,12 @@ balanced_same prices count spent weigh later same h = record {
 
 -- the sound stay sound as the count grows
 sound_more : (prices : List ℕ) (count : ℕ) (w : Worker) → IsSound prices count w → IsSound prices (count + 1) w
-sound_more prices count w s = (s.0, more w.stand s.1)
+sound_more prices count w s = (s.0, more w.state s.1)
   where
-    more : (st : Stand) → IsTrueStand prices count st → IsTrueStand prices (count + 1) st
+    more : (st : WorkerState) → IsTrueState prices count st → IsTrueState prices (count + 1) st
     more Free k = tt
     more (Holds x) k = k
-    more ToldEnd k = omega arith
+    more Drained k = omega arith
     more (Failed x y) k = tt
 
 pub all_sound_more : (prices : List ℕ) (count : ℕ) (ws : List Worker) → AllSound prices count ws → AllSound prices (count + 1) ws
@@ -127,7 +127,7 @@ within_snoc prices (x ∷ xs) c s h le = (h.0, within_snoc prices xs c s h.1 le)
 pub drawn_sound : (prices : List ℕ) (count n : ℕ) (d : List (ℕ × ℕ)) → IsSound prices count (worker n d Free) → IsSound prices (count + 1) (drawn prices count (worker n d Free))
 drawn_sound prices count n d h = go (nat_lt count (length prices)) refl
   where
-    go : (b : Bool) → nat_lt count (length prices) ≡ b → IsSound prices (count + 1) (worker n d (if b then Holds count else ToldEnd))
+    go : (b : Bool) → nat_lt count (length prices) ≡ b → IsSound prices (count + 1) (worker n d (if b then Holds count else Drained))
     go true is = ((h.0.0, tt), grind (arith, nat_tests))
     go false is = let l : length prices ≤ count = grind (arith, nat_tests) in ((h.0.0, tt), omega arith)
 
@@ -152,10 +152,10 @@ sound_append prices count [] ys a b = b
 sound_append prices count (x ∷ xs) ys a b = (a.0, sound_append prices count xs ys a.1 b)
 
 pub ends_one : (w : Worker) → ends_of w ≤ 1
-ends_one w = go w.stand
+ends_one w = go w.state
   where
-    go : (s : Stand) → ends_now s ≤ 1
+    go : (s : WorkerState) → ends_now s ≤ 1
     go Free = omega arith
     go (Holds x) = omega arith
-    go ToldEnd = omega arith
+    go Drained = omega arith
     go (Failed x s) = omega arith

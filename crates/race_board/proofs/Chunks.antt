@@ -3,9 +3,9 @@ use Rattle.std.proofs.Common.{◌≡◌, ℕ, zero, suc, ◌+◌, ◌<◌, ◌�
 use Rattle.std.specs.Prelude.{All, slice_get, slice_index, nat_lt, ◌==◌, if◌then◌else◌}
 use Rattle.std.proofs.lemmas.Bool.Decides.{nat_tests}
 use Rattle.std.proofs.lemmas.List.{append-nil}
-use Rattle.race_board.specs.declared.stand.Stand.{Stand}
-use Rattle.race_board.specs.declared.stand.Stand.TheVariants.{Free, Holds, ToldEnd, Failed}
-use Rattle.race_board.specs.Race.{Worker, total_of, one_if_same, one_if_below, times_completed, times_now, times_drawn, steps_now, steps_of, IsToldEnd, AreWithin, StandsWithin, IsWithinPrices}
+use Rattle.race_board.specs.declared.worker_state.WorkerState.{WorkerState}
+use Rattle.race_board.specs.declared.worker_state.WorkerState.TheVariants.{Free, Holds, Drained, Failed}
+use Rattle.race_board.specs.Race.{Worker, total_of, one_if_same, one_if_below, times_completed, times_now, times_drawn, steps_now, steps_of, IsDrained, AreWithin, IsStateWithin, IsWithinPrices}
 use Rattle.race_board.specs.Chunks.{times_in, steps_in, AreEachOnce, AreOnceAtMost, StandsOnce, completed_by, recorded_by, failed_chunk, sum_below, CostJust, CostAtMost}
 use Rattle.race_board.proofs.Sums.{sum_append}
 
@@ -14,50 +14,50 @@ pub completed_sum : (g : ℕ × ℕ → ℕ) (ws : List Worker) → total_of g (
 completed_sum g [] = refl
 completed_sum g (w ∷ ws) = let a = sum_append g w.done (completed_by ws) in let b = completed_sum g ws in omega arith
 
-pub recorded_sum : (g : ℕ × ℕ → ℕ) (ws : List Worker) → total_of g (recorded_by ws) ≡ total_of (λ (w : Worker). total_of g w.done + total_of g (failed_chunk w.stand)) ws
+pub recorded_sum : (g : ℕ × ℕ → ℕ) (ws : List Worker) → total_of g (recorded_by ws) ≡ total_of (λ (w : Worker). total_of g w.done + total_of g (failed_chunk w.state)) ws
 recorded_sum g [] = refl
 recorded_sum g (w ∷ ws) =
-    let a = sum_append g (w.done ++ failed_chunk w.stand) (recorded_by ws) in
-    let d = sum_append g w.done (failed_chunk w.stand) in
+    let a = sum_append g (w.done ++ failed_chunk w.state) (recorded_by ws) in
+    let d = sum_append g w.done (failed_chunk w.state) in
     let b = recorded_sum g ws in
     omega arith
 
-failed_steps : (s : Stand) → steps_in (failed_chunk s) ≡ steps_now s
+failed_steps : (s : WorkerState) → steps_in (failed_chunk s) ≡ steps_now s
 failed_steps Free = refl
 failed_steps (Holds c) = refl
-failed_steps ToldEnd = refl
+failed_steps Drained = refl
 failed_steps (Failed c s) = omega arith
 
 pub recorded_steps : (ws : List Worker) → steps_in (recorded_by ws) ≡ total_of steps_of ws
 recorded_steps [] = refl
 recorded_steps (w ∷ ws) =
-    let a = sum_append (λ (d : ℕ × ℕ). d.1) (w.done ++ failed_chunk w.stand) (recorded_by ws) in
-    let d = sum_append (λ (d : ℕ × ℕ). d.1) w.done (failed_chunk w.stand) in
-    let f = failed_steps w.stand in
+    let a = sum_append (λ (d : ℕ × ℕ). d.1) (w.done ++ failed_chunk w.state) (recorded_by ws) in
+    let d = sum_append (λ (d : ℕ × ℕ). d.1) w.done (failed_chunk w.state) in
+    let f = failed_steps w.state in
     let b = recorded_steps ws in
     omega arith
 
-failed_times : (c : ℕ) (s : Stand) → times_in c (failed_chunk s) ≤ times_now c s
+failed_times : (c : ℕ) (s : WorkerState) → times_in c (failed_chunk s) ≤ times_now c s
 failed_times c Free = omega arith
 failed_times c (Holds x) = omega arith
-failed_times c ToldEnd = omega arith
+failed_times c Drained = omega arith
 failed_times c (Failed x s) = omega arith
 
 pub recorded_times : (c : ℕ) (ws : List Worker) → times_in c (recorded_by ws) ≤ total_of (times_drawn c) ws
 recorded_times c [] = omega arith
 recorded_times c (w ∷ ws) =
-    let a = sum_append (λ (d : ℕ × ℕ). one_if_same c d.0) (w.done ++ failed_chunk w.stand) (recorded_by ws) in
-    let d = sum_append (λ (d : ℕ × ℕ). one_if_same c d.0) w.done (failed_chunk w.stand) in
-    let f = failed_times c w.stand in
+    let a = sum_append (λ (d : ℕ × ℕ). one_if_same c d.0) (w.done ++ failed_chunk w.state) (recorded_by ws) in
+    let d = sum_append (λ (d : ℕ × ℕ). one_if_same c d.0) w.done (failed_chunk w.state) in
+    let f = failed_times c w.state in
     let b = recorded_times c ws in
     omega arith
 
 -- where none failed, what was recorded is what was completed
-pub recorded_completed : (ws : List Worker) → All IsToldEnd ws → recorded_by ws ≡ completed_by ws
+pub recorded_completed : (ws : List Worker) → All IsDrained ws → recorded_by ws ≡ completed_by ws
 recorded_completed [] all = refl
 recorded_completed (w ∷ ws) all =
-    let told : failed_chunk w.stand ≡ [] = ap failed_chunk (all 0 w (omega arith)) in
-    let here : w.done ++ failed_chunk w.stand ≡ w.done = ap (λ (l : List (ℕ × ℕ)). w.done ++ l) told ∙ append-nil w.done in
+    let told : failed_chunk w.state ≡ [] = ap failed_chunk (all 0 w (omega arith)) in
+    let here : w.done ++ failed_chunk w.state ≡ w.done = ap (λ (l : List (ℕ × ℕ)). w.done ++ l) told ∙ append-nil w.done in
     let rest = recorded_completed ws (λ k d l. all (suc k) d (omega arith)) in
     ap (λ (l : List (ℕ × ℕ)). l ++ recorded_by ws) here ∙ ap (λ (l : List (ℕ × ℕ)). w.done ++ l) rest
 
@@ -85,7 +85,7 @@ stands_once c (d ∷ ds) once = go (d.0 == c) refl (λ less. stands_once c ds le
         let here : d.0 ≡ c = grind (arith, nat_tests) in
         let one : one_if_same c d.0 ≡ 1 = grind (arith, nat_tests) in
         let none : times_in c ds ≡ 0 = omega arith in
-        record { place = 0; steps = d.1; there = ap (λ (x : ℕ). Some (x, d.1)) here; only = first none }
+        record { nth = 0; steps = d.1; there = ap (λ (x : ℕ). Some (x, d.1)) here; only = first none }
       where
         first : times_in c ds ≡ 0 → (k s : ℕ) → slice_get (d ∷ ds) k ≡ Some (c, s) → k ≡ 0
         first none zero s at = refl
@@ -93,9 +93,9 @@ stands_once c (d ∷ ds) once = go (d.0 == c) refl (λ less. stands_once c ds le
     go false is later =
         let zero_here : one_if_same c d.0 ≡ 0 = grind (arith, nat_tests) in
         let rest = later (omega arith) in
-        record { place = suc rest.place; steps = rest.steps; there = rest.there; only = behind rest }
+        record { nth = suc rest.nth; steps = rest.steps; there = rest.there; only = behind rest }
       where
-        behind : (rest : StandsOnce c ds) → (k s : ℕ) → slice_get (d ∷ ds) k ≡ Some (c, s) → k ≡ suc rest.place
+        behind : (rest : StandsOnce c ds) → (k s : ℕ) → slice_get (d ∷ ds) k ≡ Some (c, s) → k ≡ suc rest.nth
         behind rest zero s at =
             let same : d ≡ (c, s) = cc in
             let here : d.0 ≡ c = ap (λ (x : ℕ × ℕ). x.0) same in
@@ -236,10 +236,10 @@ done_within : (prices : List ℕ) (ds : List (ℕ × ℕ)) → AreWithin prices 
 done_within prices [] w = tt
 done_within prices (d ∷ ds) w = (w.0, done_within prices ds w.1)
 
-failed_within : (prices : List ℕ) (s : Stand) → StandsWithin prices s → CostAtMost (slice_index prices) (failed_chunk s)
+failed_within : (prices : List ℕ) (s : WorkerState) → IsStateWithin prices s → CostAtMost (slice_index prices) (failed_chunk s)
 failed_within prices Free w = tt
 failed_within prices (Holds c) w = tt
-failed_within prices ToldEnd w = tt
+failed_within prices Drained w = tt
 failed_within prices (Failed c s) w = (w, tt)
 
 pub recorded_within : (prices : List ℕ) (ws : List Worker) → All (IsWithinPrices prices) ws → CostAtMost (slice_index prices) (recorded_by ws)
@@ -247,8 +247,8 @@ recorded_within prices [] all = tt
 recorded_within prices (w ∷ ws) all =
     let here = all 0 w (omega arith) in
     let rest = recorded_within prices ws (λ k d l. all (suc k) d (omega arith)) in
-    most_append (slice_index prices) (w.done ++ failed_chunk w.stand) (recorded_by ws)
-    (most_append (slice_index prices) w.done (failed_chunk w.stand) (done_within prices w.done here.0) (failed_within prices w.stand here.1)) rest
+    most_append (slice_index prices) (w.done ++ failed_chunk w.state) (recorded_by ws)
+    (most_append (slice_index prices) w.done (failed_chunk w.state) (done_within prices w.done here.0) (failed_within prices w.state here.1)) rest
 
 -- 4. The steps of all workers.
 pub completed_steps : (g : ℕ → ℕ) (n : ℕ) (ds : List (ℕ × ℕ)) → AreEachOnce n ds → CostJust g ds → steps_in ds ≡ sum_below g n

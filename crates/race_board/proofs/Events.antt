@@ -2,8 +2,8 @@
 use Rattle.std.proofs.Common.{◌≡◌, ℕ, zero, suc, ◌+◌, ◌^◌, ◌≤◌, List, [], ◌∷◌, ◌++◌, length, set, Option, Some, None, Bool, true, false, refl, sym, ap, ◌∙◌, subst, arith, fold}
 use Rattle.std.specs.Prelude.{slice_get, slice_set, slice_index, nat_le, min, ◌==◌, ◌&&◌, if◌then◌else◌}
 use Rattle.std.proofs.lemmas.Bool.Decides.{nat_tests}
-use Rattle.race_board.specs.declared.stand.Stand.{Stand}
-use Rattle.race_board.specs.declared.stand.Stand.TheVariants.{Free, Holds, ToldEnd, Failed}
+use Rattle.race_board.specs.declared.worker_state.WorkerState.{WorkerState}
+use Rattle.race_board.specs.declared.worker_state.WorkerState.TheVariants.{Free, Holds, Drained, Failed}
 use Rattle.race_board.specs.declared.event.RaceEvent.{RaceEvent}
 use Rattle.race_board.specs.declared.event.RaceEvent.TheVariants.{Draw, Complete, Fail}
 use Rattle.race_board.specs.Race.{Worker, worker, fresh_worker, fresh_workers, RaceState, race, start, replayed, drawn, completed, failed, total_of, one_if_below, times_drawn, draws_of, steps_of, may_draw, may_record, draw_by, record_by, after_event, ends_of}
@@ -59,17 +59,17 @@ fail_keeps r w n c s d at le h =
 
 draw_any : (r : RaceState) (w : ℕ) → IsRun r → (o : Option Worker) → slice_get r.workers w ≡ o → IsRun (draw_by r w o)
 draw_any r w h None e = h
-draw_any r w h (Some x) e = go x.stand e
+draw_any r w h (Some x) e = go x.state e
   where
-    go : (st : Stand) → slice_get r.workers w ≡ Some (worker x.number x.done st) → IsRun (if may_draw st then race r.prices (r.count + 1) (slice_set r.workers w (drawn r.prices r.count (worker x.number x.done st))) else r)
+    go : (st : WorkerState) → slice_get r.workers w ≡ Some (worker x.number x.done st) → IsRun (if may_draw st then race r.prices (r.count + 1) (slice_set r.workers w (drawn r.prices r.count (worker x.number x.done st))) else r)
     go Free at = draw_keeps r w x.number x.done at h
     go (Holds c) at = h
-    go ToldEnd at = h
+    go Drained at = h
     go (Failed c s) at = h
 
 complete_any : (r : RaceState) (w c s : ℕ) → IsRun r → (o : Option Worker) → slice_get r.workers w ≡ o → IsRun (record_by r w c s (completed c s) o)
 complete_any r w c s h None e = h
-complete_any r w c s h (Some x) e = go x.stand e
+complete_any r w c s h (Some x) e = go x.state e
   where
     held : (d : ℕ) (b : Bool) → (d == c) && nat_le s (slice_index r.prices c) ≡ b → slice_get r.workers w ≡ Some (worker x.number x.done (Holds d)) → IsRun (if b then race r.prices r.count (slice_set r.workers w (completed c s (worker x.number x.done (Holds d)))) else r)
     held d true is at =
@@ -78,15 +78,15 @@ complete_any r w c s h (Some x) e = go x.stand e
         complete_keeps r w x.number c s x.done (subst (λ (k : ℕ). slice_get r.workers w ≡ Some (worker x.number x.done (Holds k))) same at) le h
     held d false is at = h
 
-    go : (st : Stand) → slice_get r.workers w ≡ Some (worker x.number x.done st) → IsRun (if may_record r.prices c s st then race r.prices r.count (slice_set r.workers w (completed c s (worker x.number x.done st))) else r)
+    go : (st : WorkerState) → slice_get r.workers w ≡ Some (worker x.number x.done st) → IsRun (if may_record r.prices c s st then race r.prices r.count (slice_set r.workers w (completed c s (worker x.number x.done st))) else r)
     go Free at = h
     go (Holds d) at = held d ((d == c) && nat_le s (slice_index r.prices c)) refl at
-    go ToldEnd at = h
+    go Drained at = h
     go (Failed d t) at = h
 
 fail_any : (r : RaceState) (w c s : ℕ) → IsRun r → (o : Option Worker) → slice_get r.workers w ≡ o → IsRun (record_by r w c s (failed c s) o)
 fail_any r w c s h None e = h
-fail_any r w c s h (Some x) e = go x.stand e
+fail_any r w c s h (Some x) e = go x.state e
   where
     held : (d : ℕ) (b : Bool) → (d == c) && nat_le s (slice_index r.prices c) ≡ b → slice_get r.workers w ≡ Some (worker x.number x.done (Holds d)) → IsRun (if b then race r.prices r.count (slice_set r.workers w (failed c s (worker x.number x.done (Holds d)))) else r)
     held d true is at =
@@ -95,10 +95,10 @@ fail_any r w c s h (Some x) e = go x.stand e
         fail_keeps r w x.number c s x.done (subst (λ (k : ℕ). slice_get r.workers w ≡ Some (worker x.number x.done (Holds k))) same at) le h
     held d false is at = h
 
-    go : (st : Stand) → slice_get r.workers w ≡ Some (worker x.number x.done st) → IsRun (if may_record r.prices c s st then race r.prices r.count (slice_set r.workers w (failed c s (worker x.number x.done st))) else r)
+    go : (st : WorkerState) → slice_get r.workers w ≡ Some (worker x.number x.done st) → IsRun (if may_record r.prices c s st then race r.prices r.count (slice_set r.workers w (failed c s (worker x.number x.done st))) else r)
     go Free at = h
     go (Holds d) at = held d ((d == c) && nat_le s (slice_index r.prices c)) refl at
-    go ToldEnd at = h
+    go Drained at = h
     go (Failed d t) at = h
 
 pub event_keeps : (r : RaceState) (e : RaceEvent) → IsRun r → IsRun (after_event r e)

@@ -3,17 +3,17 @@ use Rattle.std.proofs.Common.{◌≡◌, ℕ, suc, ◌<◌, ◌≤◌, List, [],
 use Rattle.std.specs.Prelude.{All, Any, slice_get, slice_index_or, min}
 use Rattle.std.proofs.lemmas.Bool.Decides.{nat_tests}
 use Rattle.std.proofs.lemmas.Option.{slice_get-get_or}
-use Rattle.race_board.specs.Race.{Worker, RaceState, total_of, one_if_below, times_completed, times_now, times_drawn, steps_of, IsWithinPrices, IsToldEnd, IsLawful, AreInPlace, ends_of, ends_now}
+use Rattle.race_board.specs.Race.{Worker, RaceState, total_of, one_if_below, times_completed, times_now, times_drawn, steps_of, IsWithinPrices, IsDrained, IsLawful, AreInPlace, ends_of, ends_now}
 use Rattle.race_board.specs.inner.Balance.{IsBalanced, AllSound, IsRun}
 use Rattle.race_board.proofs.Sums.{sum_has}
 use Rattle.race_board.proofs.Balances.{sound_at}
 use Rattle.race_board.proofs.Events.{numbered_at}
 
-ended : (w : Worker) → IsToldEnd w → ends_of w ≡ 1
+ended : (w : Worker) → IsDrained w → ends_of w ≡ 1
 ended w told = ap ends_now told
 
 -- the place that `Any` names
-pub any_ended : (ws : List Worker) → Any IsToldEnd ws → 0 < total_of ends_of ws
+pub any_ended : (ws : List Worker) → Any IsDrained ws → 0 < total_of ends_of ws
 any_ended ws a =
     let at : slice_get ws a.0 ≡ Some (slice_index_or ws a.0 a.1) = slice_get-get_or ws a.0 a.1 a.2 in
     let it = sum_has ends_of ws a.0 (slice_index_or ws a.0 a.1) at in
@@ -28,14 +28,14 @@ below_all c n l le lt = grind (arith, nat_tests)
 pub past_end : (prices : List ℕ) (count spent : ℕ) (weigh : (Worker → ℕ) → ℕ) → IsBalanced prices count spent weigh → 0 < weigh ends_of → length prices ≤ count
 past_end prices count spent weigh h told = let a = h.counted in let b = h.draws in omega arith
 
-pub drawn_is_completed : (c : ℕ) (ws : List Worker) → All IsToldEnd ws → total_of (times_drawn c) ws ≡ total_of (times_completed c) ws
+pub drawn_is_completed : (c : ℕ) (ws : List Worker) → All IsDrained ws → total_of (times_drawn c) ws ≡ total_of (times_completed c) ws
 drawn_is_completed c [] all = refl
 drawn_is_completed c (w ∷ ws) all =
     let a = drawn_is_completed c ws (λ k d l. all (suc k) d (omega arith)) in
-    let b : times_now c w.stand ≡ 0 = ap (times_now c) (all 0 w (omega arith)) in
+    let b : times_now c w.state ≡ 0 = ap (times_now c) (all 0 w (omega arith)) in
     omega arith
 
-some_ended : (ws : List Worker) → 0 < length ws → All IsToldEnd ws → 0 < total_of ends_of ws
+some_ended : (ws : List Worker) → 0 < length ws → All IsDrained ws → 0 < total_of ends_of ws
 some_ended [] l all = absurd (omega arith)
 some_ended (w ∷ ws) l all = let e = ended w (all 0 w (omega arith)) in omega arith
 

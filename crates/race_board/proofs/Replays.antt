@@ -3,15 +3,15 @@ use Rattle.std.proofs.Common.{◌≡◌, ℕ, ◌+◌, ◌^◌, ◌<◌, ◌≤�
 use Rattle.std.specs.Prelude.{slice_get, slice_set, slice_index, nat_lt, nat_le, ◌==◌, ◌&&◌, if◌then◌else◌, nat_eq}
 use Rattle.std.proofs.lemmas.Bool.Decides.{nat_tests}
 use Rattle.std.proofs.lemmas.Option.{slice_get_within}
-use Rattle.race_board.specs.declared.stand.Stand.{Stand}
-use Rattle.race_board.specs.declared.stand.Stand.TheVariants.{Free, Holds, ToldEnd, Failed}
+use Rattle.race_board.specs.declared.worker_state.WorkerState.{WorkerState}
+use Rattle.race_board.specs.declared.worker_state.WorkerState.TheVariants.{Free, Holds, Drained, Failed}
 use Rattle.race_board.specs.declared.event.RaceEvent.TheVariants.{Draw}
 use Rattle.race_board.specs.Race.{
   Worker,
   worker,
   RaceState,
   race,
-  stand_after,
+  state_after,
   drawn,
   completed,
   failed,
@@ -42,61 +42,61 @@ count_below r h =
 pub draws_none : (r : RaceState) (w : ℕ) → slice_get r.workers w ≡ None → after_event r (Draw w) ≡ r
 draws_none r w e = ap (draw_by r w) e
 
-pub draws_busy : (r : RaceState) (w : ℕ) (x : Worker) → slice_get r.workers w ≡ Some x → ¬ (x.stand ≡ Free) → after_event r (Draw w) ≡ r
-draws_busy r w x e busy = ap (draw_by r w) e ∙ go x.stand refl
+pub draws_busy : (r : RaceState) (w : ℕ) (x : Worker) → slice_get r.workers w ≡ Some x → ¬ (x.state ≡ Free) → after_event r (Draw w) ≡ r
+draws_busy r w x e busy = ap (draw_by r w) e ∙ go x.state refl
   where
-    go : (s : Stand) → x.stand ≡ s → (if may_draw s then race r.prices (r.count + 1) (slice_set r.workers w (drawn r.prices r.count x)) else r) ≡ r
+    go : (s : WorkerState) → x.state ≡ s → (if may_draw s then race r.prices (r.count + 1) (slice_set r.workers w (drawn r.prices r.count x)) else r) ≡ r
     go Free is = absurd (busy is)
     go (Holds c) is = refl
-    go ToldEnd is = refl
+    go Drained is = refl
     go (Failed c s) is = refl
 
-pub draws_free : (r : RaceState) (w : ℕ) (x q new : Worker) → slice_get r.workers w ≡ Some x → slice_get r.workers w ≡ Some q → x.stand ≡ Free → new ≡ worker q.number q.done (stand_after (length r.prices) r.count)
+pub draws_free : (r : RaceState) (w : ℕ) (x q new : Worker) → slice_get r.workers w ≡ Some x → slice_get r.workers w ≡ Some q → x.state ≡ Free → new ≡ worker q.number q.done (state_after (length r.prices) r.count)
     → after_event r (Draw w) ≡ race r.prices (r.count + 1) (slice_set r.workers w new)
 draws_free r w x q new a b free is =
     let same : q ≡ x = cc in
-    let stands : q.stand ≡ Free = ap (λ (y : Worker). y.stand) same ∙ free in
+    let stands : q.state ≡ Free = ap (λ (y : Worker). y.state) same ∙ free in
     ap (draw_by r w) b
-    ∙ (ap (λ (s : Stand). if may_draw s then race r.prices (r.count + 1) (slice_set r.workers w (drawn r.prices r.count q)) else r) stands
+    ∙ (ap (λ (s : WorkerState). if may_draw s then race r.prices (r.count + 1) (slice_set r.workers w (drawn r.prices r.count q)) else r) stands
     ∙ ap (λ (y : Worker). race r.prices (r.count + 1) (slice_set r.workers w y)) (sym is))
 
-pub draws_spend_nothing : (r : RaceState) (w : ℕ) (x q new : Worker) → slice_get r.workers w ≡ Some x → slice_get r.workers w ≡ Some q → x.stand ≡ Free → new ≡ worker q.number q.done (stand_after (length r.prices) r.count)
+pub draws_spend_nothing : (r : RaceState) (w : ℕ) (x q new : Worker) → slice_get r.workers w ≡ Some x → slice_get r.workers w ≡ Some q → x.state ≡ Free → new ≡ worker q.number q.done (state_after (length r.prices) r.count)
     → total_of steps_of r.workers ≡ total_of steps_of (slice_set r.workers w new)
 draws_spend_nothing r w x q new a b free is =
     let same : q ≡ x = cc in
-    let stands : q.stand ≡ Free = ap (λ (y : Worker). y.stand) same ∙ free in
+    let stands : q.state ≡ Free = ap (λ (y : Worker). y.state) same ∙ free in
     let old = ap steps_now stands in
-    let now : steps_now (stand_after (length r.prices) r.count) ≡ 0 = go (nat_lt r.count (length r.prices)) in
+    let now : steps_now (state_after (length r.prices) r.count) ≡ 0 = go (nat_lt r.count (length r.prices)) in
     let e = sum_set steps_of r.workers w q new b in
     let n = ap steps_of is in
     omega arith
   where
-    go : (t : Bool) → steps_now (if t then Holds r.count else ToldEnd) ≡ 0
+    go : (t : Bool) → steps_now (if t then Holds r.count else Drained) ≡ 0
     go true = refl
     go false = refl
 
 pub may_none : (ps : List ℕ) (c s w : ℕ) (ws : List Worker) → slice_get ws w ≡ None → false ≡ may_record_by ps c s (slice_get ws w)
 may_none ps c s w ws e = sym (ap (may_record_by ps c s) e)
 
-pub may_busy : (ps : List ℕ) (c s w : ℕ) (ws : List Worker) (x : Worker) → slice_get ws w ≡ Some x → ((d : ℕ) → ¬ (x.stand ≡ Holds d)) → false ≡ may_record_by ps c s (slice_get ws w)
-may_busy ps c s w ws x e busy = sym (ap (may_record_by ps c s) e ∙ go x.stand refl)
+pub may_busy : (ps : List ℕ) (c s w : ℕ) (ws : List Worker) (x : Worker) → slice_get ws w ≡ Some x → ((d : ℕ) → ¬ (x.state ≡ Holds d)) → false ≡ may_record_by ps c s (slice_get ws w)
+may_busy ps c s w ws x e busy = sym (ap (may_record_by ps c s) e ∙ go x.state refl)
   where
-    go : (t : Stand) → x.stand ≡ t → may_record ps c s t ≡ false
+    go : (t : WorkerState) → x.state ≡ t → may_record ps c s t ≡ false
     go Free is = refl
     go (Holds d) is = absurd (busy d is)
-    go ToldEnd is = refl
+    go Drained is = refl
     go (Failed d u) is = refl
 
-pub may_held : (ps : List ℕ) (c s w d : ℕ) (ws : List Worker) (x : Worker) → slice_get ws w ≡ Some x → x.stand ≡ Holds d → (d == c) && nat_le s (slice_index ps c) ≡ may_record_by ps c s (slice_get ws w)
+pub may_held : (ps : List ℕ) (c s w d : ℕ) (ws : List Worker) (x : Worker) → slice_get ws w ≡ Some x → x.state ≡ Holds d → (d == c) && nat_le s (slice_index ps c) ≡ may_record_by ps c s (slice_get ws w)
 may_held ps c s w d ws x e held = sym (ap (may_record_by ps c s) e ∙ ap (may_record ps c s) held)
 
-pub may_here : (ps : List ℕ) (c s w d price : ℕ) (ws : List Worker) (x : Worker) → slice_get ws w ≡ Some x → x.stand ≡ Holds d → d ≡ c → price ≡ slice_index ps d → nat_le s price ≡ may_record_by ps c s (slice_get ws w)
+pub may_here : (ps : List ℕ) (c s w d price : ℕ) (ws : List Worker) (x : Worker) → slice_get ws w ≡ Some x → x.state ≡ Holds d → d ≡ c → price ≡ slice_index ps d → nat_le s price ≡ may_record_by ps c s (slice_get ws w)
 may_here ps c s w d price ws x e held same is =
     let t : (d == c) ≡ true = grind (arith, nat_tests) in
     let p : price ≡ slice_index ps c = is ∙ ap (slice_index ps) same in
     ap (nat_le s) p ∙ (ap (λ b. b && nat_le s (slice_index ps c)) (sym t) ∙ may_held ps c s w d ws x e held)
 
-pub may_elsewhere : (ps : List ℕ) (c s w d : ℕ) (ws : List Worker) (x : Worker) → slice_get ws w ≡ Some x → x.stand ≡ Holds d → ¬ (d ≡ c) → nat_eq d c ≡ may_record_by ps c s (slice_get ws w)
+pub may_elsewhere : (ps : List ℕ) (c s w d : ℕ) (ws : List Worker) (x : Worker) → slice_get ws w ≡ Some x → x.state ≡ Holds d → ¬ (d ≡ c) → nat_eq d c ≡ may_record_by ps c s (slice_get ws w)
 may_elsewhere ps c s w d ws x e held other =
     let f : nat_eq d c ≡ false = grind (arith, nat_tests) in
     let t : (d == c) ≡ false = grind (arith, nat_tests) in
@@ -117,15 +117,15 @@ may_record_of r w c s e = by_worker (slice_get r.workers w) refl e
         let same : d ≡ c = grind (arith, nat_tests) in
         record { number = x.number; done = x.done; at = subst (λ (k : ℕ). slice_get r.workers w ≡ Some (worker x.number x.done (Holds k))) same at; price = grind (arith, nat_tests) }
 
-    by_stand : (x : Worker) (t : Stand) → slice_get r.workers w ≡ Some (worker x.number x.done t) → true ≡ may_record r.prices c s t → MayRecord r w c s
-    by_stand x Free at t = absurd (cc)
-    by_stand x (Holds d) at t = by_tests x d at t
-    by_stand x ToldEnd at t = absurd (cc)
-    by_stand x (Failed d u) at t = absurd (cc)
+    by_state : (x : Worker) (t : WorkerState) → slice_get r.workers w ≡ Some (worker x.number x.done t) → true ≡ may_record r.prices c s t → MayRecord r w c s
+    by_state x Free at t = absurd (cc)
+    by_state x (Holds d) at t = by_tests x d at t
+    by_state x Drained at t = absurd (cc)
+    by_state x (Failed d u) at t = absurd (cc)
 
     by_worker : (o : Option Worker) → slice_get r.workers w ≡ o → true ≡ may_record_by r.prices c s o → MayRecord r w c s
     by_worker None at t = absurd (cc)
-    by_worker (Some x) at t = by_stand x x.stand at t
+    by_worker (Some x) at t = by_state x x.state at t
 
 pub may_within : (r : RaceState) (w c s : ℕ) → true ≡ may_record_by r.prices c s (slice_get r.workers w) → w < length r.workers
 may_within r w c s e = let m = may_record_of r w c s e in slice_get_within r.workers w (worker m.number m.done (Holds c)) m.at
@@ -151,7 +151,7 @@ records_kept r w c s f e = go (slice_get r.workers w) e
 pub records_made : (r : RaceState) (w c s : ℕ) (f : Worker → Worker) (q new : Worker) → true ≡ may_record_by r.prices c s (slice_get r.workers w) → slice_get r.workers w ≡ Some q → new ≡ f q
     → record_by r w c s f (slice_get r.workers w) ≡ race r.prices r.count (slice_set r.workers w new)
 records_made r w c s f q new e at is =
-    let t : true ≡ may_record r.prices c s q.stand = e ∙ ap (may_record_by r.prices c s) at in
+    let t : true ≡ may_record r.prices c s q.state = e ∙ ap (may_record_by r.prices c s) at in
     ap (record_by r w c s f) at
     ∙ (ap (λ b. if b then race r.prices r.count (slice_set r.workers w (f q)) else r) (sym t)
     ∙ ap (λ (y : Worker). race r.prices r.count (slice_set r.workers w y)) (sym is))

@@ -2,8 +2,8 @@
 use Rattle.std.proofs.Common.{◌≡◌, ◌⊎◌, ℕ, zero, suc, ◌+◌, ◌-◌, ◌<◌, List, [], ◌∷◌, ◌++◌, length, Option, Some, None, refl, sym, ap, ◌∙◌, ⊎_elim, inl, inr, arith}
 use Rattle.std.specs.Prelude.{slice_get, slice_index_or, IfSome, All}
 use Rattle.std.proofs.lemmas.Option.{slice_get-get_or}
-use Rattle.race_board.specs.declared.stand.Stand.{Stand}
-use Rattle.race_board.specs.declared.stand.Stand.TheVariants.{Free, Holds}
+use Rattle.race_board.specs.declared.worker_state.WorkerState.{WorkerState}
+use Rattle.race_board.specs.declared.worker_state.WorkerState.TheVariants.{Free, Holds}
 use Rattle.race_board.specs.Race.{Worker, worker, fresh_worker, fresh_workers, BoardState, SeatState, MayDrawAt, IsAboveDraws, workers_of, total_of, times_drawn}
 use Rattle.race_board.specs.Naming.{first_worker}
 use Rattle.race_board.specs.inner.Naming.{IsAlone}
@@ -11,11 +11,11 @@ use Rattle.race_board.specs.inner.Rule.{first_of, rest_of}
 use Rattle.race_board.specs.Crews.{MayDraw, IsAnswer}
 use Rattle.race_board.specs.inner.Crews.{HoldsChunk}
 
-pub alone_draws : (ws : List Worker) → IsAlone ws → (first_worker ws).stand ≡ Free → MayDraw ws
-alone_draws ws alone free = ((first_worker ws).number, (first_worker ws).done, [], alone ∙ ap (λ (s : Stand). worker (first_worker ws).number (first_worker ws).done s ∷ []) free)
+pub alone_draws : (ws : List Worker) → IsAlone ws → (first_worker ws).state ≡ Free → MayDraw ws
+alone_draws ws alone free = ((first_worker ws).number, (first_worker ws).done, [], alone ∙ ap (λ (s : WorkerState). worker (first_worker ws).number (first_worker ws).done s ∷ []) free)
 
-pub alone_holds : (c : ℕ) (ws : List Worker) → IsAlone ws → (first_worker ws).stand ≡ Holds c → HoldsChunk c ws
-alone_holds c ws alone holds = ((first_worker ws).number, (first_worker ws).done, [], alone ∙ ap (λ (s : Stand). worker (first_worker ws).number (first_worker ws).done s ∷ []) holds)
+pub alone_holds : (c : ℕ) (ws : List Worker) → IsAlone ws → (first_worker ws).state ≡ Holds c → HoldsChunk c ws
+alone_holds c ws alone holds = ((first_worker ws).number, (first_worker ws).done, [], alone ∙ ap (λ (s : WorkerState). worker (first_worker ws).number (first_worker ws).done s ∷ []) holds)
 
 pub alone_above : (prices : List ℕ) (ws : List Worker) (o : Option ℕ) (later : List Worker) (w : Worker) → IsAlone ws → first_worker ws ≡ w → IsAnswer prices ws o later → IfSome o (λ c. IsAboveDraws w c)
 alone_above prices ws None later w alone is a = tt
@@ -59,7 +59,7 @@ gathered_snoc f (x ∷ xs) s = let a = gathered_snoc f xs s in omega arith
 pub dealt_ready : (board : BoardState) (seats : List SeatState) → AreDealt board.name seats → All (MayDrawAt board) seats
 dealt_ready board seats all k d l =
     let f = all k (slice_index_or seats k d) (slice_get-get_or seats k d l) in
-    (f.0, ap (λ (w : Worker). w.stand) f.1)
+    (f.0, ap (λ (w : Worker). w.state) f.1)
 
 pub workers_snoc : (seats : List SeatState) (s : SeatState) → workers_of (seats ++ s ∷ []) ≡ workers_of seats ++ s.worker ∷ []
 workers_snoc [] s = refl

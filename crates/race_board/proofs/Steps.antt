@@ -6,8 +6,8 @@ use lib.ListN.{get_elem?}
 use Rattle.std.proofs.lemmas.Bool.Decides.{nat_tests}
 use Rattle.atomic_table.specs.Table.{State, Me, step, keeps, stepped, Allows, Splits, Joins, opening}
 use Rattle.atomic_table.proofs.Lists.{at_set, at_snoc, set_again}
-use Rattle.race_board.specs.declared.stand.Stand.TheVariants.{Free, Holds, Failed}
-use Rattle.race_board.specs.declared.terms.Terms.{Terms}
+use Rattle.race_board.specs.declared.worker_state.WorkerState.TheVariants.{Free, Holds, Failed}
+use Rattle.race_board.specs.declared.race_key.RaceKey.{RaceKey}
 use Rattle.race_board.specs.Race.{Worker, worker, fresh_worker, fresh_workers, drawn, total_of, one_if_same, one_if_below, times_drawn, draws_of, steps_of, ends_of}
 use Rattle.race_board.specs.inner.Balance.{first_prices, held_price, IsBalanced, AllSound}
 use Rattle.race_board.specs.Rule.{acted}
@@ -52,7 +52,7 @@ mod_small : (x : ℕ) → x < 2 ^ 64 → x % 2 ^ 64 ≡ x
 mod_small x l = omega arith
 
 -- the count is at most the chunks and the workers, and what was spent at most the prices
-in_words_of : (t : Terms) (views : List (List Worker)) (count spent : ℕ) → IsBalanced t.prices.each count spent (weigh views) → weigh views (λ (w : Worker). 1) ≡ t.workers
+in_words_of : (t : RaceKey) (views : List (List Worker)) (count spent : ℕ) → IsBalanced t.prices.each count spent (weigh views) → weigh views (λ (w : Worker). 1) ≡ t.workers
     → (count ≤ length t.prices.each + t.workers) × (spent ≤ first_prices t.prices.each (length t.prices.each))
 in_words_of t views count spent h many =
     let a = h.draws in
@@ -63,11 +63,11 @@ in_words_of t views count spent h many =
     (omega arith, omega arith)
 
 -- the count is far from the end of its word
-count_small : (t : Terms) (s : State ℕ (List Worker)) → (h : IsHeld t s) → h.count < 2 ^ 63 + 65
+count_small : (t : RaceKey) (s : State ℕ (List Worker)) → (h : IsHeld t s) → h.count < 2 ^ 63 + 65
 count_small t s h = let a = h.in_words.0 in let e = h.small in omega (arith, e.0, e.2)
 
 -- a step that replaces the first worker of a seat by one of its number
-replaced : (t : Terms) (s : State ℕ (List Worker)) (h : IsHeld t s) (id i n : ℕ) (cs : List (ℕ × ℕ)) (old new : Worker) (ws : List Worker) (count spent : ℕ) → get_elem? s.views id ≡ some (old ∷ ws) → old.number ≡ new.number
+replaced : (t : RaceKey) (s : State ℕ (List Worker)) (h : IsHeld t s) (id i n : ℕ) (cs : List (ℕ × ℕ)) (old new : Worker) (ws : List Worker) (count spent : ℕ) → get_elem? s.views id ≡ some (old ∷ ws) → old.number ≡ new.number
     → set (h.count ∷ h.spent ∷ []) i n ≡ count ∷ spent ∷ [] → (Moves (weigh s.views) (weigh (set s.views id (new ∷ ws))) old new → IsBalanced t.prices.each count spent (weigh (set s.views id (new ∷ ws))))
     → ViewsSound t.prices.each count (set s.views id (new ∷ ws)) → IsHeld t (stepped s i n id cs (new ∷ ws) keeps)
 replaced t s h id i n cs old new ws count spent at same words balanced sound =
@@ -85,7 +85,7 @@ replaced t s h id i n cs old new ws count spent at same words balanced sound =
       in_words = in_words_of t (set s.views id (new ∷ ws)) count spent (balanced mv) all;
     }
 
-pub draws : (t : Terms) (slots id : ℕ) (me : Me ℕ (List Worker)) (prices : List ℕ) → prices ≡ t.prices.each → MayDraw me.0 → Allows (IsHeld t) slots id me 0 (λ n. (n + 1) % 2 ^ 64) (Draws prices (step slots 0 1 0 none) me)
+pub draws : (t : RaceKey) (slots id : ℕ) (me : Me ℕ (List Worker)) (prices : List ℕ) → prices ≡ t.prices.each → MayDraw me.0 → Allows (IsHeld t) slots id me 0 (λ n. (n + 1) % 2 ^ 64) (Draws prices (step slots 0 1 0 none) me)
 draws t slots id me prices same free s h _ at small =
     let n = free.0 in
     let d = free.1 in
@@ -110,7 +110,7 @@ draws t slots id me prices same free s h _ at small =
     is_below c m l x e p = grind (arith, nat_tests)
 
 -- what a seat spent, and spends now, is within the prices
-steps_fit : (t : Terms) (s : State ℕ (List Worker)) (h : IsHeld t s) (id : ℕ) (v : List Worker) (c steps : ℕ) → get_elem? s.views id ≡ some v → HoldsChunk c v → steps ≤ slice_index t.prices.each c → total_of steps_of v + steps ≤ 2 ^ 62
+steps_fit : (t : RaceKey) (s : State ℕ (List Worker)) (h : IsHeld t s) (id : ℕ) (v : List Worker) (c steps : ℕ) → get_elem? s.views id ≡ some v → HoldsChunk c v → steps ≤ slice_index t.prices.each c → total_of steps_of v + steps ≤ 2 ^ 62
 steps_fit t s h id v c steps at holds le =
     let ps : List ℕ = t.prices.each in
     let here : get_elem? s.views id ≡ some (worker holds.0 holds.1 (Holds c) ∷ holds.2) = at ∙ ap some holds.3 in
@@ -122,7 +122,7 @@ steps_fit t s h id v c steps at holds le =
     let y = h.balanced.steps in
     omega arith
 
-pub completes_step : (t : Terms) (slots id : ℕ) (me : Me ℕ (List Worker)) (c steps : ℕ) → HoldsChunk c me.0 → steps ≤ slice_index t.prices.each c → Allows (IsHeld t) slots id me 1 (λ n. (n + steps) % 2 ^ 64) (Completes (step slots 1 steps 0 none) me)
+pub completes_step : (t : RaceKey) (slots id : ℕ) (me : Me ℕ (List Worker)) (c steps : ℕ) → HoldsChunk c me.0 → steps ≤ slice_index t.prices.each c → Allows (IsHeld t) slots id me 1 (λ n. (n + steps) % 2 ^ 64) (Completes (step slots 1 steps 0 none) me)
 completes_step t slots id me c steps holds le s h _ at small =
     let n = holds.0 in
     let d = holds.1 in
@@ -144,7 +144,7 @@ completes_step t slots id me c steps holds le s h _ at small =
     (views_sound_set ps h.count s.views id (new ∷ ws) h.sound (completed_sound ps h.count n c steps d mine.0 le, mine.1)) in
     (new ∷ ws, keeps, tt, kept, (ap (acted (completes steps)) (sym holds.3), refl, steps_fit t s h id me.0 c steps at holds le))
 
-pub fails_step : (t : Terms) (slots id : ℕ) (me : Me ℕ (List Worker)) (c steps : ℕ) → HoldsChunk c me.0 → steps ≤ slice_index t.prices.each c → Allows (IsHeld t) slots id me 1 (λ n. (n + steps) % 2 ^ 64) (Fails (step slots 1 steps 0 none) me)
+pub fails_step : (t : RaceKey) (slots id : ℕ) (me : Me ℕ (List Worker)) (c steps : ℕ) → HoldsChunk c me.0 → steps ≤ slice_index t.prices.each c → Allows (IsHeld t) slots id me 1 (λ n. (n + steps) % 2 ^ 64) (Fails (step slots 1 steps 0 none) me)
 fails_step t slots id me c steps holds le s h _ at small =
     let n = holds.0 in
     let d = holds.1 in
@@ -167,7 +167,7 @@ fails_step t slots id me c steps holds le s h _ at small =
     (new ∷ ws, keeps, tt, kept, (ap (acted (fails steps)) (sym holds.3), refl, steps_fit t s h id me.0 c steps at holds le))
 
 -- the views change, and what they hold in all does not
-rearranged : (t : Terms) (s : State ℕ (List Worker)) (new : List (List Worker)) → (h : IsHeld t s) → ((f : Worker → ℕ) → weigh new f ≡ weigh s.views f) → ViewsSound t.prices.each h.count new → IsHeld t record { words = s.words; homes = s.homes; views = new }
+rearranged : (t : RaceKey) (s : State ℕ (List Worker)) (new : List (List Worker)) → (h : IsHeld t s) → ((f : Worker → ℕ) → weigh new f ≡ weigh s.views f) → ViewsSound t.prices.each h.count new → IsHeld t record { words = s.words; homes = s.homes; views = new }
 rearranged t s new h same sound = record {
   count = h.count;
   spent = h.spent;
@@ -192,7 +192,7 @@ first_sound : (prices : List ℕ) (count : ℕ) (ws : List Worker) → AllSound 
 first_sound prices count [] h = h
 first_sound prices count (x ∷ xs) h = (h.0, tt)
 
-pub splits : (t : Terms) (id : ℕ) (v : List Worker) → Splits (IsHeld t) id v (rest_of v) (first_of v)
+pub splits : (t : RaceKey) (id : ℕ) (v : List Worker) → Splits (IsHeld t) id v (rest_of v) (first_of v)
 splits t id v s h at =
     let ps : List ℕ = t.prices.each in
     let mine : AllSound ps h.count v = h.sound id v at in
@@ -200,7 +200,7 @@ splits t id v s h at =
     (λ f. let a = sum_set_view (total_of f) s.views id v (rest_of v) at in let b = sum_append (total_of f) (set s.views id (rest_of v)) (first_of v ∷ []) in let c = parted f v in omega arith)
     (views_sound_snoc ps h.count (set s.views id (rest_of v)) (first_of v) (views_sound_set ps h.count s.views id (rest_of v) h.sound (rest_sound ps h.count v mine)) (first_sound ps h.count v mine))
 
-pub joins : (t : Terms) (id : ℕ) (v : List Worker) (other : ℕ) (u : List Worker) → Joins (IsHeld t) id v other u (v ++ u) []
+pub joins : (t : RaceKey) (id : ℕ) (v : List Worker) (other : ℕ) (u : List Worker) → Joins (IsHeld t) id v other u (v ++ u) []
 joins t id v other u s h at apart there =
     let ps : List ℕ = t.prices.each in
     let both : List Worker = v ++ u in
@@ -210,7 +210,7 @@ joins t id v other u s h at apart there =
     (λ f. let a = sum_set_view (total_of f) s.views id v both at in let b = sum_set_view (total_of f) (set s.views id both) other u none_left there in let c = sum_append f v u in omega arith)
     (views_sound_set ps h.count (set s.views id both) other none_left (views_sound_set ps h.count s.views id both h.sound (sound_append ps h.count v u (h.sound id v at) (h.sound other u their))) tt)
 
-pub learns : (t : Terms) (slots id : ℕ) (me : Me ℕ (List Worker)) → Allows (IsHeld t) slots id me 0 (λ n. n) (Learns (step slots 0 0 0 none) me)
+pub learns : (t : RaceKey) (slots id : ℕ) (me : Me ℕ (List Worker)) → Allows (IsHeld t) slots id me 0 (λ n. n) (Learns (step slots 0 0 0 none) me)
 learns t slots id me s h _ at small =
     let again : set s.words 0 (slice_index s.words 0) ≡ s.words = (let P : List ℕ → Type 0 = λ l. set l 0 (slice_index l 0) ≡ l in subst P (sym h.words) refl) in
     let one = sum_has_view (total_of draws_of) s.views id me.0 at in
@@ -233,7 +233,7 @@ pub fresh_numbers : (k a n : ℕ) → total_of (λ (w : Worker). one_if_same k w
 fresh_numbers k a zero = let e : a + 0 ≡ a = omega arith in let e' = ap (one_if_below k) e in omega arith
 fresh_numbers k a (suc n) = let y = fresh_numbers k (a + 1) n in let z = below_more k a in let e : (a + 1) + n ≡ a + suc n = omega arith in let e' = ap (one_if_below k) e in omega arith
 
-pub opens : (t : Terms) → IsSmall t → IsHeld t (opening (0 ∷ 0 ∷ []) [] (everyone t))
+pub opens : (t : RaceKey) → IsSmall t → IsHeld t (opening (0 ∷ 0 ∷ []) [] (everyone t))
 opens t small =
     let ps : List ℕ = t.prices.each in
     let n : ℕ = t.workers in

@@ -1,8 +1,8 @@
 -- Lists of chunks, each with its steps, and sums over chunks: for whoever joins what the workers of a board did. This project's
 -- own.
 use Rattle.std.specs.Prelude.{◌≡◌, ℕ, zero, suc, ◌+◌, ◌≤◌, List, [], ◌∷◌, ◌++◌, Some, slice_get}
-use Rattle.race_board.specs.declared.stand.Stand.{Stand}
-use Rattle.race_board.specs.declared.stand.Stand.TheVariants.{Free, Holds, ToldEnd, Failed}
+use Rattle.race_board.specs.declared.worker_state.WorkerState.{WorkerState}
+use Rattle.race_board.specs.declared.worker_state.WorkerState.TheVariants.{Free, Holds, Drained, Failed}
 use Rattle.race_board.specs.Race.{Worker, total_of, one_if_same, one_if_below}
 
 -- how often the chunk c stands in a list of chunks with their steps
@@ -23,26 +23,26 @@ AreOnceAtMost n chunks = (c : ℕ) → times_in c chunks ≤ one_if_below c n
 
 -- the chunk c stands at just one place of the list
 pub record StandsOnce (c : ℕ) (chunks : List (ℕ × ℕ)) : Type 0 where
-  pub place : ℕ
+  pub nth : ℕ
   pub steps : ℕ
-  pub there : slice_get chunks place ≡ Some (c, steps)
-  pub only : (k s : ℕ) → slice_get chunks k ≡ Some (c, s) → k ≡ place
+  pub there : slice_get chunks nth ≡ Some (c, steps)
+  pub only : (k s : ℕ) → slice_get chunks k ≡ Some (c, s) → k ≡ nth
 
 -- what all workers completed, one worker after another
 abbrev pub completed_by : List Worker → List (ℕ × ℕ)
 completed_by [] = []
 completed_by (w ∷ ws) = w.done ++ completed_by ws
 
-abbrev pub failed_chunk : Stand → List (ℕ × ℕ)
+abbrev pub failed_chunk : WorkerState → List (ℕ × ℕ)
 failed_chunk Free = []
 failed_chunk (Holds c) = []
-failed_chunk ToldEnd = []
+failed_chunk Drained = []
 failed_chunk (Failed c s) = (c, s) ∷ []
 
 -- what they recorded, be it complete or failed
 abbrev pub recorded_by : List Worker → List (ℕ × ℕ)
 recorded_by [] = []
-recorded_by (w ∷ ws) = (w.done ++ failed_chunk w.stand) ++ recorded_by ws
+recorded_by (w ∷ ws) = (w.done ++ failed_chunk w.state) ++ recorded_by ws
 
 -- g of each chunk below n, added up
 abbrev pub sum_below : (ℕ → ℕ) → ℕ → ℕ

@@ -1,7 +1,7 @@
 -- What a crew, the workers who share one seat of the table, does in a step. This project's own.
 use Rattle.std.specs.Prelude.{◌≡◌, ℕ, ◌<◌, List, ◌∷◌, length, Option, Some, None}
-use Rattle.race_board.specs.declared.stand.Stand.TheVariants.{Free}
-use Rattle.race_board.specs.Race.{Worker, worker, holding, told_end, total_of, times_drawn}
+use Rattle.race_board.specs.declared.worker_state.WorkerState.TheVariants.{Free}
+use Rattle.race_board.specs.Race.{Worker, worker, holding, drained, total_of, times_drawn}
 use Rattle.race_board.specs.Rule.{acted}
 
 -- the crew's first worker may draw
@@ -14,4 +14,4 @@ abbrev pub IsAnswer : List ℕ → List Worker → Option ℕ → List Worker �
 IsAnswer prices ws (Some c) later =
     (c < length prices) × (later ≡ acted (holding c) ws)
     × ((k : ℕ) → 0 < total_of (times_drawn k) ws → k < c)
-IsAnswer prices ws None later = later ≡ acted told_end ws
+IsAnswer prices ws None later = later ≡ acted drained ws

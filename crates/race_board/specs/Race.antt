@@ -5,8 +5,8 @@
 -- that holds a chunk records it as complete, or as failed, with the steps that it took, at most the chunk's price, and holds it
 -- no more. Who completed a chunk may draw again; who failed one, or was told the end, may not.
 use Rattle.std.specs.Prelude.{◌≡◌, ℕ, zero, suc, ◌+◌, ◌<◌, ◌≤◌, ◌==◌, ◌&&◌, List, [], ◌∷◌, ◌++◌, length, map, fold, min, slice_index, slice_get, slice_set, nat_lt, nat_le, Bool, true, false, if◌then◌else◌, Option, Some, None, All, Any, Contains}
-use Rattle.race_board.specs.declared.stand.Stand.{Stand}
-use Rattle.race_board.specs.declared.stand.Stand.TheVariants.{Free, Holds, ToldEnd, Failed}
+use Rattle.race_board.specs.declared.worker_state.WorkerState.{WorkerState}
+use Rattle.race_board.specs.declared.worker_state.WorkerState.TheVariants.{Free, Holds, Drained, Failed}
 use Rattle.race_board.specs.declared.event.RaceEvent.{RaceEvent}
 use Rattle.race_board.specs.declared.totals.Totals.{Totals}
 use Rattle.race_board.specs.declared.event.RaceEvent.TheVariants.{Draw, Complete, Fail}
@@ -15,10 +15,10 @@ use Rattle.race_board.specs.declared.event.RaceEvent.TheVariants.{Draw, Complete
 pub record Worker : Type 0 where
   pub number : ℕ
   pub done : List (ℕ × ℕ)
-  pub stand : Stand
+  pub state : WorkerState
 
-abbrev pub worker : ℕ → List (ℕ × ℕ) → Stand → Worker
-worker n d st = record { number = n; done = d; stand = st }
+abbrev pub worker : ℕ → List (ℕ × ℕ) → WorkerState → Worker
+worker n d st = record { number = n; done = d; state = st }
 
 -- a worker that has done nothing yet
 abbrev pub fresh_worker : ℕ → Worker
@@ -34,8 +34,8 @@ abbrev pub holding : ℕ → Worker → Worker
 holding c w = worker w.number w.done (Holds c)
 
 -- the worker after it was told the end
-abbrev pub told_end : Worker → Worker
-told_end w = worker w.number w.done ToldEnd
+abbrev pub drained : Worker → Worker
+drained w = worker w.number w.done Drained
 
 -- the worker after it completed the chunk c with s steps
 abbrev pub completed : ℕ → ℕ → Worker → Worker
@@ -46,12 +46,12 @@ abbrev pub failed : ℕ → ℕ → Worker → Worker
 failed c s w = worker w.number w.done (Failed c s)
 
 -- how a worker stands that drew this number, where there are n chunks
-abbrev pub stand_after : ℕ → ℕ → Stand
-stand_after n found = if nat_lt found n then Holds found else ToldEnd
+abbrev pub state_after : ℕ → ℕ → WorkerState
+state_after n found = if nat_lt found n then Holds found else Drained
 
 -- the worker after it drew this number, be it a chunk or past the last
 abbrev pub drawn : List ℕ → ℕ → Worker → Worker
-drawn prices found w = worker w.number w.done (stand_after (length prices) found)
+drawn prices found w = worker w.number w.done (state_after (length prices) found)
 
 -- 2. What a record says: how often the worker drew a chunk, how many it drew, what it spent. Of several workers these are added
 -- up.
@@ -69,62 +69,62 @@ one_if_below c n = if nat_lt c n then 1 else 0
 abbrev pub times_completed : ℕ → Worker → ℕ
 times_completed c w = total_of (λ (d : ℕ × ℕ). one_if_same c d.0) w.done
 
-abbrev pub times_now : ℕ → Stand → ℕ
+abbrev pub times_now : ℕ → WorkerState → ℕ
 times_now c Free = 0
 times_now c (Holds x) = one_if_same c x
-times_now c ToldEnd = 0
+times_now c Drained = 0
 times_now c (Failed x s) = one_if_same c x
 
 -- how often a worker drew the chunk c: it completed it, or holds it, or failed it
 abbrev pub times_drawn : ℕ → Worker → ℕ
-times_drawn c w = times_completed c w + times_now c w.stand
+times_drawn c w = times_completed c w + times_now c w.state
 
-abbrev pub draws_now : Stand → ℕ
+abbrev pub draws_now : WorkerState → ℕ
 draws_now Free = 0
 draws_now (Holds x) = 1
-draws_now ToldEnd = 0
+draws_now Drained = 0
 draws_now (Failed x s) = 1
 
 -- how many chunks a worker drew
 abbrev pub draws_of : Worker → ℕ
-draws_of w = total_of (λ (d : ℕ × ℕ). 1) w.done + draws_now w.stand
+draws_of w = total_of (λ (d : ℕ × ℕ). 1) w.done + draws_now w.state
 
-abbrev pub ends_now : Stand → ℕ
+abbrev pub ends_now : WorkerState → ℕ
 ends_now Free = 0
 ends_now (Holds x) = 0
-ends_now ToldEnd = 1
+ends_now Drained = 1
 ends_now (Failed x s) = 0
 
 -- 1 where the worker was told the end
 abbrev pub ends_of : Worker → ℕ
-ends_of w = ends_now w.stand
+ends_of w = ends_now w.state
 
-abbrev pub steps_now : Stand → ℕ
+abbrev pub steps_now : WorkerState → ℕ
 steps_now Free = 0
 steps_now (Holds x) = 0
-steps_now ToldEnd = 0
+steps_now Drained = 0
 steps_now (Failed x s) = s
 
 -- the steps that a worker recorded
 abbrev pub steps_of : Worker → ℕ
-steps_of w = total_of (λ (d : ℕ × ℕ). d.1) w.done + steps_now w.stand
+steps_of w = total_of (λ (d : ℕ × ℕ). d.1) w.done + steps_now w.state
 
 abbrev pub AreWithin : List ℕ → List (ℕ × ℕ) → Type 0
 AreWithin prices [] = Unit {0}
 AreWithin prices (d ∷ ds) = (d.1 ≤ slice_index prices d.0) × AreWithin prices ds
 
-abbrev pub StandsWithin : List ℕ → Stand → Type 0
-StandsWithin prices Free = Unit {0}
-StandsWithin prices (Holds x) = Unit {0}
-StandsWithin prices ToldEnd = Unit {0}
-StandsWithin prices (Failed x s) = s ≤ slice_index prices x
+abbrev pub IsStateWithin : List ℕ → WorkerState → Type 0
+IsStateWithin prices Free = Unit {0}
+IsStateWithin prices (Holds x) = Unit {0}
+IsStateWithin prices Drained = Unit {0}
+IsStateWithin prices (Failed x s) = s ≤ slice_index prices x
 
 -- for no chunk did the worker record more steps than the chunk's price
 abbrev pub IsWithinPrices : List ℕ → Worker → Type 0
-IsWithinPrices prices w = AreWithin prices w.done × StandsWithin prices w.stand
+IsWithinPrices prices w = AreWithin prices w.done × IsStateWithin prices w.state
 
-abbrev pub IsToldEnd : Worker → Type 0
-IsToldEnd w = w.stand ≡ ToldEnd
+abbrev pub IsDrained : Worker → Type 0
+IsDrained w = w.state ≡ Drained
 
 -- 3. The race, event by event: the prices of its chunks, the count of draws, and the workers, each at the place of its number.
 pub record RaceState : Type 0 where
@@ -138,28 +138,28 @@ race prices count workers = record { prices = prices; count = count; workers = w
 abbrev pub start : List ℕ → ℕ → RaceState
 start prices workers = race prices 0 (fresh_workers 0 workers)
 
-abbrev pub may_draw : Stand → Bool
+abbrev pub may_draw : WorkerState → Bool
 may_draw Free = true
 may_draw (Holds c) = false
-may_draw ToldEnd = false
+may_draw Drained = false
 may_draw (Failed c s) = false
 
 -- a worker that holds the chunk c may record it with s steps, where they are at most its price
-abbrev pub may_record : List ℕ → ℕ → ℕ → Stand → Bool
+abbrev pub may_record : List ℕ → ℕ → ℕ → WorkerState → Bool
 may_record prices c s Free = false
 may_record prices c s (Holds d) = (d == c) && nat_le s (slice_index prices c)
-may_record prices c s ToldEnd = false
+may_record prices c s Drained = false
 may_record prices c s (Failed d t) = false
 
 abbrev pub draw_by : RaceState → ℕ → Option Worker → RaceState
 draw_by r w None = r
 draw_by r w (Some x) =
-    if may_draw x.stand then race r.prices (r.count + 1) (slice_set r.workers w (drawn r.prices r.count x)) else r
+    if may_draw x.state then race r.prices (r.count + 1) (slice_set r.workers w (drawn r.prices r.count x)) else r
 
 abbrev pub record_by : RaceState → ℕ → ℕ → ℕ → (Worker → Worker) → Option Worker → RaceState
 record_by r w c s recorded None = r
 record_by r w c s recorded (Some x) =
-    if may_record r.prices c s x.stand then race r.prices r.count (slice_set r.workers w (recorded x)) else r
+    if may_record r.prices c s x.state then race r.prices r.count (slice_set r.workers w (recorded x)) else r
 
 -- what an event makes of a race: one that doesn't apply, or is of a worker that isn't there, leaves the race as it is
 abbrev pub after_event : RaceState → RaceEvent → RaceState
@@ -177,9 +177,9 @@ pub record IsLawful (prices : List ℕ) (count : ℕ) (workers : List Worker) : 
   -- the steps recorded are at most the prices
   pub within_prices : All (IsWithinPrices prices) workers
   -- once a worker was told the end, every chunk was drawn
-  pub end_is_true : Any IsToldEnd workers → (c : ℕ) → c < length prices → total_of (times_drawn c) workers ≡ 1
+  pub end_is_true : Any IsDrained workers → (c : ℕ) → c < length prices → total_of (times_drawn c) workers ≡ 1
   -- where all were told the end, so that none failed, each chunk was completed once
-  pub all_completed : 0 < length workers → All IsToldEnd workers
+  pub all_completed : 0 < length workers → All IsDrained workers
       → (c : ℕ) → c < length prices → total_of (times_completed c) workers ≡ 1
 
 -- each worker stands at the place of its number
@@ -187,25 +187,25 @@ abbrev pub AreInPlace : List Worker → Type 0
 AreInPlace workers = (k : ℕ) (w : Worker) → slice_get workers k ≡ Some w → w.number ≡ k
 
 -- 5. What is asked of a race.
-abbrev pub held_now : Stand → Option ℕ
+abbrev pub held_now : WorkerState → Option ℕ
 held_now Free = None
 held_now (Holds c) = Some c
-held_now ToldEnd = None
+held_now Drained = None
 held_now (Failed c s) = None
 
 -- the chunk that a worker holds
 abbrev pub chunk_held : Worker → Option ℕ
-chunk_held w = held_now w.stand
+chunk_held w = held_now w.state
 
-abbrev pub failed_now : Stand → Option (ℕ × ℕ)
+abbrev pub failed_now : WorkerState → Option (ℕ × ℕ)
 failed_now Free = None
 failed_now (Holds c) = None
-failed_now ToldEnd = None
+failed_now Drained = None
 failed_now (Failed c s) = Some (c, s)
 
 -- the chunk that a worker failed, with its steps
 abbrev pub failure : Worker → Option (ℕ × ℕ)
-failure w = failed_now w.stand
+failure w = failed_now w.state
 
 -- there is a worker, and P holds of it
 abbrev pub IfThere : (Worker → Type 0) → Option Worker → Type 0
@@ -233,7 +233,7 @@ IsSeatOf board seat = seat.board ≡ board.name
 
 -- a seat of this board whose worker may draw
 abbrev pub MayDrawAt : BoardState → SeatState → Type 0
-MayDrawAt board seat = IsSeatOf board seat × (seat.worker.stand ≡ Free)
+MayDrawAt board seat = IsSeatOf board seat × (seat.worker.state ≡ Free)
 
 -- the number is above all that the worker drew
 abbrev pub IsAboveDraws : Worker → ℕ → Type 0
@@ -244,7 +244,7 @@ workers_of seats = map (λ s. s.worker) seats
 
 -- all the board's workers are here, and one of them was told the end
 abbrev pub IsFinished : BoardState → List Worker → Type 0
-IsFinished board workers = (length workers ≡ board.workers) × Any IsToldEnd workers
+IsFinished board workers = (length workers ≡ board.workers) × Any IsDrained workers
 
 -- each number below n is that of one worker, and no worker has another
 abbrev pub AreNumbersBelow : ℕ → List Worker → Type 0
@@ -276,5 +276,5 @@ pub record IsClosing (board : BoardState) (workers : List Worker) (totals : Tota
   pub all : IsFinished board workers → totals.draws ≡ length board.prices
   pub each : IsFinished board workers → (c : ℕ) → total_of (times_drawn c) workers ≡ one_if_below c (length board.prices)
   -- where all of them were told the end, so that none failed, each chunk was completed once
-  pub completed : IsFinished board workers → All IsToldEnd workers
+  pub completed : IsFinished board workers → All IsDrained workers
       → (c : ℕ) → total_of (times_completed c) workers ≡ one_if_below c (length board.prices)

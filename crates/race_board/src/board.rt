@@ -1,14 +1,14 @@
 //! A board on which workers in threads draw chunks, over two atomic words.
 ghost use Rattle.std.specs.Prelude.{◌≡◌, List, ℕ, ◌+◌, ◌^◌, ◌<◌, ◌≤◌, [], length, sum, slice_get, slice_index, All, Some, IfOk, IfSome, IfNone, vec_len};
-ghost use Rattle.race_board.specs.declared.stand.Stand.TheVariants.{Free, Holds};
-ghost use Rattle.race_board.specs.Race.{Worker, SeatState, IsSeatOf, MayDrawAt, IsClosing, IsAboveDraws, fresh_worker, fresh_workers, holding, told_end, completed, failed, total_of, draws_of, steps_of, workers_of};
+ghost use Rattle.race_board.specs.declared.worker_state.WorkerState.TheVariants.{Free, Holds};
+ghost use Rattle.race_board.specs.Race.{Worker, SeatState, IsSeatOf, MayDrawAt, IsClosing, IsAboveDraws, fresh_worker, fresh_workers, holding, drained, completed, failed, total_of, draws_of, steps_of, workers_of};
 ghost use Rattle.race_board.specs.Naming.{name_of};
 ghost use Rattle.race_board.specs.inner.Crews.{IsClosedWith, IsClosed};
 
 use crate::crew::Crew;
-use crate::rule::{COUNT, Place, SPENT, SplitStep, Words};
+use crate::race_key::{Prices, RaceKey};
+use crate::rule::{COUNT, SPENT, SplitStep, TableSeat, Words};
 use crate::seat::BoardSeat;
-use crate::terms::{Prices, Terms};
 use crate::totals::Totals;
 use std::alloc::{AllocError, Global};
 use std::marker::Model;
@@ -73,12 +73,12 @@ impl Board {
         ensures fresh { IfOk result (λ r. (k : ℕ) (s : SeatState) → slice_get r.1.items k ≡ Some s →
             s.worker ≡ fresh_worker k) }
     {
-        let terms = Terms {
+        let race_key = RaceKey {
             prices: Prices::for_proof(),
             workers,
         };
-        let (table, place) = Words::of_words(alloc, &[0, 0], &terms)?;
-        let seats = deal(&table, alloc, place, workers)?;
+        let (table, table_seat) = Words::of_words(alloc, &[0, 0], &race_key)?;
+        let seats = deal(&table, alloc, table_seat, workers)?;
         Ok((Board { table, chunks }, seats))
     }
 
@@ -93,13 +93,13 @@ impl Board {
     /// The worker draws: it gets a chunk, which it holds from then on, or is told the end.
     pub fn draw(&self, seat: &mut BoardSeat) -> Option<u64>
         requires own { IsSeatOf self.now seat.old }
-        requires free { seat.old.worker.stand ≡ Free }
+        requires free { seat.old.worker.state ≡ Free }
         ensures own { IsSeatOf self.now seat.new }
         ensures chunk { IfSome result (λ c. (c < length self.now.prices) ×
             (seat.new.worker ≡ holding c seat.old.worker)) }
         ensures few { length self.now.prices < 2 ^ 63 }
         ensures above { IfSome result (λ c. IsAboveDraws seat.old.worker c) }
-        ensures end { IfNone result (seat.new.worker ≡ told_end seat.old.worker) }
+        ensures end { IfNone result (seat.new.worker ≡ drained seat.old.worker) }
     {
         seat.crew.draw(&self.table, self.chunks)
     }
@@ -107,7 +107,7 @@ impl Board {
     /// The worker records the chunk that it holds as complete, with the steps that it took.
     pub fn complete(&self, seat: &mut BoardSeat, chunk: u64, steps: u64)
         requires own { IsSeatOf self.now seat.old }
-        requires holds { seat.old.worker.stand ≡ Holds chunk }
+        requires holds { seat.old.worker.state ≡ Holds chunk }
         requires price { steps ≤ slice_index self.now.prices chunk }
         ensures own { IsSeatOf self.now seat.new }
         ensures completed { seat.new.worker ≡ completed chunk steps seat.old.worker }
@@ -119,7 +119,7 @@ impl Board {
     /// no more.
     pub fn fail(&self, seat: &mut BoardSeat, chunk: u64, steps: u64)
         requires own { IsSeatOf self.now seat.old }
-        requires holds { seat.old.worker.stand ≡ Holds chunk }
+        requires holds { seat.old.worker.state ≡ Holds chunk }
         requires price { steps ≤ slice_index self.now.prices chunk }
         ensures own { IsSeatOf self.now seat.new }
         ensures failed { seat.new.worker ≡ failed chunk steps seat.old.worker }
@@ -166,27 +166,27 @@ fn open_for(
 fn deal(
     table: &Words,
     alloc: Global,
-    place: Place,
+    table_seat: TableSeat,
     workers: u64,
 ) -> Result<Vec<BoardSeat>, AllocError>
     requires workers { 0 < workers }
     requires words { table.now.shared.table_id.words ≡ 2 }
-    requires own { place.table_id ≡ table.now.shared.table_id }
-    requires all { place.me ≡ (fresh_workers 0 workers, []) }
+    requires own { table_seat.table_id ≡ table.now.shared.table_id }
+    requires all { table_seat.me ≡ (fresh_workers 0 workers, []) }
     ensures len { IfOk result (λ v. vec_len v ≡ workers) }
     ensures fresh { IfOk result (λ v. (k : ℕ) (s : SeatState) → slice_get v.items k ≡ Some s →
         (s.board ≡ name_of table.now.shared.table_id) × (s.worker ≡ fresh_worker k)) }
 {
-    let mut place = place;
+    let mut table_seat = table_seat;
     let mut seats = Vec::with_capacity(alloc, workers as usize)?;
     for _worker in 0..workers - 1 {
-        let first = table.shared.split_seat::<SplitStep>(&mut place);
+        let first = table.shared.split_seat::<SplitStep>(&mut table_seat);
         seats.push(BoardSeat {
             crew: Crew::new(first),
         })?;
     }
     seats.push(BoardSeat {
-        crew: Crew::new(place),
+        crew: Crew::new(table_seat),
     })?;
     Ok(seats)
 }
@@ -196,8 +196,8 @@ fn gather(table: &Words, first: BoardSeat, seats: Vec<BoardSeat>) -> Crew
     requires words { table.now.shared.table_id.words ≡ 2 }
     requires first { first.board ≡ name_of table.now.shared.table_id }
     requires own { All (λ s. s.board ≡ name_of table.now.shared.table_id) seats.items }
-    ensures own { result.place.table_id ≡ table.now.shared.table_id }
-    ensures all { (f : Worker → ℕ) → total_of f result.place.me.0 ≡
+    ensures own { result.table_seat.table_id ≡ table.now.shared.table_id }
+    ensures all { (f : Worker → ℕ) → total_of f result.table_seat.me.0 ≡
         total_of f (workers_of seats.items) + f first.worker }
 {
     let BoardSeat { crew } = first;
@@ -214,17 +214,17 @@ fn gather(table: &Words, first: BoardSeat, seats: Vec<BoardSeat>) -> Crew
 fn end(table: Words, all: Crew) -> Totals
     requires words { table.shared.table_id.words ≡ 2 }
     requires slots { table.shared.table_id.slots ≡ 0 }
-    requires own { all.place.table_id ≡ table.shared.table_id }
-    ensures draws { result.draws ≡ total_of draws_of all.place.me.0 }
-    ensures spent { result.spent ≡ total_of steps_of all.place.me.0 }
-    ensures held { IsClosedWith table.shared.key all.place.me.0 result.count result.recorded }
+    requires own { all.table_seat.table_id ≡ table.shared.table_id }
+    ensures draws { result.draws ≡ total_of draws_of all.table_seat.me.0 }
+    ensures spent { result.spent ≡ total_of steps_of all.table_seat.me.0 }
+    ensures held { IsClosedWith table.shared.key all.table_seat.me.0 result.count result.recorded }
 {
     let Crew {
-        place,
+        table_seat,
         draws,
         spent,
     } = all;
-    let closed = table.close_with(place);
+    let closed = table.close_with(table_seat);
     let count = closed.word(COUNT);
     let recorded = closed.word(SPENT);
     closed.free();

@@ -9,7 +9,7 @@ ghost use Rattle.race_board.specs.Crews.{MayDraw, IsAnswer};
 ghost use Rattle.race_board.specs.inner.Crews.{HoldsChunk};
 
 use crate::rule::{
-    COUNT, CompleteStep, DrawStep, FailStep, JoinStep, JoinedLook, Place, Priced, SPENT, Words,
+    COUNT, CompleteStep, DrawStep, FailStep, JoinStep, JoinedLook, Priced, SPENT, TableSeat, Words,
 };
 use std::marker::Brand;
 
@@ -17,23 +17,23 @@ use std::marker::Brand;
 /// has nothing to look up.
 #[derive(Drop)]
 pub struct Crew {
-    pub place: Place,
+    pub table_seat: TableSeat,
     pub draws: u64,
     pub spent: u64,
-    ghost no_slot: { place.me.1 ≡ [] },
-    ghost draws_is: { draws ≡ total_of draws_of place.me.0 },
-    ghost spent_is: { spent ≡ total_of steps_of place.me.0 },
+    ghost no_slot: { table_seat.me.1 ≡ [] },
+    ghost draws_is: { draws ≡ total_of draws_of table_seat.me.0 },
+    ghost spent_is: { spent ≡ total_of steps_of table_seat.me.0 },
 }
 
 impl Crew {
     /// Workers who have done nothing yet.
-    pub fn new(place: Place) -> Crew
-        requires slot { place.me.1 ≡ [] }
-        requires fresh { (k : ℕ) × (n : ℕ) × (place.me.0 ≡ fresh_workers k n) }
-        ensures { result.place ≡ place }
+    pub fn new(table_seat: TableSeat) -> Crew
+        requires slot { table_seat.me.1 ≡ [] }
+        requires fresh { (k : ℕ) × (n : ℕ) × (table_seat.me.0 ≡ fresh_workers k n) }
+        ensures { result.table_seat ≡ table_seat }
     {
         Crew {
-            place,
+            table_seat,
             draws: 0,
             spent: 0,
         }
@@ -41,15 +41,15 @@ impl Crew {
 
     /// The first worker draws.
     pub fn draw(&mut self, table: &Words, chunks: u64) -> Option<u64>
-        requires own { self.old.place.table_id ≡ table.now.shared.table_id }
+        requires own { self.old.table_seat.table_id ≡ table.now.shared.table_id }
         requires words { table.now.shared.table_id.words ≡ 2 }
         requires chunks { chunks ≡ length table.now.shared.key.prices.each }
-        requires free { MayDraw self.old.place.me.0 }
-        ensures own { self.new.place.table_id ≡ self.old.place.table_id }
-        ensures drew { IsAnswer table.now.shared.key.prices.each self.old.place.me.0 result
-            self.new.place.me.0 }
+        requires free { MayDraw self.old.table_seat.me.0 }
+        ensures own { self.new.table_seat.table_id ≡ self.old.table_seat.table_id }
+        ensures drew { IsAnswer table.now.shared.key.prices.each self.old.table_seat.me.0 result
+            self.new.table_seat.me.0 }
     {
-        let found = draw_at::<Brand>(table, &mut self.place);
+        let found = draw_at::<Brand>(table, &mut self.table_seat);
         if found < chunks {
             self.draws += 1;
             Some(found)
@@ -60,70 +60,70 @@ impl Crew {
 
     /// The first worker completes the chunk that it holds.
     pub fn complete(&mut self, table: &Words, chunk: u64, steps: u64)
-        requires own { self.old.place.table_id ≡ table.now.shared.table_id }
+        requires own { self.old.table_seat.table_id ≡ table.now.shared.table_id }
         requires words { table.now.shared.table_id.words ≡ 2 }
-        requires holds { HoldsChunk chunk self.old.place.me.0 }
+        requires holds { HoldsChunk chunk self.old.table_seat.me.0 }
         requires price { steps ≤ slice_index table.now.shared.key.prices.each chunk }
-        ensures own { self.new.place.table_id ≡ self.old.place.table_id }
-        ensures completed { self.new.place.me.0 ≡ acted (completed chunk steps) self.old.place.me.0 }
+        ensures own { self.new.table_seat.table_id ≡ self.old.table_seat.table_id }
+        ensures completed { self.new.table_seat.me.0 ≡ acted (completed chunk steps) self.old.table_seat.me.0 }
     {
         table
             .shared
-            .fetch_add::<CompleteStep>(&mut self.place, SPENT, steps);
+            .fetch_add::<CompleteStep>(&mut self.table_seat, SPENT, steps);
         self.spent += steps;
     }
 
     /// The first worker fails the chunk that it holds.
     pub fn fail(&mut self, table: &Words, chunk: u64, steps: u64)
-        requires own { self.old.place.table_id ≡ table.now.shared.table_id }
+        requires own { self.old.table_seat.table_id ≡ table.now.shared.table_id }
         requires words { table.now.shared.table_id.words ≡ 2 }
-        requires holds { HoldsChunk chunk self.old.place.me.0 }
+        requires holds { HoldsChunk chunk self.old.table_seat.me.0 }
         requires price { steps ≤ slice_index table.now.shared.key.prices.each chunk }
-        ensures own { self.new.place.table_id ≡ self.old.place.table_id }
-        ensures failed { self.new.place.me.0 ≡ acted (failed chunk steps) self.old.place.me.0 }
+        ensures own { self.new.table_seat.table_id ≡ self.old.table_seat.table_id }
+        ensures failed { self.new.table_seat.me.0 ≡ acted (failed chunk steps) self.old.table_seat.me.0 }
     {
         table
             .shared
-            .fetch_add::<FailStep>(&mut self.place, SPENT, steps);
+            .fetch_add::<FailStep>(&mut self.table_seat, SPENT, steps);
         self.spent += steps;
     }
 
     /// The crew with the workers of another behind its own.
     pub fn join(self, table: &Words, other: Crew) -> Crew
-        requires own { self.place.table_id ≡ table.now.shared.table_id }
-        requires other { other.place.table_id ≡ table.now.shared.table_id }
+        requires own { self.table_seat.table_id ≡ table.now.shared.table_id }
+        requires other { other.table_seat.table_id ≡ table.now.shared.table_id }
         requires words { table.now.shared.table_id.words ≡ 2 }
-        ensures own { result.place.table_id ≡ self.place.table_id }
-        ensures both { result.place.me.0 ≡ self.place.me.0 ++ other.place.me.0 }
+        ensures own { result.table_seat.table_id ≡ self.table_seat.table_id }
+        ensures both { result.table_seat.me.0 ≡ self.table_seat.me.0 ++ other.table_seat.me.0 }
     {
         let Crew {
-            mut place,
+            mut table_seat,
             draws,
             spent,
         } = self;
         let Crew {
-            place: others,
+            table_seat: others,
             draws: more_draws,
             spent: more_spent,
         } = other;
-        table.shared.join_seat::<JoinStep>(&mut place, others);
-        table.shared.load::<JoinedLook>(&mut place, COUNT);
+        table.shared.join_seat::<JoinStep>(&mut table_seat, others);
+        table.shared.load::<JoinedLook>(&mut table_seat, COUNT);
         Crew {
-            place,
+            table_seat,
             draws: draws + more_draws,
             spent: spent + more_spent,
         }
     }
 }
 
-fn draw_at<T: Priced>(table: &Words, place: &mut Place) -> u64
-    requires own { place.old.table_id ≡ table.now.shared.table_id }
+fn draw_at<T: Priced>(table: &Words, table_seat: &mut TableSeat) -> u64
+    requires own { table_seat.old.table_id ≡ table.now.shared.table_id }
     requires words { table.now.shared.table_id.words ≡ 2 }
     requires prices { T.prices ≡ table.now.shared.key.prices.each }
-    requires free { MayDraw place.old.me.0 }
-    ensures own { place.new.table_id ≡ place.old.table_id }
+    requires free { MayDraw table_seat.old.me.0 }
+    ensures own { table_seat.new.table_id ≡ table_seat.old.table_id }
     ensures drew { Draws table.now.shared.key.prices.each
-        (step table.now.shared.table_id.slots 0 1 0 none) place.old.me result place.new.me }
+        (step table.now.shared.table_id.slots 0 1 0 none) table_seat.old.me result table_seat.new.me }
 {
-    table.shared.fetch_add::<DrawStep<T>>(place, COUNT, 1)
+    table.shared.fetch_add::<DrawStep<T>>(table_seat, COUNT, 1)
 }

@@ -5,9 +5,9 @@
 //! list of events by `replay`, a core without threads, and of workers in threads by `Board`: each of
 //! its calls changes its worker's record as an event does, and its workers meet the same law.
 //!
-//! Read `specs/Race.antt` with `stand`, `event` and `totals` first, then `race` with `worker` (the
+//! Read `specs/Race.antt` with `worker_state`, `event` and `totals` first, then `race` with `worker` (the
 //! core), then `board` and `seat`. `laws` with `specs/Chunks.antt` joins calls with events, and says
-//! what the lists of all workers say together. How the board keeps its promise is in `terms`, `rule` (what holds between any two
+//! what the lists of all workers say together. How the board keeps its promise is in `race_key`, `rule` (what holds between any two
 //! steps) and `crew` (the steps themselves). Threads are run by the crate thread_tests, a client as a batch is.
 #![tactic(auto)]
 
@@ -16,16 +16,16 @@ mod crew;
 mod event;
 pub mod laws;
 mod race;
+mod race_key;
 mod rule;
 mod seat;
-mod stand;
-mod terms;
 mod totals;
 mod worker;
+mod worker_state;
 
 pub use board::Board;
 pub use event::RaceEvent;
 pub use race::{Race, replay};
 pub use seat::BoardSeat;
-pub use stand::Stand;
 pub use totals::Totals;
+pub use worker_state::WorkerState;

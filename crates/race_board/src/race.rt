@@ -10,7 +10,7 @@ ghost use Rattle.race_board.specs.Race.{
   replayed,
   IsLawful,
   AreInPlace,
-  IsToldEnd,
+  IsDrained,
   IfThere,
   IsCompletedBy,
   chunk_held,
@@ -19,8 +19,8 @@ ghost use Rattle.race_board.specs.Race.{
 ghost use Rattle.race_board.specs.inner.Race.{may_record_by};
 
 use crate::event::RaceEvent;
-use crate::stand::Stand;
 use crate::worker::WorkerRecord;
+use crate::worker_state::WorkerState;
 use std::alloc::{AllocError, Global};
 use std::marker::Model;
 
@@ -101,12 +101,12 @@ impl Race {
         if worker >= self.workers.len() as u64 {
             return;
         }
-        let place = worker as usize;
-        let Stand::Free = self.workers[place].stand() else {
+        let nth = worker as usize;
+        let WorkerState::Free = self.workers[nth].state() else {
             return;
         };
         let chunks = self.prices.len() as u64;
-        self.workers[place].draw(self.count, chunks);
+        self.workers[nth].draw(self.count, chunks);
         self.count += 1;
     }
 
@@ -137,7 +137,7 @@ impl Race {
         if worker >= self.workers.len() as u64 {
             return false;
         }
-        let Stand::Holds(held) = self.workers[worker as usize].stand() else {
+        let WorkerState::Holds(held) = self.workers[worker as usize].state() else {
             return false;
         };
         held == chunk && steps <= self.prices[held as usize]
@@ -161,8 +161,8 @@ impl Race {
     pub fn holds(&self, worker: u64) -> Option<u64>
         ensures { result ≡ option_and_then chunk_held (slice_get self.now.workers worker) }
     {
-        match self.stand(worker) {
-            Some(Stand::Holds(chunk)) => Some(chunk),
+        match self.state(worker) {
+            Some(WorkerState::Holds(chunk)) => Some(chunk),
             _ => None,
         }
     }
@@ -184,24 +184,24 @@ impl Race {
     pub fn failed(&self, worker: u64) -> Option<(u64, u64)>
         ensures { result ≡ option_and_then failure (slice_get self.now.workers worker) }
     {
-        match self.stand(worker) {
-            Some(Stand::Failed(chunk, steps)) => Some((chunk, steps)),
+        match self.state(worker) {
+            Some(WorkerState::Failed(chunk, steps)) => Some((chunk, steps)),
             _ => None,
         }
     }
 
     /// Says whether the worker is there and was told the end.
-    pub fn told_end(&self, worker: u64) -> bool
-        ensures { IsTrue result ↔ IfThere IsToldEnd (slice_get self.now.workers worker) }
+    pub fn drained(&self, worker: u64) -> bool
+        ensures { IsTrue result ↔ IfThere IsDrained (slice_get self.now.workers worker) }
     {
-        matches!(self.stand(worker), Some(Stand::ToldEnd))
+        matches!(self.state(worker), Some(WorkerState::Drained))
     }
 
-    fn stand(&self, worker: u64) -> Option<Stand>
-        ensures { result ≡ option_map (λ (w : Worker). w.stand) (slice_get self.now.workers worker) }
+    fn state(&self, worker: u64) -> Option<WorkerState>
+        ensures { result ≡ option_map (λ (w : Worker). w.state) (slice_get self.now.workers worker) }
     {
         if worker < self.workers.len() as u64 {
-            Some(self.workers[worker as usize].stand())
+            Some(self.workers[worker as usize].state())
         } else {
             None
         }

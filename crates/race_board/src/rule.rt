@@ -3,7 +3,7 @@
 ghost use Rattle.std.specs.Prelude.{[], ◌++◌};
 ghost use Rattle.race_board.specs.inner.Rule.{IsHeld, everyone, first_of, rest_of, Draws, Completes, Fails, Learns};
 
-use crate::terms::Terms;
+use crate::race_key::RaceKey;
 use crate::worker::WorkerRecord;
 use atomic_table::{Join, Play, Seat, Split, Table, TableRule};
 use std::alloc::Global;
@@ -14,10 +14,10 @@ use std::marker::{Brand, PhantomData};
 pub type View = LinkedList<WorkerRecord>;
 
 /// The two words of a board: the count of draws, and the steps spent.
-pub type Words = Table<u8, View, Terms, BoardRule, Global>;
+pub type Words = Table<u8, View, RaceKey, BoardRule, Global>;
 
 /// A seat of the words.
-pub type Place = Seat<u8, View>;
+pub type TableSeat = Seat<u8, View>;
 
 /// The number of the word that counts the draws.
 pub const COUNT: usize = 0;
@@ -29,7 +29,7 @@ pub const SPENT: usize = 1;
 /// count and the steps spent.
 pub struct BoardRule;
 
-impl TableRule<u8, View, Terms> for BoardRule {
+impl TableRule<u8, View, RaceKey> for BoardRule {
     ghost holds = { IsHeld };
 
     ghost first = { everyone };

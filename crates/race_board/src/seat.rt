@@ -16,7 +16,7 @@ impl Model for BoardSeat {
 
     ghost Value = { SeatState };
 
-    ghost view = { λ s. record { board = name_of s.crew.place.table_id; worker = first_worker s.crew.place.me.0 } };
+    ghost view = { λ s. record { board = name_of s.crew.table_seat.table_id; worker = first_worker s.crew.table_seat.me.0 } };
 
-    ghost invariant = { λ s. IsAlone s.crew.place.me.0 };
+    ghost invariant = { λ s. IsAlone s.crew.table_seat.me.0 };
 }

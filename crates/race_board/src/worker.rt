@@ -1,8 +1,8 @@
 //! The record of one worker.
 ghost use Rattle.std.specs.Prelude.{◌≡◌, OnOk, OnErr, IfSome, IfNone, Contains};
-ghost use Rattle.race_board.specs.Race.{worker, fresh_worker, stand_after, completed, failed, times_completed};
+ghost use Rattle.race_board.specs.Race.{worker, fresh_worker, state_after, completed, failed, times_completed};
 
-use crate::stand::Stand;
+use crate::worker_state::WorkerState;
 use std::alloc::{AllocError, Global};
 use std::marker::Model;
 
@@ -12,7 +12,7 @@ use std::marker::Model;
 pub struct WorkerRecord {
     number: u64,
     done: Vec<(u64, u64)>,
-    stand: Stand,
+    state: WorkerState,
 }
 
 impl Model for WorkerRecord {
@@ -20,7 +20,7 @@ impl Model for WorkerRecord {
 
     ghost Value = { Worker };
 
-    ghost view = { λ r. record { number = r.number; done = r.done.items; stand = r.stand } };
+    ghost view = { λ r. record { number = r.number; done = r.done.items; state = r.state } };
 }
 
 impl WorkerRecord {
@@ -31,7 +31,7 @@ impl WorkerRecord {
         WorkerRecord {
             number,
             done: Vec::new(alloc),
-            stand: Stand::Free,
+            state: WorkerState::Free,
         }
     }
 
@@ -41,10 +41,10 @@ impl WorkerRecord {
         self.number
     }
 
-    pub fn stand(&self) -> Stand
-        ensures { result ≡ self.now.stand }
+    pub fn state(&self) -> WorkerState
+        ensures { result ≡ self.now.state }
     {
-        self.stand
+        self.state
     }
 
     /// The steps with which the worker completed the chunk, if it did.
@@ -62,12 +62,12 @@ impl WorkerRecord {
 
     /// The worker drew this number, of so many chunks.
     pub fn draw(&mut self, found: u64, chunks: u64)
-        ensures { self.new ≡ worker self.old.number self.old.done (stand_after chunks found) }
+        ensures { self.new ≡ worker self.old.number self.old.done (state_after chunks found) }
     {
-        self.stand = if found < chunks {
-            Stand::Holds(found)
+        self.state = if found < chunks {
+            WorkerState::Holds(found)
         } else {
-            Stand::ToldEnd
+            WorkerState::Drained
         };
     }
 
@@ -77,7 +77,7 @@ impl WorkerRecord {
         ensures err { OnErr result (self.new ≡ self.old) }
     {
         self.done.push((chunk, steps))?;
-        self.stand = Stand::Free;
+        self.state = WorkerState::Free;
         Ok(())
     }
 
@@ -85,6 +85,6 @@ impl WorkerRecord {
     pub fn fail(&mut self, chunk: u64, steps: u64)
         ensures { self.new ≡ failed chunk steps self.old }
     {
-        self.stand = Stand::Failed(chunk, steps);
+        self.state = WorkerState::Failed(chunk, steps);
     }
 }

@@ -11,7 +11,7 @@ use Rattle.std.specs.List.{Contains}
 use Rattle.std.specs.Int.RustNames.{bit_or}
 use Rattle.csr_store.specs.Run.{Run}
 use Rattle.csr_store.specs.Along.{cell_at}
-use Rattle.row_product.specs.inner.Held.{bit_of}
+use Rattle.row_product.specs.inner.DenseSums.{bit_of}
 use Rattle.row_product.proofs.Putting.{Putting, putting_skip, putting_cell, other_one, none_contained}
 
 -- ---- a bit that is set
@@ -62,22 +62,22 @@ pub bit_past : (bits : List ℕ) (j : ℕ) → length bits ≤ j / 64 → bit_of
 bit_past bits j l = ap (λ w. bit_at w (j % 64)) (get_or_past bits (j / 64) 0 l) ∙ bit_at-zero (j % 64)
 
 -- words of bits before this place are cleared, and no bit is set anew
-pub record IsCleared (first : List ℕ) (place : ℕ) (bits : List ℕ) : Type 0 where
+pub record IsCleared (first : List ℕ) (nth : ℕ) (bits : List ℕ) : Type 0 where
   pub long : length bits ≡ length first
-  pub clear : (j : ℕ) → j / 64 < place → bit_of bits j ≡ 0
+  pub clear : (j : ℕ) → j / 64 < nth → bit_of bits j ≡ 0
   pub kept : (j : ℕ) → bit_of first j ≡ 0 → bit_of bits j ≡ 0
 
 pub cleared_start : (first : List ℕ) → IsCleared first 0 first
 cleared_start first = record { long = refl; clear = λ j l. absurd (omega (arith, l)); kept = λ j h. h }
 
-pub cleared_step : (first : List ℕ) (place : ℕ) (bits : List ℕ) → IsCleared first place bits → IsCleared first (place + 1) (set bits place 0)
-cleared_step first place bits m = record {
-  long = length-set bits place 0 ∙ m.long;
-  clear = λ j l. elim (eqb_tells (j / 64) place) [
-    | inl d ↦ bit_cleared bits place j d.1
-    | inr d ↦ bit_stays_clear bits place j (m.clear j (let n = d.1 in omega (arith, l, n)))
+pub cleared_step : (first : List ℕ) (nth : ℕ) (bits : List ℕ) → IsCleared first nth bits → IsCleared first (nth + 1) (set bits nth 0)
+cleared_step first nth bits m = record {
+  long = length-set bits nth 0 ∙ m.long;
+  clear = λ j l. elim (eqb_tells (j / 64) nth) [
+    | inl d ↦ bit_cleared bits nth j d.1
+    | inr d ↦ bit_stays_clear bits nth j (m.clear j (let n = d.1 in omega (arith, l, n)))
   ];
-  kept = λ j h. bit_stays_clear bits place j (m.kept j h);
+  kept = λ j h. bit_stays_clear bits nth j (m.kept j h);
 }
 
 -- bits of listed columns that are no more among those left are cleared, and no bit is set anew

@@ -8,7 +8,7 @@ use Rattle.std.proofs.lemmas.Option.{none-some}
 use borrow.Author.Tests.{clash}
 use Rattle.std.proofs.lemmas.Nat.Bits.{bit_at-lt}
 use Rattle.std.specs.Int.{bit_at}
-use Rattle.row_product.specs.inner.Held.{bit_of, word_at, words_of, AreClear}
+use Rattle.row_product.specs.inner.DenseSums.{bit_of, word_at, words_of, AreClear}
 use Rattle.row_product.specs.inner.Sums.{slot}
 
 -- ---- what is seen of a column

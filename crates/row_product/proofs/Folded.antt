@@ -17,7 +17,7 @@ use Rattle.csr_store.proofs.Along.{Ascends, along-first, along-none, along-same,
 use Rattle.job_forms.specs.Product.{terms, mul_calls, product_at, product_calls_at}
 use Rattle.row_product.specs.declared.factors.MaskedFactors.{MaskedFactors}
 use Rattle.row_product.specs.inner.Masked.{row_of_product, calls_of_row}
-use Rattle.row_product.specs.inner.Few.{words_at, Climbs, folded_on, folded_calls_on, folded, folded_calls, listed_terms, listed_calls}
+use Rattle.row_product.specs.inner.SortedAccumulator.{words_at, Climbs, folded_on, folded_calls_on, folded, folded_calls, listed_terms, listed_calls}
 use Rattle.row_product.proofs.Gathering.{steps-along-sum}
 use Rattle.row_product.proofs.Listed.{words_other, words_same, words_listed, steps_listed}
 

@@ -17,7 +17,7 @@ use Rattle.csr_store.proofs.Along.{Ascends, at, at-below, at-first, along-none, 
 use Rattle.csr_store.proofs.ByRow.{lookup-row_of}
 use Rattle.job_forms.specs.Product.{term, term_calls, terms, mul_calls, mults_of}
 use Rattle.row_product.specs.inner.Adding.{taking}
-use Rattle.row_product.specs.inner.Few.{words_at, listed_terms, listed_calls}
+use Rattle.row_product.specs.inner.SortedAccumulator.{words_at, listed_terms, listed_calls}
 use Rattle.row_product.specs.inner.Single.{multiplied}
 use Rattle.row_product.proofs.Adding.{at_other}
 use Rattle.row_product.proofs.Gathering.{steps-along-sum}

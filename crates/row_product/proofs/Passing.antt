@@ -5,7 +5,7 @@ use Rattle.std.proofs.lemmas.Bool.{cases_lt, ne_eqb}
 use Rattle.csr_store.specs.Grid.{Cell}
 use Rattle.csr_store.proofs.Along.{Ascends, at, ascends-weaken, at-below, at-after}
 use Rattle.row_product.specs.inner.Adding.{taking}
-use Rattle.row_product.specs.inner.Beside.{stores, IsBeside}
+use Rattle.row_product.specs.inner.RowUnderMask.{stores, IsRowUnderMask}
 
 -- the same test takes the same cells
 pub taking_same : (t u : ℕ → Bool) (cs : List Cell) → ((j : ℕ) → t j ≡ u j) → taking t cs ≡ taking u cs
@@ -39,8 +39,8 @@ left_further n column row left c more e l i =
 
 -- one cell further, where the mask's row is read up to its column
 pub beside_further : (whole : List Cell) (n : ℕ) (cells mask : List Cell) (c : Cell) (more left : List Cell)
-    → IsBeside whole n cells mask
-    → cells ≡ c ∷ more → Ascends c.0 n left → ((j : ℕ) → c.0 ≤ j → at mask j ≡ at left j) → IsBeside whole n more left
+    → IsRowUnderMask whole n cells mask
+    → cells ≡ c ∷ more → Ascends c.0 n left → ((j : ℕ) → c.0 ≤ j → at mask j ≡ at left j) → IsRowUnderMask whole n more left
 beside_further whole n cells mask c more left b e o s =
     let a = subst (Ascends b.low n) e b.ascends in
     let l = a.0 in
@@ -52,7 +52,7 @@ beside_further whole n cells mask c more left b e o s =
     }
 
 -- and whether it is taken
-taken_so : (whole : List Cell) (n : ℕ) (cells mask : List Cell) (c : Cell) (more left : List Cell) → IsBeside whole n cells mask
+taken_so : (whole : List Cell) (n : ℕ) (cells mask : List Cell) (c : Cell) (more left : List Cell) → IsRowUnderMask whole n cells mask
     → cells ≡ c ∷ more → ((j : ℕ) → c.0 ≤ j → at mask j ≡ at left j) → (b : Bool) → b ≡ stores left c.0
     → taking (stores whole) cells ≡ (if b then c ∷ taking (stores whole) more else taking (stores whole) more)
 taken_so whole n cells mask c more left b e s t h =
@@ -62,7 +62,7 @@ taken_so whole n cells mask c more left b e s t h =
     (sym (h ∙ ap is_some (sym (s c.0 (omega arith)) ∙ b.same c.0 a.0)))
 
 pub passing_more : (whole : List Cell) (n : ℕ) (cells mask : List Cell) (c : Cell) (more left from : List Cell) (ps : List Cell)
-    → IsBeside whole n cells mask → cells ≡ c ∷ more → ((j : ℕ) → c.0 ≤ j → at mask j ≡ at left j) → true ≡ stores left c.0
+    → IsRowUnderMask whole n cells mask → cells ≡ c ∷ more → ((j : ℕ) → c.0 ≤ j → at mask j ≡ at left j) → true ≡ stores left c.0
     → ps ++ taking (stores whole) cells ≡ taking (stores whole) from
     → (ps ++ c ∷ []) ++ taking (stores whole) more ≡ taking (stores whole) from
 passing_more whole n cells mask c more left from ps b e s t h =
@@ -70,7 +70,7 @@ passing_more whole n cells mask c more left from ps b e s t h =
     ∙ (ap (λ us. ps ++ us) (sym (taken_so whole n cells mask c more left b e s true t)) ∙ h)
 
 pub passing_less : (whole : List Cell) (n : ℕ) (cells mask : List Cell) (c : Cell) (more left from : List Cell) (ps : List Cell)
-    → IsBeside whole n cells mask → cells ≡ c ∷ more → ((j : ℕ) → c.0 ≤ j → at mask j ≡ at left j) → false ≡ stores left c.0
+    → IsRowUnderMask whole n cells mask → cells ≡ c ∷ more → ((j : ℕ) → c.0 ≤ j → at mask j ≡ at left j) → false ≡ stores left c.0
     → ps ++ taking (stores whole) cells ≡ taking (stores whole) from → ps ++ taking (stores whole) more ≡ taking (stores whole) from
 passing_less whole n cells mask c more left from ps b e s t h =
     ap (λ us. ps ++ us) (sym (taken_so whole n cells mask c more left b e s false t)) ∙ h

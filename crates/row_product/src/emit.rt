@@ -4,22 +4,22 @@ ghost use Rattle.std.specs.List.{AllByRecursion};
 ghost use Rattle.csr_store.specs.Along.{cell_at, row_by};
 ghost use Rattle.csr_store.specs.Grid.{Cell};
 ghost use Rattle.row_product.specs.inner.Emitting.{MayEmit, AreInOrder};
-ghost use Rattle.row_product.specs.inner.Held.{AreMarked};
+ghost use Rattle.row_product.specs.inner.DenseSums.{AreMarked};
 ghost use Rattle.row_product.specs.inner.Sums.{slot};
 
-use crate::held::Held;
+use crate::dense_sums::DenseSums;
 use csr_store::Rows;
 use std::alloc::AllocError;
 
 /// Puts the sum of a column, if there is one, into the open row.
 #[inline(always)]
-fn put_sum(column: u64, held: &Held, rows: &mut Rows) -> Result<(), AllocError>
-    requires held { column < length held.now }
+fn put_sum(column: u64, dense: &DenseSums, rows: &mut Rows) -> Result<(), AllocError>
+    requires dense { column < length dense.now }
     requires within { column < rows.old.columns }
     requires above { AllByRecursion (λ (c : Cell). c.0 < column) rows.old.opened }
-    ensures { OnOk result (rows.new ≡ record rows.old { opened = rows.old.opened ++ cell_at column (slot held.now column) }) }
+    ensures { OnOk result (rows.new ≡ record rows.old { opened = rows.old.opened ++ cell_at column (slot dense.now column) }) }
 {
-    match held.get(column) {
+    match dense.get(column) {
         Some(sum) => rows.push(column, sum),
         None => Ok(()),
     }
@@ -38,17 +38,17 @@ fn is_due(column: u64, next: u64, columns: u64) -> bool
 pub(crate) fn emit_listed(
     columns: u64,
     listed: &[u64],
-    held: &Held,
+    dense: &DenseSums,
     rows: &mut Rows,
 ) -> Result<(), AllocError>
-    requires room { MayEmit columns held.now rows.old }
-    requires listed { AreInOrder listed.now held.now }
-    ensures { OnOk result (rows.new ≡ record rows.old { opened = row_by rows.old.columns (slot held.now) }) }
+    requires room { MayEmit columns dense.now rows.old }
+    requires listed { AreInOrder listed.now dense.now }
+    ensures { OnOk result (rows.new ≡ record rows.old { opened = row_by rows.old.columns (slot dense.now) }) }
 {
     let mut next = 0;
     for column in listed {
         if is_due(*column, next, columns) {
-            put_sum(*column, held, rows)?;
+            put_sum(*column, dense, rows)?;
             next = *column + 1;
         }
     }
@@ -59,13 +59,13 @@ pub(crate) fn emit_listed(
 pub(crate) fn emit_marked(
     columns: u64,
     bits: &[u64],
-    held: &Held,
+    dense: &DenseSums,
     rows: &mut Rows,
 ) -> Result<(), AllocError>
-    requires room { MayEmit columns held.now rows.old }
+    requires room { MayEmit columns dense.now rows.old }
     requires long { columns ≤ 64 * length bits.now }
-    requires covers { AreMarked bits.now held.now }
-    ensures { OnOk result (rows.new ≡ record rows.old { opened = row_by rows.old.columns (slot held.now) }) }
+    requires covers { AreMarked bits.now dense.now }
+    ensures { OnOk result (rows.new ≡ record rows.old { opened = row_by rows.old.columns (slot dense.now) }) }
 {
     let mut next = 0;
     while next < columns {
@@ -75,7 +75,7 @@ pub(crate) fn emit_marked(
         while (left.trailing_zeros() as u64) < end - next {
             let skip = left.trailing_zeros();
             next += skip as u64;
-            put_sum(next, held, rows)?;
+            put_sum(next, dense, rows)?;
             left = left >> skip >> 1;
             next += 1;
         }

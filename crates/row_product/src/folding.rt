@@ -1,6 +1,6 @@
 //! The terms of a row, in the order of their columns, added up: those of one column are folded one after the other.
 ghost use Rattle.std.specs.Prelude.{◌≡◌, ◌≤◌, ◌+◌, ◌*◌, ◌++◌, length, vec_capacity};
-ghost use Rattle.row_product.specs.inner.Few.{MayFold, MayFoldBehind, FoldsBehind, AreFolded};
+ghost use Rattle.row_product.specs.inner.SortedAccumulator.{MayFold, MayFoldBehind, FoldsBehind, AreFolded};
 
 use crate::calling::{ByFunction, ByProgram, Caller};
 use crate::ordering::term;

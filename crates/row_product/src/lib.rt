@@ -6,54 +6,55 @@
 //! the same of [`Factors`] in a [`Scratch`], as workers do. [`mult_count`] says how many multiplications a product takes.
 //!
 //! A row of the result is summed in a [`Scratch`], which a worker keeps from call to call: a word for each column, and a bit that
-//! is set where the word is a sum of this row (`held`). The rows of B that A's row names are added one after another, up to 64
-//! cells at a time: their products are made together, and then the terms are added. An operator that is known by its program adds
-//! each term to its sum, or begins it, in a loop that was compiled for it (`terms`). By any other the terms whose column has a sum
-//! already are added together, since no two cells of one row of B have one column, and the others begin a sum (`accumulator`).
-//! Nothing waits from row to row of B. The columns that have a sum are listed as long as they are fewer than one in 16: the list is
-//! put in order, and the next row clears their bits alone. Else a bit a column is read off, and all are cleared. A row of A with
-//! one entry is not summed at all: it makes the row of B that it names, each word multiplied, and where there is a mask it is read
-//! beside the mask's row, for the cells that pass.
+//! is set where the word is a sum of this row (`dense_sums`). The rows of B that A's row names are added one after another, up to
+//! 64 cells at a time: their products are made together, and then the terms are added. An operator that is known by its program
+//! adds each term to its sum, or begins it, in a loop that was compiled for it (`terms`). By any other the terms whose column has a
+//! sum already are added together, since no two cells of one row of B have one column, and the others begin a sum
+//! (`dense_accumulator`). Nothing waits from row to row of B. The columns that have a sum are listed as long as they are fewer than
+//! one in 16: the list is put in order, and the next row clears their bits alone. Else a bit a column is read off, and all are
+//! cleared. A row of A with one entry is not summed at all: it makes the row of B that it names, each word multiplied, and where
+//! there is a mask it is read beside the mask's row, for the cells that pass.
 //!
 //! A product of one column is summed without any of this: the terms of a row are one list, which is folded (`one_column`, over
-//! `specs/inner/Column.antt`). Those of up to 64 cells of a row of A are listed in one loop (`named`), in which no jump waits for
-//! whether B has a word.
+//! `specs/inner/Column.antt`). Those of up to 64 cells of a row of A are listed in one loop (`column_terms`), in which no jump
+//! waits for whether B has a word.
 //!
 //! The sums have their room when a range has a term, never before, and not while the terms so far are few beside many columns. The
 //! terms of each row are then listed (`listing`), put in order by their columns, those of one column as they were listed
 //! (`ordering`), and folded (`folding`), in lists that are kept. So the work is linear in the multiplications, the rows and the
 //! entries, but for the order of a row's columns; and the room of the result is taken row by row.
 //!
-//! Read `ranges`, `factors` and `product`, `room` (row after row, over `specs/inner/Masked.antt`), `row` (one row), `single` (a row of A with
-//! one entry, over `specs/inner/Single.antt`) with `beside` (a row of B beside the mask's, over `specs/inner/Beside.antt`),
-//! `progress` (rows of B, under the mask, over `specs/inner/Rows.antt`), `accumulator` (cells of one row of B) with `terms`,
-//! `additions`, `sums`, `held` and `marked` (what is kept of columns), `emit` (sums into the result, over
-//! `specs/inner/Emitting.antt`) and `marks` (the mask's row), over `specs/inner/Sums.antt`, `specs/inner/Adding.antt` and
-//! `specs/inner/Held.antt`; `few` (rows of few terms) with `listing`, `ordering`, `folding` and `calling` (how a loop makes its
-//! calls), over `specs/inner/Few.antt`; and `one_column` with `named`.
+//! Read `ranges`, `factors` and `product`, `row_accumulator` (row after row, over `specs/inner/Masked.antt`), `row` (one row),
+//! `single` (a row of A with one entry, over `specs/inner/Single.antt`) with `row_under_mask` (a row of B beside the mask's, over
+//! `specs/inner/RowUnderMask.antt`), `progress` (rows of B, under the mask, over `specs/inner/Rows.antt`), `dense_accumulator`
+//! (cells of one row of B) with `terms`, `additions`, `sums`, `dense_sums` and `bitset` (what is kept of columns), `emit` (sums
+//! into the result, over `specs/inner/Emitting.antt`) and `mask_flags` (the mask's row), over `specs/inner/Sums.antt`,
+//! `specs/inner/Adding.antt` and `specs/inner/DenseSums.antt`; `sorted_accumulator` (rows of few terms) with `listing`, `ordering`,
+//! `folding` and `calling` (how a loop makes its calls), over `specs/inner/SortedAccumulator.antt`; and `one_column` with
+//! `column_terms`.
 #![tactic(auto)]
 
-mod accumulator;
 mod additions;
-mod beside;
+mod bitset;
 mod calling;
+mod column_terms;
+mod dense_accumulator;
+mod dense_sums;
 mod emit;
 mod factors;
-mod few;
 mod folding;
-mod held;
 mod listing;
-mod marked;
-mod marks;
-mod named;
+mod mask_flags;
 mod one_column;
 mod ordering;
 mod product;
 mod progress;
 mod ranges;
-mod room;
 mod row;
+mod row_accumulator;
+mod row_under_mask;
 mod single;
+mod sorted_accumulator;
 mod sums;
 mod terms;
 

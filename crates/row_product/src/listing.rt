@@ -7,7 +7,7 @@ ghost use Rattle.bpf_verify.specs.Accepted.{IsAccepted};
 ghost use Rattle.csr_store.specs.Grid.{Cell, limit};
 ghost use Rattle.csr_store.specs.Mask.{mask_of, passes};
 ghost use Rattle.row_product.specs.inner.Adding.{taking};
-ghost use Rattle.row_product.specs.inner.Few.{MayList, Lists};
+ghost use Rattle.row_product.specs.inner.SortedAccumulator.{MayList, Lists};
 ghost use Rattle.row_product.specs.inner.Single.{multiplied};
 
 use crate::calling::{ByFunction, ByProgram, Caller};
@@ -74,8 +74,8 @@ fn list_rows<C: Caller>(mul: &Operator, naming: &Naming, listed: &mut Vec<(u64, 
     ensures { Lists mul.now naming.now listed.old listed.new result }
 {
     let mut steps = 0;
-    for place in 0..naming.row.len() {
-        let (k, x) = naming.row[place];
+    for nth in 0..naming.row.len() {
+        let (k, x) = naming.row[nth];
         steps += list_cells::<C>(mul, x, naming.b.row(k), naming.mask, naming.i, listed);
     }
     steps

@@ -9,9 +9,9 @@ ghost use Rattle.row_product.specs.inner.Column.{MayMultiply, AreMultiplied, Add
 ghost use Rattle.row_product.specs.inner.Masked.{AddsCharged};
 ghost use Rattle.row_product.specs.inner.Sums.{fold_on_calls};
 
+use crate::column_terms::{ColumnTerms, gather, list_terms};
 use crate::factors::MaskedFactors;
-use crate::named::{Named, gather, list_terms};
-use crate::room::Room;
+use crate::row_accumulator::RowAccumulator;
 use bpf_run::{Calls, MOST_CALLS, Outcome, fold, run_known};
 use bpf_verify::Operator;
 use csr_store::{Column, Matrix, Rows};
@@ -104,7 +104,7 @@ impl Summing {
         requires room { HasRoom self.old.terms }
         ensures { AreMultiplied mul.now b.now cells.now self.new.terms result }
     {
-        if let Some(steps) = run_known(&Named { cells, b, column }, mul, &mut self.terms) {
+        if let Some(steps) = run_known(&ColumnTerms { cells, b, column }, mul, &mut self.terms) {
             return steps;
         }
         gather(cells, b, column, &mut self.calls);
@@ -165,7 +165,7 @@ fn put_sum(sum: Option<u64>, rows: &mut Rows) -> Result<(), AllocError>
     }
 }
 
-impl Room for Summing {
+impl RowAccumulator for Summing {
     ghost is_ready = { λ columns s. (columns ≡ 1) × HasRoom s.terms };
 
     ghost may_fill = { λ f i. Unit {0} };

@@ -6,7 +6,7 @@ ghost use Rattle.row_product.specs.inner.Progress.{IsReady, stands, AllForbidden
 ghost use Rattle.row_product.specs.inner.Rows.{IsRowOfA, IsRowOfB, IsPart, AddsCells, AddsRowOfB, AddsTerms};
 ghost use Rattle.row_product.specs.inner.Sums.{flag, takes};
 
-use crate::accumulator::Accumulator;
+use crate::dense_accumulator::DenseAccumulator;
 use crate::factors::MaskedFactors;
 use bpf_run::MOST_CALLS;
 use std::alloc::{AllocError, Global};
@@ -14,7 +14,7 @@ use std::alloc::{AllocError, Global};
 /// The sums in progress, and whether the mask allows each column.
 #[derive(Drop)]
 pub(crate) struct Progress {
-    pub(crate) sums: Accumulator,
+    pub(crate) sums: DenseAccumulator,
     pub(crate) allowed: Vec<bool>,
     /// Cells of a part of a row of B whose columns are allowed.
     pub(crate) passing: Vec<(u64, u64)>,
@@ -26,7 +26,7 @@ impl Progress {
         ensures { IfOk result (λ p. (p.sums ≡ []) × IsReady 0 p × AllForbidden p) }
     {
         Ok(Progress {
-            sums: Accumulator::new(alloc)?,
+            sums: DenseAccumulator::new(alloc)?,
             allowed: Vec::new(alloc),
             passing: Vec::with_capacity(alloc, MOST_CALLS)?,
         })

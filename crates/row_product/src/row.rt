@@ -4,9 +4,9 @@ ghost use Rattle.row_product.specs.inner.Progress.{IsReady, AllForbidden, stands
 ghost use Rattle.row_product.specs.inner.Rows.{IsRowOfA, AreSummed};
 
 use crate::factors::MaskedFactors;
-use crate::marks::{allow, forbid};
+use crate::mask_flags::{allow, forbid};
 use crate::progress::Progress;
-use crate::room::Room;
+use crate::row_accumulator::RowAccumulator;
 use crate::single::{fill_sole, sole_entry};
 use job_forms::{Making, is_open};
 use std::alloc::AllocError;
@@ -48,7 +48,7 @@ fn fill_summed(
     making.rows.end_row()
 }
 
-impl Room for Progress {
+impl RowAccumulator for Progress {
     ghost is_ready = { λ columns p. IsReady columns p × AllForbidden p };
 
     ghost may_fill = { λ f i. Unit {0} };

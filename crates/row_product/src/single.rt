@@ -5,16 +5,16 @@ ghost use Rattle.bpf_run.specs.Calls.{calls_on, pairs_with};
 ghost use Rattle.csr_store.specs.Grid.{limit, row_of};
 ghost use Rattle.job_forms.specs.Region.{Adds};
 ghost use Rattle.row_product.specs.inner.Adding.{taking};
-ghost use Rattle.row_product.specs.inner.Beside.{stores};
+ghost use Rattle.row_product.specs.inner.RowUnderMask.{stores};
 ghost use Rattle.row_product.specs.inner.Masked.{AddsRow};
 ghost use Rattle.row_product.specs.inner.Progress.{IsReady, AllForbidden};
 ghost use Rattle.row_product.specs.inner.Rows.{IsRowOfA};
 ghost use Rattle.row_product.specs.inner.Single.{multiplied, with_words, IsBehind, IsSole, IsNextSole, MayPush, MayPushUnder};
 
-use crate::accumulator::Accumulator;
-use crate::beside::{Beside, list_passing};
+use crate::dense_accumulator::DenseAccumulator;
 use crate::factors::MaskedFactors;
 use crate::progress::Progress;
+use crate::row_under_mask::{RowUnderMask, list_passing};
 use bpf_run::MOST_CALLS;
 use csr_store::Rows;
 use job_forms::Making;
@@ -50,7 +50,7 @@ fn push_row(
     factors: &MaskedFactors,
     x: u64,
     k: u64,
-    sums: &mut Accumulator,
+    sums: &mut DenseAccumulator,
     making: &mut Making,
 ) -> Result<(), AllocError>
     requires { MayPush factors.now k making.old }
@@ -90,7 +90,7 @@ fn push_row_under(
     let cells = factors.b.row(k);
     // no want of memory once calls are made
     making.rows.reserve(cells.len().min(stored.len()))?;
-    let mut row = Beside {
+    let mut row = RowUnderMask {
         cells,
         mask: stored,
     };

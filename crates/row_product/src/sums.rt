@@ -7,8 +7,8 @@ ghost use Rattle.bpf_run.specs.Known.{Computes};
 ghost use Rattle.row_product.specs.inner.Emitting.{MayEmit};
 ghost use Rattle.row_product.specs.inner.Sums.{slot, added, added_calls};
 
+use crate::dense_sums::DenseSums;
 use crate::emit::{emit_listed, emit_marked};
-use crate::held::Held;
 use bpf_run::{Function, call_by};
 use bpf_verify::Operator;
 use csr_store::Rows;
@@ -21,7 +21,7 @@ const COLUMNS_A_SUM: u64 = 16;
 /// The sums of the row in progress. A contract sees the sum of each column, if there is one.
 #[derive(Drop)]
 pub(crate) struct Sums {
-    held: Held,
+    dense: DenseSums,
     /// The columns that have a sum, unless there are `most`.
     touched: Vec<u64>,
     most: usize,
@@ -29,13 +29,13 @@ pub(crate) struct Sums {
 
 impl Model for Sums {
     ghost use Rattle.std.specs.Prelude.{ℕ, List, Option, ◌≤◌, vec_capacity};
-    ghost use Rattle.row_product.specs.inner.Held.{AreListed};
+    ghost use Rattle.row_product.specs.inner.DenseSums.{AreListed};
 
     ghost Value = { List (Option ℕ) };
 
-    ghost view = { λ s. s.held };
+    ghost view = { λ s. s.dense };
 
-    ghost invariant = { λ s. (s.most ≤ vec_capacity s.touched) × AreListed s.most s.held s.touched.items };
+    ghost invariant = { λ s. (s.most ≤ vec_capacity s.touched) × AreListed s.most s.dense s.touched.items };
 }
 
 impl Sums {
@@ -44,7 +44,7 @@ impl Sums {
         ensures { result ≡ [] }
     {
         Sums {
-            held: Held::new(alloc),
+            dense: DenseSums::new(alloc),
             touched: Vec::new(alloc),
             most: 0,
         }
@@ -54,7 +54,7 @@ impl Sums {
     pub(crate) fn room(&self) -> usize
         ensures { length self.now ≤ result }
     {
-        self.held.room()
+        self.dense.room()
     }
 
     /// Room for so many columns, none of which has a sum.
@@ -65,7 +65,7 @@ impl Sums {
         self.most = 0;
         let most = (columns / COLUMNS_A_SUM) as usize;
         self.touched.reserve(most)?;
-        self.held.widen(columns)?;
+        self.dense.widen(columns)?;
         self.most = most;
         Ok(())
     }
@@ -76,9 +76,9 @@ impl Sums {
         ensures long { length self.new ≡ length self.old }
     {
         if self.touched.len() < self.most {
-            self.held.forget_listed(&self.touched);
+            self.dense.forget_listed(&self.touched);
         } else {
-            self.held.forget();
+            self.dense.forget();
         }
         self.touched.clear();
     }
@@ -89,7 +89,7 @@ impl Sums {
         requires { column < length self.now }
         ensures { result ≡ slot self.now column }
     {
-        self.held.get(column)
+        self.dense.get(column)
     }
 
     /// Gives a column that has no sum its first.
@@ -98,7 +98,7 @@ impl Sums {
         requires { column < length self.old }
         ensures { self.new ≡ set self.old column (Some sum) }
     {
-        self.held.put(column, sum);
+        self.dense.put(column, sum);
         if self.touched.len() < self.most {
             self.touched.push_reserved(column);
         }
@@ -110,8 +110,8 @@ impl Sums {
         requires { column < length self.old }
         ensures { self.new ≡ set self.old column (Some sum) }
     {
-        match self.held.get(column) {
-            Some(_) => self.held.replace(column, sum),
+        match self.dense.get(column) {
+            Some(_) => self.dense.replace(column, sum),
             None => self.begin_sum(column, sum),
         }
     }
@@ -124,10 +124,10 @@ impl Sums {
         ensures sum { self.new ≡ set self.old column (Some (added add.now (slot self.old column) term)) }
         ensures steps { result ≡ steps_of (added_calls add.now (slot self.old column) term) }
     {
-        match self.held.get(column) {
+        match self.dense.get(column) {
             Some(so_far) => {
                 let sum = call_by::<F>(add, so_far, term);
-                self.held.replace(column, sum.value);
+                self.dense.replace(column, sum.value);
                 sum.steps
             }
             None => {
@@ -146,8 +146,8 @@ impl Sums {
         if self.touched.len() < self.most {
             rows.reserve(self.touched.len())?;
             self.touched.sort_unstable();
-            return emit_listed(columns, &self.touched, &self.held, rows);
+            return emit_listed(columns, &self.touched, &self.dense, rows);
         }
-        emit_marked(columns, self.held.bits(), &self.held, rows)
+        emit_marked(columns, self.dense.bits(), &self.dense, rows)
     }
 }

@@ -3,7 +3,7 @@ ghost use Rattle.std.specs.Prelude.{◌≡◌, ◌<◌};
 ghost use Rattle.step_purse.specs.Passes.{IsPassOf};
 
 use crate::talk::{PRODUCT, SET_UP, SETUP};
-use listener::{End, FatalRule, FromRead, Room, ServeFault, Served, ToWrite, serve_pass};
+use listener::{End, FatalRule, FromRead, ServeFault, Served, Session, ToWrite, serve_pass};
 use std::alloc::Global;
 use std::io;
 use std::io::{ErrorKind, Read, Write};
@@ -60,7 +60,7 @@ fn serve_counted<A: Ledger, B: Ledger, C: Ledger, D: Ledger, H: Threads + Wait>(
     reader: Given<'_>,
     writer: Taking<'_>,
     purse: &Purse,
-    given: (Room, Pass),
+    given: (Session, Pass),
     blanks: (Blank, Blank, Blank, Blank),
 ) -> Served
     requires own { IsPassOf purse.now given.1 }
@@ -82,7 +82,7 @@ fn serve_over<H: Threads + Wait>(
     reader: Given<'_>,
     writer: Taking<'_>,
     purse: &Purse,
-    given: (Room, Pass),
+    given: (Session, Pass),
 ) -> Served
     requires { IsPassOf purse.now given.1 }
 {
@@ -128,7 +128,7 @@ fn assert_settled<H: Threads + Wait + Abort>(
             usize::MAX
         },
     };
-    let room = Room::with_reads(alloc, 2, last.reads)?;
+    let room = Session::with_reads(alloc, 2, last.reads)?;
     let served = serve_over(rt, reader, writer, &purse, (room, pass));
     assert_eq!(rt; served.outcome, last.outcome);
     assert_eq!(rt; served.spent, 9);

@@ -11,7 +11,7 @@ use Rattle.command_text.specs.Readings.{header_of}
 use Rattle.command_text.specs.declared.rules.FatalRule.TheVariants.{InputEndsInBody}
 use Rattle.command_text.specs.declared.request.Header.{Header as AskedHeader}
 use Rattle.wire.specs.Devices.{SourceState}
-use Rattle.wire.specs.Held.{Held, Stream}
+use Rattle.wire.specs.InputState.{InputState, Stream}
 use Rattle.wire.specs.Fetching.{Fetched, IsBody, IsLined, failed_reads}
 use Rattle.wire.specs.Sending.{Outgoing, Sent}
 use Rattle.wire.specs.declared.fetch.Body.{Body as CameBody}
@@ -20,12 +20,12 @@ use Rattle.wire.specs.declared.fetch.Lined.{Lined}
 use Rattle.wire.specs.declared.fault.ReadFault.{ReadFault}
 use Rattle.wire.specs.declared.fault.ReadFault.TheVariants.{Failed, OutOfReads}
 use Rattle.wire.proofs.Fetching.{fetched_map}
-use Rattle.session.specs.Next.{Next, Goes, Waits, refused, next_body, next_request}
-use Rattle.session.specs.inner.Exchange.{Hears, Awaited, IsHeardOf, IsLineOf, IsEmptied, LacksBody, LacksLine}
+use Rattle.session.specs.NextCommand.{NextCommand, Goes, Waits, refused, next_body, next_request}
+use Rattle.session.specs.inner.Exchange.{Receives, Awaited, IsReceivedOf, IsLineOf, IsEmptied, LacksBody, LacksLine}
 use Rattle.session.specs.declared.end.ServeFault.{ServeFault}
 use Rattle.session.specs.declared.end.ServeFault.TheVariants.{Read, Turns}
-use Rattle.session.specs.declared.hearing.Heard.{Heard}
-use Rattle.session.specs.declared.hearing.Heard.TheVariants as h
+use Rattle.session.specs.declared.receiving.Received.{Received}
+use Rattle.session.specs.declared.receiving.Received.TheVariants as h
 
 -- the fault of a session that could not read on
 abbrev pub IsFaultOf : ReadFault → ServeFault → Type 0
@@ -46,20 +46,20 @@ cut_short ended head len bytes short =
     let few : nat_lt (length bytes) len ≡ true = grind (arith, nat_tests) in
     ap (λ b. if b then (if ended then refused InputEndsInBody else Waits) else Goes (with_body head (take len bytes)) (drop len bytes)) few
 
-module _ (q : Request) (head : Header) (len : ℕ) (asks : q ≡ Body head len) (new : Held) where
-  asked : (bytes : List ℕ) (is : Next) → next_body new.ended head len bytes ≡ is → next_request new.ended q bytes ≡ is
+module _ (q : Request) (head : Header) (len : ℕ) (asks : q ≡ Body head len) (new : InputState) where
+  asked : (bytes : List ℕ) (is : NextCommand) → next_body new.ended head len bytes ≡ is → next_request new.ended q bytes ≡ is
   asked bytes is e = ap (λ r. next_request new.ended r bytes) asks ∙ e
 
   -- the body came
   pub body_whole : (h0 : AskedHeader) (body : _) (bytes : List ℕ) → head ≡ header_of h0 → IsBody len (Ok (bodies.Whole body)) new bytes
-      → Hears (h.Whole h0 body) new.bytes (next_request new.ended q bytes)
+      → Receives (h.Whole h0 body) new.bytes (next_request new.ended q bytes)
   body_whole h0 body bytes e b =
       asked bytes (Goes (with_body (header_of h0) body.items) new.bytes)
       (body_there new.ended head len bytes body.items new.bytes b.0 b.1 ∙ ap (λ x. Goes (with_body x body.items) new.bytes) e)
 
   -- it was dropped
   pub body_dropped : (h0 : AskedHeader) (bytes : List ℕ) → head ≡ header_of h0 → IsBody len (Ok bodies.Dropped) new bytes
-      → Hears (h.Dropped h0) new.bytes (next_request new.ended q bytes)
+      → Receives (h.Dropped h0) new.bytes (next_request new.ended q bytes)
   body_dropped h0 bytes e b = (
     b.0,
     asked bytes (Goes (with_body (header_of h0) b.0) new.bytes)
@@ -67,7 +67,7 @@ module _ (q : Request) (head : Header) (len : ℕ) (asks : q ≡ Body head len) 
   )
 
   -- the input ended in it
-  pub body_cut : (bytes : List ℕ) → IsBody len (Ok bodies.Cut) new bytes → Hears (h.Stopped InputEndsInBody) new.bytes (next_request new.ended q bytes)
+  pub body_cut : (bytes : List ℕ) → IsBody len (Ok bodies.Cut) new bytes → Receives (h.Stopped InputEndsInBody) new.bytes (next_request new.ended q bytes)
   body_cut bytes b =
       asked bytes (refused InputEndsInBody)
       (cut_short new.ended head len bytes b.0 ∙ ap (λ d. if d then refused InputEndsInBody else Waits) b.1)
@@ -79,7 +79,7 @@ module _ (q : Request) (head : Header) (len : ℕ) (asks : q ≡ Body head len) 
   pub body_missing : (fault : ReadFault) (result : ServeFault) (s : Stream) (a : SourceState) (o p : Outgoing) (due : Bool)
       → IsFaultOf fault result → Fetched (failed_reads {A = CameBody} (Err fault)) s (record { source = a; held = new }) (IsBody len (Err fault) new)
       → Sent true [] o p → (due ≡ true → p.waits ≡ []) → due ≡ nat_lt (length s.held.bytes) len
-      → Awaited {A = Heard} (Err result) (IsHeardOf q new) (LacksBody q new) s (record { source = a; held = new }) o p
+      → Awaited {A = Received} (Err result) (IsReceivedOf q new) (LacksBody q new) s (record { source = a; held = new }) o p
   body_missing fault result s a o p due is f sent none e = by fault is f
     where
       emptied : (got : List ℕ) → length (s.held.bytes ++ got) < len → IsEmptied o p
@@ -89,12 +89,12 @@ module _ (q : Request) (head : Header) (len : ℕ) (asks : q ≡ Body head len) 
           (sent, none (e ∙ few))
 
       by : (fault : ReadFault) → IsFaultOf fault result → Fetched (failed_reads {A = CameBody} (Err fault)) s (record { source = a; held = new }) (IsBody len (Err fault) new)
-          → Awaited {A = Heard} (Err result) (IsHeardOf q new) (LacksBody q new) s (record { source = a; held = new }) o p
+          → Awaited {A = Received} (Err result) (IsReceivedOf q new) (LacksBody q new) s (record { source = a; held = new }) o p
       by Failed is f =
-          subst (λ (r : ServeFault). Awaited {A = Heard} (Err r) (IsHeardOf q new) (LacksBody q new) s (record { source = a; held = new }) o p) (sym (is.0 refl))
+          subst (λ (r : ServeFault). Awaited {A = Received} (Err r) (IsReceivedOf q new) (LacksBody q new) s (record { source = a; held = new }) o p) (sym (is.0 refl))
           (fetched_map 1 s (record { source = a; held = new }) (IsBody len (Err Failed) new) (LacksBody q new) f (λ bytes b. lacks bytes b.0 b.1), emptied f.got f.holds.0)
       by OutOfReads is f =
-          subst (λ (r : ServeFault). Awaited {A = Heard} (Err r) (IsHeardOf q new) (LacksBody q new) s (record { source = a; held = new }) o p) (sym (is.1 refl))
+          subst (λ (r : ServeFault). Awaited {A = Received} (Err r) (IsReceivedOf q new) (LacksBody q new) s (record { source = a; held = new }) o p) (sym (is.1 refl))
           (fetched_map 0 s (record { source = a; held = new }) (IsBody len (Err OutOfReads) new) (LacksBody q new) f (λ bytes b. lacks bytes b.0 b.1.0), f.holds.1.1, emptied f.got f.holds.0)
 
 -- the line isn't there

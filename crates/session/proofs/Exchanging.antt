@@ -1,6 +1,6 @@
 -- How an exchange is made of its parts.
 use Rattle.std.proofs.Common.{◌≡◌, ℕ, Bool, true, false, List, [], ◌++◌, Option, None, Some, Result, Ok, Err, inl, inr, refl, sym, ap, ◌∙◌, subst}
-use Rattle.wire.specs.Held.{Stream}
+use Rattle.wire.specs.InputState.{Stream}
 use Rattle.wire.specs.Fetching.{Fetched, IsLined}
 use Rattle.wire.specs.Sending.{Outgoing, Sent}
 use Rattle.wire.proofs.Sending.{sent_then}
@@ -14,22 +14,22 @@ use Rattle.command_text.specs.declared.rules.FatalRule.{FatalRule}
 use Rattle.command_text.specs.declared.rules.FatalRule.TheVariants.{LineTooLong}
 use Rattle.step_purse.specs.declared.dealings.Dealing.{Dealing}
 use Rattle.workspace.specs.State.{State}
-use Rattle.session.specs.Next.{Next, Waits, Ends, Goes, refused, next, next_of, next_request}
+use Rattle.session.specs.NextCommand.{NextCommand, Waits, Ends, Goes, refused, next, next_of, next_request}
 use Rattle.session.specs.Exchange.{Touched, Scene, IsLast, Ahead, Went, Final, FinalWhole, Exchanged, behind}
-use Rattle.session.specs.inner.Exchange.{Hears, IsHeardOf, IsEmptied, Awaited, Responds, Tells}
+use Rattle.session.specs.inner.Exchange.{Receives, IsReceivedOf, IsEmptied, Awaited, Responds, Tells}
 use Rattle.session.specs.declared.end.End.{End}
 use Rattle.session.specs.declared.end.End.TheVariants.{InputEnd}
 use Rattle.session.specs.declared.end.ServeFault.{ServeFault}
 use Rattle.session.specs.declared.end.ServeFault.TheVariants.{Read, Write, Turns, Memory}
-use Rattle.session.specs.declared.hearing.Heard.{Heard}
-use Rattle.session.specs.declared.hearing.Heard.TheVariants as h
+use Rattle.session.specs.declared.receiving.Received.{Received}
+use Rattle.session.specs.declared.receiving.Received.TheVariants as h
 use Rattle.session.proofs.Grammar.{next_behind}
 
 -- what comes of what a command's answer says next
-last_of : (cut : Bool) (is : Next) (rest : List ℕ) (old new : State) (heard : Heard) (ds : List Dealing) (reply : List ℕ) (end : Option End)
-    → cut ≡ true → Responds old heard ds reply new end → Hears heard rest is → IsLast cut is old ds reply end new
-last_of cut is rest old new heard ds reply None c r h = let w = r rest is h in inr (inr (inr (inl (w.0, rest, c, w.1, refl, w.2))))
-last_of cut is rest old new heard ds reply (Some e) c r h = let w = r rest is h in inr (inr (inl (w.0, e, w.1, refl, w.2)))
+last_of : (cut : Bool) (is : NextCommand) (rest : List ℕ) (old new : State) (received : Received) (ds : List Dealing) (reply : List ℕ) (end : Option End)
+    → cut ≡ true → Responds old received ds reply new end → Receives received rest is → IsLast cut is old ds reply end new
+last_of cut is rest old new received ds reply None c r h = let w = r rest is h in inr (inr (inr (inl (w.0, rest, c, w.1, refl, w.2))))
+last_of cut is rest old new received ds reply (Some e) c r h = let w = r rest is h in inr (inr (inl (w.0, e, w.1, refl, w.2)))
 
 module _ {S : Type 0} (leads : S → Dealing → S → Type 0) (ahead : Ahead) (s t : Stream) (o p : Outgoing) (budget : S) (was now : State) (kept : now ≡ was) where
   abbrev before : Scene S
@@ -39,7 +39,7 @@ module _ {S : Type 0} (leads : S → Dealing → S → Type 0) (ahead : Ahead) (
   after = record { stream = t; touched = record { budget = budget; out = p; state = now } }
 
   -- nothing was said, since more is waited for or the input has ended
-  silent : (n : ℕ) (is : Next) (end : Option End) → ((bytes : List ℕ) → ahead t.held.ended bytes ≡ is → IsLast false (ahead t.held.ended bytes) was [] [] end now)
+  silent : (n : ℕ) (is : NextCommand) (end : Option End) → ((bytes : List ℕ) → ahead t.held.ended bytes ≡ is → IsLast false (ahead t.held.ended bytes) was [] [] end now)
       → Fetched n s t (λ bytes. ahead t.held.ended bytes ≡ is) → IsEmptied o p → FinalWhole ahead leads n before after end
   silent n is end last f e = (
     record {
@@ -81,7 +81,7 @@ module _ {S : Type 0} (leads : S → Dealing → S → Type 0) (ahead : Ahead) (
   exchanged_fault Write came missing same w = exchanged_stuck (λ bytes. Unit {0}) w.0 w.1
   exchanged_fault Memory came missing same w = absurd w
 
-module _ {S : Type 0} (leads : S → Dealing → S → Type 0) (ahead : Ahead) (s t : Stream) (o : Outgoing) (was now : Touched S) (heard : Heard) (f : Fetched 0 s t (λ bytes. Hears heard t.held.bytes (ahead t.held.ended bytes)))
+module _ {S : Type 0} (leads : S → Dealing → S → Type 0) (ahead : Ahead) (s t : Stream) (o : Outgoing) (was now : Touched S) (received : Received) (f : Fetched 0 s t (λ bytes. Receives received t.held.bytes (ahead t.held.ended bytes)))
     (first : Sent true [] o was.out) where
   abbrev before_answer : Scene S
   before_answer = record { stream = s; touched = record { budget = was.budget; out = o; state = was.state } }
@@ -90,7 +90,7 @@ module _ {S : Type 0} (leads : S → Dealing → S → Type 0) (ahead : Ahead) (
   after_answer = record { stream = t; touched = now }
 
   -- what was heard was answered
-  pub exchanged_told : (end : Option End) → Tells leads was now heard (Ok end) → Exchanged ahead leads before_answer after_answer (Ok end)
+  pub exchanged_told : (end : Option End) → Tells leads was now received (Ok end) → Exchanged ahead leads before_answer after_answer (Ok end)
   exchanged_told None w =
       let r = w.2 t.held.bytes (ahead t.held.ended (s.held.bytes ++ f.got)) f.holds in
       record {
@@ -115,14 +115,14 @@ module _ {S : Type 0} (leads : S → Dealing → S → Type 0) (ahead : Ahead) (
       )
 
   -- what was heard was answered, and not all that was said is written
-  pub exchanged_cut : (failed : WriteFailed) → Tells leads was now heard (Err failed) → Exchanged ahead leads before_answer after_answer (Err Write)
+  pub exchanged_cut : (failed : WriteFailed) → Tells leads was now received (Err failed) → Exchanged ahead leads before_answer after_answer (Err Write)
   exchanged_cut failed w = (
     w.2,
     record {
       dealings = w.0;
       text = w.1;
-      fetched = fetched_map 0 s t (λ bytes. Hears heard t.held.bytes (ahead t.held.ended bytes)) (λ bytes. IsLast true (ahead t.held.ended bytes) was.state w.0 w.1 w.2 now.state) f
-          (λ bytes k. last_of true (ahead t.held.ended bytes) t.held.bytes was.state now.state heard w.0 w.1 w.2 refl w.3 k);
+      fetched = fetched_map 0 s t (λ bytes. Receives received t.held.bytes (ahead t.held.ended bytes)) (λ bytes. IsLast true (ahead t.held.ended bytes) was.state w.0 w.1 w.2 now.state) f
+          (λ bytes k. last_of true (ahead t.held.ended bytes) t.held.bytes was.state now.state received w.0 w.1 w.2 refl w.3 k);
       dealt = w.4;
       sent = sent_then false [] w.1 o was.out now.out first w.5;
     },
@@ -182,16 +182,16 @@ module _ {S : Type 0} (leads : S → Dealing → S → Type 0) (s t u : Stream) 
 
 module _ (s t : Stream) where
   -- what a line asked for was heard
-  pub heard_behind : (q : Request) (said line : List ℕ) (heard : Heard) → q ≡ request (words said) → said ≡ line → Fetched 0 s t (IsHeardOf q t.held heard)
-      → Fetched 0 s t (λ bytes. Hears heard t.held.bytes (behind line t.held.ended bytes))
-  heard_behind q said line heard e same f =
-      fetched_map 0 s t (IsHeardOf q t.held heard) (λ bytes. Hears heard t.held.bytes (behind line t.held.ended bytes)) f
-      (λ bytes w. subst (λ r. Hears heard t.held.bytes (next_request t.held.ended r bytes)) (e ∙ ap (λ l. request (words l)) same) w)
+  pub heard_behind : (q : Request) (said line : List ℕ) (received : Received) → q ≡ request (words said) → said ≡ line → Fetched 0 s t (IsReceivedOf q t.held received)
+      → Fetched 0 s t (λ bytes. Receives received t.held.bytes (behind line t.held.ended bytes))
+  heard_behind q said line received e same f =
+      fetched_map 0 s t (IsReceivedOf q t.held received) (λ bytes. Receives received t.held.bytes (behind line t.held.ended bytes)) f
+      (λ bytes w. subst (λ r. Receives received t.held.bytes (next_request t.held.ended r bytes)) (e ∙ ap (λ l. request (words l)) same) w)
 
   -- a line was too long
-  pub heard_over : (line : List ℕ) (l : Lined) → l ≡ lined.Over → Fetched 0 s t (IsLined (Ok l) line t.held) → Fetched 0 s t (λ bytes. Hears (h.Stopped LineTooLong) t.held.bytes (next t.held.ended bytes))
+  pub heard_over : (line : List ℕ) (l : Lined) → l ≡ lined.Over → Fetched 0 s t (IsLined (Ok l) line t.held) → Fetched 0 s t (λ bytes. Receives (h.Stopped LineTooLong) t.held.bytes (next t.held.ended bytes))
   heard_over line l e f =
-      fetched_map 0 s t (IsLined (Ok l) line t.held) (λ bytes. Hears (h.Stopped LineTooLong) t.held.bytes (next t.held.ended bytes)) f
+      fetched_map 0 s t (IsLined (Ok l) line t.held) (λ bytes. Receives (h.Stopped LineTooLong) t.held.bytes (next t.held.ended bytes)) f
       (λ bytes w. ap (next_of t.held.ended) (subst (λ m. IsLined (Ok m) line t.held bytes) e w))
 
   -- the input ended

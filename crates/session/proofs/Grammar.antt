@@ -7,7 +7,7 @@ use Rattle.wire.specs.Fetching.{Follows}
 use Rattle.wire.proofs.Stays.{first-more, ended_same}
 use Rattle.text_words.specs.Words.{words}
 use Rattle.command_text.specs.Requests.{Command, Blank, Matrix, Op, Asm, Dis, Submit, Run, Show, Types, Budget, Quit, Refuse, Break, Request, Plain, Body, Fatal, request, with_body}
-use Rattle.session.specs.Next.{Waits, Goes, next, next_of, next_plain, next_request}
+use Rattle.session.specs.NextCommand.{Waits, Goes, next, next_of, next_plain, next_request}
 
 next_plain-more : (d c : Command) (rest left more : List ℕ) → next_plain d rest ≡ Goes c left → next_plain d (rest ++ more) ≡ Goes c (left ++ more)
 next_plain-more Blank c rest left more e = cc

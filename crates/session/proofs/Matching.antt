@@ -24,7 +24,7 @@ use Rattle.workspace.specs.State.{State}
 use Rattle.workspace.specs.Found.{job_found}
 use Rattle.workspace.specs.Turn.{Turn, TakesMatrix, TakesOperator, TakesDigits, TakesKind, Submits, Prices, Finds, Shows, TellsTypes, TakesProgram, TakesAssembly, TakesKindOfAssembly, TellsAssembly, RunTurn, BatchRefused, batch_refusal, Refuses, Replies, settled, charged, released}
 use Rattle.bpf_insn.specs.declared.insn.Insn.{Insn}
-use Rattle.session.specs.Next.{Next}
+use Rattle.session.specs.NextCommand.{NextCommand}
 use Rattle.session.specs.Exchange.{IsLast}
 use Rattle.session.specs.declared.end.End.{End}
 use Rattle.wire.proofs.Known.{append_nil}
@@ -204,7 +204,7 @@ module _ (s t : State) (ds : List Dealing) where
   turn_matched (Break rule) reply h = said _ reply h
 
   -- the last thing that is said
-  pub last_matched : (cut : Bool) (is : Next) (text : List ℕ) (end : Option End) → IsLast cut is s ds text end t → IsMatched s ds t
+  pub last_matched : (cut : Bool) (is : NextCommand) (text : List ℕ) (end : Option End) → IsLast cut is s ds text end t → IsMatched s ds t
   last_matched cut is text end l = elim l [
     | inl w ↦ quiet w.2 (ap (λ (x : State). x.queue) w.4)
     | inr m ↦ elim m [

@@ -12,8 +12,8 @@ use Rattle.step_budget.specs.Budget.{Deals, amounts_taken, amounts_settled}
 use Rattle.job_plan.specs.Price.{price_of}
 use Rattle.workspace.specs.State.{State, empty}
 use Rattle.workspace.specs.Turn.{released}
-use Rattle.session.specs.Next.{next}
-use Rattle.session.specs.Rooms.{RoomState}
+use Rattle.session.specs.NextCommand.{next}
+use Rattle.session.specs.Sessions.{SessionState}
 use Rattle.session.specs.Talk.{Talk, leave, wait, finish, stop, go, Outside, Said, SaidAll, Counts, Outcome}
 use Rattle.session.specs.Exchange.{IsLast, Scene, Went, Final, FinalWhole, Exchanged}
 use Rattle.session.specs.inner.Exchange.{Spoken, SpokenWhole, Conversed}
@@ -185,7 +185,7 @@ module _ {S : Type 0} (leads : S → Dealing → S → Type 0) where
     conversed_fault fresh Write w = (w.0, spoken_last fresh true 0 false w.0 w.1)
     conversed_fault fresh Memory w = absurd w
 
-module _ {S : Type 0} (leads : S → Dealing → S → Type 0) (room : RoomState) (old mid : Scene S) (last : S) (start : old.stream.held.reads_left ≡ room.reads)
+module _ {S : Type 0} (leads : S → Dealing → S → Type 0) (room : SessionState) (old mid : Scene S) (last : S) (start : old.stream.held.reads_left ≡ room.reads)
     (crew : old.touched.state.workers ≡ room.workers)
     (end_of : Deals leads mid.touched.budget (released mid.touched.state.queue) last) where
   abbrev given : Outside S

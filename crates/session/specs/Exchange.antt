@@ -1,6 +1,6 @@
 -- One exchange of a session: a command is read, answered, and its reply written (this project's own).
 use Rattle.std.specs.Prelude.{ℕ, ◌≡◌, ◌⊎◌, Bool, true, false, List, [], Option, None, Some, Result, Ok, Err}
-use Rattle.wire.specs.Held.{Stream}
+use Rattle.wire.specs.InputState.{Stream}
 use Rattle.wire.specs.Fetching.{Fetched}
 use Rattle.wire.specs.Sending.{Outgoing, Sent}
 use Rattle.step_purse.specs.declared.dealings.Dealing.{Dealing}
@@ -9,7 +9,7 @@ use Rattle.text_words.specs.Words.{words}
 use Rattle.command_text.specs.Requests.{Command, request}
 use Rattle.workspace.specs.State.{State}
 use Rattle.workspace.specs.Turn.{Turn}
-use Rattle.session.specs.Next.{Next, Waits, Ends, Goes, Stops, next_request}
+use Rattle.session.specs.NextCommand.{NextCommand, Waits, Ends, Goes, Stops, next_request}
 use Rattle.session.specs.declared.end.End.{End}
 use Rattle.session.specs.declared.end.End.TheVariants.{InputEnd}
 use Rattle.session.specs.declared.end.ServeFault.{ServeFault}
@@ -28,7 +28,7 @@ pub record Scene (S : Type 0) : Type 0 where
 
 -- What is said where this stands next: nothing, since more is waited for; nothing, at the end; the turn of a command that ends
 -- the session; or, where the talk may break off, the turn of another command, or nothing.
-abbrev pub IsLast : Bool → Next → State → List Dealing → List ℕ → Option End → State → Type 0
+abbrev pub IsLast : Bool → NextCommand → State → List Dealing → List ℕ → Option End → State → Type 0
 IsLast cut is old dealings reply end new =
     ((is ≡ Waits) × (end ≡ None) × (dealings ≡ []) × (reply ≡ []) × (new ≡ old))
     ⊎ (((is ≡ Ends) × (end ≡ Some InputEnd) × (dealings ≡ []) × (reply ≡ []) × (new ≡ old))
@@ -39,7 +39,7 @@ IsLast cut is old dealings reply end new =
 
 -- What stands next in bytes that have ended or not:
 abbrev pub Ahead : Type 0
-Ahead = Bool → List ℕ → Next
+Ahead = Bool → List ℕ → NextCommand
 
 -- what stands next behind a line
 abbrev pub behind : List ℕ → Ahead

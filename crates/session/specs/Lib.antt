@@ -1,5 +1,5 @@
-pub mod Next
+pub mod NextCommand
 pub mod Talk
 pub mod Exchange
-pub mod Rooms
+pub mod Sessions
 pub mod inner

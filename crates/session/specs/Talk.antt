@@ -9,8 +9,8 @@ use Rattle.step_budget.specs.Budget.{Deals, amounts_taken, amounts_settled}
 use Rattle.command_text.specs.Requests.{Command}
 use Rattle.workspace.specs.State.{State, empty}
 use Rattle.workspace.specs.Turn.{Turn, released}
-use Rattle.session.specs.Next.{Waits, Ends, Goes, Stops, next}
-use Rattle.session.specs.Rooms.{RoomState}
+use Rattle.session.specs.NextCommand.{Waits, Ends, Goes, Stops, next}
+use Rattle.session.specs.Sessions.{SessionState}
 use Rattle.session.specs.declared.end.End.{End}
 use Rattle.session.specs.declared.end.End.TheVariants.{InputEnd}
 use Rattle.session.specs.declared.end.ServeFault.{ServeFault}
@@ -69,7 +69,7 @@ pub record Counts {S : Type 0} (limit m n : ℕ) (old new : Outside S) : Type 0 
 -- What a session in such a room leaves, by its answer. After a read that failed, or one too many, the text is that of the
 -- complete commands. After a write that failed, what was written is a prefix of the text of some first commands. Out of memory is
 -- answered only at the start: no read, no write and no call of the budget was made.
-abbrev pub Outcome : {S : Type 0} → (S → Dealing → S → Type 0) → RoomState → Outside S → Outside S → Result End ServeFault
+abbrev pub Outcome : {S : Type 0} → (S → Dealing → S → Type 0) → SessionState → Outside S → Outside S → Result End ServeFault
     → Type 0
 Outcome leads room old new (Ok end) = SaidAll room.workers leads old new (Some end) × Counts room.reads 0 0 old new
 Outcome leads room old new (Err faults.Read) = SaidAll room.workers leads old new None × Counts room.reads 1 0 old new

@@ -1,4 +1,4 @@
-//! The answer to what was heard: its turn, and its reply said.
+//! The answer to what was received: its turn, and its reply said.
 ghost use Rattle.std.specs.Prelude.{◌≡◌, ◌≤◌, ◌+◌, [], true, List, OnOk, is_ok};
 ghost use Rattle.command_text.specs.ReplyText.{whole};
 ghost use Rattle.step_budget.specs.Budget.{Deals};
@@ -11,7 +11,7 @@ ghost use Rattle.session.specs.inner.Standing.{touched_at};
 
 use crate::desk::Bench;
 use crate::end::End;
-use crate::hearing::Heard;
+use crate::receiving::Received;
 use command_text::{Command, Refusal, Reply, refuse};
 use std::alloc::Global;
 use std::sync::Wait;
@@ -20,17 +20,17 @@ use step_budget::Steps;
 use wire::{Output, Sink, WriteFailed};
 use workspace::{answer, answer_with_body};
 
-/// Answers what was heard. Tells how the session ends, if it does.
+/// Answers what was received. Tells how the session ends, if it does.
 fn respond<T: Steps, H: Threads + Wait>(
     rt: &H,
     alloc: Global,
-    heard: Heard<'_>,
+    received: Received<'_>,
     bench: &mut Bench,
     steps: &mut T,
 ) -> Option<End>
     requires owed { total_price (state_of bench.old.workspace).queue ≤ T.owes steps.old }
     ensures turn { (dealings : List Dealing) ×
-        Responds (state_of bench.old.workspace) heard.entry dealings (whole bench.new.reply)
+        Responds (state_of bench.old.workspace) received.entry dealings (whole bench.new.reply)
         (state_of bench.new.workspace) result × Deals T.leads steps.old dealings steps.new }
     ensures owed { total_price (state_of bench.new.workspace).queue + T.owes steps.old ≡
         total_price (state_of bench.old.workspace).queue + T.owes steps.new }
@@ -41,23 +41,23 @@ fn respond<T: Steps, H: Threads + Wait>(
         reply,
         ..
     } = bench;
-    match heard {
-        Heard::Stopped(rule) => {
+    match received {
+        Received::Stopped(rule) => {
             refuse(reply, Refusal::Fatal(rule));
             Some(End::Refused(rule))
         }
-        Heard::Plain(command) => {
+        Received::Plain(command) => {
             answer(rt, alloc, workspace, command, steps, reply);
             match command {
                 Command::Quit => Some(End::Quit),
                 _ => None,
             }
         }
-        Heard::Whole { header, body } => {
+        Received::Whole { header, body } => {
             answer_with_body(alloc, workspace, header, body, reply);
             None
         }
-        Heard::Dropped { .. } => {
+        Received::Dropped { .. } => {
             refuse(reply, Refusal::Memory);
             None
         }
@@ -89,7 +89,7 @@ fn say<W: Sink>(
     if last { output.flush(writer) } else { Ok(()) }
 }
 
-/// Answers what was heard, and says the reply. Tells how the session ends, if it does.
+/// Answers what was received, and says the reply. Tells how the session ends, if it does.
 ///
 /// # Errors
 ///
@@ -97,7 +97,7 @@ fn say<W: Sink>(
 pub fn respond_and_say<W: Sink, T: Steps, H: Threads + Wait>(
     rt: &H,
     alloc: Global,
-    heard: Heard<'_>,
+    received: Received<'_>,
     bench: &mut Bench,
     writer: &mut W,
     steps: &mut T,
@@ -106,11 +106,11 @@ pub fn respond_and_say<W: Sink, T: Steps, H: Threads + Wait>(
     ensures told { Tells T.leads
         (touched_at bench.old (W.state writer.old) steps.old)
         (touched_at bench.new (W.state writer.new) steps.new)
-        heard.entry result }
+        received.entry result }
     ensures owed { total_price (state_of bench.new.workspace).queue + T.owes steps.old ≡
         total_price (state_of bench.old.workspace).queue + T.owes steps.new }
 {
-    let end = respond(rt, alloc, heard, bench, steps);
+    let end = respond(rt, alloc, received, bench, steps);
     match say(writer, &mut bench.output, &bench.reply, end.is_some()) {
         Ok(()) => Ok(end),
         Err(failed) => Err(failed),

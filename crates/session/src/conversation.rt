@@ -7,14 +7,14 @@ ghost use Rattle.workspace.specs.Workspace.{state_of};
 ghost use Rattle.session.specs.Exchange.{Exchanged, behind};
 ghost use Rattle.session.specs.inner.Exchange.{Conversed};
 ghost use Rattle.session.specs.inner.Standing.{scene_at};
-ghost use Rattle.session.specs.Next.{next};
-ghost use Rattle.session.specs.Rooms.{full_room};
+ghost use Rattle.session.specs.NextCommand.{next};
+ghost use Rattle.session.specs.Sessions.{full_session};
 ghost use Rattle.session.specs.Talk.{Outcome};
 
 use crate::answering::respond_and_say;
 use crate::desk::Desk;
 use crate::end::{End, ServeFault};
-use crate::hearing::{Heard, hear, hear_line};
+use crate::receiving::{Received, receive, receive_line};
 use command_text::{FatalRule, parse};
 use std::alloc::{AllocError, Global};
 use std::marker::Model;
@@ -47,10 +47,10 @@ fn answer_line<R: Source, W: Sink, T: Steps, H: Threads + Wait>(
         bench,
         commands,
     } = desk;
-    match hear(alloc, parse(line), input, bench, reader, writer) {
-        Ok(heard) => {
-            *commands = commands.saturating_add(heard.count());
-            match respond_and_say(rt, alloc, heard, bench, writer, steps) {
+    match receive(alloc, parse(line), input, bench, reader, writer) {
+        Ok(received) => {
+            *commands = commands.saturating_add(received.count());
+            match respond_and_say(rt, alloc, received, bench, writer, steps) {
                 Ok(end) => Ok(end),
                 Err(_) => Err(ServeFault::Write),
             }
@@ -82,12 +82,12 @@ fn exchange<R: Source, W: Sink, T: Steps, H: Threads + Wait>(
         bench,
         ..
     } = desk;
-    match hear_line(input, line, &mut bench.output, reader, writer) {
+    match receive_line(input, line, &mut bench.output, reader, writer) {
         Ok(Lined::Whole) => answer_line(rt, alloc, desk, reader, writer, steps),
         Ok(Lined::Over) => {
-            let heard = Heard::Stopped(FatalRule::LineTooLong);
-            desk.commands = desk.commands.saturating_add(heard.count());
-            match respond_and_say(rt, alloc, heard, &mut desk.bench, writer, steps) {
+            let received = Received::Stopped(FatalRule::LineTooLong);
+            desk.commands = desk.commands.saturating_add(received.count());
+            match respond_and_say(rt, alloc, received, &mut desk.bench, writer, steps) {
                 Ok(end) => Ok(end),
                 Err(_) => Err(ServeFault::Write),
             }
@@ -126,21 +126,21 @@ fn converse<R: Source, W: Sink, T: Steps, H: Threads + Wait>(
     }
 }
 
-/// The room of one session, made before it begins, so that a server can know that it has it. A contract sees how many reads
+/// One session, with its memory, made before it begins, so that a server can know that it has it. A contract sees how many reads
 /// the session may make, and how many workers each of its batches may have.
 #[derive(Drop)]
-pub struct Room {
+pub struct Session {
     alloc: Global,
     desk: Desk,
 }
 
-impl Model for Room {
+impl Model for Session {
     ghost use Rattle.std.specs.Prelude.{◌≡◌, [], false};
     ghost use Rattle.workspace.specs.State.{empty};
     ghost use Rattle.workspace.specs.Workspace.{state_of};
-    ghost use Rattle.session.specs.Rooms.{RoomState};
+    ghost use Rattle.session.specs.Sessions.{SessionState};
 
-    ghost Value = { RoomState };
+    ghost Value = { SessionState };
 
     ghost view = { λ r. record { reads = r.desk.input.reads_left; workers = r.desk.bench.workspace.workers } };
 
@@ -151,18 +151,18 @@ impl Model for Room {
 /// The most reads that a session makes.
 const MOST_READS: u64 = 4_294_967_296;
 
-impl Room {
-    /// Room for a session each of whose batches runs on so many workers.
+impl Session {
+    /// A session each of whose batches runs on so many workers.
     ///
     /// # Errors
     ///
     /// There is no memory for it.
-    pub fn new(alloc: Global, workers: u64) -> Result<Room, AllocError>
+    pub fn new(alloc: Global, workers: u64) -> Result<Session, AllocError>
         requires some { 1 ≤ workers }
         requires few { workers ≤ 64 }
-        ensures { IfOk result (λ r. r ≡ full_room workers) }
+        ensures { IfOk result (λ r. r ≡ full_session workers) }
     {
-        Room::with_reads(alloc, workers, MOST_READS)
+        Session::with_reads(alloc, workers, MOST_READS)
     }
 
     /// As `new`, for a session that makes so many reads at most.
@@ -170,16 +170,16 @@ impl Room {
     /// # Errors
     ///
     /// There is no memory for it.
-    pub fn with_reads(alloc: Global, workers: u64, reads: u64) -> Result<Room, AllocError>
+    pub fn with_reads(alloc: Global, workers: u64, reads: u64) -> Result<Session, AllocError>
         requires some { 1 ≤ workers }
         requires few { workers ≤ 64 }
         ensures { IfOk result (λ r. r ≡ record { reads = reads; workers = workers }) }
     {
         let desk = Desk::new(alloc, workers, reads)?;
-        Ok(Room { alloc, desk })
+        Ok(Session { alloc, desk })
     }
 
-    /// Serves a session in this room, as `serve` does.
+    /// Serves the session, as `serve` does.
     ///
     /// # Errors
     ///
@@ -201,7 +201,7 @@ impl Room {
         outcome
     }
 
-    /// Serves a session in this room, as `serve` does, and tells how many commands were taken, each of which has a reply: command
+    /// Serves the session, as `serve` does, and tells how many commands were taken, each of which has a reply: command
     /// lines with their bodies, and a line that was too long. No contract speaks of that number.
     pub fn serve_counting<R: Source, W: Sink, T: Steps, H: Threads + Wait>(
         self,
@@ -216,14 +216,14 @@ impl Room {
         ensures owed { T.owes steps.new ≡ T.owes steps.old }
         ensures begun { result.0 ≢ Err ServeFault.Memory }
     {
-        let Room { alloc, mut desk } = self;
+        let Session { alloc, mut desk } = self;
         let outcome = converse(rt, alloc, &mut desk, reader, writer, steps);
         release(rt, &desk.bench.workspace, steps);
         (outcome, desk.commands)
     }
 }
 
-/// For tests: the program makes a `Room` and calls `Room::serve_counting`. Serves one session as `serve` does, with so many
+/// For tests: the program makes a `Session` and calls `Session::serve_counting`. Serves one session as `serve` does, with so many
 /// reads at most.
 ///
 /// # Errors
@@ -245,15 +245,15 @@ pub fn serve_turns<R: Source, W: Sink, T: Steps, H: Threads + Wait>(
         (record { budget = steps.new; source = R.state reader.new; sink = W.state writer.new }) result }
     ensures owed { T.owes steps.new ≡ T.owes steps.old }
 {
-    let Ok(room) = Room::with_reads(alloc, workers, turns) else {
+    let Ok(room) = Session::with_reads(alloc, workers, turns) else {
         return Err(ServeFault::Memory);
     };
     room.serve(rt, reader, writer, steps)
 }
 
-/// For tests: the program makes a `Room` and calls `Room::serve_counting`. Serves one session, each of whose batches may have so many
-/// workers: reads commands, and says the reply to each, until `quit`, the end of the input, or a refusal after which a session can't
-/// go on.
+/// For tests: the program makes a `Session` and calls `Session::serve_counting`. Serves one session, each of whose batches may have
+/// so many workers: reads commands, and says the reply to each, until `quit`, the end of the input, or a refusal after which a
+/// session can't go on.
 ///
 /// # Errors
 ///
@@ -269,7 +269,7 @@ pub fn serve<R: Source, W: Sink, T: Steps, H: Threads + Wait>(
 ) -> Result<End, ServeFault>
     requires some { 1 ≤ workers }
     requires few { workers ≤ 64 }
-    ensures said { Outcome T.leads (full_room workers)
+    ensures said { Outcome T.leads (full_session workers)
         (record { budget = steps.old; source = R.state reader.old; sink = W.state writer.old })
         (record { budget = steps.new; source = R.state reader.new; sink = W.state writer.new }) result }
     ensures owed { T.owes steps.new ≡ T.owes steps.old }

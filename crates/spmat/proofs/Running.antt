@@ -5,15 +5,15 @@ use Rattle.step_budget.specs.Drawing.{Draws}
 use Rattle.step_purse.specs.Histories.{newcomer}
 use Rattle.step_purse.specs.Passes.{PassState}
 use Rattle.step_purse.specs.Shares.{whole}
-use Rattle.session.specs.Rooms.{RoomState, full_room}
+use Rattle.session.specs.Sessions.{SessionState, full_session}
 use Rattle.session.specs.Talk.{Outcome}
 use Rattle.session.specs.declared.end.End.{End}
 use Rattle.session.specs.declared.end.ServeFault.{ServeFault}
 use Rattle.session.specs.declared.end.ServeFault.TheVariants.{Read, Write, Turns, Memory}
 use Rattle.spmat.specs.inner.Running.{Devices, Spoke, Ran, RanOver}
 
-module _ (steps workers : ℕ) (room : RoomState) (first last : PassState) (src src' : SourceState) (snk snk' : SinkState)
-    (is_full : room ≡ full_room workers) (allowance : first.allowance ≡ steps) (unused : first.known ≡ newcomer [] whole) where
+module _ (steps workers : ℕ) (room : SessionState) (first last : PassState) (src src' : SourceState) (snk snk' : SinkState)
+    (is_full : room ≡ full_session workers) (allowance : first.allowance ≡ steps) (unused : first.known ≡ newcomer [] whole) where
   spoke : (result : Result End ServeFault)
       → Outcome Draws room (record { budget = first; source = src; sink = snk }) (record { budget = last; source = src'; sink = snk' }) result
       → Spoke steps workers (record { source = src; sink = snk }) (record { source = src'; sink = snk' }) result
@@ -22,7 +22,7 @@ module _ (steps workers : ℕ) (room : RoomState) (first last : PassState) (src 
     last,
     allowance,
     unused,
-    subst (λ (r : RoomState). Outcome Draws r (record { budget = first; source = src; sink = snk })
+    subst (λ (r : SessionState). Outcome Draws r (record { budget = first; source = src; sink = snk })
         (record { budget = last; source = src'; sink = snk' }) result) is_full said,
   )
 

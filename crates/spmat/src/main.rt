@@ -5,7 +5,7 @@
 //!
 //! What a session reads, does and writes is the contract of `run_on` and of `solo::run` (`specs/inner/Running.antt`), and for one of
 //! many that of `listener::serve_within`. Which server settings ask for is the contract of `open_server` (`specs/inner/Serving.antt`),
-//! and how serving a listener ends that of `listener::serve_entrance`.
+//! and how serving a listener ends that of `listener::serve_acceptor`.
 #![tactic(auto)]
 
 ghost use Rattle.std.specs.Prelude.{◌≡◌, IfOk, Result};

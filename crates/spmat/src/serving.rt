@@ -6,7 +6,9 @@ ghost use Rattle.spmat.specs.inner.Address.{IsLocal};
 ghost use Rattle.spmat.specs.inner.Serving.{IsOfServer, IsOpened, IsServerOf, MayRefuse};
 
 use command_line::{Failure, Settings};
-use listener::{Cause, Journal, Limits, ListenFault, LogFormat, Supply, Terms, serve_on_terms};
+use listener::{
+    Cause, Journal, Limits, ListenFault, LogFormat, ServerTerms, Supply, serve_on_terms,
+};
 use std::alloc::{AllocError, Global};
 use std::net::{IpAddr, Ipv4Addr, Net, SocketAddr, TcpListener, TcpStream};
 use std::sync::Wait;
@@ -29,7 +31,7 @@ pub struct Server {
     address: SocketAddr,
     purse: Purse,
     pass: Pass,
-    terms: Terms,
+    terms: ServerTerms,
     journal: Option<Journal>,
 }
 
@@ -100,7 +102,7 @@ fn serve_logged<H>(
     listener: &TcpListener,
     purse: &Purse,
     pass: Pass,
-    terms: Terms,
+    terms: ServerTerms,
 ) -> Result<(), ListenFault>
 where
     H: Threads + Wait + Clock + Sync + Eprint + AllocGlobal,
@@ -152,7 +154,7 @@ where
             log_format,
             log_every,
         } => {
-            let terms = Terms {
+            let terms = ServerTerms {
                 workers,
                 sessions,
                 idle,
@@ -172,7 +174,7 @@ fn open_on<H>(
     rt: &H,
     port: u16,
     steps: u64,
-    terms: Terms,
+    terms: ServerTerms,
     log: Option<Log>,
 ) -> Result<Server, Failure>
 where

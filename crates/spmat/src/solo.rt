@@ -5,11 +5,11 @@ ghost use Rattle.command_line.specs.InRange.{HasRoom};
 ghost use Rattle.step_purse.specs.Passes.{IsPassOf};
 ghost use Rattle.step_purse.specs.Histories.{newcomer};
 ghost use Rattle.step_purse.specs.Shares.{whole};
-ghost use Rattle.session.specs.Rooms.{full_room};
+ghost use Rattle.session.specs.Sessions.{full_session};
 ghost use Rattle.spmat.specs.inner.Running.{Ran, RanOver};
 
 use listener::serve_pass;
-use session::{End, Room, ServeFault};
+use session::{End, ServeFault, Session};
 use std::alloc::{AllocError, Global};
 use std::io::{Read, Write};
 use std::marker::Brand;
@@ -24,7 +24,7 @@ use wire::{FromRead, Sink, Source, ToWrite};
 struct Prepared {
     purse: Purse,
     pass: Pass,
-    room: Room,
+    room: Session,
 }
 
 /// A purse of so many steps, and the room of a session each of whose batches runs on so many workers.
@@ -32,10 +32,10 @@ fn prepare(alloc: Global, steps: u64, workers: u64) -> Result<Prepared, AllocErr
     requires { HasRoom steps workers }
     ensures own { IfOk result (λ p. IsPassOf p.purse p.pass × (p.purse.allowance ≡ steps)) }
     ensures unused { IfOk result (λ p. p.pass.known ≡ newcomer [] whole) }
-    ensures room { IfOk result (λ p. p.room ≡ full_room workers) }
+    ensures room { IfOk result (λ p. p.room ≡ full_session workers) }
 {
     let (purse, pass) = Purse::open(alloc, steps)?;
-    let room = Room::new(alloc, workers)?;
+    let room = Session::new(alloc, workers)?;
     Ok(Prepared { purse, pass, room })
 }
 

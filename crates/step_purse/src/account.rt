@@ -14,8 +14,8 @@ ghost use Rattle.step_purse.specs.declared.dealings.Reply.TheVariants.{NotEnough
 use crate::dealings::{Dealing, Reply, Totals};
 use crate::plain::{GREATEST_ALLOWANCE, PlainPurse};
 use crate::rule::{
-    Allowed, Asking, Asks, Both, Calling, Cell, Counts, Exchanges, Learns, Moves, Opens, Peeks,
-    Seat, Tells,
+    Allowed, Asking, Asks, Both, Calling, Counts, Exchanges, Learns, Moves, Opens, Peeks,
+    PurseCell, Seat, Tells,
 };
 use std::alloc::{AllocError, Global};
 use std::marker::Brand;
@@ -24,13 +24,13 @@ use std::sync::Wait;
 /// The cell of a purse, and what the purse was opened with.
 #[derive(Drop)]
 pub struct Account {
-    cell: Cell,
+    cell: PurseCell,
     allowance: u64,
     ghost small: { allowance ≤ 2 ^ 62 },
 }
 
 // The cell's first step gives its views the allowance.
-fn begin<S: Allowed>(cell: &Cell, first: &mut Seat, allowance: u64) -> Seat
+fn begin<S: Allowed>(cell: &PurseCell, first: &mut Seat, allowance: u64) -> Seat
     requires pick { S.allowance ≡ allowance }
     requires small { allowance ≤ 2 ^ 62 }
     requires blank { (first.old.table_id ≡ cell.now.table.shared.table_id) × (cell_view first.old ≡ blank) }
@@ -53,7 +53,7 @@ impl Account {
         // The rule of a cell can't name a number that is known at run time only, so every cell begins with the same words,
         // those of the greatest allowance. A smaller purse withholds the difference for ever, and its first word counts it
         // (`read` and `words` below).
-        let (cell, mut first) = Cell::ruled(alloc, [GREATEST_ALLOWANCE, 0, 0])?;
+        let (cell, mut first) = PurseCell::ruled(alloc, [GREATEST_ALLOWANCE, 0, 0])?;
         let seat = begin::<Brand>(&cell, &mut first, allowance);
         Ok((Account { cell, allowance }, seat))
     }

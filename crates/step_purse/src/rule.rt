@@ -20,7 +20,7 @@ impl Protocol<[u64; 3], View> for OneHistory {
 }
 
 /// What is left, reserved and spent.
-pub type Cell = seq_cell::RuledSeqCell<[u64; 3], View, OneHistory, 3>;
+pub type PurseCell = seq_cell::RuledSeqCell<[u64; 3], View, OneHistory, 3>;
 
 /// A right to take steps at a cell.
 pub type Seat = seq_cell::Pass<[u64; 3], View>;

@@ -1,6 +1,6 @@
 //! Races replayed, and boards run by real threads.
 ghost use Rattle.std.specs.Prelude.{◌≡◌, ◌≤◌, ◌<◌, ◌^◌, ℕ, IfOk, All, Some, slice_get, sum, vec_len};
-ghost use Rattle.race_board.specs.Race.{IsSeatOf, IsToldEnd, MayDrawAt, SeatState, fresh_worker};
+ghost use Rattle.race_board.specs.Race.{IsSeatOf, IsDrained, MayDrawAt, SeatState, fresh_worker};
 
 use race_board::{Board, BoardSeat, Race, RaceEvent, Totals, replay};
 use std::alloc::{AllocError, Global};
@@ -47,7 +47,7 @@ fn two_workers_over_two_chunks(rt: HostRuntime) -> Result<(), Fail> {
     let race = replay(rt.alloc(), prices, 2, &events)?;
     assert_eq!(rt; race.count(), 4);
     assert_eq!(rt; race.spent(), 5);
-    assert!(rt; race.told_end(0) && race.told_end(1) && !race.told_end(2));
+    assert!(rt; race.drained(0) && race.drained(1) && !race.drained(2));
     assert_eq!(rt; race.done(0), Some((0, 2)));
     assert_eq!(rt; race.done(1), Some((1, 3)));
     assert_eq!(rt; race.done(2), None);
@@ -90,7 +90,7 @@ fn a_worker_that_failed_draws_no_more(rt: HostRuntime) -> Result<(), Fail> {
     assert_eq!(rt; race.failed(1), Some((0, 2)));
     assert_eq!(rt; race.failed(0), None);
     assert_eq!(rt; race.holds(0), Some(1));
-    assert!(rt; !race.told_end(1));
+    assert!(rt; !race.drained(1));
     Ok(())
 }
 
@@ -99,7 +99,7 @@ fn draw_all(board: &Board, prices: &[u64], seat: BoardSeat) -> BoardSeat
     requires ready { MayDrawAt board.now seat }
     requires prices { prices.now ≡ board.now.prices }
     ensures own { IsSeatOf board.now result }
-    ensures end { IsToldEnd result.worker }
+    ensures end { IsDrained result.worker }
 {
     let mut seat = seat;
     let mut next = 0;

@@ -1,7 +1,7 @@
 -- How what is fetched adds up.
 use Rattle.std.proofs.Common.{◌≡◌, ◌+◌, ℕ, Bool, true, false, List, [], ◌++◌, refl, sym, ap, ◌∙◌, subst, append_assoc, arith, ◌&&◌, ◌||◌, not}
 use Rattle.wire.specs.Devices.{SourceState}
-use Rattle.wire.specs.Held.{Held, Stream}
+use Rattle.wire.specs.InputState.{InputState, Stream}
 use Rattle.wire.specs.Fetching.{Follows, Fetched}
 use Rattle.wire.proofs.Known.{append_nil, consumes_nothing, consumes_more}
 
@@ -32,7 +32,7 @@ told_more false u v false true c xs ys f g p q = q ∙ (ap (λ w. w || (c && fal
 told_more false u v false false c xs ys f g p q = q ∙ ap (λ w. w || (c && true)) p
 
 -- nothing was fetched, and P holds of what is held
-pub fetched_here : (a : SourceState) (old new : Held) (P : List ℕ → Type 0) → new.ended ≡ old.ended → new.reads_left ≡ old.reads_left → P old.bytes
+pub fetched_here : (a : SourceState) (old new : InputState) (P : List ℕ → Type 0) → new.ended ≡ old.ended → new.reads_left ≡ old.reads_left → P old.bytes
     → Fetched 0 (record { source = a; held = old }) (record { source = a; held = new }) P
 fetched_here a old new P e l p = record {
   got = [];
@@ -77,7 +77,7 @@ fetched_map n a b P Q f map = record {
 }
 
 -- what is held changed behind all that was fetched
-pub fetched_left : (n : ℕ) (a : Stream) (s : SourceState) (b c : Held) (P Q : List ℕ → Type 0) → Fetched n a (record { source = s; held = b }) P → c.ended ≡ b.ended → c.reads_left ≡ b.reads_left
+pub fetched_left : (n : ℕ) (a : Stream) (s : SourceState) (b c : InputState) (P Q : List ℕ → Type 0) → Fetched n a (record { source = s; held = b }) P → c.ended ≡ b.ended → c.reads_left ≡ b.reads_left
     → ((bytes : List ℕ) → P bytes → Q bytes) → Fetched n a (record { source = s; held = c }) Q
 fetched_left n a s b c P Q f e l map = record {
   got = f.got;

@@ -3,7 +3,7 @@ use Rattle.std.proofs.Common.{◌≡◌, ◌<◌, ◌≤◌, ℕ, false, ◌+◌
 use Rattle.std.proofs.Common.{length-append, length-take, Result, Ok, Err}
 use Rattle.std.proofs.lemmas.List.{take-append-drop, length-take-le}
 use Rattle.std.proofs.Math.Seq.{take-add}
-use Rattle.wire.specs.Held.{Held}
+use Rattle.wire.specs.InputState.{InputState}
 use Rattle.wire.specs.declared.fault.ReadFault.{ReadFault}
 use Rattle.wire.specs.declared.fault.ReadFault.TheVariants.{Failed, OutOfReads}
 use Rattle.wire.specs.declared.fetch.Body.{Body}
@@ -36,7 +36,7 @@ module _ (len missing : ℕ) (behind bytes : List ℕ) (p : IsPart len missing b
   }
 
 -- bytes came in front of those that were passed over
-pub skipped_behind : (len came : ℕ) (front rest : List ℕ) (new : Held) (result : Result Body ReadFault) → length front ≡ came → came ≤ len → IsSkipped (len - came) result new rest → IsBody len result new (front ++ rest)
+pub skipped_behind : (len came : ℕ) (front rest : List ℕ) (new : InputState) (result : Result Body ReadFault) → length front ≡ came → came ≤ len → IsSkipped (len - came) result new rest → IsBody len result new (front ++ rest)
 skipped_behind len came front rest new (Ok (bodies.Whole body)) f c s = absurd s
 skipped_behind len came front rest new (Ok bodies.Dropped) f c s =
     (front ++ s.0, ap (λ xs. front ++ xs) s.1 ∙ sym (append_assoc front s.0 new.bytes), let n = s.2 in omega (arith, length-append front s.0))
@@ -59,10 +59,10 @@ module _ (first bytes room behind : List ℕ) (came : ℕ) (k : IsKeeping first 
   keeping_count e = omega (arith, ap length k, length-append (take came room) behind, ap (λ (xs : List ℕ). length xs) e, length-take-le came room c)
 
   -- nothing was read, and something is missing
-  pub keeping_short : (len : ℕ) (fault : ReadFault) (old new : Held) (got : List ℕ) → behind ≡ [] → came < len → old.ended ≡ false → IsFilled (Err fault) old new (old.bytes ++ got)
+  pub keeping_short : (len : ℕ) (fault : ReadFault) (old new : InputState) (got : List ℕ) → behind ≡ [] → came < len → old.ended ≡ false → IsFilled (Err fault) old new (old.bytes ++ got)
       → IsBody len (Err fault) new (first ++ (bytes ++ got))
   keeping_short len Failed old new got e s fresh h = (let n = keeping_count e in omega (arith, ap length (append_assoc first bytes got), length-append (first ++ bytes) got, length-append old.bytes got, ap length h.1.0), h.1.1 ∙ fresh)
-  keeping_short len OutOfReads old new got e s fresh h = (let n = keeping_count e in omega (arith, ap length (append_assoc first bytes got), length-append (first ++ bytes) got, length-append old.bytes got, ap length h.1.0), (ap (λ (x : Held). x.ended) h.0 ∙ fresh, h.1.1))
+  keeping_short len OutOfReads old new got e s fresh h = (let n = keeping_count e in omega (arith, ap length (append_assoc first bytes got), length-append (first ++ bytes) got, length-append old.bytes got, ap length h.1.0), (ap (λ (x : InputState). x.ended) h.0 ∙ fresh, h.1.1))
 
   -- more was read into a room with the same front
   pub keeping_more : (filled got after : List ℕ) (n : ℕ) → take came filled ≡ take came room → behind ++ got ≡ take n (drop came filled) → after ≡ [] → IsKeeping first (came + n) filled after (bytes ++ got)

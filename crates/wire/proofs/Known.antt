@@ -3,7 +3,7 @@ use Rattle.std.proofs.Common.{zero, suc, Bool, ◌<◌, ◌≡◌, List, [], ◌
 use Rattle.std.proofs.lemmas.List.{drop-take, take_at, take-append-le, length-take-le}
 use Rattle.std.proofs.Math.Seq.{take-add}
 use Rattle.std.specs.Io.KnownBytes.{Consumes, Appends, Keeps}
-use Rattle.wire.specs.inner.Held.{ended_after}
+use Rattle.wire.specs.inner.InputState.{ended_after}
 
 pub append_nil : {A : Type 0} (xs : List A) → xs ++ [] ≡ xs
 append_nil [] = refl

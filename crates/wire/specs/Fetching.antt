@@ -3,7 +3,7 @@
 use Rattle.std.specs.Prelude.{ℕ, ◌≡◌, ◌<◌, ◌≤◌, ◌+◌, ◌*◌, ◌&&◌, ◌||◌, not, Bool, true, false}
 use Rattle.std.specs.Prelude.{List, [], ◌++◌, length, take, drop, Result, Ok, Err, OnOk, IfOk}
 use Rattle.std.specs.Io.KnownBytes.{Consumes, IsAtEnd}
-use Rattle.wire.specs.Held.{Held, Stream}
+use Rattle.wire.specs.InputState.{InputState, Stream}
 use Rattle.wire.specs.Lines as lines
 use Rattle.wire.specs.declared.fault.ReadFault.{ReadFault}
 use Rattle.wire.specs.declared.fault.ReadFault.TheVariants.{Failed, OutOfReads}
@@ -36,14 +36,14 @@ pub record Fetched (failed : ℕ) (old new : Stream) (P : List ℕ → Type 0) :
   pub holds : P (old.held.bytes ++ got)
 
 -- after one more read all the bytes are held; after a fault no more than before
-abbrev pub IsFilled : Result Unit ReadFault → Held → Held → List ℕ → Type 0
+abbrev pub IsFilled : Result Unit ReadFault → InputState → InputState → List ℕ → Type 0
 IsFilled (Ok done) old new bytes = new.bytes ≡ bytes
 IsFilled (Err Failed) old new bytes = (new.bytes ≡ bytes) × ((bytes ≡ old.bytes) × (new.ended ≡ old.ended))
 IsFilled (Err OutOfReads) old new bytes = (new ≡ old) × ((bytes ≡ old.bytes) × (new.reads_left ≡ 0))
 
 -- After one more read the bytes are those that it put into a room, from a place on, and none are held; after a fault there are no
 -- more than before.
-abbrev pub IsReadBehind : Result ℕ ReadFault → (room : List ℕ) (at : ℕ) → Held → Held → List ℕ → Type 0
+abbrev pub IsReadBehind : Result ℕ ReadFault → (room : List ℕ) (at : ℕ) → InputState → InputState → List ℕ → Type 0
 IsReadBehind (Ok n) room at old new bytes = (bytes ≡ take n (drop at room)) × (new.bytes ≡ [])
 IsReadBehind (Err fault) room at old new bytes = IsFilled (Err fault) old new bytes
 
@@ -54,15 +54,15 @@ pub record IsPut {E : Type 0} (at : ℕ) (result : Result ℕ E) (old new : List
   pub front : take at new ≡ take at old
 
 -- there is room for another byte, and the stream is not known to have ended
-abbrev pub MayFill : Held → Type 0
+abbrev pub MayFill : InputState → Type 0
 MayFill held = (length held.bytes < 8192) × (held.ended ≡ false)
 
 -- no more reads are left than before, and fewer where one was made
-abbrev pub IsSpent : {A : Type 0} → Result A ReadFault → Held → Held → Type 0
+abbrev pub IsSpent : {A : Type 0} → Result A ReadFault → InputState → InputState → Type 0
 IsSpent result old new = (new.reads_left ≤ old.reads_left) × OnOk result (new.reads_left < old.reads_left)
 
 -- what stands first in all the bytes: the line, with the bytes that are left behind it; or, after a fault, less than a line
-abbrev pub IsLined : Result Lined ReadFault → List ℕ → Held → List ℕ → Type 0
+abbrev pub IsLined : Result Lined ReadFault → List ℕ → InputState → List ℕ → Type 0
 IsLined (Ok Whole) line new bytes = lines.first new.ended bytes ≡ lines.Line line new.bytes
 IsLined (Ok Over) line new bytes = lines.first new.ended bytes ≡ lines.Over
 IsLined (Ok Nothing) line new bytes = lines.first new.ended bytes ≡ lines.Nothing
@@ -70,7 +70,7 @@ IsLined (Err Failed) line new bytes = lines.first new.ended bytes ≡ lines.Part
 IsLined (Err OutOfReads) line new bytes = (lines.first new.ended bytes ≡ lines.Partial) × (new.reads_left ≡ 0)
 
 -- what all the bytes are: a body of so many bytes and what is left behind it; or less than a body
-abbrev pub IsBody : ℕ → Result Body ReadFault → Held → List ℕ → Type 0
+abbrev pub IsBody : ℕ → Result Body ReadFault → InputState → List ℕ → Type 0
 IsBody len (Ok (bodies.Whole body)) new bytes = (bytes ≡ body.items ++ new.bytes) × (length body.items ≡ len)
 IsBody len (Ok bodies.Dropped) new bytes = (body : List ℕ) × (bytes ≡ body ++ new.bytes) × (length body ≡ len)
 IsBody len (Ok bodies.Cut) new bytes = (length bytes < len) × (new.ended ≡ true)
@@ -78,5 +78,5 @@ IsBody len (Err Failed) new bytes = (length bytes < len) × (new.ended ≡ false
 IsBody len (Err OutOfReads) new bytes = (length bytes < len) × ((new.ended ≡ false) × (new.reads_left ≡ 0))
 
 -- a bound on what may still be read: each read brings at most 8,192 bytes
-abbrev pub reach : Held → ℕ
+abbrev pub reach : InputState → ℕ
 reach held = held.reads_left * 8193 + length held.bytes

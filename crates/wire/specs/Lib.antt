@@ -1,7 +1,7 @@
 pub mod Devices
 pub mod Prefixes
 pub mod Sending
-pub mod Held
+pub mod InputState
 pub mod Lines
 pub mod Fetching
 pub mod inner

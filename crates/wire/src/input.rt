@@ -5,7 +5,7 @@ ghost use Rattle.std.specs.Io.KnownBytes.{ReadConsumes};
 ghost use Rattle.wire.specs.Devices.{IsRead};
 ghost use Rattle.wire.specs.Fetching.{Fetched, IsFilled, IsReadBehind, IsPut, IsSpent, MayFill, failed_reads};
 ghost use Rattle.wire.specs.Lines.{MayBeLine};
-ghost use Rattle.wire.specs.inner.Held.{IsGot, IsCounted};
+ghost use Rattle.wire.specs.inner.InputState.{IsGot, IsCounted};
 
 use crate::device::Source;
 use crate::fault::ReadFault;
@@ -28,9 +28,9 @@ pub struct Input {
 
 impl Model for Input {
     ghost use Rattle.std.specs.Prelude.{◌≡◌, ◌≤◌, ◌-◌, take, drop, vec_len};
-    ghost use Rattle.wire.specs.Held.{Held};
+    ghost use Rattle.wire.specs.InputState.{InputState};
 
-    ghost Value = { Held };
+    ghost Value = { InputState };
 
     ghost view = { λ i. record {
       bytes = take (i.to - i.from) (drop i.from i.room.items);

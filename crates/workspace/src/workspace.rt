@@ -12,7 +12,7 @@ use bpf_verify::Operator;
 use command_text::Name;
 use csr_store::{Matrix, Version};
 use job_plan::{Priced, Queue};
-use job_runner::Kept;
+use job_runner::SpareScratch;
 use std::alloc::{AllocError, Global};
 use std::sync::Arc;
 
@@ -25,7 +25,7 @@ pub struct Workspace {
     pub queue: Queue,
     /// How many workers a batch may have: 1 to 64.
     pub workers: u64,
-    pub kept: Kept,
+    pub kept: SpareScratch,
     ghost named: { AreNamed queue },
     ghost some: { 1 ≤ workers },
     ghost few: { workers ≤ 64 },
@@ -49,7 +49,7 @@ impl Workspace {
             operators: Names::new(alloc),
             queue: Queue::open(alloc)?,
             workers,
-            kept: Kept::new(),
+            kept: SpareScratch::new(),
         })
     }
 

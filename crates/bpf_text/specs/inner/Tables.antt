@@ -1,4 +1,5 @@
--- Tables of names, read backwards: what the parser of mnemonics needs of them. Its contract is that it reads `mnemonic` backwards.
+-- Tables of names, read backwards: what the parser of mnemonics needs of them. Its contract is that it reads `mnemonic_text`
+-- backwards.
 use Rattle.std.specs.Prelude.{ℕ, ◌==◌, if◌then◌else◌, List, [], ◌∷◌, length, codes, Option, Some, None}
 use Rattle.std.specs.Prelude.{option_map}
 use Rattle.std.specs.Char.{is_ascii_digit}
@@ -22,8 +23,9 @@ use Rattle.bpf_insn.specs.declared.insn.SignedSize.{SignedSize}
 use Rattle.bpf_insn.specs.declared.insn.SignedSize.TheVariants as signed_sizes
 use Rattle.bpf_text.specs.declared.names.Stem.{Stem}
 use Rattle.bpf_text.specs.declared.names.Stem.TheVariants as stems
-use Rattle.bpf_text.specs.declared.form.Form.{Form}
-use Rattle.bpf_text.specs.declared.form.Form.TheVariants.{Alu, Neg, Movsx, End, Ja, Ja32, Jump, Exit, Ldx, Ldsx, Stx, St, Wide}
+use Rattle.bpf_text.specs.declared.mnemonic.Mnemonic.{Mnemonic}
+use Rattle.bpf_text.specs.declared.mnemonic.Mnemonic.TheVariants.{Alu, Neg, Movsx, End, Ja, Ja32, Jump, Exit, Ldx, Ldsx, Stx, St}
+use Rattle.bpf_text.specs.declared.mnemonic.Mnemonic.TheVariants.{Wide}
 use Rattle.bpf_text.specs.Names.{
   width_name,
   operation_name,
@@ -76,33 +78,34 @@ all_stems =
 abbrev pub count_of_letters : List ℕ → ℕ
 count_of_letters word = position_or_len is_ascii_digit word
 
-abbrev pub form_of_stem : Stem → List ℕ → Option Form
-form_of_stem stems.Neg bits = option_map Neg (named width_name all_widths bits)
-form_of_stem stems.Movs bits = option_map Movsx (named extension_name all_extensions bits)
-form_of_stem stems.Ldx bits = option_map Ldx (named size_name all_sizes bits)
-form_of_stem stems.Ldsx bits = option_map Ldsx (named signed_size_name all_signed_sizes bits)
-form_of_stem stems.Stx bits = option_map Stx (named size_name all_sizes bits)
-form_of_stem stems.St bits = option_map St (named size_name all_sizes bits)
-form_of_stem stems.Ja bits = if bytes_eq bits (codes "32") then Some Ja32 else (if length bits == 0 then Some Ja else None)
-form_of_stem stems.Exit bits = if length bits == 0 then Some Exit else None
-form_of_stem stems.Wide bits = if length bits == 0 then Some Wide else None
+abbrev pub mnemonic_of_stem : Stem → List ℕ → Option Mnemonic
+mnemonic_of_stem stems.Neg bits = option_map Neg (named width_name all_widths bits)
+mnemonic_of_stem stems.Movs bits = option_map Movsx (named extension_name all_extensions bits)
+mnemonic_of_stem stems.Ldx bits = option_map Ldx (named size_name all_sizes bits)
+mnemonic_of_stem stems.Ldsx bits = option_map Ldsx (named signed_size_name all_signed_sizes bits)
+mnemonic_of_stem stems.Stx bits = option_map Stx (named size_name all_sizes bits)
+mnemonic_of_stem stems.St bits = option_map St (named size_name all_sizes bits)
+mnemonic_of_stem stems.Ja bits = if bytes_eq bits (codes "32") then Some Ja32 else (if length bits == 0 then Some Ja else None)
+mnemonic_of_stem stems.Exit bits = if length bits == 0 then Some Exit else None
+mnemonic_of_stem stems.Wide bits = if length bits == 0 then Some Wide else None
 
-abbrev pub form_of_stem_found : Option Stem → List ℕ → Option Form
-form_of_stem_found None bits = None
-form_of_stem_found (Some s) bits = form_of_stem s bits
+abbrev pub mnemonic_of_stem_found : Option Stem → List ℕ → Option Mnemonic
+mnemonic_of_stem_found None bits = None
+mnemonic_of_stem_found (Some s) bits = mnemonic_of_stem s bits
 
-abbrev pub form_of_order_found : Option ByteOrder → List ℕ → List ℕ → Option Form
-form_of_order_found None letters bits = form_of_stem_found (named stem_name all_stems letters) bits
-form_of_order_found (Some o) letters bits = option_map (λ z. End o z) (named end_size_name all_end_sizes bits)
+abbrev pub mnemonic_of_order_found : Option ByteOrder → List ℕ → List ℕ → Option Mnemonic
+mnemonic_of_order_found None letters bits = mnemonic_of_stem_found (named stem_name all_stems letters) bits
+mnemonic_of_order_found (Some o) letters bits = option_map (λ z. End o z) (named end_size_name all_end_sizes bits)
 
-abbrev pub form_of_condition_found : Option Cond → List ℕ → List ℕ → Option Form
-form_of_condition_found None letters bits = form_of_order_found (named order_name all_orders letters) letters bits
-form_of_condition_found (Some c) letters bits = option_map (λ w. Jump w c) (named width_name all_widths bits)
+abbrev pub mnemonic_of_condition_found : Option Cond → List ℕ → List ℕ → Option Mnemonic
+mnemonic_of_condition_found None letters bits = mnemonic_of_order_found (named order_name all_orders letters) letters bits
+mnemonic_of_condition_found (Some c) letters bits = option_map (λ w. Jump w c) (named width_name all_widths bits)
 
-abbrev pub form_of_operation_found : Option AluOp → List ℕ → List ℕ → Option Form
-form_of_operation_found None letters bits = form_of_condition_found (named condition_name all_conditions letters) letters bits
-form_of_operation_found (Some o) letters bits = option_map (λ w. Alu w o) (named width_name all_widths bits)
+abbrev pub mnemonic_of_operation_found : Option AluOp → List ℕ → List ℕ → Option Mnemonic
+mnemonic_of_operation_found None letters bits =
+    mnemonic_of_condition_found (named condition_name all_conditions letters) letters bits
+mnemonic_of_operation_found (Some o) letters bits = option_map (λ w. Alu w o) (named width_name all_widths bits)
 
 -- the form whose mnemonic is made of these letters and these numbers of bits
-abbrev pub form_of_parts : List ℕ → List ℕ → Option Form
-form_of_parts letters bits = form_of_operation_found (named operation_name all_operations letters) letters bits
+abbrev pub mnemonic_of_parts : List ℕ → List ℕ → Option Mnemonic
+mnemonic_of_parts letters bits = mnemonic_of_operation_found (named operation_name all_operations letters) letters bits

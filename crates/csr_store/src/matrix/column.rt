@@ -53,6 +53,6 @@ fn first_between(cells: &[Cell], from: usize, to: usize) -> (u64, bool)
     if cells.is_empty() {
         return (0, false);
     }
-    let place = from.min(cells.len() - 1);
-    (cells[place].1, from < to)
+    let nth = from.min(cells.len() - 1);
+    (cells[nth].1, from < to)
 }

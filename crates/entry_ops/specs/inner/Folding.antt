@@ -23,12 +23,12 @@ words cells = map (λ (c : Cell). c.1) cells
 
 -- an open row: its number in the block, its fold so far, and the words still to come
 pub record Open : Type 0 where
-  pub place : ℕ
+  pub number : ℕ
   pub so_far : ℕ
   pub terms : List ℕ
 
 abbrev pub open_of : OpenRow → Open
-open_of r = record { place = r.place; so_far = r.so_far; terms = r.next ∷ words r.rest.now }
+open_of r = record { number = r.number; so_far = r.so_far; terms = r.next ∷ words r.rest.now }
 
 -- open rows by columns: their cells, their folds so far, and their next words, which come before the cells
 abbrev pub in_columns : List Lane → List ℕ → List ℕ → List Open
@@ -36,13 +36,13 @@ in_columns [] vs ws = []
 in_columns (l ∷ ls) [] ws = []
 in_columns (l ∷ ls) (v ∷ vs) [] = []
 in_columns (l ∷ ls) (v ∷ vs) (w ∷ ws) =
-    record { place = l.place; so_far = v; terms = w ∷ words l.rest.now } ∷ in_columns ls vs ws
+    record { number = l.number; so_far = v; terms = w ∷ words l.rest.now } ∷ in_columns ls vs ws
 
 -- the same before their next words are taken from their cells
 abbrev pub in_two_columns : List Lane → List ℕ → List Open
 in_two_columns [] vs = []
 in_two_columns (l ∷ ls) [] = []
-in_two_columns (l ∷ ls) (v ∷ vs) = record { place = l.place; so_far = v; terms = words l.rest.now } ∷ in_two_columns ls vs
+in_two_columns (l ∷ ls) (v ∷ vs) = record { number = l.number; so_far = v; terms = words l.rest.now } ∷ in_two_columns ls vs
 
 -- the open rows, what each row that was begun comes to unless it is open, by its number in the block, and the steps of the
 -- calls that were made
@@ -53,7 +53,7 @@ pub record Folding : Type 0 where
 
 -- each is of one of so many rows
 abbrev pub ArePlaced : ℕ → List Open → Type 0
-ArePlaced n lanes = AllByRecursion (λ (l : Open). l.place < n) lanes
+ArePlaced n lanes = AllByRecursion (λ (l : Open). l.number < n) lanes
 
 -- all the calls of an open row that are still to come, and the steps of those of all of them
 abbrev pub to_come : Accepted → Open → List Call
@@ -68,13 +68,13 @@ abbrev pub IsAmong : ℕ → List ℕ → Type 0
 IsAmong k [] = ⊥
 IsAmong k (p ∷ ps) = (k ≡ p) ⊎ IsAmong k ps
 
-abbrev pub places : List Open → List ℕ
-places lanes = map (λ (l : Open). l.place) lanes
+abbrev pub indices : List Open → List ℕ
+indices lanes = map (λ (l : Open). l.number) lanes
 
 -- each row that was begun comes to what it should, the open ones when all that is to come is folded
 pub record LeadsTo (f : Accepted) (target : ℕ → Option ℕ) (lanes : List Open) (results : List (Option ℕ)) : Type 0 where
-  pub opened : AllByRecursion (λ (l : Open). Some (fold_from f l.so_far l.terms) ≡ target l.place) lanes
-  pub known : (k : ℕ) → k < length results → (slice_index_or results k None ≡ target k) ⊎ IsAmong k (places lanes)
+  pub opened : AllByRecursion (λ (l : Open). Some (fold_from f l.so_far l.terms) ≡ target l.number) lanes
+  pub known : (k : ℕ) → k < length results → (slice_index_or results k None ≡ target k) ⊎ IsAmong k (indices lanes)
 
 -- some of the calls to come were made, by so many steps, and some rows now have their results
 pub record Gives (f : Accepted) (steps : ℕ) (lanes : List Open) (results : List (Option ℕ)) (left : List Open)

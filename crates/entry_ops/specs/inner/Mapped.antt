@@ -35,6 +35,6 @@ pub record IsCopied (f : Accepted) (thunk : Option ℕ) (a : Grid) (first n : �
 -- calls were made, whose values the next entries have
 pub record IsFurther (f : Accepted) (operands : List Operands) (old new : Mapping) : Type 0 where
   pub alike : AreAlike old.rows.run new.rows.run
-  pub place : new.rows.written ≡ old.rows.written + length operands
+  pub number : new.rows.written ≡ old.rows.written + length operands
   pub cells : all_cells new.rows.run ≡ valued_from old.rows.written (values_on f operands) (all_cells old.rows.run)
   pub steps : new.steps ≡ old.steps + steps_of (calls_on f operands)

@@ -5,7 +5,7 @@ use Rattle.bpf_insn.specs.declared.operands.Operands.TheVariants.{Binary}
 use Rattle.csr_store.specs.Grid.{Grid, IsGrid, Cell, row_of}
 use Rattle.csr_store.specs.Along.{along}
 use Rattle.csr_store.specs.Mask.{mask_of}
-use Rattle.entry_ops.specs.declared.line.Sources.{Sources}
+use Rattle.entry_ops.specs.declared.operand_rows.Sources.{Sources}
 
 abbrev pub columns_of : List Cell → List ℕ
 columns_of cells = map (λ (c : Cell). c.0) cells

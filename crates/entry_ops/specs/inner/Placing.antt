@@ -11,36 +11,36 @@ use Rattle.entry_ops.specs.inner.Standing.{Standing, Adds, CanPush, IsOpen}
 -- the rows so far, the entry of each call that waits, by its number, and the steps of the calls that were made
 pub record Emission : Type 0 where
   pub rows : Run
-  pub places : List ℕ
+  pub indices : List ℕ
   pub steps : ℕ
 
 -- a run with each of some values at its place
 abbrev pub placed : List ℕ → List ℕ → Run → Run
-placed places [] run = run
+placed indices [] run = run
 placed [] (v ∷ values) run = run
-placed (p ∷ places) (v ∷ values) run = placed places values (with_value p v run)
+placed (p ∷ indices) (v ∷ values) run = placed indices values (with_value p v run)
 
 -- there is a place for each value, and it is one of so many entries
 abbrev pub HavePlaces : List ℕ → List ℕ → ℕ → Type 0
-HavePlaces places [] entries = Unit {0}
+HavePlaces indices [] entries = Unit {0}
 HavePlaces [] (v ∷ values) entries = ⊥
-HavePlaces (p ∷ places) (v ∷ values) entries = (p < entries) × HavePlaces places values entries
+HavePlaces (p ∷ indices) (v ∷ values) entries = (p < entries) × HavePlaces indices values entries
 
 -- the places of values ascend, from one on
 abbrev pub Rise : ℕ → List ℕ → List ℕ → Type 0
-Rise from places [] = Unit {0}
+Rise from indices [] = Unit {0}
 Rise from [] (v ∷ values) = ⊥
-Rise from (p ∷ places) (v ∷ values) = (from ≤ p) × Rise (suc p) places values
+Rise from (p ∷ indices) (v ∷ values) = (from ≤ p) × Rise (suc p) indices values
 
 -- the rows as if the gathered calls were made
 abbrev pub final : Accepted → Emission → Gathered → Run
-final f e g = placed e.places (values_on f g.operands) e.rows
+final f e g = placed e.indices (values_on f g.operands) e.rows
 
 -- the places and the gathered calls belong together
 pub record Holds (f : Accepted) (e : Emission) (g : Gathered) : Type 0 where
   pub kind : g.kind ≡ f.kind
-  pub places : HavePlaces e.places (values_on f g.operands) (entries_of e.rows)
-  pub rise : Rise 0 e.places (values_on f g.operands)
+  pub indices : HavePlaces e.indices (values_on f g.operands) (entries_of e.rows)
+  pub rise : Rise 0 e.indices (values_on f g.operands)
 
 abbrev pub standing : Accepted → Emission → Gathered → Standing
 standing f e g = record { rows = final f e g; waiting = calls_on f g.operands; steps = e.steps }

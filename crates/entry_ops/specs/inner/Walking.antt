@@ -13,12 +13,12 @@ use Rattle.csr_store.specs.Along.{along, cell_at}
 use Rattle.csr_store.specs.Mask.{HasShape, mask_of}
 use Rattle.csr_store.specs.Ascending.{Ascends, AscendsIn, at, shows}
 use Rattle.bpf_run.specs.Calls.{Call}
-use Rattle.job_forms.specs.Forms.{applied, apply_calls, selected, united, joint, joint_calls}
+use Rattle.job_forms.specs.Forms.{applied, apply_calls, selected, united, merged, joint_calls}
 use Rattle.job_forms.specs.Region.{IsMade}
 use Rattle.job_forms.specs.declared.region.Chunk.{Chunk}
-use Rattle.entry_ops.specs.declared.line.Line.{Line}
-use Rattle.entry_ops.specs.declared.line.Lines.{Lines}
-use Rattle.entry_ops.specs.declared.line.Sources.{Sources}
+use Rattle.entry_ops.specs.declared.operand_rows.OperandRows.{OperandRows}
+use Rattle.entry_ops.specs.declared.operand_rows.OperandReader.{OperandReader}
+use Rattle.entry_ops.specs.declared.operand_rows.Sources.{Sources}
 use Rattle.entry_ops.specs.inner.Forms.{Form, Apply, Select, Union, Both}
 
 -- how the operator of a form is called
@@ -34,7 +34,7 @@ abbrev pub form_at : Form → Accepted → Position → Option ℕ → Option �
 form_at (Apply thunk) f p x y = applied f thunk p x
 form_at (Select thunk) f p x y = selected f thunk p x
 form_at Union f p x y = united f x y
-form_at Both f p x y = joint f x y
+form_at Both f p x y = merged f x y
 
 abbrev pub form_calls : Form → Accepted → Position → Option ℕ → Option ℕ → List Call
 form_calls (Apply thunk) f p x y = apply_calls f thunk p x
@@ -56,17 +56,17 @@ abbrev pub cells_of : Option (Bor (List Cell)) → Option (List Cell)
 cells_of lent = option_map (λ (r : Bor (List Cell)). r.now) lent
 
 -- the rows that are read for a row ascend
-pub record IsLine (line : Line) : Type 0 where
-  pub left : Ascends 0 line.columns line.left.now
-  pub right : Ascends 0 line.columns line.right.now
-  pub mask : AscendsIn line.columns (cells_of line.mask)
+pub record AreOperandRows (sides : OperandRows) : Type 0 where
+  pub left : Ascends 0 sides.columns sides.left.now
+  pub right : Ascends 0 sides.columns sides.right.now
+  pub mask : AscendsIn sides.columns (cells_of sides.mask)
 
 -- the cells of a row by what is read for it, and its calls
-abbrev pub cells_along : Form → Accepted → Line → Row
-cells_along form f line = row_cells form f line.row line.columns line.left.now line.right.now (cells_of line.mask)
+abbrev pub cells_along : Form → Accepted → OperandRows → Row
+cells_along form f sides = row_cells form f sides.row sides.columns sides.left.now sides.right.now (cells_of sides.mask)
 
-abbrev pub calls_along : Form → Accepted → Line → List Call
-calls_along form f line = row_calls form f line.row line.columns line.left.now line.right.now (cells_of line.mask)
+abbrev pub calls_along : Form → Accepted → OperandRows → List Call
+calls_along form f sides = row_calls form f sides.row sides.columns sides.left.now sides.right.now (cells_of sides.mask)
 
 -- row i of a second operand, if there is one, and of a mask
 abbrev pub row_or_none : Option Grid → ℕ → List Cell
@@ -131,9 +131,9 @@ left_over Union cells = cells
 left_over Both cells = []
 
 -- the rows that are read ascend, and all positions pass
-pub record IsWhole (line : Line) : Type 0 where
-  pub ascends : IsLine line
-  pub whole : cells_of line.mask ≡ None
+pub record IsWhole (sides : OperandRows) : Type 0 where
+  pub ascends : AreOperandRows sides
+  pub whole : cells_of sides.mask ≡ None
 
 -- a second operand and a mask have the shape of the first operand
 pub record AreAlike (sources : Sources) : Type 0 where
@@ -151,11 +151,11 @@ abbrev pub reading_at : Option Grid → ℕ → Option Reading
 reading_at matrix i = option_map (λ (g : Grid). record { grid = g; row = i }) matrix
 
 -- so are operands and mask
-pub record AreRead (sources : Sources) (i : ℕ) (lines : Lines) : Type 0 where
+pub record AreRead (sources : Sources) (i : ℕ) (operand_reader : OperandReader) : Type 0 where
   pub alike : AreAlike sources
-  pub left : lines.left ≡ record { grid = sources.left.now; row = i }
-  pub right : lines.right ≡ reading_at (mask_of sources.right) i
-  pub mask : lines.mask ≡ reading_at (mask_of sources.mask) i
+  pub left : operand_reader.left ≡ record { grid = sources.left.now; row = i }
+  pub right : operand_reader.right ≡ reading_at (mask_of sources.right) i
+  pub mask : operand_reader.mask ≡ reading_at (mask_of sources.mask) i
   pub right_grid : IfSome (mask_of sources.right) (λ g. IsGrid g)
   pub mask_grid : IfSome (mask_of sources.mask) (λ g. IsGrid g)
 
@@ -165,13 +165,13 @@ cells_or_none None = []
 cells_or_none (Some cells) = cells
 
 -- what is read for row i
-pub record IsLineOf (sources : Sources) (i : ℕ) (line : Line) : Type 0 where
-  pub columns : line.columns ≡ sources.left.now.columns
-  pub ascends : IsLine line
+pub record AreOperandRowsOf (sources : Sources) (i : ℕ) (sides : OperandRows) : Type 0 where
+  pub columns : sides.columns ≡ sources.left.now.columns
+  pub ascends : AreOperandRows sides
   pub cells : (form : Form) (f : Accepted)
-      → cells_along form f line ≡ form_row form f sources.left.now (mask_of sources.right) (mask_of sources.mask) i
+      → cells_along form f sides ≡ form_row form f sources.left.now (mask_of sources.right) (mask_of sources.mask) i
   pub calls : (form : Form) (f : Accepted)
-      → calls_along form f line ≡ form_row_calls form f sources.left.now (mask_of sources.right) (mask_of sources.mask) i
+      → calls_along form f sides ≡ form_row_calls form f sources.left.now (mask_of sources.right) (mask_of sources.mask) i
 
 -- the rows of a form from one up to another, and their calls
 abbrev pub rows_from : Form → Accepted → Sources → ℕ → ℕ → List Row

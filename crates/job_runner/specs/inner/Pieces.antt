@@ -12,7 +12,7 @@ given None = None
 given (Some p) = Some (p.rows, p.steps)
 
 abbrev pub given_at : List (Option Piece) → List (Option (Run × ℕ))
-given_at places = map given places
+given_at completed_pieces = map given completed_pieces
 
 -- what chunk c of a job gives, and of the jobs
 abbrev pub job_gives : Job → ℕ → Option (Run × ℕ)
@@ -31,11 +31,11 @@ BeginsWith f n xs = xs ≡ listed f n ++ drop n xs
 
 -- the places have the pieces of all chunks of the jobs, in order of their numbers
 abbrev pub AreAll : List Job → List (Option Piece) → Type 0
-AreAll jobs places = given_at places ≡ listed (gives jobs) (chunk_total jobs)
+AreAll jobs completed_pieces = given_at completed_pieces ≡ listed (gives jobs) (chunk_total jobs)
 
 -- the first places have the pieces of the first n chunks of a job
 abbrev pub BeginWith : Job → ℕ → List (Option Piece) → Type 0
-BeginWith job n places = BeginsWith (job_gives job) n (given_at places)
+BeginWith job n completed_pieces = BeginsWith (job_gives job) n (given_at completed_pieces)
 
 -- the later ones are those behind the first n of the earlier
 abbrev pub AreBehind : ℕ → List (Option Piece) → List (Option Piece) → Type 0

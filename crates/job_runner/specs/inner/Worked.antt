@@ -1,6 +1,6 @@
 -- What stands beside specs/Worked.antt for this crate's own modules and proofs.
 use Rattle.std.specs.Prelude.{◌≡◌, ℕ, ◌<◌, ◌≤◌, List, [], ◌∷◌, ◌++◌, length}
-use Rattle.race_board.specs.declared.stand.Stand.TheVariants.{Holds}
+use Rattle.race_board.specs.declared.worker_state.WorkerState.TheVariants.{Holds}
 use Rattle.race_board.specs.Race.{BoardState, SeatState, IsSeatOf, completed, failed}
 use Rattle.job_forms.specs.declared.region.Chunk.{Chunk}
 use Rattle.job_forms.specs.Region.{IsMade}
@@ -14,7 +14,7 @@ use Rattle.job_runner.specs.Worked.{IsPieceOf}
 
 -- the seat is of this board, and its worker holds this chunk
 abbrev pub IsHolding : BoardState → ℕ → SeatState → Type 0
-IsHolding board chunk seat = IsSeatOf board seat × (seat.worker.stand ≡ Holds chunk)
+IsHolding board chunk seat = IsSeatOf board seat × (seat.worker.state ≡ Holds chunk)
 
 -- this was made for a chunk of the jobs
 abbrev pub IsMadeFor : List Job → ℕ → Chunk → Type 0

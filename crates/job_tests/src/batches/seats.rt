@@ -1,7 +1,7 @@
 //! Workers in threads that share a board, of which one is refused memory, or leaves before the others begin.
 ghost use Rattle.std.specs.Prelude.{◌≡◌, ◌≤◌, ◌<◌, vec_len, IfOk, All};
 ghost use Rattle.race_board.specs.Race.{IsSeatOf, MayDrawAt};
-ghost use Rattle.race_board.specs.declared.stand.Stand.TheVariants.{Holds};
+ghost use Rattle.race_board.specs.declared.worker_state.WorkerState.TheVariants.{Holds};
 ghost use Rattle.job_plan.specs.Chunks.{prices_of};
 
 use super::{Task, increments};
@@ -169,7 +169,7 @@ fn two_threads_with_a_seat_each(rt: HostRuntime) -> Result<(), Fail> {
 /// A worker that was refused memory before any call on its chunk.
 fn fail(board: &Board, seat: BoardSeat, chunk: u64) -> BoardSeat
     requires own { IsSeatOf board.now seat }
-    requires holds { seat.worker.stand ≡ Holds chunk }
+    requires holds { seat.worker.state ≡ Holds chunk }
     ensures { IsSeatOf board.now result }
 {
     let mut seat = seat;
@@ -186,7 +186,7 @@ fn fail_and_work<H: Threads>(
     working: BoardSeat,
 ) -> (BoardSeat, Ended)
     requires own { IsSeatOf task.board.now failing.0 }
-    requires holds { failing.0.worker.stand ≡ Holds failing.1 }
+    requires holds { failing.0.worker.state ≡ Holds failing.1 }
     requires ready { MayDrawAt task.board.now working }
     requires prices { task.board.now.prices ≡ prices_of task.plan.now }
     ensures { IsSeatOf task.entry.board.now result.0 × IsSeatOf task.entry.board.now result.1.seat }
@@ -196,7 +196,7 @@ fn fail_and_work<H: Threads>(
     join(
         rt,
         move || -> BoardSeat
-            requires { IsSeatOf board.now seat × (seat.worker.stand ≡ Holds chunk) }
+            requires { IsSeatOf board.now seat × (seat.worker.state ≡ Holds chunk) }
             ensures { IsSeatOf board.entry.now result }
         { fail(board, seat, chunk) },
         move || -> Ended

@@ -2,7 +2,7 @@
 use Rattle.std.specs.Prelude.{ℕ, false, List, Option}
 use Rattle.wire.specs.Devices.{SourceState, SinkState}
 use Rattle.step_purse.specs.Passes.{PassState}
-use Rattle.session.specs.Rooms.{RoomState}
+use Rattle.session.specs.Sessions.{SessionState}
 use Rattle.session.specs.Talk.{Outcome}
 use Rattle.listener.specs.Limits.{Metered, Meters}
 use Rattle.listener.specs.declared.limits.Limits.{Limits}
@@ -14,7 +14,7 @@ beginning pass limits = record { pass = pass; spent = 0; limits = limits }
 
 -- What a session in such a room leaves, over a reader that has these bytes left and a writer that holds those, where they are
 -- known, before any call.
-abbrev pub SpokeOver : RoomState → Metered → (remaining contents : Option (List ℕ)) → Served → Type 0
+abbrev pub SpokeOver : SessionState → Metered → (remaining contents : Option (List ℕ)) → Served → Type 0
 SpokeOver room first remaining contents served =
     (source : SourceState) × (sink : SinkState) × Outcome Meters room
     (record {

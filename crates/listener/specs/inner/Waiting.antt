@@ -1,11 +1,11 @@
 -- What is taken of the lines of a log that wait (this project's own).
 use Rattle.std.specs.Prelude.{◌≡◌, ◌<◌, [], ◌∷◌, true, false, Option, None, Some}
-use Rattle.listener.specs.declared.journal.Next.{Next}
-use Rattle.listener.specs.declared.journal.Next.TheVariants.{Line, Dropped, Over}
+use Rattle.listener.specs.declared.journal.NextLine.{NextLine}
+use Rattle.listener.specs.declared.journal.NextLine.TheVariants.{Line, Dropped, Over}
 use Rattle.listener.specs.declared.journal.Waiting.{Waiting}
 
 -- The first line, where one waits; else how many were dropped, where some were; else that no more come, or nothing yet.
-abbrev pub IsTaken : Option Next → (old new : Waiting) → Type 0
+abbrev pub IsTaken : Option NextLine → (old new : Waiting) → Type 0
 IsTaken (Some (Line entry)) old new = (old.entries.items ≡ entry ∷ new.entries.items) × (new.dropped ≡ old.dropped)
 IsTaken (Some (Dropped count)) old new =
     (old.entries.items ≡ []) × (new.entries.items ≡ []) × (0 < count) × (count ≡ old.dropped) × (new.dropped ≡ 0)

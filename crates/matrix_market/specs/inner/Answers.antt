@@ -16,9 +16,9 @@ use Rattle.std.specs.Str.Lines.{lines}
 use Rattle.std.specs.FinMap as fin
 use Rattle.csr_store.specs.Grid.{Position, pos_cmp}
 use Rattle.text_words.specs.Numbers.{held}
-use Rattle.matrix_market.specs.declared.lines.Next.{Next}
-use Rattle.matrix_market.specs.declared.place.Place.{Place}
-use Rattle.matrix_market.specs.declared.lines.Next.TheVariants.{Line, End, TooLong}
+use Rattle.matrix_market.specs.declared.lines.Content.{Content}
+use Rattle.matrix_market.specs.declared.cursor.Cursor.{Cursor}
+use Rattle.matrix_market.specs.declared.lines.Content.TheVariants.{Line, End, TooLong}
 use Rattle.matrix_market.specs.Market.{mirrored, is_skipped, Value, WrittenEntry, is_banner, banner_words, tail, is_large, outside}
 use Rattle.matrix_market.specs.Market.{is_word, word_of}
 
@@ -70,15 +70,15 @@ pub record Passes (text : List ℕ) (number : ℕ) (rest : List (List ℕ)) (at 
   pub idle : AllByRecursion IsIdle between
 
 -- what comes behind the lines that are passed over
-abbrev pub NextOf : Next → Place → Type 0
-NextOf (Line line behind) place =
-    (before : ℕ) × Passes place.rest.now place.at (line.now ∷ lines behind.rest.now) before × (behind.at ≡ before + 1)
+abbrev pub ContentOf : Content → Cursor → Type 0
+ContentOf (Line line behind) cursor =
+    (before : ℕ) × Passes cursor.rest.now cursor.at (line.now ∷ lines behind.rest.now) before × (behind.at ≡ before + 1)
     × (is_skipped line.now ≡ false) × (nat_lt 1024 (length line.now) ≡ false)
-    × (behind.at + length behind.rest.now ≤ place.at + length place.rest.now)
-NextOf (TooLong at) place =
-    (before : ℕ) × (line : List ℕ) × (rest : List (List ℕ)) × Passes place.rest.now place.at (line ∷ rest) before
+    × (behind.at + length behind.rest.now ≤ cursor.at + length cursor.rest.now)
+ContentOf (TooLong at) cursor =
+    (before : ℕ) × (line : List ℕ) × (rest : List (List ℕ)) × Passes cursor.rest.now cursor.at (line ∷ rest) before
     × (at ≡ before + 1) × (nat_lt 1024 (length line) ≡ true)
-NextOf (End at) place = Passes place.rest.now place.at [] at × (at ≤ place.at + length place.rest.now)
+ContentOf (End at) cursor = Passes cursor.rest.now cursor.at [] at × (at ≤ cursor.at + length cursor.rest.now)
 
 abbrev pub spots : Bool → Found → List Position
 spots symmetric f = mirrored symmetric (f.row, f.column)

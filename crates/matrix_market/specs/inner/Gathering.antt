@@ -12,7 +12,7 @@ use Rattle.matrix_market.specs.declared.kinds.Banner.{Banner}
 use Rattle.matrix_market.specs.declared.kinds.Size.{Size}
 use Rattle.matrix_market.specs.declared.kinds.Header.{Header}
 use Rattle.matrix_market.specs.declared.kinds.Found.{Found}
-use Rattle.matrix_market.specs.declared.place.Place.{Place}
+use Rattle.matrix_market.specs.declared.cursor.Cursor.{Cursor}
 use Rattle.matrix_market.specs.declared.rule.MarketError.{MarketError}
 use Rattle.matrix_market.specs.declared.rule.MarketRule.TheVariants.{PositionGivenTwice}
 use Rattle.text_words.specs.Words.{words}
@@ -22,7 +22,7 @@ use Rattle.matrix_market.specs.inner.Filling.{Filled}
 use Rattle.matrix_market.specs.inner.Refusal.{NamesFault}
 
 -- the entries of a text with this header begin here, and no line before breaks a rule
-abbrev pub Begun : List ℕ → Header → Place → Type 0
+abbrev pub Begun : List ℕ → Header → Cursor → Type 0
 Begun text h start =
     Filled text h.banner h.size (record { rows = h.size.rows; columns = h.size.columns; cells = fin.empty })
     start.rest.now start.at 0
@@ -84,7 +84,7 @@ abbrev pub nothing : Header → Listed
 nothing h = record { rows = h.size.rows; columns = h.size.columns; entries = [] }
 
 -- a list has the entries of some lines from here on, and no others
-pub record IsRead (h : Header) (start : Place) (l : Listed) : Type 0 where
+pub record IsRead (h : Header) (start : Cursor) (l : Listed) : Type 0 where
   pub given : ℕ
   pub few : given ≤ h.size.entries
   pub end : List ℕ
@@ -92,28 +92,28 @@ pub record IsRead (h : Header) (start : Place) (l : Listed) : Type 0 where
   pub adds : Adds h (nothing h) l start.rest.now start.at given end last
 
 -- a text that goes on like this behind lines that break no rule has this fault, if an entry is to come
-abbrev pub IsFaultAt : Header → Place → MarketError → Type 0
-IsFaultAt h place e =
-    (text : List ℕ) (g : Grid) (given : ℕ) → Filled text h.banner h.size g place.rest.now place.at given
+abbrev pub IsFaultAt : Header → Cursor → MarketError → Type 0
+IsFaultAt h cursor e =
+    (text : List ℕ) (g : Grid) (given : ℕ) → Filled text h.banner h.size g cursor.rest.now cursor.at given
     → given < h.size.entries → NamesFault text e
 
 -- the same, if all entries are read: it has this fault or none
-abbrev pub IsEnd : Place → Option MarketError → Type 0
-IsEnd place fault =
-    (text : List ℕ) (b : Banner) (s : Size) (g : Grid) (given : ℕ) → Filled text b s g place.rest.now place.at given
+abbrev pub IsEnd : Cursor → Option MarketError → Type 0
+IsEnd cursor fault =
+    (text : List ℕ) (b : Banner) (s : Size) (g : Grid) (given : ℕ) → Filled text b s g cursor.rest.now cursor.at given
     → s.entries ≤ given
     → MatchOption fault (IsTextOf text g) (NamesFault text)
 
 -- where no position is given twice
-abbrev pub Tells : Header → Place → Listed → Option MarketError → Type 0
+abbrev pub Tells : Header → Cursor → Listed → Option MarketError → Type 0
 Tells h start l fault =
     (text : List ℕ) → Begun text h start → NoneTwice l.entries
     → MatchOption fault (IsTextOf text (grid l.rows l.columns l.entries)) (NamesFault text)
 
 -- the line of this number gives a position again, and no line before it breaks a rule
-abbrev pub IsRepeatAt : Header → Place → ℕ → Type 0
+abbrev pub IsRepeatAt : Header → Cursor → ℕ → Type 0
 IsRepeatAt h start line = (text : List ℕ) → Begun text h start → IsFault text line PositionGivenTwice
 
 -- the answer to a text whose entries begin here
-abbrev pub IsAnswer : Header → Place → Result Grid MarketError → Type 0
+abbrev pub IsAnswer : Header → Cursor → Result Grid MarketError → Type 0
 IsAnswer h start answer = (text : List ℕ) → Begun text h start → MatchResult answer (IsTextOf text) (NamesFault text)

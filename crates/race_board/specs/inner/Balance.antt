@@ -1,19 +1,19 @@
 -- What every event of a race keeps, as equations between sums over its workers. This project's own.
 -- `weigh f` adds up f of each worker, wherever their records are kept: in one list, or shared out among seats.
 use Rattle.std.specs.Prelude.{◌≡◌, ℕ, zero, suc, ◌+◌, ◌^◌, ◌<◌, ◌≤◌, List, [], ◌∷◌, length, slice_index, min}
-use Rattle.race_board.specs.declared.stand.Stand.{Stand}
-use Rattle.race_board.specs.declared.stand.Stand.TheVariants.{Free, Holds, ToldEnd, Failed}
+use Rattle.race_board.specs.declared.worker_state.WorkerState.{WorkerState}
+use Rattle.race_board.specs.declared.worker_state.WorkerState.TheVariants.{Free, Holds, Drained, Failed}
 use Rattle.race_board.specs.Race.{Worker, RaceState, total_of, one_if_below, times_drawn, draws_of, ends_of, steps_of, IsWithinPrices}
 
-abbrev pub price_now : List ℕ → Stand → ℕ
+abbrev pub price_now : List ℕ → WorkerState → ℕ
 price_now prices Free = 0
 price_now prices (Holds x) = slice_index prices x
-price_now prices ToldEnd = 0
+price_now prices Drained = 0
 price_now prices (Failed x s) = 0
 
 -- the price of the chunk that the worker holds
 abbrev pub held_price : List ℕ → Worker → ℕ
-held_price prices w = price_now prices w.stand
+held_price prices w = price_now prices w.state
 
 -- the prices of the first chunks, added up
 abbrev pub first_prices : List ℕ → ℕ → ℕ
@@ -32,15 +32,15 @@ pub record IsBalanced (prices : List ℕ) (count spent : ℕ) (weigh : (Worker �
   -- there is room for the prices that are held
   pub room : spent + weigh (held_price prices) ≤ first_prices prices count
 
-abbrev pub IsTrueStand : List ℕ → ℕ → Stand → Type 0
-IsTrueStand prices count Free = Unit {0}
-IsTrueStand prices count (Holds x) = x < length prices
-IsTrueStand prices count ToldEnd = length prices ≤ count
-IsTrueStand prices count (Failed x s) = Unit {0}
+abbrev pub IsTrueState : List ℕ → ℕ → WorkerState → Type 0
+IsTrueState prices count Free = Unit {0}
+IsTrueState prices count (Holds x) = x < length prices
+IsTrueState prices count Drained = length prices ≤ count
+IsTrueState prices count (Failed x s) = Unit {0}
 
 -- the steps recorded are at most the prices, a chunk that is held is there, and who was told the end was told the truth
 abbrev pub IsSound : List ℕ → ℕ → Worker → Type 0
-IsSound prices count w = IsWithinPrices prices w × IsTrueStand prices count w.stand
+IsSound prices count w = IsWithinPrices prices w × IsTrueState prices count w.state
 
 abbrev pub AllSound : List ℕ → ℕ → List Worker → Type 0
 AllSound prices count [] = Unit {0}

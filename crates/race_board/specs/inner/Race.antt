@@ -4,4 +4,4 @@ use Rattle.race_board.specs.Race.{Worker, may_record}
 
 abbrev pub may_record_by : List ℕ → ℕ → ℕ → Option Worker → Bool
 may_record_by prices c s None = false
-may_record_by prices c s (Some x) = may_record prices c s x.stand
+may_record_by prices c s (Some x) = may_record prices c s x.state

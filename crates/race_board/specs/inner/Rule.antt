@@ -4,9 +4,9 @@ use Rattle.std.specs.Prelude.{◌≡◌, ℕ, ◌+◌, ◌^◌, ◌<◌, ◌≤�
 use mathlib.Core.Option.{some}
 use lib.ListN.{get_elem?}
 use Rattle.atomic_table.specs.Table.{State, Me, Step}
-use Rattle.race_board.specs.declared.stand.Stand.{Stand}
-use Rattle.race_board.specs.declared.stand.Stand.TheVariants.{Free, Holds, ToldEnd, Failed}
-use Rattle.race_board.specs.declared.terms.Terms.{Terms}
+use Rattle.race_board.specs.declared.worker_state.WorkerState.{WorkerState}
+use Rattle.race_board.specs.declared.worker_state.WorkerState.TheVariants.{Free, Holds, Drained, Failed}
+use Rattle.race_board.specs.declared.race_key.RaceKey.{RaceKey}
 use Rattle.race_board.specs.Race.{
   Worker,
   drawn,
@@ -27,14 +27,14 @@ use Rattle.race_board.specs.Rule.{acted}
 abbrev pub weigh : List (List Worker) → (Worker → ℕ) → ℕ
 weigh views f = total_of (total_of f) views
 
-abbrev pub IsSmall : Terms → Type 0
+abbrev pub IsSmall : RaceKey → Type 0
 IsSmall t =
     (length t.prices.each < 2 ^ 63) × (first_prices t.prices.each (length t.prices.each) ≤ 2 ^ 62) × (t.workers ≤ 64)
 
 -- At each moment the views together are a race, of which word 0 is the count and word 1 the steps spent: it has the balance of a
 -- run, its records are sound, and each worker is in one view, once. A seat that was joined to another leaves a view with no
 -- workers.
-pub record IsHeld (t : Terms) (s : State ℕ (List Worker)) : Type 0 where
+pub record IsHeld (t : RaceKey) (s : State ℕ (List Worker)) : Type 0 where
   pub count : ℕ
   pub spent : ℕ
   pub words : s.words ≡ count ∷ spent ∷ []
@@ -47,7 +47,7 @@ pub record IsHeld (t : Terms) (s : State ℕ (List Worker)) : Type 0 where
   pub in_words : (count ≤ length t.prices.each + t.workers) × (spent ≤ first_prices t.prices.each (length t.prices.each))
 
 -- at the start one seat has all workers
-abbrev pub everyone : Terms → List Worker
+abbrev pub everyone : RaceKey → List Worker
 everyone t = fresh_workers 0 t.workers
 
 -- Split: a load of word 0. The first worker goes to a new seat, and the rest stays
@@ -65,17 +65,17 @@ Draws prices st m found m' = (m'.0 ≡ acted (drawn prices found) m.0) × (m'.1 
     × ((c : ℕ) → 0 < total_of (times_drawn c) m.0 → c < found) × (total_of draws_of m.0 < 2 ^ 63)
 
 -- the chunk that a worker holds
-abbrev pub chunk_now : Stand → ℕ
+abbrev pub chunk_now : WorkerState → ℕ
 chunk_now Free = 0
 chunk_now (Holds c) = c
-chunk_now ToldEnd = 0
+chunk_now Drained = 0
 chunk_now (Failed c s) = 0
 
 abbrev pub completes : ℕ → Worker → Worker
-completes s w = completed (chunk_now w.stand) s w
+completes s w = completed (chunk_now w.state) s w
 
 abbrev pub fails : ℕ → Worker → Worker
-fails s w = failed (chunk_now w.stand) s w
+fails s w = failed (chunk_now w.state) s w
 
 -- Complete: steps are added to word 1. The seat's first worker completed the chunk that it held, with these steps
 abbrev pub Completes : Step ℕ → Me ℕ (List Worker) → ℕ → Me ℕ (List Worker) → Type 0

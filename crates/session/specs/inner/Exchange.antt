@@ -2,7 +2,7 @@
 use Rattle.std.specs.Prelude.{ℕ, ◌≡◌, ◌+◌, ◌||◌, Bool, true, false, List, ◌++◌, map}
 use Rattle.std.specs.Prelude.{Option, None, Some, [], Result, Ok, Err}
 use Rattle.std.specs.Io.KnownBytes.{Consumes, Appends, IsAtEnd}
-use Rattle.wire.specs.Held.{Held, Stream}
+use Rattle.wire.specs.InputState.{InputState, Stream}
 use Rattle.wire.specs.Fetching.{Fetched, IsLined}
 use Rattle.wire.specs.Lines as lines
 use Rattle.wire.specs.Prefixes.{IsPrefixOf}
@@ -16,28 +16,30 @@ use Rattle.command_text.specs.Readings.{command_of, header_of}
 use Rattle.job_plan.specs.Price.{price_of}
 use Rattle.workspace.specs.State.{State, empty}
 use Rattle.workspace.specs.Turn.{Turn}
-use Rattle.session.specs.Next.{Next, Waits, Goes, Stops, refused, next_plain, next_request}
+use Rattle.session.specs.NextCommand.{NextCommand, Waits, Goes, Stops, refused, next_plain, next_request}
 use Rattle.session.specs.Talk.{Talk}
 use Rattle.session.specs.declared.end.End.{End}
 use Rattle.session.specs.declared.end.ServeFault.{ServeFault}
 use Rattle.session.specs.declared.end.ServeFault.TheVariants.{Read, Write, Turns, Memory}
-use Rattle.session.specs.declared.hearing.Heard.{Heard}
-use Rattle.session.specs.declared.hearing.Heard.TheVariants as h
+use Rattle.session.specs.declared.receiving.Received.{Received}
+use Rattle.session.specs.declared.receiving.Received.TheVariants as h
 use Rattle.session.specs.Exchange.{Touched, Scene}
 
 -- what was heard stands next, before the rest
-abbrev pub Hears : Heard → List ℕ → Next → Type 0
-Hears (h.Stopped rule) rest is = is ≡ refused rule
-Hears (h.Plain command) rest is = is ≡ next_plain (command_of command) rest
-Hears (h.Whole header body) rest is = is ≡ Goes (with_body (header_of header) body.items) rest
-Hears (h.Dropped header) rest is = (body : List ℕ) × (is ≡ Goes (with_body (header_of header) body) rest)
+abbrev pub Receives : Received → List ℕ → NextCommand → Type 0
+Receives (h.Stopped rule) rest is = is ≡ refused rule
+Receives (h.Plain command) rest is = is ≡ next_plain (command_of command) rest
+Receives (h.Whole header body) rest is = is ≡ Goes (with_body (header_of header) body.items) rest
+Receives (h.Dropped header) rest is = (body : List ℕ) × (is ≡ Goes (with_body (header_of header) body) rest)
 
 -- what was heard is answered by its turn: the session goes on, or ends
-abbrev pub Responds : State → Heard → List Dealing → List ℕ → State → Option End → Type 0
-Responds old heard dealings reply new None =
-    (rest : List ℕ) (is : Next) → Hears heard rest is → (c : Command) × (is ≡ Goes c rest) × Turn old c dealings reply new
-Responds old heard dealings reply new (Some end) =
-    (rest : List ℕ) (is : Next) → Hears heard rest is → (c : Command) × (is ≡ Stops c end) × Turn old c dealings reply new
+abbrev pub Responds : State → Received → List Dealing → List ℕ → State → Option End → Type 0
+Responds old received dealings reply new None =
+    (rest : List ℕ) (is : NextCommand) → Receives received rest is → (c : Command) × (is ≡ Goes c rest)
+    × Turn old c dealings reply new
+Responds old received dealings reply new (Some end) =
+    (rest : List ℕ) (is : NextCommand) → Receives received rest is → (c : Command) × (is ≡ Stops c end)
+    × Turn old c dealings reply new
 
 -- All that waited is written.
 abbrev pub IsEmptied : Outgoing → Outgoing → Type 0
@@ -54,28 +56,28 @@ Awaited (Err Write) came missing s t o p = Fetched 0 s t (λ bytes. Unit {0}) ×
 Awaited (Err Memory) came missing s t o p = ⊥
 
 -- a line stands first in the bytes, or less than a line
-abbrev pub IsLineOf : List ℕ → Held → Lined → List ℕ → Type 0
+abbrev pub IsLineOf : List ℕ → InputState → Lined → List ℕ → Type 0
 IsLineOf line new lined bytes = IsLined (Ok lined) line new bytes
 
-abbrev pub LacksLine : Held → List ℕ → Type 0
+abbrev pub LacksLine : InputState → List ℕ → Type 0
 LacksLine new bytes = lines.first new.ended bytes ≡ lines.Partial
 
 -- what the request and the bytes behind it have next was heard, or its body is not all there
-abbrev pub IsHeardOf : Request → Held → Heard → List ℕ → Type 0
-IsHeardOf request new heard bytes = Hears heard new.bytes (next_request new.ended request bytes)
+abbrev pub IsReceivedOf : Request → InputState → Received → List ℕ → Type 0
+IsReceivedOf request new received bytes = Receives received new.bytes (next_request new.ended request bytes)
 
-abbrev pub LacksBody : Request → Held → List ℕ → Type 0
+abbrev pub LacksBody : Request → InputState → List ℕ → Type 0
 LacksBody request new bytes = next_request new.ended request bytes ≡ Waits
 
 -- what was heard is answered, and the reply said; where the session ends, all is written, or a front part of it
-abbrev pub Tells : {S : Type 0} → (S → Dealing → S → Type 0) → Touched S → Touched S → Heard
+abbrev pub Tells : {S : Type 0} → (S → Dealing → S → Type 0) → Touched S → Touched S → Received
     → Result (Option End) WriteFailed → Type 0
-Tells leads old new heard (Ok end) =
-    (dealings : List Dealing) × (reply : List ℕ) × Responds old.state heard dealings reply new.state end
+Tells leads old new received (Ok end) =
+    (dealings : List Dealing) × (reply : List ℕ) × Responds old.state received dealings reply new.state end
     × Deals leads old.budget dealings new.budget × Sent true reply old.out new.out
     × ((e : End) → end ≡ Some e → new.out.waits ≡ [])
-Tells leads old new heard (Err failed) =
-    (dealings : List Dealing) × (reply : List ℕ) × (end : Option End) × Responds old.state heard dealings reply new.state end
+Tells leads old new received (Err failed) =
+    (dealings : List Dealing) × (reply : List ℕ) × (end : Option End) × Responds old.state received dealings reply new.state end
     × Deals leads old.budget dealings new.budget × Sent false reply old.out new.out
 
 -- What was said from the start to an end or a fault, before the reservations that are still held are settled.

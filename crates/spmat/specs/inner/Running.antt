@@ -5,7 +5,7 @@ use Rattle.step_budget.specs.Drawing.{Draws}
 use Rattle.step_purse.specs.Histories.{newcomer}
 use Rattle.step_purse.specs.Passes.{PassState}
 use Rattle.step_purse.specs.Shares.{whole}
-use Rattle.session.specs.Rooms.{full_room}
+use Rattle.session.specs.Sessions.{full_session}
 use Rattle.session.specs.Talk.{Outcome}
 use Rattle.session.specs.declared.end.End.{End}
 use Rattle.session.specs.declared.end.ServeFault.{ServeFault}
@@ -27,7 +27,7 @@ pub record Devices : Type 0 where
 abbrev pub Spoke : (steps workers : ℕ) → Devices → Devices → Result End ServeFault → Type 0
 Spoke steps workers old new result =
     (first : PassState) × (last : PassState) × (first.allowance ≡ steps) × (first.known ≡ newcomer [] whole)
-    × Outcome Draws (full_room workers) (record { budget = first; source = old.source; sink = old.sink })
+    × Outcome Draws (full_session workers) (record { budget = first; source = old.source; sink = old.sink })
     (record { budget = last; source = new.source; sink = new.sink }) result
 
 -- such a session; or nothing was read or written, since there was no memory

@@ -1,7 +1,7 @@
 //! A client as a batch is: each worker keeps a list of the chunks that it completed, each with its steps, and the lists are
 //! joined. It is proved that each chunk stands in the one list once, with its steps.
 ghost use Rattle.std.specs.Prelude.{◌≡◌, ◌<◌, ◌≤◌, ◌%◌, [], length, vec_len, slice_index, IfOk, All};
-ghost use Rattle.race_board.specs.Race.{BoardState, SeatState, IsSeatOf, IsToldEnd, MayDrawAt, workers_of};
+ghost use Rattle.race_board.specs.Race.{BoardState, SeatState, IsSeatOf, IsDrained, MayDrawAt, workers_of};
 ghost use Rattle.race_board.specs.Chunks.{AreEachOnce, CostJust, completed_by, steps_in, sum_below};
 
 use super::open;
@@ -26,7 +26,7 @@ fn work(alloc: Global, board: &Board, seat: BoardSeat) -> Result<Worked, AllocEr
     requires ready { MayDrawAt board.now seat × (seat.worker.done ≡ []) }
     requires prices { All (λ p. p ≡ 7) board.now.prices }
     ensures own { IfOk result (λ r. IsSeatOf board.now r.0) }
-    ensures told { IfOk result (λ r. IsToldEnd r.0.worker) }
+    ensures told { IfOk result (λ r. IsDrained r.0.worker) }
     ensures same { IfOk result (λ r. r.0.worker.done ≡ r.1.items) }
     ensures cost { IfOk result (λ r. CostJust (λ c. c % 7) r.1.items) }
 {
@@ -49,12 +49,12 @@ fn join(
     results: Vec<Result<Worked, AllocError>>,
 ) -> Result<(Vec<BoardSeat>, Vec<(u64, u64)>), AllocError>
     requires own { All (λ r. IfOk r (λ w. IsSeatOf board.now w.0)) results.items }
-    requires told { All (λ r. IfOk r (λ w. IsToldEnd w.0.worker)) results.items }
+    requires told { All (λ r. IfOk r (λ w. IsDrained w.0.worker)) results.items }
     requires same { All (λ r. IfOk r (λ w. w.0.worker.done ≡ w.1.items)) results.items }
     requires cost { All (λ r. IfOk r (λ w. CostJust (λ c. c % 7) w.1.items)) results.items }
     ensures many { IfOk result (λ r. vec_len r.0 ≡ vec_len results) }
     ensures own { IfOk result (λ r. All (IsSeatOf board.now) r.0.items) }
-    ensures told { IfOk result (λ r. All (λ s. IsToldEnd s.worker) r.0.items) }
+    ensures told { IfOk result (λ r. All (λ s. IsDrained s.worker) r.0.items) }
     ensures joined { IfOk result (λ r. completed_by (workers_of r.0.items) ≡ r.1.items) }
     ensures cost { IfOk result (λ r. CostJust (λ c. c % 7) r.1.items) }
 {
@@ -92,7 +92,7 @@ fn race<R: Threads + Sync>(
             requires ready { MayDrawAt board seat × (seat.worker.done ≡ []) }
             requires prices { All (λ p. p ≡ 7) board.prices }
             ensures own { IfOk result (λ r. IsSeatOf board r.0) }
-            ensures told { IfOk result (λ r. IsToldEnd r.0.worker) }
+            ensures told { IfOk result (λ r. IsDrained r.0.worker) }
             ensures same { IfOk result (λ r. r.0.worker.done ≡ r.1.items) }
             ensures cost { IfOk result (λ r. CostJust (λ c. c % 7) r.1.items) }
         { work(alloc, &board, seat) },

@@ -8,4 +8,4 @@ use Rattle.bpf_text.proofs.statement.read_statement.Goals as goal
 pub returns-in_default-parse : goal.returns-in_default-parse
 returns-in_default-parse c =
     subst (λ (word : List ℕ). IsLowestMisnamed word (map argument_in (operand_texts_of c.args.operands.now)) MalformedOperands)
-    c.in-Some.ensures (not_operands c.in-Some.form (map argument_in (operand_texts_of c.args.operands.now)) c.in_default-parse.ensures)
+    c.in-Some.ensures (not_operands c.in-Some.mnemonic (map argument_in (operand_texts_of c.args.operands.now)) c.in_default-parse.ensures)

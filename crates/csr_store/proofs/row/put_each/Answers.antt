@@ -6,11 +6,11 @@ pub loop-value-init : goal.loop-value-init
 loop-value-init c = set_none c.args.from c.args.values.now c.args.cells.now
 
 pub bounds-cells-entry : goal.bounds-cells-entry
-bounds-cells-entry c = let p = c.loop-value.invariant.place in let n = c.loop-value.invariant.count in let t = c.loop-value-test.true in let r = c.requires in omega (arith, p, n, t, r)
+bounds-cells-entry c = let p = c.loop-value.invariant.nth in let n = c.loop-value.invariant.count in let t = c.loop-value-test.true in let r = c.requires in omega (arith, p, n, t, r)
 
 pub loop-value-preserved : goal.loop-value-preserved
 loop-value-preserved c =
-    let p = c.loop-value.invariant.place in let n = c.loop-value.invariant.count in let t = c.loop-value-test.true in let r = c.requires in
+    let p = c.loop-value.invariant.nth in let n = c.loop-value.invariant.count in let t = c.loop-value-test.true in let r = c.requires in
     set_more c.args.from c.args.values.now c.args.cells.now c.loop-value.value-index c.loop-value.entry c.loop-value.cells _ _ c.loop-value.invariant t refl
     (set_is_valued c.loop-value.entry _ _ c.loop-value.cells (0, 0) (omega (arith, p, n, t, r)) refl)
 

@@ -8,9 +8,9 @@ use Rattle.entry_ops.proofs.masked.fill_masked.Given as goal
 
 abbrev pub invariant-loop-shown : goal.invariant-loop-shown
 invariant-loop-shown l = Holds l.operator l.emitter l.calls
-    × IsMasking (form_of l.form) l.operator l.line.row l.line.columns
-    (row_cells (form_of l.form) l.operator l.line.row l.line.columns l.line.left.now l.line.right.now (Some l.mask))
-    (row_calls (form_of l.form) l.operator l.line.row l.line.columns l.line.left.now l.line.right.now (Some l.mask))
+    × IsMasking (form_of l.form) l.operator l.sides.row l.sides.columns
+    (row_cells (form_of l.form) l.operator l.sides.row l.sides.columns l.sides.left.now l.sides.right.now (Some l.mask))
+    (row_calls (form_of l.form) l.operator l.sides.row l.sides.columns l.sides.left.now l.sides.right.now (Some l.mask))
     (standing l.operator l.fn.emitter l.fn.calls) l.lefts.cells.now l.rights.cells.now l.masks (standing l.operator l.emitter l.calls)
     × ((l.lefts.next ≡ head_column l.lefts.cells.now) × (l.rights.next ≡ head_column l.rights.cells.now))
 

@@ -2,12 +2,12 @@ use Rattle.std.proofs.Common.{◌≡◌, ◌+◌, ◌-◌, [], refl, subst, arit
 use Rattle.entry_ops.specs.inner.Folding.{in_two_columns}
 use Rattle.entry_ops.specs.declared.open_rows.Lane.{Lane}
 use Rattle.entry_ops.proofs.OpenRows.{none_left}
-use Rattle.entry_ops.proofs.Giving.{IsGiving, giving-start, giving-place, giving-word, giving-result, giving-placed, giving-end}
+use Rattle.entry_ops.proofs.Giving.{IsGiving, giving-start, giving-number, giving-word, giving-result, giving-placed, giving-end}
 use Rattle.entry_ops.proofs.open_rows.take_next.Goals as goal
 
 -- what stands for a lane that isn't there
 abbrev no_lane : Lane
-no_lane = record { place = 0; rest = record { ref_ptr = (0, 0); now = [] } }
+no_lane = record { number = 0; rest = record { ref_ptr = (0, 0); now = [] } }
 
 pub loop-i-init : goal.loop-i-init
 loop-i-init c =
@@ -32,7 +32,7 @@ loop-i-preserved c =
 pub bounds-results-lanes : goal.bounds-results-lanes
 bounds-results-lanes c =
     let more : c.loop-i.i ≡ (c.loop-i.i - 1) + 1 = let t = c.loop-i-test.true in omega (arith, t) in
-    giving-place _ _ (c.loop-i.i - 1) c.loop-i.left c.loop-i.lanes c.loop-i.so_far c.loop-i.next c.loop-i.results
+    giving-number _ _ (c.loop-i.i - 1) c.loop-i.left c.loop-i.lanes c.loop-i.so_far c.loop-i.next c.loop-i.results
     (subst (λ i. IsGiving (in_two_columns c.args.lanes.now c.args.so_far.now) c.args.results.now i c.loop-i.left c.loop-i.lanes c.loop-i.so_far
     c.loop-i.next c.loop-i.results) more c.loop-i.invariant)
     no_lane
@@ -53,7 +53,7 @@ returns-clause-gives c =
 pub offset_bounds-results-lanes : goal.offset_bounds-results-lanes
 offset_bounds-results-lanes c =
     let more : c.loop-i.i ≡ (c.loop-i.i - 1) + 1 = let t = c.loop-i-test.true in omega (arith, t) in
-    let p = giving-place _ _ (c.loop-i.i - 1) c.loop-i.left c.loop-i.lanes c.loop-i.so_far c.loop-i.next c.loop-i.results
+    let p = giving-number _ _ (c.loop-i.i - 1) c.loop-i.left c.loop-i.lanes c.loop-i.so_far c.loop-i.next c.loop-i.results
     (subst (λ i. IsGiving (in_two_columns c.args.lanes.now c.args.so_far.now) c.args.results.now i c.loop-i.left c.loop-i.lanes c.loop-i.so_far
     c.loop-i.next c.loop-i.results) more c.loop-i.invariant)
     no_lane in

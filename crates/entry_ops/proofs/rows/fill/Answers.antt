@@ -15,27 +15,27 @@ use Rattle.entry_ops.proofs.Standing.{on_err, charges-kept}
 use Rattle.entry_ops.proofs.rows.fill.Goals as goal
 
 pub loop-row-init : goal.loop-row-init
-loop-row-init c = (c.requires.ready.holds, filling-start _ _ _ _ _ _ _ _ c.requires.ready.open_row.none, c.begin-lines.ensures)
+loop-row-init c = (c.requires.ready.holds, filling-start _ _ _ _ _ _ _ _ c.requires.ready.open_row.none, c.begin-operand_reader.ensures)
 
-pub fill_line-requires-clause-ready : goal.fill_line-requires-clause-ready
-fill_line-requires-clause-ready c =
+pub fill_operands-requires-clause-ready : goal.fill_operands-requires-clause-ready
+fill_operands-requires-clause-ready c =
     let room = filling-room _ _ _ _ _ _ _ _ _ _ c.loop-row.invariant.1
     c.loop-row-test.true c.requires.ready.room in
-    let same = ap steps_of (c.next_line-line.ensures.line.calls (form_of c.args.form) c.args.operator.now) in
+    let same = ap steps_of (c.next_operands-sides.ensures.sides.calls (form_of c.args.form) c.args.operator.now) in
     let begun = filling-open _ _ _ _ _ _ _ _ _ _ c.loop-row.invariant.1
     c.requires.ready.open_row in
     record {
       holds = c.loop-row.invariant.0;
-      open_row = record { columns_are = begun.columns_are ∙ sym c.next_line-line.ensures.line.columns; none = begun.none };
+      open_row = record { columns_are = begun.columns_are ∙ sym c.next_operands-sides.ensures.sides.columns; none = begun.none };
       room = omega (arith, room, same);
     }
 
-pub returns-in_err-fill_line : goal.returns-in_err-fill_line
-returns-in_err-fill_line c = record {
+pub returns-in_err-fill_operands : goal.returns-in_err-fill_operands
+returns-in_err-fill_operands c = record {
   does = search rules;
   spent = on_err c.from_residual.result (filling-stop _ _ _ _ _ _ _ _ _ _
       c.loop-row.invariant.1 c.loop-row-test.true _ _
-      (c.next_line-line.ensures.line.calls (form_of c.args.form) c.args.operator.now) c.in_err-fill_line.ensures.spent);
+      (c.next_operands-sides.ensures.sides.calls (form_of c.args.form) c.args.operator.now) c.in_err-fill_operands.ensures.spent);
 }
 
 pub returns-in_err-end_row : goal.returns-in_err-end_row
@@ -44,20 +44,20 @@ returns-in_err-end_row c = record {
   spent = on_err c.from_residual-in_err-end_row.result
       (filling-stop_end _ _ _ _ _ _ _ _ _ _ c.loop-row.invariant.1
       c.loop-row-test.true
-      _ _ _ _ (c.next_line-line.ensures.line.calls (form_of c.args.form) c.args.operator.now) c.in_ok-fill_line.ensures.does.adds
+      _ _ _ _ (c.next_operands-sides.ensures.sides.calls (form_of c.args.form) c.args.operator.now) c.in_ok-fill_operands.ensures.does.adds
       (charges-kept _ _ _ c.in_err-end_row.ensures.kept));
 }
 
 pub loop-row-preserved : goal.loop-row-preserved
 loop-row-preserved c =
-    let ended = does-end c.args.operator.now c.fill_line.new.emitter c.fill_line.new.calls c.in_ok-fill_line.ensures.does.holds
+    let ended = does-end c.args.operator.now c.fill_operands.new.emitter c.fill_operands.new.calls c.in_ok-fill_operands.ensures.does.holds
     c.end_row.new.self c.in_ok-end_row.ensures.ended in (
       ended.holds,
       filling-step _ _ _ _ _ _ _ _ _ _ c.loop-row.invariant.1
           c.loop-row-test.true _ _ _ _
-          (c.next_line-line.ensures.line.calls (form_of c.args.form) c.args.operator.now) (c.next_line-line.ensures.line.cells (form_of c.args.form) c.args.operator.now)
-          c.in_ok-fill_line.ensures.does.adds ended.adds,
-      c.next_line-line.ensures.read,
+          (c.next_operands-sides.ensures.sides.calls (form_of c.args.form) c.args.operator.now) (c.next_operands-sides.ensures.sides.cells (form_of c.args.form) c.args.operator.now)
+          c.in_ok-fill_operands.ensures.does.adds ended.adds,
+      c.next_operands-sides.ensures.read,
     )
 
 pub returns : goal.returns

@@ -3,10 +3,10 @@ use Rattle.bpf_insn.specs.declared.operands.Operands.{Operands}
 use Rattle.bpf_run.specs.Meaning.{value_of}
 use Rattle.bpf_run.specs.Calls.{call_of}
 use Rattle.entry_ops.specs.inner.Forms.{Select}
-use Rattle.entry_ops.specs.inner.Sifting.{standing, with_kept}
+use Rattle.entry_ops.specs.inner.SelectBuffer.{standing, with_kept}
 use Rattle.entry_ops.specs.inner.Standing.{Adds}
 use Rattle.entry_ops.proofs.Filling.{row_ascends, same_cells, same_calls}
-use Rattle.entry_ops.proofs.Lines.{adds-kept}
+use Rattle.entry_ops.proofs.OperandReader.{adds-kept}
 use Rattle.entry_ops.proofs.Nexts.{none_left}
 use Rattle.entry_ops.proofs.Masks.{masking-start, masking-fits, masking-step, masking-end}
 use Rattle.entry_ops.proofs.Merging.{adds-none}

@@ -1,7 +1,7 @@
 use Rattle.std.proofs.Common.{◌≡◌, length, [], None, Some}
 use Rattle.entry_ops.specs.inner.Forms.{Select}
 use Rattle.entry_ops.specs.inner.Heads.{head_column}
-use Rattle.entry_ops.specs.inner.Sifting.{Holds, standing}
+use Rattle.entry_ops.specs.inner.SelectBuffer.{Holds, standing}
 use Rattle.entry_ops.specs.inner.Walking.{form_row, form_row_calls}
 use Rattle.entry_ops.proofs.Masks.{IsMasking}
 use Rattle.entry_ops.proofs.select.keep_row.Given as goal

@@ -1,5 +1,5 @@
 use Rattle.std.proofs.Common.{None, Some}
-use Rattle.entry_ops.specs.inner.Sifting.{Holds, standing}
+use Rattle.entry_ops.specs.inner.SelectBuffer.{Holds, standing}
 use Rattle.entry_ops.proofs.Filling.{IsFilling}
 use Rattle.entry_ops.proofs.select.keep_rows.Given as goal
 use Rattle.entry_ops.specs.inner.Forms.{Select}

@@ -6,7 +6,7 @@ use Rattle.entry_ops.proofs.union.both_region.Goals as goal
 use Rattle.entry_ops.proofs.union.both_region.Goals.{then-is_blank-via-then-is_blank, then-is_blank-via-else-is_blank+then-is_blank-2, then-is_blank-via-else-is_blank+else-is_blank-2+then-is_shut}
 
 pub returns : goal.returns
-returns c = both_is c.args.operator.now c.args.a.now c.args.region _ c.args.b.now c.joint_region.ensures
+returns c = both_is c.args.operator.now c.args.a.now c.args.region _ c.args.b.now c.merge_region.ensures
 
 pub returns-then-is_blank : goal.returns-then-is_blank
 returns-then-is_blank c =

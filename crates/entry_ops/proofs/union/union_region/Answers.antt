@@ -7,7 +7,7 @@ use Rattle.entry_ops.proofs.union.union_region.Goals as goal
 use Rattle.entry_ops.proofs.union.union_region.Goals.{then-is_blank, else-is_blank, then-is_blank-2-via-then-is_blank-2, then-is_blank-2-via-else-is_blank-2+then-is_shut}
 
 pub returns : goal.returns
-returns c = union_is c.args.operator.now c.args.a.now c.args.region _ c.args.b.now c.joint_region.ensures
+returns c = union_is c.args.operator.now c.args.a.now c.args.region _ c.args.b.now c.merge_region.ensures
 
 pub returns-then-is_blank-2 : goal.returns-then-is_blank-2
 returns-then-is_blank-2 c =

@@ -11,8 +11,8 @@ none_left P Q (Some k) h n = absurd (n k refl)
 
 pub returns-in_default : goal.returns-in_default
 returns-in_default c =
-    let copy = c.index-copies-place.result in
-    found_at c.args.copies.now c.args.column.now copy c.loop-place.place (omega (arith, c.loop-place-test.true))
-    c.index-copies-place.is
+    let copy = c.index-copies-nth.result in
+    found_at c.args.copies.now c.args.column.now copy c.loop-nth.nth (omega (arith, c.loop-nth-test.true))
+    c.index-copies-nth.is
     (none_left (column_of copy ≡ column_of c.args.column.now) (λ (k : ℕ). copy ≢ c.args.column.now) c.difference.result
     c.difference.ensures c.in_default.not-Some)

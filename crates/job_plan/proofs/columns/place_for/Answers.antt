@@ -8,9 +8,9 @@ use Rattle.job_plan.proofs.columns.place_for.Goals as goal
 pub returns-in-At : goal.returns-in-At
 returns-in-At c =
     let g = arc_value c.in-Some.column.now in
-    adds_found c.args.copies.now.items g c.args.priced.now c.in-At.place c.in-Some.ensures
-    (subst (λ (gs : List Grid). IsAt gs c.in-At.place g) c.deref.ensures.value
-    (subst (λ (h : Grid). IsAt c.deref.result.now c.in-At.place h) c.deref-2.ensures c.in-At.ensures))
+    adds_found c.args.copies.now.items g c.args.priced.now c.in-At.nth c.in-Some.ensures
+    (subst (λ (gs : List Grid). IsAt gs c.in-At.nth g) c.deref.ensures.value
+    (subst (λ (h : Grid). IsAt c.deref.result.now c.in-At.nth h) c.deref-2.ensures c.in-At.ensures))
 
 pub returns-in-Nowhere : goal.returns-in-Nowhere
 returns-in-Nowhere c =

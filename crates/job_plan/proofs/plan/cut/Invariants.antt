@@ -2,5 +2,5 @@ use Rattle.std.proofs.Common.{drop}
 use Rattle.job_plan.proofs.Covering.{AreCut}
 use Rattle.job_plan.proofs.plan.cut.Given as goal
 
-abbrev pub invariant-loop-place : goal.invariant-loop-place
-invariant-loop-place l = AreCut l.jobs (drop l.place l.jobs) l.place l.chunks.items
+abbrev pub invariant-loop-nth : goal.invariant-loop-nth
+invariant-loop-nth l = AreCut l.jobs (drop l.nth l.jobs) l.nth l.chunks.items

@@ -11,7 +11,7 @@ loop-number-preserved c =
     let number = c.loop-number.number in
     let rows : c.rows-rows.result ≡ row_count job =
     c.rows-rows.ensures.rows ∙ ap (λ (f : Form). (operation f).rows) c.form.ensures in
-    cutting_more c.args.place job _ _ _ number _ c.loop-number.invariant
-    (ap (λ (m : ℕ). record { job = c.args.place; first = 256 * number; last = m }) c.min-last.ensures
-    ∙ the_rows c.args.place job number c.rows-rows.result rows)
+    cutting_more c.args.nth job _ _ _ number _ c.loop-number.invariant
+    (ap (λ (m : ℕ). record { job = c.args.nth; first = 256 * number; last = m }) c.min-last.ensures
+    ∙ the_rows c.args.nth job number c.rows-rows.result rows)
     c.in_ok-push.ensures.items

@@ -9,55 +9,55 @@ use Rattle.job_runner.proofs.Racing.{gathered_whole, one_race, whole_rows, whole
 use Rattle.job_runner.proofs.batch.results.Given as given
 use Rattle.job_runner.proofs.batch.results.Goals as goal
 
-pub work_all-gathered-requires-clause-room : goal.work_all-gathered-requires-clause-room
-work_all-gathered-requires-clause-room g c κs within =
-    let room = c.in_ok-gathered.ensures.room.1 in
+pub work_all-outputs-requires-clause-room : goal.work_all-outputs-requires-clause-room
+work_all-outputs-requires-clause-room g c κs within =
+    let room = c.in_ok-outputs.ensures.room.1 in
     let seats = c.in_ok-board.ensures.board.2 in
     record {
-      none = c.in_ok-gathered.ensures.room.0;
+      none = c.in_ok-outputs.ensures.room.0;
       room = omega (arith, room, seats);
-      gathered = c.in_ok-gathered.ensures.gathered c.in_ok-board.board;
+      outputs = c.in_ok-outputs.ensures.outputs c.in_ok-board.board;
     }
 
 pub join_jobs-requires : goal.join_jobs-requires
 join_jobs-requires g c =
     let board = c.in_ok-board.board in
-    let gathered = c.work_all-gathered.result.0 in
-    let all = c.work_all-gathered.ensures.all (cc) in
+    let outputs = c.work_all-outputs.result.0 in
+    let all = c.work_all-outputs.ensures.all (cc) in
     let seats = c.in_ok-board.ensures.board.2 in
     let workers = c.in_ok-board.ensures.board.1 in
     let count = c.requires.0 in
-    let len = gathered.seats.ok.0 in
-    let some : 0 < length gathered.seats.items = omega (arith, all, seats, count, len) in
-    let whole : length gathered.seats.items ≡ board.workers = omega (arith, all, seats, workers, len) in
+    let len = outputs.seats.ok.0 in
+    let some : 0 < length outputs.seats.items = omega (arith, all, seats, count, len) in
+    let whole : length outputs.seats.items ≡ board.workers = omega (arith, all, seats, workers, len) in
     record {
-      all = all_given c.args.plan.now gathered.places.items c.work_all-gathered.ensures.gathered.places
-          (gathered_full board c.args.plan.now gathered c.work_all-gathered.ensures.gathered c.close.ensures.completed
+      all = all_given c.args.plan.now outputs.completed_pieces.items c.work_all-outputs.ensures.outputs.completed_pieces
+          (gathered_full board c.args.plan.now outputs c.work_all-outputs.ensures.outputs c.close.ensures.completed
           c.in_ok-board.ensures.board.0 some whole c.if-failed.false);
     }
 
 pub returns-in-Some-clause-spent : goal.returns-in-Some-clause-spent
 returns-in-Some-clause-spent g c =
-    gathered_spent c.in_ok-board.board c.args.plan.now c.work_all-gathered.result.0 c.close.result.spent
-    c.work_all-gathered.ensures.gathered c.close.ensures.once c.close.ensures.spent
+    gathered_spent c.in_ok-board.board c.args.plan.now c.work_all-outputs.result.0 c.close.result.spent
+    c.work_all-outputs.ensures.outputs c.close.ensures.once c.close.ensures.spent
     c.in_ok-board.ensures.board.0 c.recall.ensures.cover
 
 pub returns-then-failed-clause-spent : goal.returns-then-failed-clause-spent
 returns-then-failed-clause-spent g c =
-    gathered_spent c.in_ok-board.board c.args.plan.now c.work_all-gathered.result.0 c.close.result.spent
-    c.work_all-gathered.ensures.gathered c.close.ensures.once c.close.ensures.spent
+    gathered_spent c.in_ok-board.board c.args.plan.now c.work_all-outputs.result.0 c.close.result.spent
+    c.work_all-outputs.ensures.outputs c.close.ensures.once c.close.ensures.spent
     c.in_ok-board.ensures.board.0 c.recall.ensures.cover
 
 pub returns-in_err-join_jobs-clause-spent : goal.returns-in_err-join_jobs-clause-spent
 returns-in_err-join_jobs-clause-spent g c =
-    gathered_spent c.in_ok-board.board c.args.plan.now c.work_all-gathered.result.0 c.close.result.spent
-    c.work_all-gathered.ensures.gathered c.close.ensures.once c.close.ensures.spent
+    gathered_spent c.in_ok-board.board c.args.plan.now c.work_all-outputs.result.0 c.close.result.spent
+    c.work_all-outputs.ensures.outputs c.close.ensures.once c.close.ensures.spent
     c.in_ok-board.ensures.board.0 c.recall.ensures.cover
 
 pub returns-clause-spent : goal.returns-clause-spent
 returns-clause-spent g c =
-    gathered_spent c.in_ok-board.board c.args.plan.now c.work_all-gathered.result.0 c.close.result.spent
-    c.work_all-gathered.ensures.gathered c.close.ensures.once c.close.ensures.spent
+    gathered_spent c.in_ok-board.board c.args.plan.now c.work_all-outputs.result.0 c.close.result.spent
+    c.work_all-outputs.ensures.outputs c.close.ensures.once c.close.ensures.spent
     c.in_ok-board.ensures.board.0 c.recall.ensures.cover
 
 raced : (g : given.Over) (c : goal.In_ok-join_jobs g)
@@ -65,29 +65,29 @@ raced : (g : given.Over) (c : goal.In_ok-join_jobs g)
 raced g c =
     let board = c.in_ok-board.board in
     let jobs = c.args.plan.now in
-    let gathered = c.work_all-gathered.result.0 in
-    let all = c.work_all-gathered.ensures.all (cc) in
+    let outputs = c.work_all-outputs.result.0 in
+    let all = c.work_all-outputs.ensures.all (cc) in
     let seats = c.in_ok-board.ensures.board.2 in
     let workers = c.in_ok-board.ensures.board.1 in
     let count = c.requires.0 in
-    let len = gathered.seats.ok.0 in
-    let some : 0 < length gathered.seats.items = omega (arith, all, seats, count, len) in
-    let here : length gathered.seats.items ≡ board.workers = omega (arith, all, seats, workers, len) in
-    let each = length-map gathered.seats.items (λ (s : SeatState). s.worker) in
-    let alone = one_race board (workers_of gathered.seats.items) c.close.result.count c.close.result.recorded c.close.ensures.race
+    let len = outputs.seats.ok.0 in
+    let some : 0 < length outputs.seats.items = omega (arith, all, seats, count, len) in
+    let here : length outputs.seats.items ≡ board.workers = omega (arith, all, seats, workers, len) in
+    let each = length-map outputs.seats.items (λ (s : SeatState). s.worker) in
+    let alone = one_race board (workers_of outputs.seats.items) c.close.result.count c.close.result.recorded c.close.ensures.race
     (omega (arith, each, here)) in
-    let is_whole = gathered_whole board jobs gathered c.work_all-gathered.ensures.gathered c.close.ensures.completed
+    let is_whole = gathered_whole board jobs outputs c.work_all-outputs.ensures.outputs c.close.ensures.completed
     c.in_ok-board.ensures.board.0 some here c.if-failed.false in
     record {
-      workers = workers_of gathered.seats.items;
+      workers = workers_of outputs.seats.items;
       draws = c.close.result.count;
       many = omega (arith, each, here, workers);
-      numbers = subst (λ (n : ℕ). AreNumbersBelow n (workers_of gathered.seats.items)) workers alone.0;
-      lawful = subst (λ (ps : List ℕ). IsLawful ps c.close.result.count (workers_of gathered.seats.items))
+      numbers = subst (λ (n : ℕ). AreNumbersBelow n (workers_of outputs.seats.items)) workers alone.0;
+      lawful = subst (λ (ps : List ℕ). IsLawful ps c.close.result.count (workers_of outputs.seats.items))
           c.in_ok-board.ensures.board.0 alone.1;
       is_whole = is_whole;
       rows = whole_rows c.recall.ensures.cover jobs (map result_of c.in_ok-join_jobs.field-0.items) c.in_ok-join_jobs.ensures;
-      spent = whole_spent c.recall.ensures.cover jobs (workers_of gathered.seats.items) is_whole;
+      spent = whole_spent c.recall.ensures.cover jobs (workers_of outputs.seats.items) is_whole;
     }
 
 pub returns-clause-results : goal.returns-clause-results

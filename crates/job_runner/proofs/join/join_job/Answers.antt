@@ -32,7 +32,7 @@ gather-requires-clause-few c =
 pub stack_runs-requires-clause-follow : goal.stack_runs-requires-clause-follow
 stack_runs-requires-clause-follow c =
     let job = c.job-job.result.now in
-    let runs = c.in_ok-runs.ensures.gathered.0 ∙ ap (listed (run_in_job job)) (number c.sizes-rows.result.0 c.div_ceil.result job
+    let runs = c.in_ok-runs.ensures.outputs.0 ∙ ap (listed (run_in_job job)) (number c.sizes-rows.result.0 c.div_ceil.result job
     c.div_ceil.ensures c.sizes-rows.ensures.rows) in
     subst (λ rs. Follow c.sizes-rows.result.1 0 c.sizes-rows.result.0 rs) (sym runs)
     (subst (λ r. Follow c.sizes-rows.result.1 0 r (listed (run_in_job job) (chunks_in job))) (sym c.sizes-rows.ensures.rows)
@@ -42,14 +42,14 @@ stack_runs-requires-clause-follow c =
 pub stack_runs-requires-clause-even : goal.stack_runs-requires-clause-even
 stack_runs-requires-clause-even c =
     let job = c.job-job.result.now in
-    let runs = c.in_ok-runs.ensures.gathered.0 ∙ ap (listed (run_in_job job)) (number c.sizes-rows.result.0 c.div_ceil.result job
+    let runs = c.in_ok-runs.ensures.outputs.0 ∙ ap (listed (run_in_job job)) (number c.sizes-rows.result.0 c.div_ceil.result job
     c.div_ceil.ensures c.sizes-rows.ensures.rows) in
     subst AreEven (sym runs) (even_all job)
 
 pub stack_runs-requires-clause-small : goal.stack_runs-requires-clause-small
 stack_runs-requires-clause-small c =
     let job = c.job-job.result.now in
-    let runs = c.in_ok-runs.ensures.gathered.0 ∙ ap (listed (run_in_job job)) (number c.sizes-rows.result.0 c.div_ceil.result job
+    let runs = c.in_ok-runs.ensures.outputs.0 ∙ ap (listed (run_in_job job)) (number c.sizes-rows.result.0 c.div_ceil.result job
     c.div_ceil.ensures c.sizes-rows.ensures.rows) in
     let ended = ap all_ended runs ∙ ended_all 0 job (c.recall.ensures.cover 0 job) in
     let few = job_entries job (subst IsPriced (sym c.job-job.ensures.job) c.job-job.ensures.priced) in
@@ -60,7 +60,7 @@ pub returns-clause-result : goal.returns-clause-result
 returns-clause-result c =
     let job = c.job-job.result.now in
     let cover = c.recall.ensures.cover 0 job in
-    let runs = c.in_ok-runs.ensures.gathered.0 ∙ ap (listed (run_in_job job)) (number c.sizes-rows.result.0 c.div_ceil.result job
+    let runs = c.in_ok-runs.ensures.outputs.0 ∙ ap (listed (run_in_job job)) (number c.sizes-rows.result.0 c.div_ceil.result job
     c.div_ceil.ensures c.sizes-rows.ensures.rows) in
     let count = ap (summed (steps_in_job job) 0) (number c.sizes-rows.result.0 c.div_ceil.result job c.div_ceil.ensures
     c.sizes-rows.ensures.rows) in
@@ -70,5 +70,5 @@ returns-clause-result c =
           cover runs c.sizes-rows.ensures.rows
           c.sizes-rows.ensures.columns (c.in_ok-version.ensures.ok ∙ c.in_ok-matrix.ensures)
           (subst IsGrid (sym c.in_ok-version.ensures.ok) c.recall-2.ensures));
-      steps = c.in_ok-runs.ensures.gathered.1 ∙ count ∙ steps_all 0 job cover ∙ ap steps_of_job c.job-job.ensures.job;
+      steps = c.in_ok-runs.ensures.outputs.1 ∙ count ∙ steps_all 0 job cover ∙ ap steps_of_job c.job-job.ensures.job;
     }

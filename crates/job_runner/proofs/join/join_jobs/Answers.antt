@@ -11,7 +11,7 @@ pub join_job-requires : goal.join_job-requires
 join_job-requires c =
     let jobs = c.jobs-jobs.result.now in
     let job = c.job-item.result in
-    let given = given_at (into_iter_items c.loop-job.places) in
+    let given = given_at (into_iter_items c.loop-job.completed_pieces) in
     begins-append (job_gives job) (chunks_in job) given _
     (front-listed job_gives None jobs job c.loop-job.job-index given c.loop-job-test.true c.job-item.is c.loop-job.invariant.left)
 
@@ -19,7 +19,7 @@ pub loop-job-preserved : goal.loop-job-preserved
 loop-job-preserved c =
     let jobs = c.jobs-jobs.result.now in
     let job = c.job-item.result in
-    let given = given_at (into_iter_items c.loop-job.places) in
+    let given = given_at (into_iter_items c.loop-job.completed_pieces) in
     record {
       left = c.in_ok-join_job.ensures.left
           ∙ drop-listed (job_gives job) (chunks_in job) given (listed (gives (drop (c.loop-job.job-index + 1) jobs))

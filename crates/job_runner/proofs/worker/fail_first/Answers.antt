@@ -21,6 +21,6 @@ returns g c =
           ∙ sym (append-nil c.args.seat.now.worker.done)
           ∙ ap (λ ps. c.args.seat.now.worker.done ++ recorded ps) (sym none.items);
       pieces = subst (AllByRecursion (IsPieceOf jobs)) (sym none.items) tt;
-      stands = (chunk, 0, ap (λ (w : Worker). w.stand) fails, chunk_there jobs chunk listed, omega arith);
+      stands = (chunk, 0, ap (λ (w : Worker). w.state) fails, chunk_there jobs chunk listed, omega arith);
       spent = fail_steps c.args.seat.now.worker c.draw.new.seat.worker c.fail.new.seat.worker chunk 0 c.requires.ready.1 drew fails;
     }

@@ -15,24 +15,24 @@ loop-chunk-preserved g c =
     let steps = c.in-Completed.steps in
     let i = c.loop-chunk.invariant in
     let drew = c.in-Some.ensures.chunk.1 in
-    let turn = c.in-Completed.ensures in
-    let done = turn.recorded in
-    let just = turn.just in
+    let record_chunk = c.in-Completed.ensures in
+    let done = record_chunk.recorded in
+    let just = record_chunk.just in
     let old = c.loop-chunk.seat.worker in
     let below = above_next old c.loop-chunk.for_proof_next chunk i.drawn c.in-Some.ensures.above in
     let entry : List (ℕ × ℕ) = (chunk, steps) ∷ [] in
     record {
-      own = turn.own;
+      own = record_chunk.own;
       number = ap (λ (w : Worker). w.number) done ∙ (ap (λ (w : Worker). w.number) drew ∙ i.number);
-      gained = gained_more jobs chunk steps c.loop-chunk.pieces.items c.turn.new.pieces.items c.args.seat.now.worker.done
-          old.done c.turn.new.seat.worker.done turn.put i.gained
+      gained = gained_more jobs chunk steps c.loop-chunk.pieces.items c.record_chunk.new.pieces.items c.args.seat.now.worker.done
+          old.done c.record_chunk.new.seat.worker.done record_chunk.put i.gained
           (ap (λ (w : Worker). w.done) done ∙ ap (λ (w : Worker). w.done ++ entry) drew);
-      right = right_more jobs chunk steps c.loop-chunk.pieces.items c.turn.new.pieces.items i.right turn.put;
-      free = ap (λ (w : Worker). w.stand) done;
+      right = right_more jobs chunk steps c.loop-chunk.pieces.items c.record_chunk.new.pieces.items i.right record_chunk.put;
+      free = ap (λ (w : Worker). w.state) done;
       sum =
-          let s = turn_steps old c.draw.new.seat.worker c.turn.new.seat.worker chunk steps i.free drew done in
+          let s = turn_steps old c.draw.new.seat.worker c.record_chunk.new.seat.worker chunk steps i.free drew done in
           let t = i.sum in omega (arith, s, t);
-      drawn = λ _. turn_drawn c.draw.new.seat.worker c.turn.new.seat.worker chunk steps done;
+      drawn = λ _. turn_drawn c.draw.new.seat.worker c.record_chunk.new.seat.worker chunk steps done;
       most = (spent_room (chunk_steps jobs) c.loop-chunk.for_proof_next chunk (chunk + 1) c.loop-chunk.spent steps i.most below
           (omega arith) (omega (arith, just))).0;
     }
@@ -70,17 +70,17 @@ returns-in-Failed g c =
     let steps = c.in-Failed.steps in
     let i = c.loop-chunk.invariant in
     let drew = c.in-Some.ensures.chunk.1 in
-    let turn = c.in-Failed.ensures in
-    let fails = turn.recorded in
+    let record_chunk = c.in-Failed.ensures in
+    let fails = record_chunk.recorded in
     let listed = chunk_listed jobs chunk c.args.task.board.now.prices c.requires.prices c.in-Some.ensures.chunk.0 in
     record {
-      own = turn.own;
+      own = record_chunk.own;
       number = ap (λ (w : Worker). w.number) fails ∙ (ap (λ (w : Worker). w.number) drew ∙ i.number);
       gained = ap (λ (w : Worker). w.done) fails ∙ ap (λ (w : Worker). w.done) drew ∙ i.gained
-          ∙ ap (λ ps. c.args.seat.now.worker.done ++ recorded ps) (sym turn.kept);
-      pieces = subst (AllByRecursion (IsPieceOf jobs)) (sym turn.kept) i.right;
-      stands = (chunk, steps, ap (λ (w : Worker). w.stand) fails, chunk_there jobs chunk listed, turn.most);
+          ∙ ap (λ ps. c.args.seat.now.worker.done ++ recorded ps) (sym record_chunk.kept);
+      pieces = subst (AllByRecursion (IsPieceOf jobs)) (sym record_chunk.kept) i.right;
+      stands = (chunk, steps, ap (λ (w : Worker). w.state) fails, chunk_there jobs chunk listed, record_chunk.most);
       spent =
-          let s = fail_steps c.loop-chunk.seat.worker c.draw.new.seat.worker c.turn.new.seat.worker chunk steps i.free drew fails in
+          let s = fail_steps c.loop-chunk.seat.worker c.draw.new.seat.worker c.record_chunk.new.seat.worker chunk steps i.free drew fails in
           let t = i.sum in omega (arith, s, t);
     }

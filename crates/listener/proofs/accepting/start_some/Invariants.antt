@@ -4,7 +4,7 @@ use Rattle.listener.proofs.accepting.start_some.Given as goal
 
 abbrev pub invariant-loop : goal.invariant-loop
 invariant-loop g l = record {
-  ready : IsReady l.house.purse.now l.house.terms.workers l.ready;
-  accepted : (g.E.Entrance.state l.fn.entrance).accepted + l.counter ≤ (g.E.Entrance.state l.entrance).accepted;
-  failures : (g.E.Entrance.state l.entrance).failures ≡ (g.E.Entrance.state l.fn.entrance).failures;
+  ready : IsReady l.server.purse.now l.server.terms.workers l.ready;
+  accepted : (g.E.Acceptor.state l.fn.acceptor).accepted + l.counter ≤ (g.E.Acceptor.state l.acceptor).accepted;
+  failures : (g.E.Acceptor.state l.acceptor).failures ≡ (g.E.Acceptor.state l.fn.acceptor).failures;
 }

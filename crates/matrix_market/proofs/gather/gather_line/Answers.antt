@@ -9,23 +9,23 @@ use Rattle.matrix_market.proofs.gather.gather_line.Goals as goal
 pub returns-in-End-clause-fault : goal.returns-in-End-clause-fault
 returns-in-End-clause-fault c = λ text g given filled few.
     let e = c.in-End.ensures in
-    too_few text c.args.place.rest.now c.args.header.banner c.args.header.size g c.args.place.at c.in-End.line (c.in-End.line + 1) given filled few e.0 refl
+    too_few text c.args.cursor.rest.now c.args.header.banner c.args.header.size g c.args.cursor.at c.in-End.line (c.in-End.line + 1) given filled few e.0 refl
 
 pub returns-in-TooLong-clause-fault : goal.returns-in-TooLong-clause-fault
 returns-in-TooLong-clause-fault c = λ text g given filled few.
     let e = c.in-TooLong.ensures in
-    long_entry text c.args.place.rest.now c.args.header.banner c.args.header.size g c.args.place.at e.0 c.in-TooLong.line given e.1 e.2 filled e.3 e.4 e.5
+    long_entry text c.args.cursor.rest.now c.args.header.banner c.args.header.size g c.args.cursor.at e.0 c.in-TooLong.line given e.1 e.2 filled e.3 e.4 e.5
 
 pub returns-in_ok-push_entry-in-Ok-clause-added : goal.returns-in_ok-push_entry-in-Ok-clause-added
 returns-in_ok-push_entry-in-Ok-clause-added c =
     let e = c.in-Line.ensures in
-    adds_line c.args.header c.args.list.now c.push_entry.new.list c.args.place.rest.now c.in-Line.behind.rest.now c.args.place.at e.0 c.in-Line.behind.at c.in-Line.content.now c.in-Ok.found
+    adds_line c.args.header c.args.list.now c.push_entry.new.list c.args.cursor.rest.now c.in-Line.behind.rest.now c.args.cursor.at e.0 c.in-Line.behind.at c.in-Line.content.now c.in-Ok.found
     e.1 e.2 e.3 e.4 c.in-Ok.ensures c.in_ok-push_entry-in-Ok.ensures
 
 pub returns-in-Err-clause-fault : goal.returns-in-Err-clause-fault
 returns-in-Err-clause-fault c = λ text g given filled few.
     let e = c.in-Line.ensures in
-    entry_fault text c.args.place.rest.now c.args.header.banner c.args.header.size g c.args.place.at e.0 c.in-Line.behind.at given c.in-Line.content.now (lines c.in-Line.behind.rest.now) c.in-Err.rule filled few
+    entry_fault text c.args.cursor.rest.now c.args.header.banner c.args.header.size g c.args.cursor.at e.0 c.in-Line.behind.at given c.in-Line.content.now (lines c.in-Line.behind.rest.now) c.in-Err.rule filled few
     e.1 e.2 e.3 e.4 c.in-Err.ensures
 
 pub push_entry-requires-clause-row : goal.push_entry-requires-clause-row

@@ -20,12 +20,12 @@ loop-worker-preserved c =
     let k = c.loop-worker._worker in
     let v = c.loop-worker.invariant.view in
     let items = c.loop-worker.seats.items in
-    let place = c.new.ensures in
+    let table_seat = c.new.ensures in
     let name = name_of c.args.table.now.shared.table_id in
     let l : k ≡ length items = omega arith in
-    let board : name_of c.new.result.place.table_id ≡ name = ap (λ p. name_of p.table_id) place ∙ ap name_of (e.3 ∙ c.loop-worker.invariant.own) in
-    let who : first_worker c.new.result.place.me.0 ≡ fresh_worker (length items) =
-    ap (λ p. first_worker p.me.0) place ∙ (ap (λ m. first_worker m.0) e.4 ∙ (ap (λ m. first_worker (first_of m.0)) v ∙ (ap first_worker (fresh_first k c.args.workers (omega arith)) ∙ ap fresh_worker l))) in
+    let board : name_of c.new.result.table_seat.table_id ≡ name = ap (λ p. name_of p.table_id) table_seat ∙ ap name_of (e.3 ∙ c.loop-worker.invariant.own) in
+    let who : first_worker c.new.result.table_seat.me.0 ≡ fresh_worker (length items) =
+    ap (λ p. first_worker p.me.0) table_seat ∙ (ap (λ m. first_worker m.0) e.4 ∙ (ap (λ m. first_worker (first_of m.0)) v ∙ (ap first_worker (fresh_first k c.args.workers (omega arith)) ∙ ap fresh_worker l))) in
     record {
       own = e.0 ∙ c.loop-worker.invariant.own;
       view = e.2 ∙ (ap (λ m. (rest_of m.0, m.1)) v ∙ ap (λ (x : List Worker). (x, [])) (fresh_rest k c.args.workers (omega arith)));
@@ -38,10 +38,10 @@ returns-clause-fresh c =
     let k = c.loop-worker._worker in
     let v = c.loop-worker.invariant.view in
     let items = c.loop-worker.seats.items in
-    let place = c.new-2.ensures in
+    let table_seat = c.new-2.ensures in
     let name = name_of c.args.table.now.shared.table_id in
     let l : k ≡ length items = omega arith in
-    let board : name_of c.new-2.result.place.table_id ≡ name = ap (λ p. name_of p.table_id) place ∙ ap name_of c.loop-worker.invariant.own in
-    let who : first_worker c.new-2.result.place.me.0 ≡ fresh_worker (length items) =
-    ap (λ p. first_worker p.me.0) place ∙ (ap (λ m. first_worker m.0) v ∙ (ap first_worker (fresh_last k c.args.workers (omega arith)) ∙ ap fresh_worker l)) in
+    let board : name_of c.new-2.result.table_seat.table_id ≡ name = ap (λ p. name_of p.table_id) table_seat ∙ ap name_of c.loop-worker.invariant.own in
+    let who : first_worker c.new-2.result.table_seat.me.0 ≡ fresh_worker (length items) =
+    ap (λ p. first_worker p.me.0) table_seat ∙ (ap (λ m. first_worker m.0) v ∙ (ap first_worker (fresh_last k c.args.workers (omega arith)) ∙ ap fresh_worker l)) in
     subst (λ (l : List SeatState). AreDealt name l) (sym c.in_ok-push-2.ensures.items) (dealt_snoc name items _ c.loop-worker.invariant.dealt board who)

@@ -13,8 +13,8 @@ loop-next-preserved c = record {
       let i = ap (λ l. total_of f (workers_of l)) c.in-Some.ensures.items in
       let s = gathered_snoc f c.pop.new.self.items c.in-Some.next in
       let j = ap (total_of f) c.join-all.ensures.both in
-      let a = sum_append f c.loop-next.all.place.me.0 c.next.inside.crew.place.me.0 in
-      let b = alone_sum f c.next.inside.crew.place.me.0 c.in-Some.next.worker c.next.invariant (ap (λ (x : SeatState). x.worker) c.next.view_is) in
+      let a = sum_append f c.loop-next.all.table_seat.me.0 c.next.inside.crew.table_seat.me.0 in
+      let b = alone_sum f c.next.inside.crew.table_seat.me.0 c.in-Some.next.worker c.next.invariant (ap (λ (x : SeatState). x.worker) c.next.view_is) in
       let z = c.loop-next.invariant.sums f in
       omega arith;
 }

@@ -7,8 +7,8 @@ use Rattle.race_board.proofs.board.gather.Given as goal
 abbrev pub invariant-loop-next : goal.invariant-loop-next
 invariant-loop-next l = record {
   seats : All (λ s. s.board ≡ name_of l.table.shared.table_id) l.seats.items;
-  own : l.all.place.table_id ≡ l.table.shared.table_id;
-  sums : (f : Worker → ℕ) → total_of f l.all.place.me.0 + total_of f (workers_of l.seats.items) ≡ total_of f (workers_of l.fn.seats.items) + f l.fn.first.worker;
+  own : l.all.table_seat.table_id ≡ l.table.shared.table_id;
+  sums : (f : Worker → ℕ) → total_of f l.all.table_seat.me.0 + total_of f (workers_of l.seats.items) ≡ total_of f (workers_of l.fn.seats.items) + f l.fn.first.worker;
 }
 
 abbrev pub decreases-loop-next : goal.decreases-loop-next

@@ -8,11 +8,11 @@ use Rattle.row_product.proofs.emit.emit_listed.Goals.{then-is_due+in_ok-put_sum,
 
 pub loop-column-init : goal.loop-column-init
 loop-column-init c =
-    listing_start c.args.rows.now.columns (slot c.args.held.now) c.args.rows.now c.args.listed.now c.requires.room.none_open
+    listing_start c.args.rows.now.columns (slot c.args.dense.now) c.args.rows.now c.args.listed.now c.requires.room.none_open
     c.requires.listed.order c.requires.listed.covers
 
-pub put_sum-requires-clause-held : goal.put_sum-requires-clause-held
-put_sum-requires-clause-held c =
+pub put_sum-requires-clause-dense : goal.put_sum-requires-clause-dense
+put_sum-requires-clause-dense c =
     let d = (c.is_due.ensures.due c.if-is_due.true).1 in
     let m = c.requires.room.columns in
     let w = c.requires.room.wide in
@@ -32,14 +32,14 @@ put_sum-requires-clause-above c =
     let d = c.is_due.ensures.due c.if-is_due.true in
     let b = d.1 in
     let m = c.requires.room.columns in
-    (listing_reach c.args.rows.now.columns (slot c.args.held.now) c.args.rows.now c.loop-column.next (drop k listed)
+    (listing_reach c.args.rows.now.columns (slot c.args.dense.now) c.args.rows.now c.loop-column.next (drop k listed)
     c.loop-column.rows (get_or listed k 0) (drop (k + 1) listed) c.loop-column.invariant
     (drop_more listed k 0 c.loop-column-test.true) d.0 (omega (arith, b, m))).below
 
 pub loop-column-preserved : goal.loop-column-preserved
 loop-column-preserved c =
     let n = c.args.rows.now.columns in
-    let whole = slot c.args.held.now in
+    let whole = slot c.args.dense.now in
     let from = c.args.rows.now in
     let listed = c.args.listed.now in
     let k = c.loop-column.column-index in
@@ -52,7 +52,7 @@ loop-column-preserved c =
           let b = d.1 in
           subst (λ p. Listing n whole from p (drop (k + 1) listed) c.if-is_due.rows) (sym w.next-is)
           (listing_step n whole from c.loop-column.next (drop k listed) c.loop-column.rows column (drop (k + 1) listed)
-          (slot c.args.held.now column) c.if-is_due.rows c.loop-column.invariant rest d.0 (omega (arith, b, m)) refl
+          (slot c.args.dense.now column) c.if-is_due.rows c.loop-column.invariant rest d.0 (omega (arith, b, m)) refl
           (w.rows-is ∙ w.in_ok-put_sum.ensures))
       | else-is_due w ↦
           subst (λ p. Listing n whole from p (drop (k + 1) listed) c.if-is_due.rows) (sym w.next-is)
@@ -63,6 +63,6 @@ loop-column-preserved c =
 
 pub returns : goal.returns
 returns c =
-    listing_end c.args.rows.now.columns (slot c.args.held.now) c.args.rows.now c.loop-column.next
+    listing_end c.args.rows.now.columns (slot c.args.dense.now) c.args.rows.now c.loop-column.next
     (drop c.loop-column.column-index c.args.listed.now) c.loop-column.rows c.loop-column.invariant
     (drop_all c.loop-column.column-index c.args.listed.now c.loop-column-test.false)

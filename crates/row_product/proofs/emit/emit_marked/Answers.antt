@@ -5,7 +5,7 @@ use Rattle.row_product.proofs.emit.emit_marked.Goals as goal
 
 pub loop-left-preserved : goal.loop-left-preserved
 loop-left-preserved c = record {
-  reading = reading_step c.args.rows.now.columns (slot c.args.held.now) c.args.rows.now _ c.loop-left.next c.loop-left.left
+  reading = reading_step c.args.rows.now.columns (slot c.args.dense.now) c.args.rows.now _ c.loop-left.next c.loop-left.left
       c.loop-left.rows c.put_sum.new.rows c.loop-left.invariant.reading c.loop-left-test.true c.in_ok-put_sum.ensures;
   narrow = let n = c.loop-left.invariant.narrow in omega (arith, n);
 }
@@ -22,7 +22,7 @@ loop-next-preserved c =
     let w = c.loop-next.invariant.within in
     let z = c.loop-next.invariant.aligned c.loop-next-test.true in
     record {
-      putting = reading_end c.args.rows.now.columns (slot c.args.held.now) c.args.rows.now _ c.loop-left.next c.loop-left.left
+      putting = reading_end c.args.rows.now.columns (slot c.args.dense.now) c.args.rows.now _ c.loop-left.next c.loop-left.left
           c.loop-left.rows c.loop-left.invariant.reading c.loop-left-test.false;
       within = omega (arith, m, w);
       aligned = λ l. omega (arith, m, w, z, l);

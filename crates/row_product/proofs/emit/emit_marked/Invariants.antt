@@ -9,7 +9,7 @@ decreases-loop-next l = l.columns - l.next
 
 abbrev pub invariant-loop-next : goal.invariant-loop-next
 invariant-loop-next l = record {
-  putting : Putting l.fn.rows.columns (slot l.held) l.fn.rows l.next l.rows;
+  putting : Putting l.fn.rows.columns (slot l.dense) l.fn.rows l.next l.rows;
   within : l.next ≤ l.columns;
   aligned : l.next < l.columns → l.next % 64 ≡ 0;
 }
@@ -19,6 +19,6 @@ decreases-loop-left l = l.end - l.next
 
 abbrev pub invariant-loop-left : goal.invariant-loop-left
 invariant-loop-left l = record {
-  reading : Reading l.fn.rows.columns (slot l.held) l.fn.rows l.end l.next l.left l.rows;
+  reading : Reading l.fn.rows.columns (slot l.dense) l.fn.rows l.end l.next l.left l.rows;
   narrow : l.end ≤ l.next + 64;
 }

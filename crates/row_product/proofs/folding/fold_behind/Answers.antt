@@ -6,7 +6,7 @@ use Rattle.bpf_run.specs.Calls.{steps_of}
 use Rattle.bpf_run.specs.Meaning.{value_of}
 use Rattle.bpf_run.proofs.Charging.{cost-few}
 use Rattle.csr_store.specs.Grid.{Cell}
-use Rattle.row_product.specs.inner.Few.{picked, folded_on, folded_calls_on}
+use Rattle.row_product.specs.inner.SortedAccumulator.{picked, folded_on, folded_calls_on}
 use Rattle.row_product.proofs.Folded.{fold_same, fold_other, calls_same, calls_other}
 use Rattle.row_product.proofs.folding.fold_behind.Goals as goal
 use Rattle.row_product.proofs.folding.fold_behind.Goals.{then-column-so_far, else-column-so_far}

@@ -1,6 +1,6 @@
 use Rattle.std.proofs.Common.{◌≡◌, ◌≤◌, ◌+◌, ◌*◌, ◌++◌, length, drop, vec_capacity}
 use Rattle.bpf_run.specs.Calls.{steps_of}
-use Rattle.row_product.specs.inner.Few.{picked, folded_on, folded_calls_on}
+use Rattle.row_product.specs.inner.SortedAccumulator.{picked, folded_on, folded_calls_on}
 use Rattle.row_product.proofs.folding.fold_behind.Given as goal
 
 abbrev pub invariant-loop-key : goal.invariant-loop-key

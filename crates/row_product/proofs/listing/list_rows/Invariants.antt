@@ -1,14 +1,14 @@
 use Rattle.std.proofs.Common.{◌≡◌, ◌≤◌, ◌+◌, ◌*◌, ◌++◌, length, drop, vec_capacity}
 use Rattle.bpf_run.specs.Calls.{steps_of}
 use Rattle.job_forms.specs.Product.{mults_of}
-use Rattle.row_product.specs.inner.Few.{listed_terms, listed_calls, passing}
+use Rattle.row_product.specs.inner.SortedAccumulator.{listed_terms, listed_calls, passing}
 use Rattle.row_product.proofs.listing.list_rows.Given as goal
 
-abbrev pub invariant-loop-place : goal.invariant-loop-place
-invariant-loop-place g l =
+abbrev pub invariant-loop-nth : goal.invariant-loop-nth
+invariant-loop-nth g l =
     let b = l.naming.b.now in
     let t = passing l.naming in
-    let rest = drop l.place l.naming.row.now in
+    let rest = drop l.nth l.naming.row.now in
     let all = l.naming.row.now in
     record {
       made : l.listed.items ++ listed_terms l.mul b t rest ≡ l.fn.listed.items ++ listed_terms l.mul b t all;

@@ -6,7 +6,7 @@ use Rattle.csr_store.proofs.Along.{Ascends, row_of-ascends}
 use Rattle.csr_store.proofs.ByRow.{lookup-row_of}
 use Rattle.bpf_run.specs.Calls.{calls_on, pairs_with}
 use Rattle.row_product.specs.inner.Adding.{taking}
-use Rattle.row_product.specs.inner.Beside.{stores}
+use Rattle.row_product.specs.inner.RowUnderMask.{stores}
 use Rattle.row_product.specs.inner.Masked.{row_of_product, calls_of_row}
 use Rattle.row_product.specs.inner.Single.{multiplied}
 use Rattle.row_product.proofs.Ending.{adds_same}

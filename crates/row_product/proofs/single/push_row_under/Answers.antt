@@ -9,7 +9,7 @@ use Rattle.csr_store.proofs.Along.{Ascends, row_of-ascends}
 use Rattle.csr_store.proofs.Filling.{on_err}
 use Rattle.job_forms.proofs.Counting.{row_few}
 use Rattle.row_product.specs.inner.Adding.{taking}
-use Rattle.row_product.specs.inner.Beside.{stores}
+use Rattle.row_product.specs.inner.RowUnderMask.{stores}
 use Rattle.row_product.specs.inner.Single.{multiplied, IsBehind}
 use Rattle.row_product.proofs.Multiplying.{Pushing, pushing_start, pushing_part, behind_first, calls_by_parts}
 use Rattle.row_product.proofs.Parts.{taking_ascends, taking_few}

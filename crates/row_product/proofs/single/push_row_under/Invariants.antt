@@ -3,7 +3,7 @@ use Rattle.bpf_run.specs.Calls.{calls_on, pairs_with}
 use Rattle.bpf_run.proofs.Charging.{Spends}
 use Rattle.csr_store.specs.Grid.{row_of}
 use Rattle.row_product.specs.inner.Adding.{taking}
-use Rattle.row_product.specs.inner.Beside.{stores, IsBeside}
+use Rattle.row_product.specs.inner.RowUnderMask.{stores, IsRowUnderMask}
 use Rattle.row_product.specs.inner.Single.{multiplied}
 use Rattle.row_product.proofs.Multiplying.{Pushing}
 use Rattle.row_product.proofs.single.push_row_under.Given as goal
@@ -20,7 +20,7 @@ invariant-loop-row l = record {
       l.fn.making.steps (calls_on l.factors.mul.now (pairs_with l.x (taking (stores l.stored) l.row.cells.now))) l.making.steps;
   few : l.making.steps + 8192 * length (taking (stores l.stored) l.row.cells.now)
       ≤ l.fn.making.steps + 8192 * length (taking (stores l.stored) (row_of l.factors.b.now l.k));
-  beside : IsBeside l.stored l.factors.b.now.columns l.row.cells.now l.row.mask.now;
+  beside : IsRowUnderMask l.stored l.factors.b.now.columns l.row.cells.now l.row.mask.now;
   sums : l.progress.sums ≡ l.fn.progress.sums;
   allowed : l.progress.allowed ≡ l.fn.progress.allowed;
   room : 64 ≤ vec_capacity l.progress.passing;

@@ -2,7 +2,7 @@ use Rattle.std.proofs.Common.{Ok, Err, sym, ap, ◌∙◌}
 use Rattle.text_words.specs.Words.{words}
 use Rattle.command_text.specs.Requests.{request}
 use Rattle.command_text.specs.Readings.{request_of}
-use Rattle.session.specs.Next.{next_request}
+use Rattle.session.specs.NextCommand.{next_request}
 use Rattle.session.specs.Exchange.{behind}
 use Rattle.session.specs.inner.Exchange.{LacksBody}
 use Rattle.session.specs.declared.end.ServeFault.TheVariants.{Write}
@@ -13,24 +13,24 @@ pub returns-in-Ok-respond_and_say-clause-exchanged : goal.returns-in-Ok-respond_
 returns-in-Ok-respond_and_say-clause-exchanged g c =
     let line = c.args.desk.now.line.items in
     let leads = g.T.Steps.leads in
-    let heard = heard_behind _ _ (request_of c.parse.result) c.deref.result.now line c.in-Ok.heard c.parse.ensures c.deref.ensures.value c.in-Ok.ensures.heard.0 in
-    let first = c.in-Ok.ensures.heard.1 in
-    exchanged_from leads (behind line) _ _ _ _ _ c.in-Ok.heard heard first _ (Ok c.in-Ok-respond_and_say.end) c.hear.ensures.kept
-    (exchanged_told leads (behind line) _ _ _ _ _ c.in-Ok.heard heard first c.in-Ok-respond_and_say.end c.in-Ok-respond_and_say.ensures.told)
+    let received = heard_behind _ _ (request_of c.parse.result) c.deref.result.now line c.in-Ok.received c.parse.ensures c.deref.ensures.value c.in-Ok.ensures.received.0 in
+    let first = c.in-Ok.ensures.received.1 in
+    exchanged_from leads (behind line) _ _ _ _ _ c.in-Ok.received received first _ (Ok c.in-Ok-respond_and_say.end) c.receive.ensures.kept
+    (exchanged_told leads (behind line) _ _ _ _ _ c.in-Ok.received received first c.in-Ok-respond_and_say.end c.in-Ok-respond_and_say.ensures.told)
 
 pub returns-in-Err-respond_and_say-clause-exchanged : goal.returns-in-Err-respond_and_say-clause-exchanged
 returns-in-Err-respond_and_say-clause-exchanged g c =
     let line = c.args.desk.now.line.items in
     let leads = g.T.Steps.leads in
-    let heard = heard_behind _ _ (request_of c.parse.result) c.deref.result.now line c.in-Ok.heard c.parse.ensures c.deref.ensures.value c.in-Ok.ensures.heard.0 in
-    let first = c.in-Ok.ensures.heard.1 in
-    exchanged_from leads (behind line) _ _ _ _ _ c.in-Ok.heard heard first _ (Err Write) c.hear.ensures.kept
-    (exchanged_cut leads (behind line) _ _ _ _ _ c.in-Ok.heard heard first c.in-Err-respond_and_say.field-0 c.in-Err-respond_and_say.ensures.told)
+    let received = heard_behind _ _ (request_of c.parse.result) c.deref.result.now line c.in-Ok.received c.parse.ensures c.deref.ensures.value c.in-Ok.ensures.received.0 in
+    let first = c.in-Ok.ensures.received.1 in
+    exchanged_from leads (behind line) _ _ _ _ _ c.in-Ok.received received first _ (Err Write) c.receive.ensures.kept
+    (exchanged_cut leads (behind line) _ _ _ _ _ c.in-Ok.received received first c.in-Err-respond_and_say.field-0 c.in-Err-respond_and_say.ensures.told)
 
 pub returns-in-Err-clause-exchanged : goal.returns-in-Err-clause-exchanged
 returns-in-Err-clause-exchanged g c =
     let line = c.args.desk.now.line.items in
-    let new = c.hear.new.input in
+    let new = c.receive.new.input in
     let same = c.parse.ensures ∙ ap (λ l. request (words l)) c.deref.ensures.value in
-    exchanged_fault g.T.Steps.leads (behind line) _ _ _ _ _ _ _ c.hear.ensures.kept c.in-Err.fault _ (LacksBody (request_of c.parse.result) new)
-    (λ bytes w. ap (λ r. next_request new.ended r bytes) (sym same) ∙ w) c.in-Err.ensures.heard
+    exchanged_fault g.T.Steps.leads (behind line) _ _ _ _ _ _ _ c.receive.ensures.kept c.in-Err.fault _ (LacksBody (request_of c.parse.result) new)
+    (λ bytes w. ap (λ r. next_request new.ended r bytes) (sym same) ∙ w) c.in-Err.ensures.received

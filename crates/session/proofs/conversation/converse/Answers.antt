@@ -2,7 +2,7 @@ use Rattle.std.proofs.Common.{◌≡◌, Ok, Option, ap, subst, arith}
 use Rattle.job_plan.specs.Price.{total_price}
 use Rattle.workspace.specs.State.{State}
 use Rattle.workspace.specs.Workspace.{state_of}
-use Rattle.session.specs.Next.{next}
+use Rattle.session.specs.NextCommand.{next}
 use Rattle.session.specs.Exchange.{Exchanged}
 use Rattle.session.specs.declared.end.End.{End}
 use Rattle.session.specs.inner.Standing.{scene_at}

@@ -9,6 +9,6 @@ loop-chunk-preserved c =
     let back : chunk ≡ (chunk + 1) - 1 = omega arith in
     let done = c.complete.ensures.completed in
     record {
-      ready = (c.complete.ensures.own, ap (λ (w : Worker). w.stand) done);
+      ready = (c.complete.ensures.own, ap (λ (w : Worker). w.state) done);
       next = λ _. subst (λ (k : ℕ). 0 < times_drawn k c.complete.new.seat.worker) back (subst (λ (w : Worker). 0 < times_drawn chunk w) (sym done) (completed_drew chunk _ c.draw.new.seat.worker));
     }

@@ -1,5 +1,5 @@
 use Rattle.std.proofs.Common.{◌≡◌, List, ℕ, Err, refl, ap, ◌∙◌, subst}
-use Rattle.wire.specs.Held.{Held}
+use Rattle.wire.specs.InputState.{InputState}
 use Rattle.wire.specs.Lines as lines
 use Rattle.wire.specs.Fetching.{IsFilled, IsLined, failed_reads}
 use Rattle.wire.specs.declared.fault.ReadFault.{ReadFault}
@@ -8,12 +8,12 @@ use Rattle.wire.specs.declared.fetch.Lined.{Lined}
 use Rattle.wire.proofs.Fetching.{fetched_then, fetched_map, fetched_as}
 use Rattle.wire.proofs.fetch.next_line.Goals as goal
 
-partial_still : (old new : Held) (bytes : List ℕ) → bytes ≡ old.bytes → new.ended ≡ old.ended → lines.first old.ended old.bytes ≡ lines.Partial → lines.first new.ended bytes ≡ lines.Partial
+partial_still : (old new : InputState) (bytes : List ℕ) → bytes ≡ old.bytes → new.ended ≡ old.ended → lines.first old.ended old.bytes ≡ lines.Partial → lines.first new.ended bytes ≡ lines.Partial
 partial_still old new bytes b e p = ap (λ d. lines.first d bytes) e ∙ (ap (lines.first old.ended) b ∙ p)
 
-lined_failed : (fault : ReadFault) (old new : Held) (line bytes : List ℕ) → lines.first old.ended old.bytes ≡ lines.Partial → IsFilled (Err fault) old new bytes → IsLined (Err fault) line new bytes
+lined_failed : (fault : ReadFault) (old new : InputState) (line bytes : List ℕ) → lines.first old.ended old.bytes ≡ lines.Partial → IsFilled (Err fault) old new bytes → IsLined (Err fault) line new bytes
 lined_failed Failed old new line bytes p h = partial_still old new bytes h.1.0 h.1.1 p
-lined_failed OutOfReads old new line bytes p h = (partial_still old new bytes h.1.0 (ap (λ (s : Held). s.ended) h.0) p, h.1.1)
+lined_failed OutOfReads old new line bytes p h = (partial_still old new bytes h.1.0 (ap (λ (s : InputState). s.ended) h.0) p, h.1.1)
 
 same_count : (fault : ReadFault) → failed_reads {A = Unit {0}} (Err fault) ≡ failed_reads {A = Lined} (Err fault)
 same_count Failed = refl

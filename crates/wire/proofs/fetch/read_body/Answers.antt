@@ -1,7 +1,7 @@
 use Rattle.std.proofs.Common.{◌≡◌, ◌≤◌, ◌-◌, List, ℕ, ◌++◌, take, drop, length, Result, refl, sym, ap, ◌∙◌, subst, append_assoc, arith}
 use Rattle.std.proofs.lemmas.List.{take-append-drop, length-take-le}
 use Rattle.wire.specs.Devices.{SourceState}
-use Rattle.wire.specs.Held.{Held, Stream}
+use Rattle.wire.specs.InputState.{InputState, Stream}
 use Rattle.wire.specs.Fetching.{Fetched, IsBody}
 use Rattle.wire.specs.inner.Keeping.{IsSkipped}
 use Rattle.wire.specs.declared.fault.ReadFault.{ReadFault}
@@ -11,13 +11,13 @@ use Rattle.wire.proofs.Gathering.{skipped_behind}
 use Rattle.wire.proofs.fetch.read_body.Goals as goal
 
 -- the first part of what is held was taken
-first_taken : (source : SourceState) (now new : Held) (part : ℕ) → new ≡ record now { bytes = drop part now.bytes }
+first_taken : (source : SourceState) (now new : InputState) (part : ℕ) → new ≡ record now { bytes = drop part now.bytes }
     → Fetched 0 (record { source = source; held = now }) (record { source = source; held = new }) (λ bytes. bytes ≡ take part now.bytes ++ new.bytes)
 first_taken source now new part n =
-    fetched_here source now new (λ bytes. bytes ≡ take part now.bytes ++ new.bytes) (ap (λ (h : Held). h.ended) n) (ap (λ (h : Held). h.reads_left) n)
-    (sym (take-append-drop part now.bytes) ∙ ap (λ xs. take part now.bytes ++ xs) (sym (ap (λ (h : Held). h.bytes) n)))
+    fetched_here source now new (λ bytes. bytes ≡ take part now.bytes ++ new.bytes) (ap (λ (h : InputState). h.ended) n) (ap (λ (h : InputState). h.reads_left) n)
+    (sym (take-append-drop part now.bytes) ∙ ap (λ xs. take part now.bytes ++ xs) (sym (ap (λ (h : InputState). h.bytes) n)))
 
-module _ (source : SourceState) (now mid : Held) (last : Stream) (len part n : ℕ) (result : Result Body ReadFault) (taken : mid ≡ record now { bytes = drop part now.bytes }) where
+module _ (source : SourceState) (now mid : InputState) (last : Stream) (len part n : ℕ) (result : Result Body ReadFault) (taken : mid ≡ record now { bytes = drop part now.bytes }) where
   -- the rest was kept behind it
   then_kept : (first : List ℕ) → first ≡ take part now.bytes → Fetched n (record { source = source; held = mid }) last (λ bytes. IsBody len result last.held (first ++ bytes))
       → Fetched n (record { source = source; held = now }) last (IsBody len result last.held)

@@ -1,5 +1,5 @@
 use Rattle.std.proofs.Common.{◌-◌, List, ℕ, ◌++◌, Result, Ok, refl, ap, ◌∙◌, subst, append_assoc, arith}
-use Rattle.wire.specs.Held.{Held}
+use Rattle.wire.specs.InputState.{InputState}
 use Rattle.wire.specs.Fetching.{IsBody}
 use Rattle.wire.specs.inner.Keeping.{IsKept, IsSkipped}
 use Rattle.wire.specs.declared.fault.ReadFault.{ReadFault}
@@ -10,7 +10,7 @@ use Rattle.wire.proofs.Gathering.{skipped_behind}
 use Rattle.wire.proofs.fetch.read_rest.Goals as goal
 
 -- what came of a body was dropped, and the rest of it was passed over
-dropped_then : (len came : ℕ) (first bytes got : List ℕ) (mid new : Held) (result : Result Body ReadFault) → IsKept len first (Ok (Full came)) mid bytes → IsSkipped (len - came) result new (mid.bytes ++ got)
+dropped_then : (len came : ℕ) (first bytes got : List ℕ) (mid new : InputState) (result : Result Body ReadFault) → IsKept len first (Ok (Full came)) mid bytes → IsSkipped (len - came) result new (mid.bytes ++ got)
     → IsBody len result new (first ++ (bytes ++ got))
 dropped_then len came first bytes got mid new result k s =
     let short = k.1.0 in

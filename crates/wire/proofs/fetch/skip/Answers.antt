@@ -1,6 +1,6 @@
 use Rattle.std.proofs.Common.{◌≡◌, ◌≤◌, ◌-◌, ℕ, List, Ok, length, drop, refl, ap, subst, sym, arith}
 use Rattle.wire.specs.Devices.{SourceState}
-use Rattle.wire.specs.Held.{Held, Stream}
+use Rattle.wire.specs.InputState.{InputState, Stream}
 use Rattle.wire.specs.Fetching.{Fetched}
 use Rattle.wire.specs.inner.Keeping.{IsSkipped}
 use Rattle.wire.specs.declared.fetch.Body.TheVariants as bodies
@@ -9,14 +9,14 @@ use Rattle.wire.proofs.Gathering.{IsPart, part_gathered, part_read}
 use Rattle.wire.proofs.fetch.skip.Goals as goal
 
 -- some of what is held was passed over
-passed : (old : Stream) (source : SourceState) (now new : Held) (len missing part : ℕ) → Fetched 0 old (record { source = source; held = now }) (IsPart len missing now.bytes)
+passed : (old : Stream) (source : SourceState) (now new : InputState) (len missing part : ℕ) → Fetched 0 old (record { source = source; held = now }) (IsPart len missing now.bytes)
     → part ≤ missing → part ≤ length now.bytes → new ≡ record now { bytes = drop part now.bytes } → Fetched 0 old (record { source = source; held = new }) (IsPart len (missing - part) new.bytes)
 passed old source now new len missing part f m h n =
-    fetched_left 0 old source now new (IsPart len missing now.bytes) (IsPart len (missing - part) new.bytes) f (ap (λ (h : Held). h.ended) n) (ap (λ (h : Held). h.reads_left) n)
-    (λ bytes p. subst (λ bs. IsPart len (missing - part) bs bytes) (sym (ap (λ (h : Held). h.bytes) n)) (part_gathered len missing now.bytes bytes p part m h))
+    fetched_left 0 old source now new (IsPart len missing now.bytes) (IsPart len (missing - part) new.bytes) f (ap (λ (h : InputState). h.ended) n) (ap (λ (h : InputState). h.reads_left) n)
+    (λ bytes p. subst (λ bs. IsPart len (missing - part) bs bytes) (sym (ap (λ (h : InputState). h.bytes) n)) (part_gathered len missing now.bytes bytes p part m h))
 
 -- nothing is missing
-dropped : (len missing : ℕ) (new : Held) (bytes : List ℕ) → missing ≡ 0 → IsPart len missing new.bytes bytes → IsSkipped len (Ok bodies.Dropped) new bytes
+dropped : (len missing : ℕ) (new : InputState) (bytes : List ℕ) → missing ≡ 0 → IsPart len missing new.bytes bytes → IsSkipped len (Ok bodies.Dropped) new bytes
 dropped len missing new bytes e p = (p.body, p.parts, let n = p.count in omega arith)
 
 pub returns-then-missing-eq0-clause-fetched : goal.returns-then-missing-eq0-clause-fetched
@@ -38,5 +38,5 @@ reading-preserved g c =
     record {
       fetched = fetched_on 0 0 _ _ _ (IsPart c.args.count (c.reading.missing - part) q.bytes) (λ bytes. n.bytes ≡ bytes) (IsPart c.args.count (c.reading.missing - part) n.bytes) f more refl
           (λ bytes p. part_read c.args.count (c.reading.missing - part) q.bytes bytes p more.got n.bytes more.holds);
-      bounded = let k = c.in-Ok.ensures.spent.1 in let l = c.reading.invariant.bounded in let m = c.fill.ensures.room in let e = ap (λ (h : Held). h.reads_left) c.take.ensures in omega arith;
+      bounded = let k = c.in-Ok.ensures.spent.1 in let l = c.reading.invariant.bounded in let m = c.fill.ensures.room in let e = ap (λ (h : InputState). h.reads_left) c.take.ensures in omega arith;
     }

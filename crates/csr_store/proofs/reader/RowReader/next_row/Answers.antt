@@ -6,24 +6,24 @@ use Rattle.csr_store.proofs.Starting.{start_inside}
 use Rattle.csr_store.proofs.Reading.{step_up, step_size, row_there, row_read, rows_left}
 use Rattle.csr_store.proofs.reader.RowReader.next_row.Goals as goal
 
-pub bounds-starts-place : goal.bounds-starts-place
-bounds-starts-place c =
+pub bounds-starts-nth : goal.bounds-starts-nth
+bounds-starts-nth c =
     let r = ap (λ (q : Reading). q.grid.rows) c.self.view_is in let i = ap (λ (q : Reading). q.row) c.self.view_is in let l = c.requires in
     start_inside c.self.inside.matrix.now c.self.inside.starts.now (c.self.inside.row + 1) c.self.invariant.0 (omega (arith, r, i, l))
 
-pub bounds-starts-place-2 : goal.bounds-starts-place-2
-bounds-starts-place-2 c =
+pub bounds-starts-nth-2 : goal.bounds-starts-nth-2
+bounds-starts-nth-2 c =
     let r = ap (λ (q : Reading). q.grid.rows) c.self.view_is in let i = ap (λ (q : Reading). q.row) c.self.view_is in let l = c.requires in
     start_inside c.self.inside.matrix.now c.self.inside.starts.now c.self.inside.row c.self.invariant.0 (omega (arith, r, i, l))
 
-pub offset_bounds-starts-place : goal.offset_bounds-starts-place
-offset_bounds-starts-place c =
+pub offset_bounds-starts-nth : goal.offset_bounds-starts-nth
+offset_bounds-starts-nth c =
     let r = ap (λ (q : Reading). q.grid.rows) c.self.view_is in let i = ap (λ (q : Reading). q.row) c.self.view_is in let l = c.requires in
     let few = c.self.invariant.1 in
     omega (arith, r, i, l, few)
 
-pub offset_bounds-starts-place-2 : goal.offset_bounds-starts-place-2
-offset_bounds-starts-place-2 c =
+pub offset_bounds-starts-nth-2 : goal.offset_bounds-starts-nth-2
+offset_bounds-starts-nth-2 c =
     let r = ap (λ (q : Reading). q.grid.rows) c.self.view_is in let i = ap (λ (q : Reading). q.row) c.self.view_is in let l = c.requires in
     let few = c.self.invariant.1 in
     omega (arith, r, i, l, few)

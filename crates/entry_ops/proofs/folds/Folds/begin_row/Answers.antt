@@ -9,7 +9,7 @@ returns-in-Some-split_first-clause-folds c =
     let rs = c.self.inside.results.items in
     let first = c.in-Some.first.now in
     let x : Open = open_of (record {
-      place = c.len-place.result;
+      number = c.len-number.result;
       so_far = first.1;
       next = c.in-Some-split_first.next.now.1;
       rest = c.in-Some-split_first.rest;
@@ -17,4 +17,4 @@ returns-in-Some-split_first-clause-folds c =
     let m = c.push-2.ensures.items ∙ ap (λ r. if is_ok r then rs ++ Some first.1 ∷ [] else rs) c.unwrap-2.ensures in
     begins_open c.self.inside.lanes _ rs _ c.self.inside.steps (Some first.1) c.args.self.now c.self.view_is m c.args.cells.now
     x first c.in-Some.behind.now c.push-in-Some-split_first.ensures c.in-Some.ensures.cases.0
-    (sym (ap words c.in-Some-split_first.ensures.cases.0)) refl (c.len-place.ensures ∙ c.self.inside.results.ok.0)
+    (sym (ap words c.in-Some-split_first.ensures.cases.0)) refl (c.len-number.ensures ∙ c.self.inside.results.ok.0)

@@ -32,7 +32,7 @@ invariant_of-self c =
     let p = (last_placed c.args.operator.now c.self.inside.lanes c.pop-row.new.self c.self.inside.results.items
     c.self.inside.steps c.args.self.now
     c.self.view_is c.pop-row.result c.pop-row.ensures c.self.invariant.2).1 in
-    let n = length-set c.self.inside.results.items c.pop-row.result.place (Some c.fold-folded.result.value) in
+    let n = length-set c.self.inside.results.items c.pop-row.result.number (Some c.fold-folded.result.value) in
     let l = c.self.invariant.1 in
     (c.self.invariant.0, omega (arith, n, l), subst (λ k. ArePlaced k c.pop-row.new.self) (sym n) p)
 

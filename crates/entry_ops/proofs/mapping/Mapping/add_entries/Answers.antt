@@ -2,25 +2,25 @@ use Rattle.std.proofs.Common.{◌∙◌}
 use Rattle.entry_ops.proofs.Mapped.{mapping-start, mapping-entries, mapping-room, mapping-step}
 use Rattle.entry_ops.proofs.mapping.Mapping.add_entries.Goals as goal
 
-pub loop-coming-init : goal.loop-coming-init
-loop-coming-init c = record {
+pub loop-index_calls-init : goal.loop-index_calls-init
+loop-index_calls-init c = record {
   kind = c.requires.waits.begun;
   none = c.requires.waits.none;
-  mapping = mapping-start c.args.operator.now c.args.coming c.args.self.now c.requires.room.entries c.requires.room.steps;
+  mapping = mapping-start c.args.operator.now c.args.index_calls c.args.self.now c.requires.room.entries c.requires.room.steps;
 }
 
 pub make-requires-clause-room : goal.make-requires-clause-room
 make-requires-clause-room c = record {
-  entries = mapping-entries c.args.operator.now _ _ _ c.gather.new.calls.operands _ _ c.loop-coming.invariant.mapping
+  entries = mapping-entries c.args.operator.now _ _ _ c.gather.new.calls.operands _ _ c.loop-index_calls.invariant.mapping
       c.gather.ensures.gathers.parts;
-  steps = mapping-room c.args.operator.now _ _ _ c.gather.new.calls.operands _ _ c.loop-coming.invariant.mapping
+  steps = mapping-room c.args.operator.now _ _ _ c.gather.new.calls.operands _ _ c.loop-index_calls.invariant.mapping
       c.gather.ensures.gathers.parts;
 }
 
-pub loop-coming-preserved : goal.loop-coming-preserved
-loop-coming-preserved c = record {
-  kind = c.make.ensures.waits.begun ∙ (c.gather.ensures.gathers.kind ∙ c.loop-coming.invariant.kind);
+pub loop-index_calls-preserved : goal.loop-index_calls-preserved
+loop-index_calls-preserved c = record {
+  kind = c.make.ensures.waits.begun ∙ (c.gather.ensures.gathers.kind ∙ c.loop-index_calls.invariant.kind);
   none = c.make.ensures.waits.none;
-  mapping = mapping-step c.args.operator.now _ _ _ c.gather.new.calls.operands _ _ c.loop-coming.invariant.mapping
+  mapping = mapping-step c.args.operator.now _ _ _ c.gather.new.calls.operands _ _ c.loop-index_calls.invariant.mapping
       c.gather.ensures.gathers.parts _ c.make.ensures.further;
 }

@@ -76,7 +76,7 @@ loop-self-smaller c =
     c.loop-self.invariant.mapping (omega arith) (omega (arith, s, m, a, w, u, t)) c.next_cells.ensures
     (ap (λ (g : Gathered). g.operands) c.gather_words.ensures ∙ ap (λ os. os ++ words_of c.next_cells.result.now)
     c.loop-self.invariant.none) in
-    let d = c.make.ensures.further.place in
+    let d = c.make.ensures.further.number in
     omega (arith, n, d, m, w, u, t, a, s)
 
 pub returns : goal.returns

@@ -16,7 +16,7 @@ returns-clause-further c =
     let v = c.values.ensures ∙ (ap (λ (g : Gathered). g.values) c.make.ensures.values) in
     record {
       alike = c.write_values.ensures.alike;
-      place = let k = ap (λ (vs : List ℕ). length vs) v in let n = length_values c.args.operator.now c.args.calls.now.operands in
+      number = let k = ap (λ (vs : List ℕ). length vs) v in let n = length_values c.args.operator.now c.args.calls.now.operands in
           let w = c.write_values.ensures.written in omega (arith, k, n, w);
       cells = c.write_values.ensures.values ∙ ap
           (λ vs. valued_from c.args.self.now.rows.written vs (all_cells c.args.self.now.rows.run)) v;

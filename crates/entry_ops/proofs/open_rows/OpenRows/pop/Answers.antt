@@ -25,7 +25,7 @@ returns c =
     ∙ columns_last (c.len-last.result - 1) c.self.inside.lanes.items c.self.inside.so_far.items c.self.inside.next.items i.4 i.5 last
     c.index-lane.result.now c.index.result.now c.index-2.result.now c.index-lane.ensures c.index.ensures c.index-2.ensures
     ∙ ap (λ (os : List Open). os ++ record {
-      place = c.index-lane.result.now.place;
+      number = c.index-lane.result.now.number;
       so_far = c.index.result.now;
       terms = c.index-2.result.now ∷ words c.index-lane.result.now.rest.now;
     } ∷ []) (ap (λ (os : List Open). take (c.len-last.result - 1) os) c.self.view_is ∙ sym c.truncate.ensures)

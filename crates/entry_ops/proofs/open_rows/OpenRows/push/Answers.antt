@@ -43,7 +43,7 @@ invariant_of-self c =
     let ls = c.self.inside.lanes.items in
     let vs = c.self.inside.so_far.items in
     let ws = c.self.inside.next.items in
-    let x : Lane = record { place = c.args.row.place; rest = c.args.row.rest } in
+    let x : Lane = record { number = c.args.row.number; rest = c.args.row.rest } in
     let i = c.self.invariant in
     let p = i.4 in
     let q = i.5 in
@@ -71,7 +71,7 @@ returns c =
     let ls = c.self.inside.lanes.items in
     let vs = c.self.inside.so_far.items in
     let ws = c.self.inside.next.items in
-    let x : Lane = record { place = c.args.row.place; rest = c.args.row.rest } in
+    let x : Lane = record { number = c.args.row.number; rest = c.args.row.rest } in
     let i = c.self.invariant in
     columns_pushed ls vs ws x c.args.row.so_far c.args.row.next i.4 i.5 _ _ _
     (c.push.ensures.items ∙ ap (λ u. if is_ok u then ls ++ x ∷ [] else ls) c.unwrap.ensures)

@@ -2,7 +2,7 @@ use Rattle.std.proofs.Common.{◌≤◌, ◌∙◌, ◌++◌, ap, arith, sym}
 use borrow.Author.Tests.{ltb-false}
 use Rattle.bpf_run.specs.Calls.{Gathered}
 use Rattle.entry_ops.specs.inner.Paired.{pairs_in}
-use Rattle.entry_ops.proofs.Comings.{gathered-more}
+use Rattle.entry_ops.proofs.IndexCalls.{gathered-more}
 use Rattle.entry_ops.proofs.Nexts.{none_left}
 use Rattle.entry_ops.proofs.Paired.{pairs_parts}
 use Rattle.entry_ops.proofs.pairs.Pairs.gather.Goals as goal

@@ -9,8 +9,8 @@ use Rattle.race_board.proofs.board.Board.close.Goals as goal
 
 handed : (c : goal.After-end) → AreHanded c.args.self (workers_of c.args.seats.items) c.end.result.count c.end.result.recorded
 handed c = record {
-  terms = c.self.inside.table.shared.key;
-  crew = c.gather-all.result.place.me.0;
+  race_key = c.self.inside.table.shared.key;
+  crew = c.gather-all.result.table_seat.me.0;
   closed = c.end.ensures.held;
   same = λ f. c.gather-all.ensures.all f ∙ sym (ap (λ l. total_of f (workers_of l)) c.in-Some.ensures.items ∙ gathered_snoc f c.pop.new.self.items c.in-Some.first);
   prices = ap (λ (b : BoardState). b.prices) c.self.view_is;

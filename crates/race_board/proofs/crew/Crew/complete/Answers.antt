@@ -11,9 +11,9 @@ pub invariant_of-self : goal.invariant_of-self
 invariant_of-self c =
     let e = c.fetch_add.ensures in
     let before = c.args.self.now in
-    let now = e.2.0 ∙ completes_chunk c.args.chunk c.args.steps before.place.me.0 c.requires.holds in
-    let d = complete_draws c.args.chunk c.args.steps before.place.me.0 c.requires.holds in
-    let s = complete_steps c.args.chunk c.args.steps before.place.me.0 c.requires.holds in
+    let now = e.2.0 ∙ completes_chunk c.args.chunk c.args.steps before.table_seat.me.0 c.requires.holds in
+    let d = complete_draws c.args.chunk c.args.steps before.table_seat.me.0 c.requires.holds in
+    let s = complete_steps c.args.chunk c.args.steps before.table_seat.me.0 c.requires.holds in
     record {
       no_slot = e.2.1 ∙ before.no_slot;
       draws_is = before.draws_is ∙ sym (ap (total_of draws_of) now ∙ d);
@@ -21,4 +21,4 @@ invariant_of-self c =
     }
 
 pub returns-clause-completed : goal.returns-clause-completed
-returns-clause-completed c = c.fetch_add.ensures.2.0 ∙ completes_chunk c.args.chunk c.args.steps c.args.self.now.place.me.0 c.requires.holds
+returns-clause-completed c = c.fetch_add.ensures.2.0 ∙ completes_chunk c.args.chunk c.args.steps c.args.self.now.table_seat.me.0 c.requires.holds

@@ -4,7 +4,7 @@ use Rattle.std.proofs.lemmas.Option.{slice_get-get_or}
 use Rattle.std.proofs.lemmas.List.Elements.{All-replicate}
 use Rattle.race_board.specs.Race.{Worker, MayDrawAt, IsFinished, workers_of}
 use Rattle.race_board.specs.Chunks.{AreEachOnce, steps_in}
-use Rattle.race_board.proofs.Finishing.{all_told, told_finished}
+use Rattle.race_board.proofs.Finishing.{all_drained, drained_finished}
 use Rattle.race_board.proofs.Chunks.{closed_completed, recorded_steps, recorded_completed, completed_steps}
 use Rattle.thread_tests.proofs.boards.joined.race.Given as given
 use Rattle.thread_tests.proofs.boards.joined.race.Goals as goal
@@ -28,7 +28,7 @@ finished g c =
     let seats = c.in_ok-board.ensures.seats in
     let workers = c.in_ok-board.ensures.board.1 in
     let some_worker = c.requires.0 in
-    told_finished c.in_ok-board.board c.in_ok-seats.seats.items (omega arith) (omega arith) c.in_ok-seats.ensures.told
+    drained_finished c.in_ok-board.board c.in_ok-seats.seats.items (omega arith) (omega arith) c.in_ok-seats.ensures.told
 
 chunks : (g : given.Over) (c : goal.After-drop-prices-2 g) → length c.in_ok-board.board.prices ≡ c.args.chunks
 chunks g c = let e = ap (λ (l : List ℕ). length l) c.in_ok-board.ensures.board.0 in let n = c.in_ok-prices.ensures.len in omega arith
@@ -37,13 +37,13 @@ once : (g : given.Over) (c : goal.After-drop-prices-2 g) → AreEachOnce c.args.
 once g c =
     let board = c.in_ok-board.board in
     let seats = c.in_ok-seats.seats.items in
-    let each = closed_completed (length board.prices) (workers_of seats) (c.close.ensures.completed (finished g c) (all_told seats c.in_ok-seats.ensures.told)) in
+    let each = closed_completed (length board.prices) (workers_of seats) (c.close.ensures.completed (finished g c) (all_drained seats c.in_ok-seats.ensures.told)) in
     subst (λ (n : ℕ). AreEachOnce n c.in_ok-seats.joined.items) (chunks g c) (subst (AreEachOnce (length board.prices)) c.in_ok-seats.ensures.joined each)
 
 spent : (g : given.Over) (c : goal.After-drop-prices-2 g) → steps_in c.in_ok-seats.joined.items ≡ c.close.result.spent
 spent g c =
     let seats = c.in_ok-seats.seats.items in
-    let told = all_told seats c.in_ok-seats.ensures.told in
+    let told = all_drained seats c.in_ok-seats.ensures.told in
     ap steps_in (sym c.in_ok-seats.ensures.joined ∙ sym (recorded_completed (workers_of seats) told)) ∙ (recorded_steps (workers_of seats) ∙ sym c.close.ensures.spent)
 
 pub returns-clause-draws : goal.returns-clause-draws

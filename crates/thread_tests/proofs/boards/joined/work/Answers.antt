@@ -13,7 +13,7 @@ loop-chunk-preserved c =
     let drew = c.in-Some.ensures.chunk.1 in
     let entry : List (ℕ × ℕ) = (chunk, c.cost-steps.result) ∷ [] in
     record {
-      ready = (c.complete.ensures.own, ap (λ (w : Worker). w.stand) done);
+      ready = (c.complete.ensures.own, ap (λ (w : Worker). w.state) done);
       next = λ _. subst (λ (k : ℕ). 0 < times_drawn k c.complete.new.seat.worker) back (subst (λ (w : Worker). 0 < times_drawn chunk w) (sym done) (completed_drew chunk _ c.draw.new.seat.worker));
       same = ap (λ (w : Worker). w.done) done ∙ (ap (λ (w : Worker). w.done ++ entry) drew ∙ (ap (λ (l : List (ℕ × ℕ)). l ++ entry) c.loop-chunk.invariant.same ∙ sym c.in_ok-push.ensures.items));
       cost = subst (CostJust (λ (n : ℕ). n % 7)) (sym c.in_ok-push.ensures.items) (cost_append (λ (n : ℕ). n % 7) c.loop-chunk.list.items entry c.loop-chunk.invariant.cost (c.cost-steps.ensures, tt));

@@ -1,5 +1,5 @@
 use Rattle.std.proofs.Common.{◌≡◌, ◌-◌, ◌+◌, ◌++◌, ◌≤◌, length, take, drop, sym, ap, ◌∙◌, arith, vec_len}
-use Rattle.wire.specs.Held.{Held}
+use Rattle.wire.specs.InputState.{InputState}
 use Rattle.wire.proofs.Known.{filled, still_open, not_end, not_empty}
 use Rattle.wire.proofs.input.Input.read_some.Goals as goal
 
@@ -18,7 +18,7 @@ returns-else-n-eq0-clause-got g c =
       take n (drop w room),
       c.in_ok-n.ensures.bytes.0,
       filled s.room.items room c.rotate_left.new.self.items s.from s.to n c.rotate_left.new.self.len (omega arith) (omega arith) len (omega arith) front
-          ∙ ap (λ (h : Held). h.bytes ++ take n (drop w room)) c.self.view_is,
-      ap (λ (h : Held). h.ended) c.self.view_is ∙ sym (still_open c.args.self.now.ended (take n (drop w room)) (not_end room w n inside c.if-n-eq0.false)),
+          ∙ ap (λ (h : InputState). h.bytes ++ take n (drop w room)) c.self.view_is,
+      ap (λ (h : InputState). h.ended) c.self.view_is ∙ sym (still_open c.args.self.now.ended (take n (drop w room)) (not_end room w n inside c.if-n-eq0.false)),
       λ e. absurd (not_empty (take n (drop w room)) (not_end room w n inside c.if-n-eq0.false) e),
     )

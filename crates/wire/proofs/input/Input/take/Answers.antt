@@ -1,12 +1,12 @@
 use Rattle.std.proofs.Common.{◌≡◌, ◌≤◌, ◌-◌, ℕ, List, length, take, drop, ap, ◌∙◌, arith, length-take}
-use Rattle.wire.specs.Held.{Held}
+use Rattle.wire.specs.InputState.{InputState}
 use Rattle.wire.proofs.Known.{drop_window}
 use Rattle.wire.proofs.input.Input.take.Goals as goal
 
 pub returns : goal.returns
 returns c =
     let s = c.self.inside in
-    let long : length (take (s.to - s.from) (drop s.from s.room.items)) ≡ length c.args.self.now.bytes = ap (λ (h : Held). length h.bytes) c.self.view_is in
+    let long : length (take (s.to - s.from) (drop s.from s.room.items)) ≡ length c.args.self.now.bytes = ap (λ (h : InputState). length h.bytes) c.self.view_is in
     let fits : c.args.count ≤ s.to - s.from = omega (arith, c.requires, length-take (s.to - s.from) (drop s.from s.room.items)) in
-    ap (λ (bs : List ℕ). let h : Held = record { bytes = bs; ended = s.ended; reads_left = s.reads_left } in h) (drop_window s.room.items s.from s.to c.args.count fits)
-    ∙ ap (λ (h : Held). let k : Held = record { bytes = drop c.args.count h.bytes; ended = h.ended; reads_left = h.reads_left } in k) c.self.view_is
+    ap (λ (bs : List ℕ). let h : InputState = record { bytes = bs; ended = s.ended; reads_left = s.reads_left } in h) (drop_window s.room.items s.from s.to c.args.count fits)
+    ∙ ap (λ (h : InputState). let k : InputState = record { bytes = drop c.args.count h.bytes; ended = h.ended; reads_left = h.reads_left } in k) c.self.view_is

@@ -1,5 +1,0 @@
-use Rattle.entry_ops.proofs.Sifting.{IsSifting}
-use Rattle.entry_ops.proofs.sieve.place.Given as goal
-
-abbrev pub invariant-loop-mark : goal.invariant-loop-mark
-invariant-loop-mark l = IsSifting l.marks l.values l.fn.rows l.mark-index l.next l.rows

@@ -1,0 +1,120 @@
+//! The entries of rows that an index operator is called on, 64 at a time, whichever rows they stand in.
+ghost use Rattle.std.specs.Prelude.{◌≡◌, ◌<◌, ◌≤◌, ◌-◌, ◌++◌, length, nat_lt};
+ghost use Rattle.bpf_insn.specs.declared.operands.Kind.TheVariants as kinds;
+ghost use Rattle.bpf_run.specs.Calls.{entries_of};
+ghost use Rattle.csr_store.specs.Grid.{IsGrid};
+ghost use Rattle.entry_ops.specs.inner.IndexCalls.{entries_along, entries_up_to, NoneWaits, Gathers};
+
+use crate::operand_rows::Cell;
+use bpf_insn::Operands;
+use bpf_run::{Calls, MOST_CALLS};
+use csr_store::{Matrix, RowReader};
+use std::marker::Model;
+use std::ops::Range;
+
+/// The entries that are to be called, with their positions and a thunk: those that are left of a row, and those of the rows
+/// behind it up to an end. A contract sees the operands of their calls.
+#[derive(Drop)]
+pub struct IndexCalls<'m> {
+    thunk: u64,
+    columns: u64,
+    row: u64,
+    /// What is left of `row`: nothing where there is one column at most.
+    left: &'m [Cell],
+    reader: RowReader<'m>,
+    end: u64,
+}
+
+impl<'m> Model for IndexCalls<'m> {
+    ghost use Rattle.std.specs.Prelude.{◌≡◌, ◌≤◌, List, []};
+    ghost use Rattle.bpf_insn.specs.declared.operands.Operands.{Operands};
+    ghost use Rattle.csr_store.specs.Grid.{IsGrid};
+    ghost use Rattle.entry_ops.specs.inner.IndexCalls.{index_calls};
+
+    ghost Value = { List Operands };
+
+    ghost view = { λ c. index_calls c.reader.grid c.thunk c.row c.left.now c.reader.row c.end };
+
+    ghost invariant = { λ c. (c.end ≤ c.reader.grid.rows) × (c.columns ≡ c.reader.grid.columns) × IsGrid c.reader.grid
+        × (c.columns ≤ 1 → c.left.now ≡ []) };
+}
+
+impl<'m> IndexCalls<'m> {
+    /// The entries of a range of rows.
+    pub fn of_rows(a: &'m Matrix, thunk: u64, range: Range<u64>) -> Self
+        requires range { range.start ≤ range.end }
+        requires within { range.end ≤ a.now.rows }
+        ensures { result ≡ entries_along a.now thunk range.start (range.end - range.start) }
+    {
+        IndexCalls {
+            thunk,
+            columns: a.columns(),
+            row: range.start,
+            left: &[],
+            reader: a.rows_from(range.start),
+            end: range.end,
+        }
+    }
+
+    /// Gathers the calls on the entries that come next, as many as fit in. Answers whether there are any.
+    #[inline(always)]
+    pub fn gather(&mut self, calls: &mut Calls) -> bool
+        requires { NoneWaits kinds.Index calls.old }
+        ensures gathers { Gathers self.old calls.old self.new calls.new result }
+        ensures some { result ≡ nat_lt 0 (length calls.new.operands) }
+    {
+        if self.columns <= 1 {
+            return gather_column(&mut self.reader, self.end, self.thunk, calls);
+        }
+        let mut row = self.row;
+        let mut left = self.left;
+        while left.len() <= MOST_CALLS - calls.len() {
+            calls.gather_entries(left, row, self.thunk);
+            row = self.reader.row();
+            if row >= self.end {
+                self.left = &[];
+                return calls.len() > 0;
+            }
+            left = self.reader.next_row();
+        }
+        let (now, later) = left.split_at(MOST_CALLS - calls.len());
+        calls.gather_entries(now, row, self.thunk);
+        self.row = row;
+        self.left = later;
+        true
+    }
+}
+
+/// Gathers the calls on the entries of rows of one column, up to a row, as many as fit in. Answers whether there are any.
+#[inline(always)]
+fn gather_column(reader: &mut RowReader<'_>, end: u64, thunk: u64, calls: &mut Calls) -> bool
+    requires column { IsGrid reader.old.grid × (reader.old.grid.columns ≤ 1) × (end ≤ reader.old.grid.rows) }
+    requires waits { NoneWaits kinds.Index calls.old }
+    ensures gathers { (reader.new.grid ≡ reader.old.grid)
+        × Gathers (entries_up_to end thunk reader.old) calls.old (entries_up_to end thunk reader.new) calls.new result }
+    ensures some { result ≡ nat_lt 0 (length calls.new.operands) }
+{
+    while reader.row() < end && calls.len() < MOST_CALLS {
+        let row = reader.row();
+        gather_first(calls, reader.next_row(), row, thunk);
+    }
+    calls.len() > 0
+}
+
+/// Gathers the call on the entry of a row that has one at most.
+#[inline(always)]
+fn gather_first(calls: &mut Calls, cells: &[Cell], row: u64, thunk: u64)
+    requires few { length cells.now ≤ 1 }
+    requires room { length calls.old.operands < 64 }
+    requires kind { calls.old.kind ≡ kinds.Index }
+    ensures { calls.new ≡ record calls.old { operands = calls.old.operands ++ entries_of row thunk cells.now } }
+{
+    if let Some((cell, _)) = cells.split_first() {
+        calls.gather(Operands::Index {
+            x: cell.1,
+            row,
+            column: cell.0,
+            thunk,
+        });
+    }
+}

@@ -1,0 +1,163 @@
+//! Rows whose last cells wait for the values of gathered calls, and stand where those are not 0.
+ghost use Rattle.std.specs.Prelude.{◌≡◌, ◌<◌, ◌≤◌, ◌+◌, ◌^◌, ◌∷◌, [], length, vec_capacity, OnOk, OnErr, IfOk};
+ghost use Rattle.bpf_insn.specs.Machine.{kind_of};
+ghost use Rattle.bpf_run.specs.Meaning.{value_of};
+ghost use Rattle.bpf_run.specs.Calls.{call_of, calls_on, steps_of};
+ghost use Rattle.job_forms.specs.Region.{finished};
+ghost use Rattle.entry_ops.specs.inner.Standing.{CanPush, with_end};
+ghost use Rattle.entry_ops.specs.inner.SelectBuffer.{placed, Fits, Holds, with_kept, CanAdd, Puts, IsFlushed};
+
+use bpf_insn::Operands;
+use bpf_run::{Calls, MOST_CALLS};
+use bpf_verify::Operator;
+use csr_store::Rows;
+use job_forms::{Chunk, Making};
+use std::alloc::{AllocError, Global};
+use std::marker::Model;
+
+/// The most marks that wait.
+const MOST_MARKS: usize = 256;
+
+/// What is still to be added to some rows.
+#[derive(Clone, Copy)]
+pub enum Mark {
+    /// The end of the open row.
+    End,
+    /// A cell that stands where the value of the next call is not 0.
+    Kept { column: u64, word: u64 },
+}
+
+/// Rows, what is marked behind them while calls wait, and the steps of the calls that were made.
+#[derive(Drop)]
+pub struct SelectBuffer {
+    rows: Rows,
+    marks: Vec<Mark>,
+    steps: u64,
+}
+
+impl Model for SelectBuffer {
+    ghost use Rattle.std.specs.Prelude.{◌≤◌, length, vec_capacity};
+    ghost use Rattle.entry_ops.specs.inner.SelectBuffer.{SelectState};
+
+    ghost Value = { SelectState };
+
+    ghost view = { λ e. record { rows = e.rows; marks = e.marks.items; steps = e.steps } };
+
+    ghost invariant = { λ e. (256 ≤ vec_capacity e.marks) × (length e.marks.items ≤ 256) };
+}
+
+impl SelectBuffer {
+    /// No row yet, of those from `first` on, and no call.
+    pub fn begin(alloc: Global, first: u64, columns: u64) -> Result<Self, AllocError>
+        ensures { IfOk result (λ e. e ≡ record {
+          rows = record { first = first; columns = columns; ended = []; opened = [] };
+          marks = [];
+          steps = 0;
+        }) }
+    {
+        Ok(SelectBuffer {
+            rows: Rows::begin(alloc, first, columns),
+            marks: Vec::with_capacity(alloc, MOST_MARKS)?,
+            steps: 0,
+        })
+    }
+
+    /// What was made: the rows, unless memory was refused, and the steps.
+    pub fn finish(self, filled: Result<(), AllocError>) -> Chunk
+        ensures { result ≡ finished (record { rows = self.rows; steps = self.steps }) filled }
+    {
+        let SelectBuffer { rows, steps, .. } = self;
+        Making { rows, steps }.finish(filled)
+    }
+
+    /// Makes the calls that were gathered, and adds what is marked.
+    pub fn flush(&mut self, operator: &Operator, calls: &mut Calls) -> Result<(), AllocError>
+        requires holds { Holds operator.now self.old calls.old }
+        requires room { self.old.steps + steps_of (calls_on operator.now calls.old.operands) < 2 ^ 64 }
+        ensures made { OnOk result (IsFlushed operator.now self.old calls.old self.new calls.new) }
+        ensures spent { OnErr result (self.new.steps ≡ self.old.steps + steps_of (calls_on operator.now calls.old.operands)) }
+    {
+        self.steps += calls.make(operator);
+        put_values(&self.marks, calls.values(), &mut self.rows)?;
+        self.marks.clear();
+        Ok(())
+    }
+
+    /// Flushes where no further mark or call fits in.
+    #[inline(always)]
+    pub fn make_room(&mut self, operator: &Operator, calls: &mut Calls) -> Result<(), AllocError>
+        requires holds { Holds operator.now self.old calls.old }
+        requires room { self.old.steps + steps_of (calls_on operator.now calls.old.operands) < 2 ^ 64 }
+        ensures puts { Puts operator.now [] (λ run. run) self.old calls.old self.new calls.new result }
+        ensures fits { OnOk result ((length self.new.marks < 256) × (length calls.new.operands < 64)) }
+    {
+        if self.marks.len() < MOST_MARKS && calls.len() < MOST_CALLS {
+            return Ok(());
+        }
+        self.flush(operator, calls)?;
+        Ok(())
+    }
+
+    /// Adds a cell with a word where the value of a call is not 0.
+    #[inline(always)]
+    pub fn keep(
+        &mut self,
+        operator: &Operator,
+        calls: &mut Calls,
+        column: u64,
+        word: u64,
+        operands: Operands,
+    ) -> Result<(), AllocError>
+        requires kind { kind_of operands ≡ operator.now.kind }
+        requires can { CanAdd operator.now column self.old calls.old }
+        ensures { Puts operator.now (call_of operator.now operands ∷ []) (with_kept column word (value_of operator.now operands))
+            self.old calls.old self.new calls.new result }
+    {
+        self.make_room(operator, calls)?;
+        self.marks.push(Mark::Kept { column, word }).unwrap();
+        calls.gather(operands);
+        Ok(())
+    }
+
+    /// Ends the open row.
+    pub fn end_row(&mut self, operator: &Operator, calls: &mut Calls) -> Result<(), AllocError>
+        requires holds { Holds operator.now self.old calls.old }
+        requires room { self.old.steps + steps_of (calls_on operator.now calls.old.operands) < 2 ^ 64 }
+        ensures { Puts operator.now [] with_end self.old calls.old self.new calls.new result }
+    {
+        self.make_room(operator, calls)?;
+        self.marks.push(Mark::End).unwrap();
+        Ok(())
+    }
+}
+
+/// Adds a cell where an answer is not 0.
+#[inline(always)]
+fn push_kept(rows: &mut Rows, column: u64, word: u64, answer: u64) -> Result<(), AllocError>
+    requires { CanPush column rows.old }
+    ensures { OnOk result (rows.new ≡ with_kept column word answer rows.old) }
+{
+    if answer == 0 {
+        return Ok(());
+    }
+    rows.push(column, word)
+}
+
+/// Adds what is marked to rows, each call with its value.
+fn put_values(marks: &[Mark], values: &[u64], rows: &mut Rows) -> Result<(), AllocError>
+    requires fits { Fits marks.now values.now rows.old }
+    requires few { length marks.now ≤ 256 }
+    ensures { OnOk result (rows.new ≡ placed marks.now values.now rows.old) }
+{
+    let mut next: usize = 0;
+    for mark in marks {
+        match *mark {
+            Mark::End => rows.end_row()?,
+            Mark::Kept { column, word } => {
+                push_kept(rows, column, word, values[next])?;
+                next += 1;
+            }
+        }
+    }
+    Ok(())
+}

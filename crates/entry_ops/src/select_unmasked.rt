@@ -1,0 +1,72 @@
+//! Select without a mask: all cells are called, and then those that are kept are copied.
+ghost use Rattle.std.specs.Prelude.{◌≡◌, ◌≤◌, ◌<◌, ◌+◌, ◌-◌, ◌^◌, None, IfOk, OnOk, OnErr};
+ghost use Rattle.bpf_insn.specs.declared.operands.Kind.TheVariants as kinds;
+ghost use Rattle.bpf_run.specs.Calls.{calls_on, values_on, steps_of, Charges};
+ghost use Rattle.entry_ops.specs.inner.Forms as forms;
+ghost use Rattle.entry_ops.specs.inner.IndexCalls.{NoneWaits};
+ghost use Rattle.entry_ops.specs.inner.Walking.{IsFormMade};
+
+use crate::index_calls::IndexCalls;
+use crate::operand_rows::entries_between;
+use bpf_run::Calls;
+use bpf_verify::Operator;
+use csr_store::{Matrix, Rows};
+use job_forms::Chunk;
+use std::alloc::{AllocError, Global};
+use std::ops::Range;
+
+/// The answers of an operator on all entries that come, in their order. Room for so many is taken first. Counts the steps of
+/// the calls that were made.
+fn answers_of(
+    alloc: Global,
+    calls: &mut Calls,
+    operator: &Operator,
+    mut index_calls: IndexCalls,
+    room: usize,
+    steps: &mut u64,
+) -> Result<Vec<u64>, AllocError>
+    requires kind { (operator.now.kind ≡ kinds.Index) × NoneWaits kinds.Index calls.old }
+    requires few { steps.old + steps_of (calls_on operator.now index_calls) < 2 ^ 64 }
+    ensures made { IfOk result (λ answers. (answers.items ≡ values_on operator.now index_calls.entry)
+        × (steps.new ≡ steps.old + steps_of (calls_on operator.now index_calls.entry))) }
+    ensures spent { OnErr result (Charges (calls_on operator.now index_calls.entry) steps.old steps.new) }
+{
+    let mut answers = Vec::with_capacity(alloc, room)?;
+    while index_calls.gather(calls) {
+        *steps += calls.make(operator);
+        answers.extend_from_slice(calls.values())?;
+    }
+    Ok(answers)
+}
+
+/// The rows of a range of what an operator keeps, without a mask. On want of memory for the answers no call was made.
+pub fn keep_region(
+    alloc: Global,
+    calls: &mut Calls,
+    a: &Matrix,
+    operator: &Operator,
+    thunk: u64,
+    range: Range<u64>,
+) -> Chunk
+    requires kind { operator.now.kind ≡ kinds.Index }
+    requires range { range.start ≤ range.end }
+    requires within { range.end ≤ a.now.rows }
+    ensures { IsFormMade (forms.Select thunk) operator.now a.now None None range.start (range.end - range.start) result }
+{
+    operator.recall();
+    a.recall();
+    let room = entries_between(a, range.start, range.end);
+    let index_calls = IndexCalls::of_rows(a, thunk, range.start..range.end);
+    let mut steps = 0;
+    calls.begin(operator.kind());
+    match answers_of(alloc, calls, operator, index_calls, room, &mut steps) {
+        Ok(answers) => Chunk {
+            result: Rows::kept(alloc, a, range, &answers),
+            steps,
+        },
+        Err(error) => Chunk {
+            result: Err(error),
+            steps,
+        },
+    }
+}

@@ -1,5 +1,0 @@
-use Rattle.row_product.proofs.Meeting.{Meets}
-use Rattle.row_product.proofs.accumulator.meet.Given as goal
-
-abbrev pub invariant-loop-k : goal.invariant-loop-k
-invariant-loop-k l = Meets l.fn.sums l.cells l.terms l.k l.sums l.additions

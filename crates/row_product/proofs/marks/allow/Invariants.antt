@@ -1,6 +1,0 @@
-use Rattle.std.proofs.Common.{drop}
-use Rattle.row_product.proofs.Marking.{Allowing}
-use Rattle.row_product.proofs.marks.allow.Given as goal
-
-abbrev pub invariant-loop-cell : goal.invariant-loop-cell
-invariant-loop-cell l = Allowing l.row (drop l.cell-index l.row) l.allowed

@@ -1,0 +1,156 @@
+//! A row of sums, to which the cells of rows of B are added, each times a word.
+ghost use Rattle.std.specs.Prelude.{◌≡◌, ◌≤◌, ◌++◌, ℕ, None, [], length, IfOk, OnOk};
+ghost use Rattle.bpf_verify.specs.Accepted.{Accepted};
+ghost use Rattle.csr_store.specs.Along.{row_by};
+ghost use Rattle.row_product.specs.inner.Adding.{none_gathered, AreBelow, AreTerms, ArePut, MayPut, IsMet};
+ghost use Rattle.row_product.specs.inner.Emitting.{MayEmit};
+ghost use Rattle.row_product.specs.inner.Rows.{IsPart, AddsCells};
+ghost use Rattle.row_product.specs.inner.Single.{multiplied, MayPutProducts, AreCharged};
+ghost use Rattle.row_product.specs.inner.Sums.{slot};
+
+use crate::additions::Additions;
+use crate::factors::MaskedFactors;
+use crate::single::push_words;
+use crate::sums::Sums;
+use crate::terms::Terms;
+use bpf_run::{Calls, run_known};
+use bpf_verify::Operator;
+use csr_store::Rows;
+use job_forms::Making;
+use std::alloc::{AllocError, Global};
+use std::marker::Model;
+
+/// The sums of a row, and the calls that add to them. A contract sees the sum of each column, if there is one.
+#[derive(Drop)]
+pub(crate) struct DenseAccumulator {
+    sums: Sums,
+    products: Calls,
+    additions: Additions,
+}
+
+impl Model for DenseAccumulator {
+    ghost use Rattle.std.specs.Prelude.{ℕ, List, Option, ◌≡◌};
+    ghost use Rattle.row_product.specs.inner.Adding.{none_gathered};
+
+    ghost Value = { List (Option ℕ) };
+
+    ghost view = { λ a. a.sums };
+
+    ghost invariant = { λ a. a.additions ≡ none_gathered };
+}
+
+impl DenseAccumulator {
+    /// Of no column yet.
+    pub(crate) fn new(alloc: Global) -> Result<Self, AllocError>
+        ensures { IfOk result (λ a. a ≡ []) }
+    {
+        Ok(DenseAccumulator {
+            sums: Sums::new(alloc),
+            products: Calls::new(alloc)?,
+            additions: Additions::new(alloc)?,
+        })
+    }
+
+    /// For how many columns there is room.
+    pub(crate) fn room(&self) -> usize
+        ensures { length self.now ≤ result }
+    {
+        self.sums.room()
+    }
+
+    /// Room for so many columns, none of which has a sum.
+    pub(crate) fn widen(&mut self, columns: u64) -> Result<(), AllocError>
+        ensures { OnOk result (columns ≤ length self.new) }
+    {
+        self.sums.widen(columns)
+    }
+
+    /// Begins a row, with no sum.
+    pub(crate) fn begin(&mut self)
+        ensures none { (j : ℕ) → slot self.new j ≡ None }
+        ensures long { length self.new ≡ length self.old }
+    {
+        self.sums.begin();
+    }
+
+    /// Adds a word times each of up to 64 cells of a row of B to the sums of their columns. Answers the steps.
+    pub(crate) fn add_cells(&mut self, factors: &MaskedFactors, x: u64, cells: &[(u64, u64)]) -> u64
+        requires { IsPart factors.now (length self.old) cells.now }
+        ensures { AddsCells factors.now x cells.now self.old self.new result }
+    {
+        let multiplied = self.products.make_with(factors.mul, x, cells);
+        let terms = self.products.values();
+        multiplied
+            + add_terms(
+                factors.add,
+                cells,
+                terms,
+                &mut self.additions,
+                &mut self.sums,
+            )
+    }
+
+    /// Puts a word times each of up to 64 cells into the open row, without a sum. The calls are made, and charged, before memory
+    /// may be wanting.
+    pub(crate) fn push_products(
+        &mut self,
+        factors: &MaskedFactors,
+        x: u64,
+        cells: &[(u64, u64)],
+        making: &mut Making,
+    ) -> Result<(), AllocError>
+        requires { MayPutProducts factors.now cells.now making.old }
+        ensures pushed { OnOk result (making.new.rows
+            ≡ record making.old.rows { opened = making.old.rows.opened ++ multiplied factors.now.mul.now x cells.now }) }
+        ensures charged { AreCharged factors.now x cells.now making.old making.new }
+        ensures sums { self.new ≡ self.old }
+    {
+        making.steps += self.products.make_with(factors.mul, x, cells);
+        push_words(cells, self.products.values(), &mut making.rows)
+    }
+
+    /// Puts the sums into the open row, by ascending column.
+    pub(crate) fn emit(&mut self, columns: u64, rows: &mut Rows) -> Result<(), AllocError>
+        requires { MayEmit columns self.old rows.old }
+        ensures rows { OnOk result (rows.new ≡ record rows.old { opened = row_by rows.old.columns (slot self.old) }) }
+        ensures sums { self.new ≡ self.old }
+    {
+        self.sums.emit(columns, rows)
+    }
+}
+
+/// Adds terms to the sums of the columns of cells. Answers the steps.
+fn add_terms(
+    add: &Operator,
+    cells: &[(u64, u64)],
+    terms: &[u64],
+    additions: &mut Additions,
+    sums: &mut Sums,
+) -> u64
+    requires add { MayPut add.now sums.old cells.now terms.now }
+    requires none { additions.old ≡ none_gathered }
+    ensures put { ArePut add.now cells.now terms.now sums.old sums.new result }
+    ensures none { additions.new ≡ none_gathered }
+{
+    if let Some(steps) = run_known(&Terms { cells, terms }, add, sums) {
+        return steps;
+    }
+    meet(cells, terms, additions, sums);
+    additions.make(add, sums)
+}
+
+/// Puts terms at the columns of cells: the first of a column is its sum, and the addition of any other is gathered.
+fn meet(cells: &[(u64, u64)], terms: &[u64], additions: &mut Additions, sums: &mut Sums)
+    requires terms { AreTerms (length sums.old) cells.now terms.now }
+    requires none { additions.old ≡ none_gathered }
+    ensures met { (add : Accepted) → IsMet add sums.old cells.now terms.now sums.new additions.new }
+    ensures below { AreBelow (length sums.new) additions.new.columns }
+{
+    for k in 0..cells.len() {
+        let column = cells[k].0;
+        match sums.get(column) {
+            Some(so_far) => additions.gather(column, so_far, terms[k]),
+            None => sums.begin_sum(column, terms[k]),
+        }
+    }
+}

@@ -1,0 +1,51 @@
+//! Rows of a product, one after the other, in room for the sums of each.
+ghost use Rattle.std.specs.Prelude.{◌≤◌, ◌<◌, ℕ};
+ghost use Rattle.row_product.specs.declared.factors.MaskedFactors.{MaskedFactors as Those};
+ghost use Rattle.row_product.specs.inner.Masked.{IsBegun, IsNext, AddsRow, AddsRows};
+
+use crate::factors::MaskedFactors;
+use job_forms::Making;
+use std::alloc::AllocError;
+use std::ops::Range;
+
+/// Room in which a row of a product is summed: of all columns (`row`), or in lists of its terms alone (`sorted_accumulator`).
+pub(crate) trait RowAccumulator {
+    /// There is room for so many columns, as far as it has to be there before a row is begun.
+    ghost is_ready: { ℕ → Self → Type 0 };
+
+    /// The terms of a row aren't too many for it.
+    ghost may_fill: { Those → ℕ → Type 0 };
+
+    /// Adds row `i` of the product to rows.
+    fn fill_row(
+        &mut self,
+        factors: &MaskedFactors,
+        i: u64,
+        making: &mut Making,
+    ) -> Result<(), AllocError>
+        requires next { IsNext factors.now i making.old }
+        requires ready { is_ready factors.now.b.now.columns self.old }
+        requires may { may_fill factors.now i }
+        ensures row { AddsRow factors.now i making.old making.new result }
+        ensures ready { is_ready factors.now.b.now.columns self.new };
+}
+
+/// Adds the rows of a range, one after the other in the same room.
+pub(crate) fn fill_rows<R: RowAccumulator>(
+    factors: &MaskedFactors,
+    range: Range<u64>,
+    room: &mut R,
+    making: &mut Making,
+) -> Result<(), AllocError>
+    requires begun { IsBegun factors.now range.start range.end making.old }
+    requires ready { R.is_ready factors.now.b.now.columns room.old }
+    requires may { (i : ℕ) → range.start ≤ i → i < range.end → R.may_fill factors.now i }
+    ensures rows { AddsRows factors.now range.start range.end making.old making.new result }
+    ensures ready { R.is_ready factors.now.b.now.columns room.new }
+{
+    for i in range.start..range.end {
+        room.fill_row(factors, i, making)?;
+    }
+    making.rows.trim();
+    Ok(())
+}
