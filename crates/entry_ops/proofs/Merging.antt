@@ -32,7 +32,7 @@ use Rattle.csr_store.specs.Along.{along, cell_at}
 use Rattle.csr_store.specs.Ascending.{Ascends, at}
 use Rattle.csr_store.proofs.Along.{along-none}
 use Rattle.bpf_run.specs.Calls.{Call}
-use Rattle.job_forms.specs.Forms.{merged, joint_calls}
+use Rattle.job_forms.specs.Forms.{joint, joint_calls}
 use Rattle.entry_ops.specs.inner.Forms.{Form, Apply, Select, Union, Both}
 use Rattle.entry_ops.specs.inner.Standing.{CanPush, FollowIn, Standing, Adds, with_cells, IsOpen}
 use Rattle.entry_ops.specs.inner.Walking.{form_at, form_calls, row_cells, row_calls, is_joint, left_over, IsNext}
@@ -152,7 +152,7 @@ module _ (f : Accepted) (i n : ℕ) where
   joint_left None = refl
   joint_left (Some x) = refl
 
-  both_left : (j : ℕ) (x : Option ℕ) → cell_at j (merged f x None) ≡ []
+  both_left : (j : ℕ) (x : Option ℕ) → cell_at j (joint f x None) ≡ []
   both_left j None = refl
   both_left j (Some x) = refl
 
@@ -169,14 +169,14 @@ left_cells : (form : Form) → is_joint form ≡ true → (f : Accepted) (i n lo
 left_cells (Apply thunk) e f i n low xs h = absurd (cc)
 left_cells (Select thunk) e f i n low xs h = absurd (cc)
 left_cells Union e f i n low xs h = union_left f i n low xs h
-left_cells Both e f i n low xs h = along-none (λ j. cell_at j (merged f (at xs j) None)) 0 n (λ j. both_left f i n j (at xs j))
+left_cells Both e f i n low xs h = along-none (λ j. cell_at j (joint f (at xs j) None)) 0 n (λ j. both_left f i n j (at xs j))
 
 right_cells : (form : Form) → is_joint form ≡ true → (f : Accepted) (i n low : ℕ) (ys : List Cell) → Ascends low n ys
     → row_cells form f i n [] ys None ≡ left_over form ys
 right_cells (Apply thunk) e f i n low ys h = absurd (cc)
 right_cells (Select thunk) e f i n low ys h = absurd (cc)
 right_cells Union e f i n low ys h = union_right f i n low ys h
-right_cells Both e f i n low ys h = along-none (λ j. cell_at j (merged f None (at ys j))) 0 n (λ j. refl)
+right_cells Both e f i n low ys h = along-none (λ j. cell_at j (joint f None (at ys j))) 0 n (λ j. refl)
 
 no_calls_left : (form : Form) → is_joint form ≡ true → (f : Accepted) (i n : ℕ) (xs : List Cell) → row_calls form f i n xs [] None
     ≡ []

@@ -11,7 +11,7 @@ use Rattle.csr_store.proofs.ByRow.{lookup-row_of}
 use Rattle.bpf_verify.specs.Accepted.{Accepted}
 use Rattle.bpf_run.specs.Calls.{Call}
 use Rattle.bpf_run.specs.Fold.{fold, fold_calls}
-use Rattle.job_forms.specs.Forms.{applied, apply_calls, apply_at, apply_calls_at, selected, select_at, select_calls_at, united, merged, joint_calls, union_at, both_at, joint_calls_at, reduce_at, reduce_calls_at}
+use Rattle.job_forms.specs.Forms.{applied, apply_calls, apply_at, apply_calls_at, selected, select_at, select_calls_at, united, joint, joint_calls, union_at, both_at, joint_calls_at, reduce_at, reduce_calls_at}
 use Rattle.job_forms.specs.declared.region.Chunk.{Chunk}
 use Rattle.job_forms.specs.declared.region.Region.{Region}
 use Rattle.job_forms.specs.Region.{IsMade, IsPartOf}
@@ -124,10 +124,10 @@ pub left_nothing : (f : Accepted) (a b : Grid) (mask : Option Grid) (i j : ℕ) 
     → HasNothing mask (both_at f a b) (joint_calls_at f a b) (i, j)
 left_nothing f a b mask i j e =
     let none = none_in_blank a i j e in
-    nothing_there mask (both_at f a b) (joint_calls_at f a b) (i, j) (ap (λ o. merged f o (get b.cells (i, j))) none)
+    nothing_there mask (both_at f a b) (joint_calls_at f a b) (i, j) (ap (λ o. joint f o (get b.cells (i, j))) none)
     (ap (λ o. joint_calls f o (get b.cells (i, j))) none)
 
-no_joint : (f : Accepted) (o : Option ℕ) → merged f o None ≡ None
+no_joint : (f : Accepted) (o : Option ℕ) → joint f o None ≡ None
 no_joint f None = refl
 no_joint f (Some x) = refl
 
@@ -140,7 +140,7 @@ pub right_nothing : (f : Accepted) (a b : Grid) (mask : Option Grid) (i j : ℕ)
 right_nothing f a b mask i j e =
     let none = none_in_blank b i j e in
     let x = get a.cells (i, j) in
-    nothing_there mask (both_at f a b) (joint_calls_at f a b) (i, j) (ap (merged f x) none ∙ no_joint f x)
+    nothing_there mask (both_at f a b) (joint_calls_at f a b) (i, j) (ap (joint f x) none ∙ no_joint f x)
     (ap (joint_calls f x) none ∙ no_joint_calls f x)
 
 pub reduce_nothing : (f : Accepted) (a : Grid) (mask : Option Grid) (i j : ℕ) → row_of a i ≡ []

@@ -116,13 +116,13 @@ module _ (indices values : List ℕ) (start : Run) where
       has_one [] v vs n h = absurd h
       has_one (p ∷ ps) v vs n h = omega arith
 
-      pub number-inside : i < length indices
-      number-inside =
+      pub index-inside : i < length indices
+      index-inside =
           let o = has_one (drop i indices) (get_or values i 0) (drop (i + 1) values) (entries_of now) (subst (λ vs. HavePlaces (drop i indices) vs (entries_of now)) value_first h.have) in
           let n = length-drop i indices in omega arith
 
       place_first : drop i indices ≡ get_or indices i 0 ∷ drop (i + 1) indices
-      place_first = drop_more indices i 0 number-inside
+      place_first = drop_more indices i 0 index-inside
 
       have_here : HavePlaces (get_or indices i 0 ∷ drop (i + 1) indices) (get_or values i 0 ∷ drop (i + 1) values) (entries_of now)
       have_here = subst (λ ps. HavePlaces ps (get_or values i 0 ∷ drop (i + 1) values) (entries_of now)) place_first

@@ -19,7 +19,7 @@ use Rattle.job_forms.specs.Forms.{
   select_at,
   select_calls_at,
   united,
-  merged,
+  joint,
   joint_calls,
   union_at,
   both_at,
@@ -121,5 +121,5 @@ module _ (f : Accepted) (a : Grid) (region : Region) (made : Chunk) where
     pub both_is : IsFormMade Both f a (Some b) (mask_of region.mask) region.range.start (region.range.end - region.range.start) made
         → IsPartOf a.columns (both_at f a b) (joint_calls_at f a b) region made
     both_is = part_is Both f a (Some b) (both_at f a b) (joint_calls_at f a b)
-        (λ i j. ap (λ x. merged f x (at (row_of b i) j)) (lookup-row_of a i j)
-        ∙ ap (merged f (get a.cells (i, j))) (lookup-row_of b i j)) joint_calls_are region made
+        (λ i j. ap (λ x. joint f x (at (row_of b i) j)) (lookup-row_of a i j)
+        ∙ ap (joint f (get a.cells (i, j))) (lookup-row_of b i j)) joint_calls_are region made

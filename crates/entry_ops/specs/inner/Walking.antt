@@ -13,7 +13,7 @@ use Rattle.csr_store.specs.Along.{along, cell_at}
 use Rattle.csr_store.specs.Mask.{HasShape, mask_of}
 use Rattle.csr_store.specs.Ascending.{Ascends, AscendsIn, at, shows}
 use Rattle.bpf_run.specs.Calls.{Call}
-use Rattle.job_forms.specs.Forms.{applied, apply_calls, selected, united, merged, joint_calls}
+use Rattle.job_forms.specs.Forms.{applied, apply_calls, selected, united, joint, joint_calls}
 use Rattle.job_forms.specs.Region.{IsMade}
 use Rattle.job_forms.specs.declared.region.Chunk.{Chunk}
 use Rattle.entry_ops.specs.declared.operand_rows.OperandRows.{OperandRows}
@@ -34,7 +34,7 @@ abbrev pub form_at : Form → Accepted → Position → Option ℕ → Option �
 form_at (Apply thunk) f p x y = applied f thunk p x
 form_at (Select thunk) f p x y = selected f thunk p x
 form_at Union f p x y = united f x y
-form_at Both f p x y = merged f x y
+form_at Both f p x y = joint f x y
 
 abbrev pub form_calls : Form → Accepted → Position → Option ℕ → Option ℕ → List Call
 form_calls (Apply thunk) f p x y = apply_calls f thunk p x

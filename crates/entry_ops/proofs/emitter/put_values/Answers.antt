@@ -1,6 +1,6 @@
 use Rattle.std.proofs.Common.{◌-◌, length, arith}
 use Rattle.entry_ops.proofs.Following.{have-count, have-inside, first-to-last, in_a_row}
-use Rattle.entry_ops.proofs.Placing.{placing-start, put_values-inside, entry-inside, placing-step, placing-end}
+use Rattle.entry_ops.proofs.Placing.{placing-start, index-inside, entry-inside, placing-step, placing-end}
 use Rattle.entry_ops.proofs.emitter.put_values.Goals as goal
 
 pub bounds-indices-many : goal.bounds-indices-many
@@ -41,7 +41,7 @@ pub loop-next-init : goal.loop-next-init
 loop-next-init c = placing-start _ _ _ c.requires.have
 
 pub bounds-indices-next : goal.bounds-indices-next
-bounds-indices-next c = put_values-inside _ _ _ _ _ c.loop-next.invariant c.loop-next-test.true
+bounds-indices-next c = index-inside _ _ _ _ _ c.loop-next.invariant c.loop-next-test.true
 
 pub set_value-requires : goal.set_value-requires
 set_value-requires c = entry-inside _ _ _ _ _ c.loop-next.invariant c.loop-next-test.true
