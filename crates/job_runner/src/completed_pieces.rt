@@ -15,7 +15,7 @@ pub(crate) fn no_pieces(alloc: Global, plan: &Plan) -> Result<Vec<Option<Piece>>
 {
     let count = plan.chunks();
     let mut completed_pieces = Vec::with_capacity(alloc, count as usize)?;
-    for _place in 0..count {
+    for _nth in 0..count {
         completed_pieces.push(None)?;
     }
     Ok(completed_pieces)

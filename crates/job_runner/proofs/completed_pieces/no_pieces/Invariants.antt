@@ -4,6 +4,6 @@ use Rattle.job_runner.proofs.completed_pieces.no_pieces.Given as goal
 
 abbrev pub invariant-loop-nth : goal.invariant-loop-nth
 invariant-loop-nth l = record {
-  len : vec_len l.completed_pieces ≡ l._place;
-  none : l.completed_pieces.items ≡ replicate l._place None;
+  len : vec_len l.completed_pieces ≡ l._nth;
+  none : l.completed_pieces.items ≡ replicate l._nth None;
 }
