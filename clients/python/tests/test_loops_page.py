@@ -40,7 +40,7 @@ class Page(unittest.TestCase):
     def test_steps(self):
         levels = graphs.levels(graphs.UNDIRECTED[3].near(), 16)
         near = sorted(vertex for vertex, level in levels.items() if level <= 2)
-        self.assertEqual(self.said['Who is within so many steps, on a budget'].splitlines()[0], str(near))
+        self.assertEqual(self.said['Who is within two hops, on a budget'].splitlines()[0], str(near))
 
     def test_toll(self):
         edges = {('a', 'b'): 12, ('b', 'd'): 4, ('a', 'c'): 9, ('c', 'd'): 10, ('d', 'e'): 30, ('e', 'a'): 1}
