@@ -16,7 +16,7 @@
 //! `stack`; below them `cells` (one list of cells, or many), `starts` (where rows start, in a list that
 //! matrices may share), `growing` (where rows start while runs are stacked), `ends` (where the rows of a run
 //! end), `moving` (ends counted from another place), `filler` (rows filled in ascending order), `merging` (those
-//! entries and others by position, as one list), `sorting` (cells brought into order where they stand), `repeat`
+//! entries and others by position, as one list), `repeat`
 //! (the first entry that has the position of an earlier one), `kept` (cells of which some are kept), `reader`
 //! (rows one after the other) and `row` (parts of a list of cells, and searches in a row), over
 //! `specs/ByRows.antt`.
@@ -41,7 +41,6 @@ mod repeat;
 mod row;
 mod row_copy;
 mod rows;
-mod sorting;
 mod stack;
 mod starts;
 
