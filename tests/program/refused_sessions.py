@@ -6,6 +6,7 @@ from tests.lib.commands import (EXIT, INCREMENT, RESULT_IS_OPERAND, add, assembl
 WORKERS = 'session of three workers'
 FAILING_CHUNK = 'failing chunk'
 OLDER_VERSIONS = 'older versions'
+LATE_FAULT = 'late fault'
 # what stands under each name that `session_of_older_versions` ever binds
 SHOWN = [b'show %s\n' % name for name in (b'A', b'B', b'C', b'D', b'E')]
 
@@ -221,6 +222,13 @@ def session_of_older_versions() -> List[bytes]:
     ]
 
 
+def session_with_a_late_fault() -> List[bytes]:
+    """Two texts of one length: the first breaks a rule in its size line, the second in the line of its last entry."""
+    late = matrix_text(300, 300, [(row, 301 - row, row) for row in range(1, 301)])[:-1] + b'x\n'
+    early = late.replace(b'\n300 300 300\n', b'\n300 300 x00\n', 1)
+    return [matrix_command('A', early), matrix_command('A', late), b'quit\n']
+
+
 SESSIONS = (
     Given('first session', first_session()),
     Given('long session', long_session(), each_compared=False),
@@ -229,4 +237,5 @@ SESSIONS = (
     Given(FAILING_CHUNK, session_of_a_failing_chunk()),
     Given('no steps to spare', session_of_no_steps_to_spare(), steps=12),
     Given(OLDER_VERSIONS, session_of_older_versions()),
+    Given(LATE_FAULT, session_with_a_late_fault()),
 )
