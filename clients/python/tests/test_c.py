@@ -289,7 +289,7 @@ class Refusals(unittest.TestCase):
                     broken[random_.randrange(len(data))] = random_.randrange(256)
             try:
                 found = ObjectFile(bytes(broken))
-                compiling.Types(found.section('.BTF')).signature('gcd')
+                compiling.BtfTypes(found.section('.BTF')).signature('gcd')
             except Malformed:
                 pass
 

@@ -8,17 +8,17 @@ from __future__ import annotations
 import re
 from typing import Dict, Iterator, List, NamedTuple, Optional, Tuple
 
-ARITHMETIC = ('add', 'sub', 'mul', 'div', 'sdiv', 'or', 'and', 'lsh', 'rsh', 'mod', 'smod', 'xor', 'mov', 'arsh')
-CONDITIONS = ('jeq', 'jgt', 'jge', 'jset', 'jne', 'jsgt', 'jsge', 'jlt', 'jle', 'jslt', 'jsle')
+from .operations import CONDITIONS, OPERATIONS
+
 ENDS = tuple(name + bits for name in ('le', 'be', 'swap') for bits in ('16', '32', '64'))
 SIGNED = ('movs8_32', 'movs16_32', 'movs8_64', 'movs16_64', 'movs32_64')
 LOADS = ('ldx8', 'ldx16', 'ldx32', 'ldx64', 'ldsx8', 'ldsx16', 'ldsx32')
 # What stands behind each mnemonic: D and S registers, R a register that is read and written, V a register or a number, N a number,
 # J a place to jump to, B the register of a base.
 OPERANDS: Dict[str, str] = {
-    **{name + bits: 'DV' if name == 'mov' else 'RV' for name in ARITHMETIC for bits in ('64', '32')},
+    **{name + bits: 'DV' if name == 'mov' else 'RV' for name in OPERATIONS for bits in ('64', '32')},
     **{name: 'R' for name in ('neg64', 'neg32') + ENDS}, **{name: 'DS' for name in SIGNED}, 'ja': 'J', 'ja32': 'J',
-    **{name + bits: 'SVJ' for name in CONDITIONS for bits in ('64', '32')}, 'exit': '', **{name: 'DBN' for name in LOADS},
+    **{name + bits: 'SVJ' for name in CONDITIONS.values() for bits in ('64', '32')}, 'exit': '', **{name: 'DBN' for name in LOADS},
     **{'stx' + bits: 'BNS' for bits in ('8', '16', '32', '64')}, **{'st' + bits: 'BNN' for bits in ('8', '16', '32', '64')}, 'wide': 'DN'}
 FORMS = {'DV': 'rD, rS or rD, NUMBER', 'RV': 'rD, rS or rD, NUMBER', 'R': 'rD', 'DS': 'rD, rS', 'J': 'OFFSET or LABEL',
          'SVJ': 'rD, rS or NUMBER, OFFSET or LABEL', '': '', 'DBN': 'rD, rBASE, OFFSET', 'BNS': 'rBASE, OFFSET, rS',

@@ -16,7 +16,7 @@ from typing import List, NamedTuple, Optional, Tuple
 
 from ..errors import CompileError as CompileError  # pylint: disable=useless-import-alias
 from . import Operator, clang_compat
-from .elf import Function, Malformed, ObjectFile, Types, lines
+from .elf import Function, Malformed, ObjectFile, BtfTypes, lines
 
 OLDEST, NEWEST = 14, 29
 SIGNED = 18                                        # from this clang on its code divides with signs
@@ -180,7 +180,7 @@ def _chosen(object_file: ObjectFile, name: Optional[str]) -> Function:
     return functions[seen[0]]
 
 
-def _kind(function: str, types: Types) -> str:
+def _kind(function: str, types: BtfTypes) -> str:
     """The kind of operator that a function's types make it."""
     signature = types.signature(function)
     if signature is None:
@@ -244,7 +244,7 @@ def operator_of(made: bytes, source: str, name: Optional[str] = None) -> Operato
     """The operator of a function in the object file that clang made of a source. CompileError where it can't be one."""
     try:
         object_file = ObjectFile(made)
-        types = Types(object_file.section('.BTF'))
+        types = BtfTypes(object_file.section('.BTF'))
         function = _chosen(object_file, name)
         kind = _kind(function.name, types)
         end = function.start + len(function.code)

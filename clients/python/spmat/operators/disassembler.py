@@ -7,8 +7,10 @@ from __future__ import annotations
 import struct
 from typing import List, NamedTuple, Optional, Tuple
 
-ARITHMETIC = ('add', 'sub', 'mul', 'div', 'or', 'and', 'lsh', 'rsh', 'neg', 'mod', 'xor', 'mov', 'arsh')
-CONDITIONS = {1: 'jeq', 2: 'jgt', 3: 'jge', 4: 'jset', 5: 'jne', 6: 'jsgt', 7: 'jsge', 10: 'jlt', 11: 'jle', 12: 'jslt', 13: 'jsle'}
+from .operations import CONDITIONS, OPERATIONS
+
+# names of operations, by their codes and whether they are of signed words
+ARITHMETIC = {(each.code, each.signed): name for name, each in OPERATIONS.items()}
 SIZES = ('32', '16', '8', '64')
 NEG, END, MOV, WIDE, EXIT = 8, 13, 11, 0x18, 0x95
 
@@ -54,14 +56,10 @@ def _arithmetic(slot: Slot, width: str) -> Optional[str]:
         return 'neg%s r%d' % (width, slot.target)
     if code == END:
         return '%s%d r%d' % ('swap' if width == '64' else 'be' if by_register else 'le', slot.immediate, slot.target)
-    if code >= len(ARITHMETIC):
-        return None
-    name = ARITHMETIC[code]
     if slot.offset and code == MOV:
         return 'movs%d_%s r%d, r%d' % (slot.offset, width, slot.target, slot.source)
-    if slot.offset and name in ('div', 'mod'):
-        name = 's' + name
-    return '%s%s r%d, %s' % (name, width, slot.target, 'r%d' % slot.source if by_register else slot.immediate)
+    name = ARITHMETIC.get((code, slot.offset != 0)) or ARITHMETIC.get((code, False))
+    return None if name is None else '%s%s r%d, %s' % (name, width, slot.target, 'r%d' % slot.source if by_register else slot.immediate)
 
 
 def _jump(slot: Slot, width: str) -> Optional[str]:

@@ -112,7 +112,7 @@ class Type(NamedTuple):
     members: List[int]
 
 
-class Types:
+class BtfTypes:
     """The types of the BTF section of an object file."""
 
     def __init__(self, data: bytes) -> None:
@@ -175,7 +175,7 @@ class Types:
         return '' if type_.rest == 8 else '`%s`, which has %d bits' % (name, 8 * type_.rest)
 
 
-def lines(object_file: ObjectFile, types: Types, section: str) -> List[Tuple[int, int]]:
+def lines(object_file: ObjectFile, types: BtfTypes, section: str) -> List[Tuple[int, int]]:
     """Where code comes from, by the section .BTF.ext: pairs of a byte in a section and a line of the source, by ascending bytes."""
     data = object_file.section('.BTF.ext')
     out: List[Tuple[int, int]] = []

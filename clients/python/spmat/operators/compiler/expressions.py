@@ -7,9 +7,11 @@ from __future__ import annotations
 
 from typing import Callable, Dict, List, Optional, Sequence, Set, Tuple
 
-LEAST, MOST, WORDS = -1 << 63, (1 << 63) - 1, 1 << 64
+from ..operations import OPERATIONS, WORDS
+
+LEAST, MOST = -1 << 63, (1 << 63) - 1
 CONDITIONS = ('eq', 'slt', 'ult', 'set')
-COMMUTE = ('add', 'mul', 'and', 'or', 'xor', 'eq', 'set')
+COMMUTE = (*(op for op, each in OPERATIONS.items() if each.commutes), 'eq', 'set')
 LEAVES = ('arg', 'const')
 
 
@@ -19,25 +21,8 @@ def wrap(number: int) -> int:
     return low - WORDS if low >> 63 else low
 
 
-def truncated(a: int, b: int) -> int:
-    """The quotient rounded toward 0, and 0 of a division by 0."""
-    return 0 if b == 0 else abs(a) // abs(b) * (1 if (a < 0) == (b < 0) else -1)
-
-
 FOLD: Dict[str, Callable[[int, int], int]] = {
-    'add': lambda a, b: a + b,
-    'sub': lambda a, b: a - b,
-    'mul': lambda a, b: a * b,
-    'and': lambda a, b: a & b,
-    'or': lambda a, b: a | b,
-    'xor': lambda a, b: a ^ b,
-    'lsh': lambda a, b: a << (b & 63),
-    'arsh': lambda a, b: a >> (b & 63),
-    'rsh': lambda a, b: a % WORDS >> (b & 63),
-    'div': lambda a, b: a % WORDS // (b % WORDS) if b else 0,
-    'mod': lambda a, b: a % WORDS % (b % WORDS) if b else a,
-    'sdiv': truncated,
-    'smod': lambda a, b: a - b * truncated(a, b),
+    **{op: each.value for op, each in OPERATIONS.items()},
     'eq': lambda a, b: int(a == b),
     'slt': lambda a, b: int(a < b),
     'ult': lambda a, b: int(a % WORDS < b % WORDS),
@@ -105,8 +90,7 @@ def size(root: Node) -> int:
     return total
 
 
-SIGNS = {'add': '+', 'sub': '-', 'mul': '*', 'xor': '^', 'lsh': '<<', 'arsh': '>>', 'eq': '==', 'slt': '<', 'and': '&', 'or': '|',
-         'set': '&'}
+SIGNS = {**{op: each.sign for op, each in OPERATIONS.items() if each.sign}, 'eq': '==', 'slt': '<', 'set': '&'}
 
 
 def text_of(n: Node, names: Sequence[str], deep: int = 3) -> str:

@@ -3,10 +3,10 @@ from __future__ import annotations
 
 from typing import Any, Dict, Optional, Tuple
 
+from ..operations import OPERATIONS
 from .branch_merging import Different, merged
 from .expressions import COMMUTE, Condition, FOLD, LEAST, LEAVES, MOST, Node, based, size, turned, wrap
 
-NOTHING_TO_DO = {('add', 0), ('or', 0), ('xor', 0), ('lsh', 0), ('rsh', 0), ('arsh', 0), ('and', -1), ('mul', 1), ('div', 1), ('sdiv', 1)}
 SHIFTS = ('lsh', 'rsh', 'arsh')
 
 
@@ -61,7 +61,8 @@ class Graph:
 
     def _by_number(self, op: str, a: Node, k: int) -> Optional[Node]:
         """An operation with a number at its right, where it is something simpler."""
-        if (op, k) in NOTHING_TO_DO or op == 'and' and k == 1 and a.flag:
+        law = OPERATIONS[op]
+        if k == law.neutral or op == 'and' and k == 1 and a.flag:
             return a
         if op in SHIFTS and not 0 <= k < 64:
             return self.make(op, a, self.const(k & 63))
@@ -70,18 +71,19 @@ class Graph:
         if op == 'mul' and k == -1:
             return self.make('sub', self.const(0), a)
         before = a.args[1].number if a.op == op and a.args[1].op == 'const' else None
-        if before is not None and op in ('add', 'mul', 'and', 'or', 'xor', 'arsh'):
+        if before is not None and (law.commutes or op == 'arsh'):
             return self.make(op, a.args[0], self.const(min(63, before + k) if op == 'arsh' else FOLD[op](before, k)))
         return None
 
     def _of_two(self, op: str, a: Node, b: Node) -> Optional[Node]:
         """An operation of two nodes of which the right one is no number, where it is something simpler: numbers are added last, and
         choices of 0 swallow operations."""
+        law = OPERATIONS[op]
         if op in SHIFTS and b.op == 'and' and b.args[1].op == 'const' and b.args[1].number & 63 == 63:
             return self.make(op, a, b.args[0])
-        if a is b and op in ('sub', 'xor', 'and', 'or'):
-            return a if op in ('and', 'or') else self.const(0)
-        if op in ('and', 'or', 'xor') and a.flag and b.flag:
+        if a is b and (law.idempotent or law.cancels):
+            return a if law.idempotent else self.const(0)
+        if law.bitwise and a.flag and b.flag:
             return self.select(a.args[0], *(self.make(op, arm, b) for arm in a.args[1:]))
         if op in ('add', 'sub') and 'add' in (a.op, b.op):
             (left, more), (right, less) = based(a), based(b)
@@ -90,7 +92,7 @@ class Graph:
             if less or left is not None and more:
                 return self.make('add', self.make(op, left or a, right or b), self.const(FOLD[op](more, less)))
         for one, other in ((a, b), (b, a)):
-            if _of_numbers(one, zero=True) and (op in ('add', 'or', 'xor', 'mul', 'and') or op == 'sub' and one is b):
+            if _of_numbers(one, zero=True) and (law.commutes or op == 'sub' and one is b):
                 return self.select(one.args[0], *(self._with_arm(op, other, arm) for arm in one.args[1:]))
         return None
 
@@ -129,8 +131,9 @@ class Graph:
         one_bit = k > 0 and k & (k - 1) == 0
         if op == 'eq' and a.op == 'and' and (k == 0 or one_bit and a.args[1] is b):
             return self.node('set', *a.args), k != 0
-        if op == 'eq' and a.op in ('add', 'xor') and a.args[1].op == 'const':
-            return self.condition(op, a.args[0], self.const(k - a.args[1].number if a.op == 'add' else k ^ a.args[1].number))
+        undone = OPERATIONS[a.op].undone if op == 'eq' and a.op in OPERATIONS else None
+        if undone is not None and a.args[1].op == 'const':
+            return self.condition(op, a.args[0], self.const(undone(k, a.args[1].number)))
         return self.node(op, a, b), True
 
     # -- choices

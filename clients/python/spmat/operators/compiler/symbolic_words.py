@@ -62,7 +62,7 @@ class Word(Operand):
             return getattr(operator, name)(0, number)      # beyond 64 bits it is decided
         path, left, right = self.path, self.node, node_of(self.path, other)
         if name in ('eq', 'ne') and left.flag and right.flag:
-            return self.operate('xor', self.operate('xor', self, Word(path, right)), name == 'eq')
+            return self ^ Word(path, right) ^ (name == 'eq')
         left, right = (right, left) if name in ('gt', 'le') else (left, right)
         c, sense = path.graph.condition('eq' if name in ('eq', 'ne') else 'slt', left, right)
         return flag(path, (c, sense != (name in ('le', 'ge', 'ne'))))

@@ -3,7 +3,8 @@ from __future__ import annotations
 
 from typing import Dict, Sequence, Tuple
 
-from .expressions import FOLD, LEAST, MOST, Node, WORDS
+from ..operations import OPERATIONS, WORDS
+from .expressions import FOLD, LEAST, MOST, Node
 
 Range = Tuple[int, int]
 FULL: Range = (LEAST, MOST)
@@ -41,7 +42,7 @@ class Ranges:
             return [FOLD[n.op](x, y) for x in (low, high) for y in (other_low, other_high)]
         if n.op == 'select':
             return low, high, other_low, other_high
-        if n.op in ('and', 'or', 'xor'):
+        if n.op in OPERATIONS and OPERATIONS[n.op].bitwise:
             return _of_bits(n.op, (low, high), (other_low, other_high))
         if n.op == 'rsh' and exact and other_low & 63:
             return 0, (high if low >= 0 else WORDS - 1) >> (other_low & 63)
