@@ -1,6 +1,6 @@
 """A session: commands, their replies, and refusals in their order (docs/protocol.md, "Commands", "The budget" and "Refusals")."""
 import re
-from typing import BinaryIO, Dict, List, NamedTuple, Optional, Tuple
+from typing import BinaryIO, Callable, Dict, List, NamedTuple, Optional, Tuple
 from . import assembly, market
 from .instructions import decode
 from .machine import OPERANDS
@@ -13,6 +13,8 @@ from .words import LONGEST_LINE, WORD, Refusal, fits, is_digits, is_value, words
 MOST_JOBS = 64
 MOST_BYTES = {'matrix': 268435456, 'asm': 262144, 'op': 262144}
 WORDS = {'matrix': 3, 'asm': 4, 'op': 4, 'dis': 2, 'types': 2, 'show': 2, 'run': 1, 'budget': 1, 'quit': 1}
+LINES: Dict[str, Callable[[Operator], List[str]]] = {'dis': lambda operator: assembly.disassemble(operator.program),
+                                                     'types': types_text}
 GOES_ON, ENDED_BY_CLIENT, ENDED_BY_REFUSAL = None, 0, 3        # how a session stands; those that ended have the exit status
 
 
@@ -73,7 +75,7 @@ class Session:
             return self.upload(words, read_body(words, source))
         if len(words) != WORDS[command]:
             raise Refusal('S2')
-        if command in ('dis', 'types', 'show'):
+        if command == 'show' or command in LINES:
             return self.tell(command, name_of(words[1]))
         if command == 'run':
             return self.run()
@@ -100,7 +102,7 @@ class Session:
             text = market.write(bound(self.matrices, name))
             return b'ok show %d\n' % len(text) + text
         operator = bound(self.operators, name)
-        lines = assembly.disassemble(operator.program) if command == 'dis' else types_text(operator)
+        lines = LINES[command](operator)
         return b'ok %s %d\n' % (command.encode(), len(lines)) + ''.join(line + '\n' for line in lines).encode()
 
     def submit(self, words: List[str]) -> bytes:

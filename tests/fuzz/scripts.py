@@ -3,7 +3,7 @@ import random
 import re
 from typing import Dict, List, Optional, Tuple
 from reference.prices import FORMS
-from tests.lib.commands import assembly_command, matrix_command, matrix_text
+from tests.lib.commands import OF_OPERATORS, assembly_command, matrix_command, matrix_text
 from tests.lib.limits import LONGEST_LINE, MOST_SIDE, MOST_STEPS
 from . import matrices, operators, texts, uploads
 from .programs import Session, reference_answer
@@ -129,7 +129,7 @@ class Script:
             columns = self.shapes.get(b, (1, 1))[1]
         elif form.matrices == 2:
             words.append(self.matrix_of(rows, columns))
-        if command == 'reduce':
+        if form.folds_rows:
             columns = 1
         if form.has_thunk:
             words.append(texts.number(rng, matrices.value(rng)) if rng.random() < 0.97 else rng.choice(NO_THUNKS))
@@ -153,7 +153,7 @@ class Script:
         self.command(['show', self.rng.choice(list(self.shapes) or MATRIX_NAMES)])
 
     def look(self) -> None:
-        self.command([self.rng.choice(['dis', 'types']), self.rng.choice(list(self.kinds) or OPERATOR_NAMES)])
+        self.command([self.rng.choice(OF_OPERATORS), self.rng.choice(list(self.kinds) or OPERATOR_NAMES)])
 
     def budget(self) -> None:
         self.command(['budget'])
@@ -164,7 +164,7 @@ class Script:
         if way == 0:
             self.command([self.rng.choice(NO_COMMANDS)] + ['x'] * self.rng.randrange(3))
         elif way == 1:
-            self.command([self.rng.choice(['show', 'dis', 'types']), 'Z'])
+            self.command([self.rng.choice(['show', *OF_OPERATORS]), 'Z'])
         elif way == 2:
             self.command(['reduce', 'R', self.rng.choice(['f', 'Z']), self.rng.choice(MATRIX_NAMES + ['Z'])])
         else:

@@ -39,6 +39,10 @@ def instruction(opcode, destination=0, source=0, offset=0, immediate=0):
     return struct.pack('<BBhi', opcode, source << 4 | destination, offset, immediate).hex().encode()
 
 
+# The commands that tell of an operator, and all that are answered in lines.
+OF_OPERATORS = ('dis', 'types')
+WITH_LINES = ('run', *OF_OPERATORS)
+
 BANNER = b'%%MatrixMarket matrix coordinate integer general\n'
 RESULT_IS_OPERAND = instruction(0xbf, 0, 1)
 EXIT = instruction(0x95)

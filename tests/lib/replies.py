@@ -1,7 +1,9 @@
 """Cuts a server's output into the replies to commands."""
 from typing import Callable
 
-LINES_FOLLOW = ([b'ok', b'run'], [b'ok', b'dis'], [b'ok', b'types'])
+from tests.lib.commands import WITH_LINES
+
+LINES_FOLLOW = [[b'ok', word.encode()] for word in WITH_LINES]
 
 
 class Replies:

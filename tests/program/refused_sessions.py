@@ -1,6 +1,6 @@
 """The sessions in which tests/program/refused_memory refuses requests for memory, each a list of commands."""
-from typing import List, NamedTuple
-from tests.lib.commands import (EXIT, INCREMENT, RESULT_IS_OPERAND, add, assembly_command, instruction, matrix_command, matrix_text,
+from typing import Dict, List, NamedTuple, Optional
+from tests.lib.commands import (EXIT, INCREMENT, OF_OPERATORS, RESULT_IS_OPERAND, add, assembly_command, instruction, matrix_command, matrix_text,
                                 operator_command)
 
 WORKERS = 'session of three workers'
@@ -13,20 +13,36 @@ SHOWN = [b'show %s\n' % name for name in (b'A', b'B', b'C', b'D', b'E')]
 
 # an operator of 700 instructions, by whose price several workers are fed, and of which a call on 41 takes three
 DEAR = b'mov64 r0, r1\njeq64 r0, 41, 697\n' + b'add64 r0, 1\n' * 697 + b'exit\n'
-# A chunk of rows with more cells than the room that is taken at once. A call of each form has a cost of its own, and so a run's steps
-# tell its form. The first two take no room behind their calls: apply without a mask, and a fold by a short operator.
+# A chunk of rows with more cells than the room that is taken at once
 CHARGED = 'charged forms'
 CHARGED_ROWS, CHARGED_COLUMNS, ROOM_AT_ONCE, CALLS_AT_ONCE = 256, 257, 65536, 64
-COSTS = {'copied': 2, 'folded': 4, 'apply': 3, 'union': 5, 'both': 7, 'select': 9, 'sifted': 13, 'reduce': 11}
-JOBS_OF_FORMS = {
-    'copied': b'apply P f A\n',
-    'folded': b'reduce P f A\n',
-    'apply': b'apply P f A mask A\n',
-    'union': b'union P f A A mask A\n',
-    'both': b'both P f A A mask A\n',
-    'select': b'select P f A 0\n',
-    'sifted': b'select P f A 0 mask A\n',
-    'reduce': b'reduce P f A\n',
+CELLS = CHARGED_ROWS * CHARGED_COLUMNS
+FOLDS = CELLS - CHARGED_ROWS
+
+
+class Charged(NamedTuple):
+    """A job over that chunk. A call of each has a cost of its own, and so a run's steps tell which job it had: its operator's kind, its command,
+    how many calls it makes, after how many of them its rows have outgrown their first room (None where that isn't amid the calls), and of one
+    that takes room behind its calls another, with the same positions in its result, that takes none there."""
+
+    cost: int
+    kind: str
+    command: bytes
+    calls: int = CELLS
+    outgrown: Optional[int] = None
+    beside: str = ''
+
+
+# The first two take no room behind their calls: apply without a mask, and a fold by a short operator.
+CHARGED_JOBS: Dict[str, Charged] = {
+    'copied': Charged(2, 'unary', b'apply P f A\n'),
+    'folded': Charged(4, 'binary', b'reduce P f A\n', FOLDS),
+    'apply': Charged(3, 'unary', b'apply P f A mask A\n', outgrown=ROOM_AT_ONCE),
+    'union': Charged(5, 'binary', b'union P f A A mask A\n', outgrown=ROOM_AT_ONCE),
+    'both': Charged(7, 'binary', b'both P f A A mask A\n', outgrown=ROOM_AT_ONCE),
+    'select': Charged(9, 'index', b'select P f A 0\n', beside='copied'),
+    'sifted': Charged(13, 'index', b'select P f A 0 mask A\n', outgrown=ROOM_AT_ONCE + CALLS_AT_ONCE),
+    'reduce': Charged(11, 'binary', b'reduce P f A\n', FOLDS, beside='folded'),
 }
 
 
@@ -77,11 +93,7 @@ def long_session() -> List[bytes]:
         assembly_command('stored', stored),
         assembly_command('broken', stored + b', r0'),
         assembly_command('broken', stored.replace(b'stx64', b'stx32')),
-        b'dis stored\n',
-        b'types stored\n',
-        b'dis many\n',
-        b'types many\n',
-        b'types broken\n',
+        *(b'%s %s\n' % (word.encode(), name) for name in (b'stored', b'many', b'broken') for word in OF_OPERATORS),
         b'apply B inc A\n',
         b'apply C many line\n',
         b'apply B two A\n',
@@ -171,9 +183,8 @@ def charged_session() -> List[bytes]:
     height, width = CHARGED_ROWS, CHARGED_COLUMNS
     full = matrix_text(height, width, [(row, column, 1) for row in range(1, height + 1) for column in range(1, width + 1)])
     commands = [matrix_command('A', full)]
-    for form, cost in COSTS.items():
-        kind = {'copied': 'unary', 'apply': 'unary', 'select': 'index', 'sifted': 'index'}.get(form, 'binary')
-        commands += [assembly_command('f', operator_of(cost), kind), JOBS_OF_FORMS[form], b'run\n']
+    for job in CHARGED_JOBS.values():
+        commands += [assembly_command('f', operator_of(job.cost), job.kind), job.command, b'run\n']
     return commands + [b'budget\n', b'quit\n']
 
 

@@ -4,17 +4,19 @@ import subprocess
 import sys
 from typing import Callable, Dict, Iterator
 
+from reference.instructions import SPELLINGS
 from tests.lib.commands import assembly_command, matrix_command, matrix_text, run_words
 from tests.lib.paths import PLAIN_SERVER
 from tests.lib.patience import FOR_A_SESSION
 from tests.lib.runs import Wrong, run_session
 from tests.program.made.sizes import many_entries
 
-OPERATIONS = ('add', 'sub', 'mul', 'div', 'mod', 'sdiv', 'smod', 'or', 'and', 'xor', 'lsh', 'rsh', 'arsh', 'mov')
+BY_NUMBER = [each for each in SPELLINGS if each.bits == 64 and {'dst', 'imm'} <= set(each.fields)]
+OPERATIONS = [each.action for each in BY_NUMBER if each.group == 'arithmetic']
 # Operations with a number that are known, and numbers whose sign is extended, or whose width is at its end.
 CHANGES = ('add', 'sub', 'mul', 'and', 'or', 'xor')
 NUMBERS = (0, 1, -7, -2147483648, 2147483647)
-CONDITIONS = ('eq', 'ne', 'gt', 'ge', 'lt', 'le', 'set', 'sgt', 'sge', 'slt', 'sle')
+CONDITIONS = [each.action[1:] for each in BY_NUMBER if each.group == 'jump']
 
 
 def numbers() -> Iterator[str]:

@@ -5,7 +5,7 @@ from typing import Callable, Dict, Optional, Tuple
 
 from tests.lib.commands import assembly_command, matrix_command, run_words, show_reply
 from tests.lib.runs import Wrong, run_session
-from tests.program.made.graphs import HIGH, LOW, OPERATORS, Job, Matrix, mapped, merged, multiplied, reduced
+from tests.program.made.graphs import HIGH, LOW, OPERATORS, Matrix, job_of
 
 HEIGHTS = (0, 1, 255, 256, 257, 513)
 WORKERS = (1, 3, 64)
@@ -26,9 +26,10 @@ class Script:
         self.input += matrix_command(name, matrix.text())
         self.output += b'ok matrix %d %d %d\n' % (matrix.rows, matrix.columns, len(matrix.cells))
 
-    def run(self, form: str, out: str, operands: str, job: Job, mask: Optional[str] = None) -> None:
+    def run(self, words: str, mask: Optional[str] = None) -> None:
         """A batch of one job, whose result is shown, and whose name stands for it from then on."""
-        words = '%s %s %s' % (form, out, operands) + ('' if mask is None else ' mask ' + mask)
+        words += '' if mask is None else ' mask ' + mask
+        out, job = words.split()[1], job_of(words, self.names)
         found, line = job.matrix, (out, job.matrix.rows, job.matrix.columns, len(job.matrix.cells), job.steps)
         self.input += words.encode() + b'\nrun\nshow %s\n' % out.encode()
         self.output += b'ok queued 1 %d\nok run 1 %d\n' % (job.price, job.steps) + ('%s %d %d %d %d\n' % line).encode()
@@ -46,40 +47,31 @@ def over_results(script: Script, masks: Tuple[Optional[str], Optional[str]]) -> 
     """A job of each form on the results R and N, the factor C that was read, and results under masks, where names of these are given:
     one of the shape of R, and one of a single column."""
     name, of_one_column = masks
-    names, f = script.names, OPERATORS
-    r, n, c, w = names['R'], names['N'], names['C'], names['W']
-    mask = None if name is None else names[name]
-    column = None if of_one_column is None else names[of_one_column]
-    script.run('apply', 'X', 'sixth R', mapped(f['sixth'], r, None, mask, False), name)
-    script.run('apply', 'X', 'place R 3', mapped(f['place'], r, 3, mask, False), name)
-    script.run('select', 'X', 'below R -1', mapped(f['below'], r, -1, mask, True), name)
-    script.run('union', 'X', 'minus R N', merged(f['minus'], r, n, mask, True), name)
-    script.run('union', 'X', 'plus R R', merged(f['plus'], r, r, mask, True), name)
-    script.run('both', 'X', 'minus N R', merged(f['minus'], n, r, mask, False), name)
-    script.run('reduce', 'Y', 'min R', reduced(f['min'], r, column), of_one_column)
-    script.run('product', 'Z', 'minus times R C', multiplied(f['minus'], f['times'], r, c, None))
-    script.run('product', 'Z', 'plus times R C', multiplied(f['plus'], f['times'], r, c, names['Z']), 'Z')
-    script.run('product', 'V', 'minus times W R', multiplied(f['minus'], f['times'], w, r, None))
-    script.run('product', 'V', 'min plus W R', multiplied(f['min'], f['plus'], w, r, names['V']), 'V')
+    for words in ('apply X sixth R', 'apply X place R 3', 'select X below R -1', 'union X minus R N', 'union X plus R R', 'both X minus N R'):
+        script.run(words, name)
+    script.run('reduce Y min R', of_one_column)
+    script.run('product Z minus times R C')
+    script.run('product Z plus times R C', 'Z')
+    script.run('product V minus times W R')
+    script.run('product V min plus W R', 'V')
 
 
 def results_of(height: int, chance: random.Random) -> Script:
     """A session over matrices of so many rows."""
-    script, f = Script(), OPERATORS
+    script = Script()
     script.read('A', some_matrix(chance, height, COLUMNS))
     script.read('B', some_matrix(chance, height, COLUMNS))
     script.read('C', some_matrix(chance, COLUMNS, OTHER_COLUMNS))
     script.read('W', some_matrix(chance, OTHER_COLUMNS, height))
-    names = script.names
-    script.run('apply', 'R', 'sixth A', mapped(f['sixth'], names['A'], None, None, False))
-    script.run('union', 'N', 'plus B B', merged(f['plus'], names['B'], names['B'], None, True))
-    script.run('reduce', 'K', 'plus N', reduced(f['plus'], names['N'], None))
+    script.run('apply R sixth A')
+    script.run('union N plus B B')
+    script.run('reduce K plus N')
     over_results(script, (None, None))
     over_results(script, ('N', 'K'))
     # what was shown of a result is read again, and is the same matrix beside the result
-    script.read('S', names['R'])
-    script.run('both', 'X', 'minus S R', merged(f['minus'], names['S'], names['R'], None, False))
-    script.run('union', 'R', 'min R S', merged(f['min'], names['R'], names['S'], names['R'], True), 'R')
+    script.read('S', script.names['R'])
+    script.run('both X minus S R')
+    script.run('union R min R S', 'R')
     return script
 
 

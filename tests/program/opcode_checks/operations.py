@@ -5,7 +5,7 @@ from reference.instructions import SPELLINGS, Spelling
 
 from .exchanges import Session
 from .lanes import WORDS, laid_out, sessions_of
-from .programs import EXIT, MOVE, slot
+from .programs import EXIT, MOVE, slot, taken
 
 Made = Tuple[str, List[str], str]
 
@@ -17,9 +17,8 @@ NUMBERS = [0, 1, -1, 31, 32, 37, 63, 64, -(1 << 31), (1 << 31) - 1, 0x12345678]
 PLACES = [-512, -511, -8, -1]
 # R1 and R2 in the words at both ends of the stack
 STORED = [slot(0x7b, 10, 1, -512), slot(0x7b, 10, 2, -504), slot(0x7b, 10, 1, -16), slot(0x7b, 10, 2, -8)]
-# the same words taken together in R0: `ldx64 r3` and `xor64 r0, r3; mul64 r0, 31`
-TAKEN = [part for place in (-512, -504, -16, -8)
-         for part in (slot(0x79, 3, 10, place), slot(0xaf, 0, 3), slot(0x27, 0, immediate=31))]
+# the same words taken together in R0, each behind `ldx64 r3`
+TAKEN = [part for place in (-512, -504, -16, -8) for part in (slot(0x79, 3, 10, place), *taken(3))]
 
 
 def of_arithmetic(spelling: Spelling) -> Iterator[Made]:

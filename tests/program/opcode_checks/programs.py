@@ -18,6 +18,11 @@ def slot(opcode: int, destination: int = 0, source: int = 0, offset: int = 0, im
     return instruction(opcode, destination, source, offset, immediate).decode()
 
 
+def taken(register: int) -> List[str]:
+    """Slots by which R0 depends on all that a register holds: `xor64 r0, rN; mul64 r0, 31`."""
+    return [slot(0xaf, 0, register), slot(0x27, immediate=31)]
+
+
 def count_of(slots: Sequence[str]) -> int:
     """How many instructions stand in these slots: a wide load takes two."""
     count, at = 0, 0

@@ -3,7 +3,7 @@ from typing import Iterator, List, Tuple
 
 from .exchanges import Session
 from .lanes import WORD, Laid, pair_of, sessions_of
-from .programs import EXIT, MOVE, slot
+from .programs import EXIT, MOVE, slot, taken
 
 from tests.lib.limits import STACK_BYTES
 
@@ -20,8 +20,7 @@ STORES = [(0x7b, 0x7a, 2, 8), (0x63, 0x62, 1, 4), (0x6b, 0x6a, 2, 2), (0x73, 0x7
 WORDS = [0x0102030405060788, 0xf1e2d3c4b5a69781, WORD - 1, 0x8000000080008080, 0x7fffffff7fff7f7f, 0, 0x1122334455667788,
          0xfedcba9876543210]
 
-# What is in R3 is taken into R0: `xor64 r0, r3; mul64 r0, 31`.
-TAKEN = [slot(0xaf, 0, 3), slot(0x27, immediate=31)]
+TAKEN = taken(3)
 
 
 def loads(place: int) -> List[str]:
