@@ -23,6 +23,8 @@ from __future__ import annotations
 import copy
 from typing import Any, Callable, Dict, Optional, Sequence, Tuple, Type
 
+from ._client.protocol import COMMANDS
+
 SENTENCES: Dict[str, str] = {
     'S1': "unknown command: the first word is no command's, whatever follows it",
     'S2': 'a wrong number of words, a malformed or out-of-range KIND, LEN or THUNK, or another word where mask was expected',
@@ -92,13 +94,6 @@ MENDS: Dict[str, str] = {
     'V15': 'b bytes want a place from -512 to -b',
     'V16': 'store it on all paths first',
 }
-
-
-COMMANDS: Dict[str, str] = {
-    'matrix': 'matrix NAME LEN', 'asm': 'asm NAME KIND LEN', 'op': 'op NAME KIND LEN', 'dis': 'dis NAME', 'types': 'types NAME',
-    'apply': 'apply OUT OP A [THUNK] [mask M]', 'select': 'select OUT OP A THUNK [mask M]', 'union': 'union OUT OP A B [mask M]',
-    'both': 'both OUT OP A B [mask M]', 'product': 'product OUT ADD MUL A B [mask M]', 'reduce': 'reduce OUT OP A [mask M]',
-    'run': 'run', 'show': 'show NAME', 'budget': 'budget', 'quit': 'quit'}
 
 
 class SpmatError(Exception):
@@ -331,7 +326,8 @@ def form_of(command: str) -> str:
     """How the command of a line is written, in words; of a line that is no command's all there are."""
     word = command.split()[0] if command.split() else ''
     if word in COMMANDS:
-        return 'it is written `%s`%s' % (COMMANDS[word], '; KIND is unary, binary or index' if 'KIND' in COMMANDS[word] else '')
+        words = COMMANDS[word].words
+        return 'it is written `%s`%s' % (('%s %s' % (word, words)).strip(), '; KIND is unary, binary or index' if 'KIND' in words else '')
     return 'commands are ' + ', '.join(COMMANDS)
 
 

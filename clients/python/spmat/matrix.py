@@ -7,6 +7,7 @@ import weakref
 from typing import TYPE_CHECKING, Any, Dict, NamedTuple, Optional, Sequence, Tuple, Union
 
 from . import metadata, oversized_jobs
+from ._client.protocol import FORMS
 from .display import html
 from .errors import TooLarge, refusal
 from .indexing import Signs, picked
@@ -127,7 +128,7 @@ class Matrix(Signs):
     def select(self, op: Op, thunk: int = 0, *, mask: MaskLike = None, name: Optional[str] = None) -> 'Matrix':
         """The entries for which an index operator's answer isn't 0, with their values. Its name may be a sign: `A.select(">=",
         3)` is `A.select("valuege", 3)`. In the GraphBLAS GrB_select."""
-        found, thunk = _of_kind('index', op, 'select'), coo.word(thunk, 'thunk')
+        found, thunk = of_form('select', op), coo.word(thunk, 'thunk')
         told = metadata.of_selected(self.notes, found, thunk)
         return self._job(_Job('select', [found], [self], self.shape, told, thunk), mask, name)
 
@@ -135,13 +136,13 @@ class Matrix(Signs):
         """op(x, y) where both have an entry, else a copy of the one that has. In the GraphBLAS GrB_eWiseAdd; here `union`."""
         self._check_shape('union', other, self.shape)
         told = metadata.of_pair(self.notes, other.notes)
-        return self._job(_Job('union', [_of_kind('binary', op, 'union')], [self, other], self.shape, told), mask, name)
+        return self._job(_Job('union', [of_form('union', op)], [self, other], self.shape, told), mask, name)
 
     def ewise_mult(self, other: 'Matrix', op: Op = 'times', *, mask: MaskLike = None, name: Optional[str] = None) -> 'Matrix':
         """op(x, y) where both have an entry. In the GraphBLAS GrB_eWiseMult; here `both`."""
         self._check_shape('both', other, self.shape)
         told = metadata.of_pair(self.notes, other.notes)
-        return self._job(_Job('both', [_of_kind('binary', op, 'both')], [self, other], self.shape, told), mask, name)
+        return self._job(_Job('both', [of_form('both', op)], [self, other], self.shape, told), mask, name)
 
     def mxm(self, other: 'Matrix', op: Ring = 'plus_times', *, mask: MaskLike = None, parts: bool = False,
             name: Optional[str] = None) -> 'Matrix':
@@ -154,7 +155,7 @@ class Matrix(Signs):
         each halving."""
         self._check_shape('product', other, (self.ncols, None))
         ring = find_semiring(op)
-        ops = [_of_kind('binary', ring.add, 'product'), _of_kind('binary', ring.mul, 'product')]
+        ops = [of_form('product', ring.add), of_form('product', ring.mul)]
         told = metadata.of_product(self.notes, other.notes, ring.mul, self is other)
 
         def job(rows: 'Matrix') -> 'Matrix':
@@ -179,7 +180,7 @@ class Matrix(Signs):
         """A column: the fold of each row that isn't empty, from its first column to its last. In the GraphBLAS GrB_reduce by
         rows."""
         told = metadata.of_rows(self.notes)
-        return self._job(_Job('reduce', [_of_kind('binary', op, 'reduce')], [self], (self.nrows, 1), told), mask, name)
+        return self._job(_Job('reduce', [of_form('reduce', op)], [self], (self.nrows, 1), told), mask, name)
 
     def _job(self, job: '_Job', mask: MaskLike, name: Optional[str]) -> 'Matrix':
         """Queues a job; where it is too large, says how large it is."""
@@ -218,7 +219,7 @@ class Matrix(Signs):
         """A row: the fold of each column that isn't empty, from its first row to its last, for every operator. 1 job and no run:
         a product of a row of ones with this matrix, by `second`. The session keeps the ones; it uploads them at the first use of
         a length."""
-        ring = Semiring(_of_kind('binary', op, 'product'), binary.second)
+        ring = Semiring(of_form('product', op), binary.second)
         return self.session.ones(self.nrows).mxm(self, ring, mask=mask, name=name)
 
     def reduce_scalar(self, op: Op = 'plus') -> Optional[int]:
@@ -340,7 +341,9 @@ def _check_mask(mask: Mask, shape: Tuple[int, int]) -> None:
         raise refusal('J9', detail='the result is %dx%d, the mask %dx%d' % (*shape, *mask.matrix.shape))
 
 
-def _of_kind(kind: str, op: Op, form: str) -> Operator:
+def of_form(form: str, op: Op) -> Operator:
+    """An operator as a form of job takes it that takes those of one kind. DomainMismatch where it is of another."""
+    kind, = FORMS[form].kinds
     found = find(kind, op)
     if found.kind != kind:
         raise refusal('J4', command=form, detail='expected %s, got %r' % (kind, found))

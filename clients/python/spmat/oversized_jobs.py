@@ -18,8 +18,7 @@ if TYPE_CHECKING:
 
 M = TypeVar('M', bound='GraphMatrix')
 
-BY_PARTS = {'product': 'mxm(.., parts=True) makes it by parts of the rows', 'apply': '', 'select': '', 'reduce': '',
-            'union': '', 'both': ''}
+BY_PARTS = 'mxm(.., parts=True) makes it by parts of the rows'
 SMALLER = 'select() some rows with "rowle" and "rowgt", and do them one after the other; spmat.blocks does so over several sessions'
 
 
@@ -46,7 +45,7 @@ def calls_of(form: str, operands: Sequence['Matrix'], mask: Optional['Matrix']) 
 
 
 def _words(rule: str, form: str, ops: Sequence[Operator], operands: Sequence['Matrix'], calls: Optional[int]) -> str:
-    way = BY_PARTS.get(form) or SMALLER
+    way = BY_PARTS if form == 'product' else SMALLER
     if rule == 'J7':
         what = 'multiplications' if form == 'product' else 'entries of both together'
         number = '' if calls is None else '%s %s, and ' % (format(calls, ','), what)

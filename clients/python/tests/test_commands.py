@@ -170,10 +170,9 @@ class Commands(CommandLine):
         said = self.refused('types', 'bad.asm', '--kind', 'unary', status=Status.REFUSED)
         self.assertIn('V14', said)
         self.assertIn("slot 1, line 2: 'ldx64 r0, r1, 0'", said)
-        self.assertIn('--kind', self.refused('types', 'bad.asm', status=Status.WORDS))
-        self.assertIn('plus', self.refused('types', 'binary.nothing', status=Status.WORDS))
-        self.assertIn('the ready operator is binary.plus', self.refused('types', 'plus', status=Status.WORDS))
-        self.assertIn('unary.nonzero or index.nonzero', self.refused('types', 'nonzero', status=Status.WORDS))
+        for name, says in (('bad.asm', '--kind'), ('binary.nothing', 'plus'), ('plus', 'the ready operator is binary.plus'),
+                           ('nonzero', 'unary.nonzero or index.nonzero')):
+            self.assertIn(says, self.refused('types', name, status=Status.WORDS))
 
     def test_script(self):
         self.write('session.txt', SCRIPT)

@@ -4,11 +4,11 @@ from __future__ import annotations
 from typing import Any, Callable, List, Optional, Union
 
 from ..errors import Closed, Near, Refused
+from .protocol import WORDS_WITH_BODY
 from .replies import Incoming, Raw, Reply
 
 MOST_WAITING = 200                                 # commands, whose replies fit into a pipe
 MOST_BYTES = 1 << 22                               # of commands that wait
-WORDS_WITH_BODY = {'matrix': 2, 'asm': 3, 'op': 3}
 
 Answer = Union[Reply, Refused]
 

@@ -23,7 +23,8 @@ from typing import Any, Callable, Deque, List, Optional, Sequence, Tuple, Type, 
 from ..errors import Closed, Near, Refused, SpmatError, refusal_of
 from ..io.coo import whole
 from ..limits import MOST_STEPS, MOST_WORKERS
-from .commands import Command, CommandBatch, Outgoing, WORDS_WITH_BODY
+from .commands import Command, CommandBatch, Outgoing
+from .protocol import WORDS_WITH_BODY
 from .replies import Incoming, PIECE, Raw, Reply
 from .server_program import Program, program_words
 from .sigint import Guard

@@ -12,6 +12,7 @@ from ..matrix import Matrix
 from .commands import Command
 from .connection import Connection
 from .handles import Handle, Names
+from .protocol import FORMS, Places
 from .replies import Reply
 
 AMPLE = 1 << 56                                    # steps that clients of one server don't take from one another within a day
@@ -52,16 +53,15 @@ class Most(NamedTuple):
 
 def most_of(form: str, length: int, operands: Sequence[Matrix], mask: Optional[Matrix], shape: Tuple[int, int]) -> Most:
     """What a job with operators of so many instructions can come to, by what is known of its operands' entries."""
-    a = operands[0].handle.most
+    places, entries = FORMS[form].places, [matrix.handle.most for matrix in operands]
     under = mask.handle.most if mask is not None else MOST_SIDE
     room = min(under, shape[0] * shape[1])
-    if form == 'product':
-        terms = min(a * operands[1].ncols, operands[0].nrows * operands[1].handle.most)
+    if places is Places.TERMS:
+        terms = min(entries[0] * operands[1].ncols, operands[0].nrows * entries[1])
         return Most(terms, terms * length, min(terms, room))
-    if form == 'union':
-        b = operands[1].handle.most
-        return Most(a + b, min(a, b, under) * length, min(a + b, room))
-    calls = min(a, operands[1].handle.most, under) if form == 'both' else a if form == 'reduce' else min(a, under)
+    calls = entries[0] if places is Places.ROWS else min(*entries, under)
+    if places is Places.ANY:
+        return Most(sum(entries), calls * length, min(sum(entries), room))
     return Most(0, calls * length, min(calls, room))
 
 

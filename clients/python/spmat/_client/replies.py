@@ -8,15 +8,14 @@ from __future__ import annotations
 from typing import Callable, List, NamedTuple, Optional
 
 from ..errors import Closed
+from .protocol import Behind, brought
 
 PIECE = 1 << 20
 LONGEST_LINE = 1 << 16
-WITH_LINES, WITH_BYTES = ('run', 'dis', 'types'), 'show'
-WITH_MORE = (*WITH_LINES, WITH_BYTES)
 
 
 class Reply(NamedTuple):
-    """An `ok` reply: the words behind `ok`, the lines of `run`, `dis` and `types`, and the text of `show`."""
+    """An `ok` reply: the words behind `ok`, and the lines or the bytes that it brings: those of `run`, `dis` and `types`, and of `show`."""
     words: List[str]
     lines: List[str]
     body: bytes
@@ -35,13 +34,14 @@ class Incoming:
     def next(self) -> 'Raw':
         """The next reply, once it is there whole. Closed where it can't come any more, or is none."""
         first = self._first_line()
-        if first.words[:1] != ['ok'] or len(first.words) < 2 or first.words[1] not in WITH_MORE:
+        brings = brought(first.words)
+        if brings is None:
             return self._taken(first, first.end)
         try:
             size = int(first.words[2])
         except (IndexError, ValueError):
             raise Closed('the reply is none of spmat: `%s`' % ' '.join(first.words)[:200]) from None
-        if first.words[1] == WITH_BYTES:
+        if brings is Behind.BYTES:
             return self._taken(first, self._bytes_until(first.end + size, size))
         return self._taken(first, self._lines_until(first.end, size))
 
@@ -118,6 +118,6 @@ class Raw(NamedTuple):
         words = self.words
         if words[:1] != ['ok']:
             return None
-        if words[1:2] == [WITH_BYTES]:
+        if brought(words) is Behind.BYTES:
             return Reply(words[1:], [], self.rest)
         return Reply(words[1:], self.rest.decode('ascii', 'replace').split('\n')[:-1], b'')

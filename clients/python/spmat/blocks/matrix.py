@@ -7,11 +7,12 @@ from __future__ import annotations
 from typing import TYPE_CHECKING, Any, Dict, Iterable, List, Optional, Sequence, Tuple, Type, Union
 
 from .. import metadata
+from .._client.protocol import FORMS
 from ..errors import SpmatError, refusal
 from ..indexing import Signs, picked
 from ..io import coo
 from ..mask import Mask, as_mask
-from ..matrix import Ring, _of_kind, applied
+from ..matrix import Ring, applied, of_form
 from ..operators import Op, Semiring, binary, find_semiring, indexunary
 from . import composite_methods, frontier, html, matrix_products, repartition, row_partition, unsupported, worker_tasks
 from .row_partition import Cut
@@ -24,9 +25,7 @@ if TYPE_CHECKING:
 
 HELD = 16                                          # whole matrices that a result holds, so that it is soon made again
 
-
-FORMS = {'apply': 'apply', 'select': 'select', 'ewise_add': 'union', 'ewise_mult': 'both', 'reduce_rowwise': 'reduce', 'dup': 'apply',
-         'update': 'union'}                        # by methods, as the protocol names them
+FORM_OF = {**{form.method: name for name, form in FORMS.items()}, 'dup': 'apply', 'update': 'union'}     # by methods of matrices
 
 MaskLike = Union['BlockMatrix', Mask, None]
 
@@ -158,25 +157,25 @@ class BlockMatrix(Signs):
 
     def select(self, op: Op, thunk: int = 0, *, mask: MaskLike = None, name: Optional[str] = None) -> 'BlockMatrix':
         """The entries for which an index operator's answer isn't 0. In the GraphBLAS GrB_select."""
-        found, thunk = _of_kind('index', op, 'select'), coo.word(thunk, 'thunk')
+        found, thunk = of_form('select', op), coo.word(thunk, 'thunk')
         return self.job('select', [], [found, thunk], told=metadata.of_selected(self.notes, found, thunk), mask=mask, name=name)
 
     def ewise_add(self, other: 'BlockMatrix', op: Op = 'plus', *, mask: MaskLike = None, name: Optional[str] = None) -> 'BlockMatrix':
         """op(x, y) where both have an entry, else a copy. In the GraphBLAS GrB_eWiseAdd; here `union`."""
         self.check_shape('union', other, self.shape)
         told = metadata.of_pair(self.notes, other.notes)
-        return self.job('ewise_add', [other], [_of_kind('binary', op, 'union')], told=told, mask=mask, name=name)
+        return self.job('ewise_add', [other], [of_form('union', op)], told=told, mask=mask, name=name)
 
     def ewise_mult(self, other: 'BlockMatrix', op: Op = 'times', *, mask: MaskLike = None, name: Optional[str] = None) -> 'BlockMatrix':
         """op(x, y) where both have an entry. In the GraphBLAS GrB_eWiseMult; here `both`."""
         self.check_shape('both', other, self.shape)
         told = metadata.of_pair(self.notes, other.notes)
-        return self.job('ewise_mult', [other], [_of_kind('binary', op, 'both')], told=told, mask=mask, name=name)
+        return self.job('ewise_mult', [other], [of_form('both', op)], told=told, mask=mask, name=name)
 
     def reduce_rowwise(self, op: Op = 'plus', *, mask: MaskLike = None, name: Optional[str] = None) -> 'BlockMatrix':
         """A column: the fold of each row that isn't empty. In the GraphBLAS GrB_reduce by rows."""
         told = metadata.of_rows(self.notes)
-        return self.job('reduce_rowwise', [], [_of_kind('binary', op, 'reduce')], 1, told=told, mask=mask, name=name)
+        return self.job('reduce_rowwise', [], [of_form('reduce', op)], 1, told=told, mask=mask, name=name)
 
     def dup(self, *, mask: MaskLike = None, name: Optional[str] = None) -> 'BlockMatrix':
         """A copy; under a mask what of it lies there. Price and steps are those of the last of its jobs, as `Matrix` has it."""
@@ -193,7 +192,7 @@ class BlockMatrix(Signs):
                name: Optional[str] = None) -> 'BlockMatrix':
         """What the GraphBLAS writes C<M, accum> = other; see `Matrix.update`."""
         self.check_shape('union', other, self.shape)
-        op = None if accum is None else _of_kind('binary', accum, 'union')
+        op = None if accum is None else of_form('union', accum)
         made = self.job('update', [other], [op], told=metadata.NOTHING, mask=mask, name=name, replace=replace)
         where = as_mask(mask)
         made.notes = metadata.of_update(self.notes, other.notes, op is not None) if where is None else metadata.of_update(
@@ -222,7 +221,7 @@ class BlockMatrix(Signs):
             Work(k, self.cut.label(k), worker_tasks.job, (method, [matrix.futures[k] for matrix in there], held[k], list(args), options))
             for k in range(self.cut.blocks)])
         holds = [future for matrix in (*there, *([where.matrix] if where else [])) for future in matrix.holds]
-        made = BlockMatrix(self.sessions, futures, self.cut, width, name, holds).of_job(FORMS[method])
+        made = BlockMatrix(self.sessions, futures, self.cut, width, name, holds).of_job(FORM_OF[method])
         made.notes = noted(told, where)
         return made
 
@@ -289,7 +288,7 @@ class BlockMatrix(Signs):
         self.check_shape('product', other, (self.ncols, None))
         ring = find_semiring(op)
         for part in (ring.add, ring.mul):
-            _of_kind('binary', part, 'product')
+            of_form('product', part)
         where = self._mask(mask, (self.nrows, other.ncols))
         if associative is None:
             associative = other.ncols > 1 and ring.add in self.sessions.associative
@@ -317,12 +316,12 @@ class BlockMatrix(Signs):
         """A row: the fold of each column that isn't empty; see `Matrix.reduce_columnwise`. It is a product of a row of ones with this
         matrix, so `associative` is as for `mxm`: without it the whole goes to the one session that has the row."""
         ones = self.sessions.full(1, self.nrows)
-        return ones.mxm(self, (_of_kind('binary', op, 'product'), binary.second), mask=mask, associative=associative, name=name)
+        return ones.mxm(self, (of_form('product', op), binary.second), mask=mask, associative=associative, name=name)
 
     def reduce_scalar(self, op: Op = 'plus') -> Optional[int]:
         """The fold of all entries as a number, or None where there are none; the operator has to be associative. Each session
         folds its own rows, and a number a block goes on."""
-        return matrix_products.fold_all(self, _of_kind('binary', op, 'reduce'))[0]
+        return matrix_products.fold_all(self, of_form('reduce', op))[0]
 
     def reach(self, transpose: Optional['BlockMatrix'], front: 'Vector', ring: Tuple[Semiring, Semiring], large: bool) -> 'Vector':
         """A step of a search whose front the client has, for the algorithms: pushed along the rows that the front has, or where it is large

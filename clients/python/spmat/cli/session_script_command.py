@@ -6,7 +6,7 @@ import os
 import sys
 from typing import IO, Any, Iterator, List, NamedTuple, Optional, Sequence, Set, Tuple
 
-from .._client.commands import WORDS_WITH_BODY
+from .._client.protocol import FORMS, WORDS_WITH_BODY
 from .._client.replies import Reply
 from ..errors import Refused
 from ..io import matrix_market, matrix_text
@@ -33,10 +33,6 @@ EPILOG = """The lines of SCRIPT are the commands of docs/protocol.md, without th
 
 A blank line, or one that begins with #, is passed over. Replies are printed as they come. Where a command is refused, the line,
 the rule and what it means are told, and the rest is left out, unless --keep-going is given. The exit status is that of the first refusal."""
-
-
-# How many names of operators and operands stand behind the result's.
-OPERANDS = {'apply': 2, 'select': 2, 'union': 3, 'both': 3, 'product': 4, 'reduce': 2}
 
 
 class Command(NamedTuple):
@@ -167,7 +163,7 @@ class Names:
         word, *rest = line.split()
         if word in WORDS_WITH_BODY:
             self._bound.add(rest[0])
-        elif word in OPERANDS:
+        elif word in FORMS:
             self._waiting.add(rest[0])
         elif word == 'run':
             self._bound |= self._waiting
@@ -182,10 +178,10 @@ class Names:
 def operands(line: str) -> List[str]:
     """The names of a command that have to stand for something: operators, operands and the mask."""
     word, *rest = line.split()
-    if word not in OPERANDS:
+    if word not in FORMS:
         return rest[:1]
     mask = rest[rest.index('mask') + 1:] if 'mask' in rest else []
-    return rest[1:1 + OPERANDS[word]] + mask[:1]
+    return rest[1:1 + FORMS[word].names] + mask[:1]
 
 
 def clear(progress: Optional[graph_options.Bar]) -> None:

@@ -9,6 +9,7 @@ import functools
 from typing import TYPE_CHECKING, Any, Callable, Dict, List, NamedTuple, Optional, Sequence, Tuple, TypeVar, cast
 
 from .._client.pending_jobs import most_of
+from .._client.protocol import FORMS, Places
 from ..errors import BudgetExceeded
 from ..limits import MOST_PRICE, MOST_SIDE
 from ..matrix import Matrix
@@ -50,13 +51,14 @@ class Certain(Asked):
                 shape: Tuple[int, int]) -> Matrix:
         """Notes the least that a job comes to. Its price has to be left, and of the jobs before it what they take."""
         sizes = [size_of(op) for op in ops]
-        least = self._least(form, sizes, operands, mask, shape)
+        places = FORMS[form].places
+        least = self._least(places, sizes, operands, mask, shape)
         self.needed = max(self.needed, self.steps + least.price)
         self.steps += least.steps
         many = operands if mask is None else [*operands, mask]
-        made = stand(session, shape, max(least.entries, _chosen(ops[0], operands[0]) if form == 'select' and mask is None else 0))
+        made = stand(session, shape, max(least.entries, _chosen(ops[0], operands[0]) if places is Places.CHOSEN and mask is None else 0))
         made.handle.most = most_of(form, 1, operands, mask, shape).entries
-        if form in ('apply', 'union', 'both') and len({id(_root(matrix)) for matrix in many}) == 1:
+        if places in (Places.ALL, Places.ANY) and len({id(_root(matrix)) for matrix in many}) == 1:
             made.within, made.whole = operands[0], True
         return made
 
@@ -71,17 +73,19 @@ class Certain(Asked):
         before, self._granted = self._granted, facts
         return before
 
-    def _least(self, form: str, sizes: List[Size], operands: Sequence[Matrix], mask: Optional[Matrix], shape: Tuple[int, int]) -> Least:
-        if form == 'product':
+    def _least(self, places: Places, sizes: List[Size], operands: Sequence[Matrix], mask: Optional[Matrix], shape: Tuple[int, int]) -> Least:
+        if places is Places.TERMS:
             return self._product(sizes[0], sizes[1], operands, mask, shape)
         size, first = sizes[0], operands[0]
-        if form == 'reduce':
+        if places is Places.ROWS:
             rows = -(-_entries(first) // max(1, first.ncols))
             calls = 0 if mask is not None else max(0, _entries(first) - min(first.nrows, first.handle.most))
             return Least(calls * size.length, calls * size.shortest, rows if mask is None else 0)
         calls = _overlap(operands if mask is None else [*operands, mask])
-        entries = {'select': 0, 'union': max(map(_entries, operands)) if mask is None else 0}.get(form, calls)
-        return Least(calls * size.length, calls * size.shortest, max(entries, calls) if form == 'union' else entries)
+        entries = 0 if places is Places.CHOSEN else calls
+        if places is Places.ANY and mask is None:
+            entries = max(calls, *map(_entries, operands))
+        return Least(calls * size.length, calls * size.shortest, entries)
 
     def _product(self, add: Size, mul: Size, operands: Sequence[Matrix], mask: Optional[Matrix], shape: Tuple[int, int]) -> Least:
         """Of a product under a mask the rows count in which the mask stores something, and steps are those of the terms that it lets pass."""

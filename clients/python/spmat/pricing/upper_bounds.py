@@ -8,6 +8,7 @@ from typing import TYPE_CHECKING, Any, Callable, Dict, Iterator, List, NamedTupl
 
 from .._client.handles import Handle
 from .._client.pending_jobs import most_of
+from .._client.protocol import FORMS, Places
 from ..errors import BudgetExceeded
 from ..matrix import Matrix
 from ..operators import Operator
@@ -79,14 +80,14 @@ class Price(Asked):
                 shape: Tuple[int, int]) -> Matrix:
         """Notes the most that a job can take."""
         length = sum(session.backend.length_of(op) for op in ops)
-        most = most_of(form, length, operands, mask, shape)
-        if form == 'product':
+        most, places = most_of(form, length, operands, mask, shape), FORMS[form].places
+        if places is Places.TERMS:
             terms = _terms(*operands)
             most = most._replace(terms=terms, steps=terms * length, entries=min(terms, most.entries))
         self.jobs.append(Foreseen(form, most.steps))
         made = stand(operands[0].session, shape, 0)
         made.handle.most = most.entries
-        made.within = mask if mask is not None else operands[0] if form in ('apply', 'select', 'both') else None
+        made.within = mask if mask is not None else operands[0] if places in (Places.ALL, Places.CHOSEN) else None
         return made
 
     def __repr__(self) -> str:

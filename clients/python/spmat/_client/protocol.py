@@ -1,0 +1,85 @@
+"""The commands of the protocol, and the forms of job among them: how each is written, what comes behind its line and behind its reply's, and what
+a form says of its jobs. Source: docs/protocol.md.
+
+A command or a form of job is added here. Connections, refusals, bounds of prices and the session scripts have what they know of it from here.
+"""
+from __future__ import annotations
+
+import enum
+from typing import Dict, NamedTuple, Optional, Sequence, Tuple
+
+
+class Places(enum.Enum):
+    """Where the result of a job has entries; under a mask only where the mask has some too. From this follow the bounds of what it takes."""
+    ALL = 'where all operands have one'
+    CHOSEN = 'where all operands have one, if the operator says so'
+    ANY = 'where any operand has one'
+    ROWS = 'in one column, for each row that is not empty'
+    TERMS = 'where a row of the first operand meets a column of the second'
+
+
+class Form(NamedTuple):
+    """A form of job: the names of its operators and operands, as they stand behind OUT, the kinds that its operators may have, where the result
+    has entries, the method of matrices that queues it, and the number behind the operands."""
+    operators: str
+    operands: str
+    kinds: Tuple[str, ...]
+    places: Places
+    method: str
+    thunk: str = ''
+
+    @property
+    def names(self) -> int:
+        """How many names behind OUT have to stand for something, but for the mask's."""
+        return len(self.operators.split()) + len(self.operands.split())
+
+    @property
+    def words(self) -> str:
+        """What stands behind the name of the form."""
+        return ' '.join(filter(None, ('OUT', self.operators, self.operands, self.thunk, '[mask M]')))
+
+
+class Behind(enum.Enum):
+    """What comes behind the first line of an `ok` reply: as many of these as its third word says."""
+    LINES = 'lines'
+    BYTES = 'bytes'
+
+
+class Syntax(NamedTuple):
+    """How a command is written behind its name, and what its reply brings. LEN is the length of the body, which comes behind the line."""
+    words: str = ''
+    brings: Optional[Behind] = None
+
+    @property
+    def has_body(self) -> bool:
+        """Whether a body comes behind the line."""
+        return 'LEN' in self.words.split()
+
+
+FORMS: Dict[str, Form] = {
+    'apply': Form('OP', 'A', ('unary', 'index'), Places.ALL, 'apply', '[THUNK]'),
+    'select': Form('OP', 'A', ('index',), Places.CHOSEN, 'select', 'THUNK'),
+    'union': Form('OP', 'A B', ('binary',), Places.ANY, 'ewise_add'),
+    'both': Form('OP', 'A B', ('binary',), Places.ALL, 'ewise_mult'),
+    'product': Form('ADD MUL', 'A B', ('binary',), Places.TERMS, 'mxm'),
+    'reduce': Form('OP', 'A', ('binary',), Places.ROWS, 'reduce_rowwise'),
+}
+COMMANDS: Dict[str, Syntax] = {
+    'matrix': Syntax('NAME LEN'),
+    'asm': Syntax('NAME KIND LEN'),
+    'op': Syntax('NAME KIND LEN'),
+    'dis': Syntax('NAME', Behind.LINES),
+    'types': Syntax('NAME', Behind.LINES),
+    **{name: Syntax(form.words) for name, form in FORMS.items()},
+    'run': Syntax(brings=Behind.LINES),
+    'show': Syntax('NAME', Behind.BYTES),
+    'budget': Syntax(),
+    'quit': Syntax(),
+}
+WORDS_WITH_BODY = {name: len(syntax.words.split()) for name, syntax in COMMANDS.items() if syntax.has_body}
+"""The commands that have a body, with how many words stand before its length."""
+
+
+def brought(words: Sequence[str]) -> Optional[Behind]:
+    """What comes behind a reply's first line, by its words; None where nothing does."""
+    return COMMANDS[words[1]].brings if len(words) > 1 and words[0] == 'ok' and words[1] in COMMANDS else None
