@@ -1,20 +1,21 @@
 //! What the line of a job asks for. One table has all forms.
-ghost use Rattle.std.specs.Prelude.{◌≡◌, ◌<◌, ◌≤◌, length, drop, Ok, Err, MatchOption, MatchResult};
+ghost use Rattle.std.specs.Prelude.{◌≡◌, map, Ok, Err, MatchResult};
 ghost use Rattle.std.specs.List.{find, list_any, slice_get};
 ghost use Rattle.std.specs.Option.{option_and_then, option_map};
 ghost use Rattle.std.specs.Str.{bytes_eq};
 ghost use Rattle.matrix_market.specs.Values.{value_word};
 ghost use Rattle.text_words.specs.Words.{words};
-ghost use Rattle.command_text.specs.inner.Words.{job_words_of, lent, lent_job_words};
+ghost use Rattle.command_text.specs.inner.Lent.{lent};
+ghost use Rattle.command_text.specs.inner.Words.{job_of_words, job_words_of, lent_job_words};
 ghost use Rattle.command_text.specs.Requests as spec;
 ghost use Rattle.command_text.specs.Readings.{form_of, name_of, submission_of};
 ghost use Rattle.job_plan.specs.Form.{found, mapped, mask_found};
 
+use crate::line_words::LineWords;
 use crate::name::Name;
 use crate::rules::SessionRule;
 use job_plan::Form;
 use matrix_market::parse_value;
-use text_words::first_word;
 
 /// A job that is to be queued: the name that it will bind, its form, and the name of its mask, if it has one.
 #[derive(Clone, Copy)]
@@ -44,53 +45,35 @@ const FORMS: [JobWords; 7] = [
     JobWords { command: "reduce", count: 3, form: Form::Reduce { operator: 1, operand: 2 } },
 ];
 
-/// What follows so many words of a text, if it has them.
-fn behind(text: &[u8], count: u64) -> Option<&[u8]>
-    ensures { MatchOption result (length (words text.now) < count)
-        (λ rest. (count ≤ length (words text.now)) × (words rest.now ≡ drop count (words text.now))) }
-{
-    if count == 0 {
-        return Some(text);
-    }
-    let (_, rest) = first_word(text)?;
-    behind(rest, count - 1)
-}
-
 /// The word at a place.
-fn word_at(text: &[u8], place: u64) -> Option<&[u8]>
-    ensures { option_map lent result ≡ slice_get (words text.now) place }
+fn word_at<'a>(words: &[&'a [u8]], place: u64) -> Option<&'a [u8]>
+    ensures { option_map lent result ≡ slice_get (map lent words.now) place }
 {
-    let (word, rest) = first_word(text)?;
-    if place == 0 {
-        return Some(word);
-    }
-    word_at(rest, place - 1)
+    words.get(place as usize).copied()
 }
 
 /// The word at a place as a name, if it is one.
-fn name_at(text: &[u8], place: u64) -> Option<Name<'_>>
-    ensures { option_map name_of result ≡ spec.name_in (slice_get (words text.now) place) }
+fn name_at<'a>(words: &[&'a [u8]], place: u64) -> Option<Name<'a>>
+    ensures { option_map name_of result ≡ spec.name_in (slice_get (map lent words.now) place) }
 {
-    Name::new(word_at(text, place)?)
+    Name::new(word_at(words, place)?)
 }
 
 /// The value that the word at a place writes, if it writes one.
-fn value_at(text: &[u8], place: u64) -> Option<u64>
-    ensures { result ≡ option_and_then value_word (slice_get (words text.now) place) }
+fn value_at(words: &[&[u8]], place: u64) -> Option<u64>
+    ensures { result ≡ option_and_then value_word (slice_get (map lent words.now) place) }
 {
-    parse_value(word_at(text, place)?)
+    parse_value(word_at(words, place)?)
 }
 
-/// Whether a text is nothing, or `mask` and one more word.
-fn is_mask(text: &[u8]) -> bool
-    ensures { result ≡ spec.is_mask (words text.now) }
+/// Whether words are none, or `mask` and one more.
+fn is_mask(words: &[&[u8]]) -> bool
+    ensures { result ≡ spec.is_mask (map lent words.now) }
 {
-    let Some((word, rest)) = first_word(text) else {
-        return true;
-    };
-    match first_word(rest) {
-        Some((_, rest)) => first_word(rest).is_none() && word == b"mask".as_slice(),
-        None => false,
+    match words {
+        [] => true,
+        [word, _] => *word == b"mask".as_slice(),
+        _ => false,
     }
 }
 
@@ -101,34 +84,31 @@ fn is_job(command: &[u8]) -> bool
     FORMS.iter().any(|form| form.command.as_bytes() == command)
 }
 
-/// Whether a text has so many words, and perhaps a mask behind them.
-fn has_words(text: &[u8], count: u64) -> bool
-    ensures { result ≡ spec.has_words count (words text.now) }
+/// Whether there are so many words, and perhaps a mask behind them.
+fn has_words(words: &[&[u8]], count: usize) -> bool
+    ensures { result ≡ spec.has_words count (map lent words.now) }
 {
-    match behind(text, count) {
-        Some(rest) => is_mask(rest),
-        None => false,
-    }
+    count <= words.len() && is_mask(&words[count..])
 }
 
 /// Whether a command and the words behind it are of a form.
-fn is_of(command: &[u8], rest: &[u8], form: &JobWords) -> bool
-    ensures { result ≡ spec.is_of command.now (words rest.now) (job_words_of form.now) }
+fn is_of(command: &[u8], words: &[&[u8]], form: &JobWords) -> bool
+    ensures { result ≡ spec.is_of command.now (map lent words.now) (job_words_of form.now) }
 {
-    form.command.as_bytes() == command && has_words(rest, u64::from(form.count))
+    form.command.as_bytes() == command && has_words(words, usize::from(form.count))
 }
 
 /// The form that a command and the words behind it are of.
-fn find_form(command: &[u8], rest: &[u8]) -> Option<&'static JobWords>
-    ensures { option_map lent_job_words result ≡ find (spec.is_of command.now (words rest.now)) spec.all_forms }
+fn find_form(command: &[u8], words: &[&[u8]]) -> Option<&'static JobWords>
+    ensures { option_map lent_job_words result ≡ find (spec.is_of command.now (map lent words.now)) spec.all_forms }
 {
-    FORMS.iter().find(|form| is_of(command, rest, form))
+    FORMS.iter().find(|form| is_of(command, words, form))
 }
 
 /// The form, with the value that is written at the place of its thunk, if it has one.
-fn with_thunk(form: Form<u64, u64>, rest: &[u8]) -> Option<Form<u64, u64>>
+fn with_thunk(form: Form<u64, u64>, words: &[&[u8]]) -> Option<Form<u64, u64>>
     ensures { result ≡
-        spec.with_thunk (λ place. option_and_then value_word (slice_get (words rest.now) place)) form }
+        spec.with_thunk (λ place. option_and_then value_word (slice_get (map lent words.now) place)) form }
 {
     match form {
         Form::Apply {
@@ -137,7 +117,7 @@ fn with_thunk(form: Form<u64, u64>, rest: &[u8]) -> Option<Form<u64, u64>>
             operand,
         } => Some(Form::Apply {
             operator,
-            thunk: Some(value_at(rest, thunk)?),
+            thunk: Some(value_at(words, thunk)?),
             operand,
         }),
         Form::Select {
@@ -146,7 +126,7 @@ fn with_thunk(form: Form<u64, u64>, rest: &[u8]) -> Option<Form<u64, u64>>
             operand,
         } => Some(Form::Select {
             operator,
-            thunk: value_at(rest, thunk)?,
+            thunk: value_at(words, thunk)?,
             operand,
         }),
         form => Some(form),
@@ -154,33 +134,48 @@ fn with_thunk(form: Form<u64, u64>, rest: &[u8]) -> Option<Form<u64, u64>>
 }
 
 /// The form of the names that stand at its places.
-fn name_form(form: Form<u64, u64>, rest: &[u8]) -> Option<Form<Name<'_>, Name<'_>>>
+fn name_form<'a>(form: Form<u64, u64>, words: &[&'a [u8]]) -> Option<Form<Name<'a>, Name<'a>>>
     ensures { option_map form_of result ≡ found spec.name_in spec.name_in
-        (mapped (slice_get (words rest.now)) (slice_get (words rest.now)) form) }
+        (mapped (slice_get (map lent words.now)) (slice_get (map lent words.now)) form) }
 {
-    form.map(|place| name_at(rest, place), |place| name_at(rest, place))
+    form.map(|place| name_at(words, place), |place| name_at(words, place))
         .transpose()
 }
 
 /// The name of the mask, if a word stands at its place: None where that is no name.
-fn name_mask(rest: &[u8], place: u64) -> Option<Option<Name<'_>>>
-    ensures { option_map (option_map name_of) result ≡ mask_found spec.named (slice_get (words rest.now) place) }
+fn name_mask<'a>(words: &[&'a [u8]], place: u64) -> Option<Option<Name<'a>>>
+    ensures { option_map (option_map name_of) result ≡ mask_found spec.named (slice_get (map lent words.now) place) }
 {
-    match word_at(rest, place) {
+    match word_at(words, place) {
         None => Some(None),
         Some(word) => Some(Some(Name::new(word)?)),
     }
 }
 
 /// The job, if each of its words is a name.
-fn name_job(form: Form<u64, u64>, count: u8, rest: &[u8]) -> Option<Submission<'_>>
-    ensures { option_map submission_of result ≡ spec.job_named (words rest.now) count form }
+fn name_job<'a>(form: Form<u64, u64>, count: u8, words: &[&'a [u8]]) -> Option<Submission<'a>>
+    ensures { option_map submission_of result ≡ spec.job_named (map lent words.now) count form }
 {
     Some(Submission {
-        output: name_at(rest, 0)?,
-        form: name_form(form, rest)?,
-        mask: name_mask(rest, u64::from(count) + 1)?,
+        output: name_at(words, 0)?,
+        form: name_form(form, words)?,
+        mask: name_mask(words, u64::from(count) + 1)?,
     })
+}
+
+/// The job that a command of jobs asks for with the words behind it.
+///
+/// # Errors
+///
+/// `MalformedWords` or `MalformedName`.
+fn read_job<'a>(command: &[u8], words: &[&'a [u8]]) -> Result<Submission<'a>, SessionRule>
+    ensures { MatchResult result
+        (λ s. job_of_words command.now (map lent words.now) ≡ Ok (spec.Submit (submission_of s)))
+        (λ rule. job_of_words command.now (map lent words.now) ≡ Err rule) }
+{
+    let written = find_form(command, words).ok_or(SessionRule::MalformedWords)?;
+    let form = with_thunk(written.form, words).ok_or(SessionRule::MalformedWords)?;
+    name_job(form, written.count, words).ok_or(SessionRule::MalformedName)
 }
 
 /// The job that a command asks for with the words behind it.
@@ -196,7 +191,8 @@ pub fn parse_job<'a>(command: &[u8], rest: &'a [u8]) -> Result<Submission<'a>, S
     if !is_job(command) {
         return Err(SessionRule::UnknownCommand);
     }
-    let written = find_form(command, rest).ok_or(SessionRule::MalformedWords)?;
-    let form = with_thunk(written.form, rest).ok_or(SessionRule::MalformedWords)?;
-    name_job(form, written.count, rest).ok_or(SessionRule::MalformedName)
+    match LineWords::read(rest) {
+        Some(line) => read_job(command, line.as_slice()),
+        None => Err(SessionRule::MalformedWords),
+    }
 }

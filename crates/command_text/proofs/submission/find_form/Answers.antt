@@ -5,9 +5,9 @@ use Rattle.std.specs.Prelude.{map}
 use Rattle.std.specs.Option.{option_map}
 use Rattle.std.proofs.lemmas.Iterator.{YieldsList-from_slice}
 use Rattle.std.proofs.lemmas.Iterator.Search.{find_from_yields_List}
-use Rattle.text_words.specs.Words.{words}
 use Rattle.command_text.specs.Requests as is
 use Rattle.command_text.specs.Requests.{all_forms, is_of}
+use Rattle.command_text.specs.inner.Lent.{lent}
 use Rattle.command_text.specs.inner.Words.{job_words_of, lent_job_words}
 use Rattle.command_text.specs.declared.submission.JobWords.{JobWords}
 use Rattle.command_text.proofs.submission.find_form.Goals as goal
@@ -33,7 +33,7 @@ found_of test xs from r e all same =
 
 pub returns : goal.returns
 returns c =
-    let test = is_of c.args.command.now (words c.args.rest.now) in
+    let test = is_of c.args.command.now (map lent c.args.words.now) in
     found_of test _ c.iter.ensures.rest c.find.result
     (find_from_yields_List (λ form. test (job_words_of form)) _ _ c.find.result c.find.ensures.ran
     (YieldsList-from_slice _ c.iter.ensures.rest) (λ x b q k. search (rules, tests)))
