@@ -11,6 +11,7 @@ ghost use Rattle.bpf_insn.specs.inner.Code.{IsRight, IsOfSlot};
 ghost use Rattle.bpf_insn.specs.declared.reg.Reg.{Reg};
 ghost use Rattle.bpf_insn.specs.Broken.{has_bad_register, has_bad_field};
 
+use crate::by_table;
 use crate::insn::{AluOp, EndSize, Extension, Insn, Operand, Width};
 use crate::opcode::{AluCode, Opcode, Source};
 use crate::reg::Reg;
@@ -35,27 +36,25 @@ fn reg(number: u8) -> Reg
     }
 }
 
+macro_rules! ops {
+    (
+        operations { $($number:literal $code:ident $({ $op:ident $offset:literal $($unused:tt)* })+)* }
+        conditions $conditions:tt
+        $which:expr, $variant:expr
+    ) => {
+        match ($which, $variant) {
+            $($((AluCode::$code, $offset) => AluOp::$op,)+)*
+            _ => unreachable!(),
+        }
+    };
+}
+
 fn op(code: AluCode, offset: u16) -> AluOp
     requires { allows_alu_offset code offset ≡ true }
     ensures code { code_of_op result ≡ code }
     ensures variant { offset_of_op result ≡ offset }
 {
-    match code {
-        AluCode::Add => AluOp::Add,
-        AluCode::Sub => AluOp::Sub,
-        AluCode::Mul => AluOp::Mul,
-        AluCode::Div if offset == 1 => AluOp::Sdiv,
-        AluCode::Div => AluOp::Div,
-        AluCode::Or => AluOp::Or,
-        AluCode::And => AluOp::And,
-        AluCode::Lsh => AluOp::Lsh,
-        AluCode::Rsh => AluOp::Rsh,
-        AluCode::Mod if offset == 1 => AluOp::Smod,
-        AluCode::Mod => AluOp::Mod,
-        AluCode::Xor => AluOp::Xor,
-        AluCode::Mov => AluOp::Mov,
-        AluCode::Arsh => AluOp::Arsh,
-    }
+    by_table!(ops, code, offset)
 }
 
 /// The extension of a MOVSX, where the offset is not that of a MOV.

@@ -7,7 +7,8 @@
 //! it is stuck, exactly as the table of effects says, and ends on every program.
 //!
 //! Read `reg` and `insn` (what an instruction is), `rule` and `fault` (what can be wrong), `program`;
-//! `opcode`, `fields` and `slot` (the tables), `spell` and `encoder`, `check`, `build` and `decoder`;
+//! `table` (a row for each operation and condition), `opcode`, `fields` and `slot`, `spell` and `encoder`, `check`, `build` and
+//! `decoder`;
 //! then what an instruction means: `operands`, `content` and `frame` (what stands in the machine), `reads`
 //! and `bounds` (what an instruction reads, writes and accesses), `arithmetic` (what it computes). The
 //! machine in code is `machine`, which only tests run.
@@ -35,6 +36,7 @@ mod reg;
 mod rule;
 mod slot;
 mod spell;
+mod table;
 
 pub use bounds::is_outside_stack;
 pub use content::Content;

@@ -4,6 +4,7 @@ ghost use Rattle.bpf_insn.specs.Opcode.{number_of, operation, source_bit, alu_cl
 ghost use Rattle.bpf_insn.specs.Opcode.{size_number};
 ghost use Rattle.bpf_insn.specs.declared.opcode.Opcode.{Opcode};
 
+use crate::by_table;
 use crate::insn::{ByteOrder, Cond, SignedSize, Size, Width};
 
 /// The codes of the operations of two operands: the high four bits of the opcode.
@@ -95,43 +96,42 @@ fn jump_number(width: Width, code: u8, source: Source) -> u8
     16 * code + 8 * source as u8 + class
 }
 
+macro_rules! code_numbers {
+    (
+        operations { $($number:literal $code:ident $({ $($operation:tt)* })+)* }
+        conditions $conditions:tt
+        $which:expr
+    ) => {
+        match $which {
+            $(AluCode::$code => $number,)*
+        }
+    };
+}
+
 fn code_number(code: AluCode) -> u8
     ensures number { result ≡ code_number code }
     ensures small { result < 16 }
 {
-    match code {
-        AluCode::Add => 0x0,
-        AluCode::Sub => 0x1,
-        AluCode::Mul => 0x2,
-        AluCode::Div => 0x3,
-        AluCode::Or => 0x4,
-        AluCode::And => 0x5,
-        AluCode::Lsh => 0x6,
-        AluCode::Rsh => 0x7,
-        AluCode::Mod => 0x9,
-        AluCode::Xor => 0xa,
-        AluCode::Mov => 0xb,
-        AluCode::Arsh => 0xc,
-    }
+    by_table!(code_numbers, code)
+}
+
+macro_rules! cond_numbers {
+    (
+        operations $operations:tt
+        conditions { $($number:literal $cond:ident $condition:tt)* }
+        $which:expr
+    ) => {
+        match $which {
+            $(Cond::$cond => $number,)*
+        }
+    };
 }
 
 fn cond_number(cond: Cond) -> u8
     ensures number { result ≡ cond_number cond }
     ensures small { result < 16 }
 {
-    match cond {
-        Cond::Eq => 0x1,
-        Cond::Gt => 0x2,
-        Cond::Ge => 0x3,
-        Cond::Set => 0x4,
-        Cond::Ne => 0x5,
-        Cond::Sgt => 0x6,
-        Cond::Sge => 0x7,
-        Cond::Lt => 0xa,
-        Cond::Le => 0xb,
-        Cond::Slt => 0xc,
-        Cond::Sle => 0xd,
-    }
+    by_table!(cond_numbers, cond)
 }
 
 fn size_number(size: Size) -> u8
@@ -145,6 +145,20 @@ fn size_number(size: Size) -> u8
     }
 }
 
+macro_rules! numbered_codes {
+    (
+        operations { $($number:literal $code:ident $({ $($operation:tt)* })+)* }
+        conditions $conditions:tt
+        $which:expr,
+        else { $($rest:tt)* }
+    ) => {
+        match $which {
+            $($number => AluCode::$code,)*
+            $($rest)*
+        }
+    };
+}
+
 /// The opcodes of the classes ALU and ALU64.
 fn alu_opcode(width: Width, code: u8, source: Source) -> Option<Opcode>
     requires { code < 16 }
@@ -152,36 +166,42 @@ fn alu_opcode(width: Width, code: u8, source: Source) -> Option<Opcode>
     ensures none { IfNone result ((o : Opcode) →
         number_of o ≢ operation code (source_bit source) (alu_class width)) }
 {
-    let code = match code {
-        0 => AluCode::Add,
-        1 => AluCode::Sub,
-        2 => AluCode::Mul,
-        3 => AluCode::Div,
-        4 => AluCode::Or,
-        5 => AluCode::And,
-        6 => AluCode::Lsh,
-        7 => AluCode::Rsh,
-        9 => AluCode::Mod,
-        10 => AluCode::Xor,
-        11 => AluCode::Mov,
-        12 => AluCode::Arsh,
-        8 => {
-            return match source {
-                Source::K => Some(Opcode::Neg(width)),
-                Source::X => None,
-            };
+    let code = by_table! {
+        numbered_codes,
+        code,
+        else {
+            0x8 => {
+                return match source {
+                    Source::K => Some(Opcode::Neg(width)),
+                    Source::X => None,
+                };
+            }
+            0xd => {
+                return match (width, source) {
+                    (Width::W32, Source::K) => Some(Opcode::End(ByteOrder::Little)),
+                    (Width::W32, Source::X) => Some(Opcode::End(ByteOrder::Big)),
+                    (Width::W64, Source::K) => Some(Opcode::End(ByteOrder::Swap)),
+                    (Width::W64, Source::X) => None,
+                };
+            }
+            _ => return None,
         }
-        13 => {
-            return match (width, source) {
-                (Width::W32, Source::K) => Some(Opcode::End(ByteOrder::Little)),
-                (Width::W32, Source::X) => Some(Opcode::End(ByteOrder::Big)),
-                (Width::W64, Source::K) => Some(Opcode::End(ByteOrder::Swap)),
-                (Width::W64, Source::X) => None,
-            };
-        }
-        _ => return None,
     };
     Some(Opcode::Alu(width, code, source))
+}
+
+macro_rules! numbered_conds {
+    (
+        operations $operations:tt
+        conditions { $($number:literal $cond:ident $condition:tt)* }
+        $which:expr,
+        else { $($rest:tt)* }
+    ) => {
+        match $which {
+            $($number => Cond::$cond,)*
+            $($rest)*
+        }
+    };
 }
 
 /// The opcodes of the classes JMP and JMP32.
@@ -191,25 +211,18 @@ fn jump_opcode(width: Width, code: u8, source: Source) -> Option<Opcode>
     ensures none { IfNone result ((o : Opcode) →
         number_of o ≢ operation code (source_bit source) (jump_class width)) }
 {
-    let cond = match code {
-        1 => Cond::Eq,
-        2 => Cond::Gt,
-        3 => Cond::Ge,
-        4 => Cond::Set,
-        5 => Cond::Ne,
-        6 => Cond::Sgt,
-        7 => Cond::Sge,
-        10 => Cond::Lt,
-        11 => Cond::Le,
-        12 => Cond::Slt,
-        13 => Cond::Sle,
-        _ => {
-            return match (code, width, source) {
-                (0, Width::W64, Source::K) => Some(Opcode::Ja),
-                (0, Width::W32, Source::K) => Some(Opcode::Ja32),
-                (9, Width::W64, Source::K) => Some(Opcode::Exit),
-                _ => None,
-            };
+    let cond = by_table! {
+        numbered_conds,
+        code,
+        else {
+            _ => {
+                return match (code, width, source) {
+                    (0x0, Width::W64, Source::K) => Some(Opcode::Ja),
+                    (0x0, Width::W32, Source::K) => Some(Opcode::Ja32),
+                    (0x9, Width::W64, Source::K) => Some(Opcode::Exit),
+                    _ => None,
+                };
+            }
         }
     };
     Some(Opcode::Jump(width, cond, source))

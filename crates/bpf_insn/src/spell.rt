@@ -4,6 +4,7 @@ ghost use Rattle.std.specs.Int.{cast_unsigned, w16, w32};
 ghost use Rattle.bpf_insn.specs.Spelling.{number_of_reg, fields, first_slot, second_slot, code_of_op, offset_of_op};
 ghost use Rattle.bpf_insn.specs.Spelling.{opcode_of_extension, offset_of_extension, imm_of_end, source_of, source_field, imm_field};
 
+use crate::by_table;
 use crate::insn::{AluOp, EndSize, Extension, Insn, Operand, Width};
 use crate::opcode::{AluCode, Opcode, Source};
 use crate::reg::Reg;
@@ -140,33 +141,41 @@ fn with_imm(opcode: Opcode, dst: Reg, offset: u16, imm: u32) -> Slot
     fields(opcode, dst.number(), 0, offset, imm)
 }
 
+macro_rules! codes {
+    (
+        operations { $($number:literal $code:ident $({ $op:ident $($unused:tt)* })+)* }
+        conditions $conditions:tt
+        $which:expr
+    ) => {
+        match $which {
+            $($(AluOp::$op => AluCode::$code,)+)*
+        }
+    };
+}
+
 fn code_of_op(op: AluOp) -> AluCode
     ensures { result ≡ code_of_op op }
 {
-    match op {
-        AluOp::Add => AluCode::Add,
-        AluOp::Sub => AluCode::Sub,
-        AluOp::Mul => AluCode::Mul,
-        AluOp::Div | AluOp::Sdiv => AluCode::Div,
-        AluOp::Or => AluCode::Or,
-        AluOp::And => AluCode::And,
-        AluOp::Lsh => AluCode::Lsh,
-        AluOp::Rsh => AluCode::Rsh,
-        AluOp::Mod | AluOp::Smod => AluCode::Mod,
-        AluOp::Xor => AluCode::Xor,
-        AluOp::Mov => AluCode::Mov,
-        AluOp::Arsh => AluCode::Arsh,
-    }
+    by_table!(codes, op)
+}
+
+macro_rules! offsets {
+    (
+        operations { $($number:literal $code:ident $({ $op:ident $offset:literal $($unused:tt)* })+)* }
+        conditions $conditions:tt
+        $which:expr
+    ) => {
+        match $which {
+            $($(AluOp::$op => $offset,)+)*
+        }
+    };
 }
 
 /// The offset that tells SDIV and SMOD from DIV and MOD.
 fn offset_of_op(op: AluOp) -> u16
     ensures { result ≡ offset_of_op op }
 {
-    match op {
-        AluOp::Sdiv | AluOp::Smod => 1,
-        _ => 0,
-    }
+    by_table!(offsets, op)
 }
 
 fn opcode_of_extension(extension: Extension) -> Opcode
