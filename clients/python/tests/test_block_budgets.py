@@ -1,4 +1,5 @@
 """One budget over blocks: it is charged, and jobs are refused, as in one session; what stays where a block fails; what others take up."""
+import functools
 import os
 import random
 import signal
@@ -8,20 +9,20 @@ import tempfile
 import unittest
 
 import support
+import test_blocks
 import spmat
 from spmat import algorithms, blocks, limits
 from spmat.blocks import shared_budget
 
 PACKAGE = os.path.join(support.TOP, 'clients', 'python')
-# Methods of one job and of several, under masks of all kinds.
+# Each form by one method, without a mask; methods of one job and of several under masks of all kinds.
 CALLS = {
-    'apply': lambda A, B, K: A.apply('abs'), 'select': lambda A, B, K: A.select('tril'), 'union': lambda A, B, K: A.ewise_add(B, 'minus'),
-    'both': lambda A, B, K: A.ewise_mult(B, 'plus'), 'mxm': lambda A, B, K: A.mxm(B), 'mxm S': lambda A, B, K: A.mxm(B, mask=K.S),
-    'mxm ~V': lambda A, B, K: A.mxm(B, mask=~K.V), 'reduce': lambda A, B, K: A.reduce_rowwise('max'), 'apply ~S': lambda A, B, K: A.apply('abs', mask=~K.S),
+    **{name: functools.partial(lambda call, A, B, K: call(A, B, K, None), call) for name, call in test_blocks.FORMS.items()},
+    'mxm S': lambda A, B, K: A.mxm(B, mask=K.S), 'mxm ~V': lambda A, B, K: A.mxm(B, mask=~K.V), 'apply ~S': lambda A, B, K: A.apply('abs', mask=~K.S),
     'apply V': lambda A, B, K: A.apply('abs', mask=K.V), 'without': lambda A, B, K: A.without(K), 'without ~V': lambda A, B, K: A.without(~K.V),
-    'update': lambda A, B, K: A.update(B, 'plus', K), 'update V': lambda A, B, K: A.update(B, None, K.V, True),
-    'update all': lambda A, B, K: A.update(B, 'minus'), 'update ~S': lambda A, B, K: A.update(B, None, ~K.S), 'dup ~S': lambda A, B, K: A.dup(mask=~K.S),
-    'dup': lambda A, B, K: A.dup(), 'parts': lambda A, B, K: A.mxm(B, parts=True), 'select ~S': lambda A, B, K: A.select('triu', 1, mask=~K.S),
+    'update S': lambda A, B, K: A.update(B, 'plus', K), 'update V': lambda A, B, K: A.update(B, None, K.V, True),
+    'update ~S': lambda A, B, K: A.update(B, None, ~K.S), 'dup ~S': lambda A, B, K: A.dup(mask=~K.S),
+    'parts': lambda A, B, K: A.mxm(B, parts=True), 'select ~S': lambda A, B, K: A.select('triu', 1, mask=~K.S),
     'union V': lambda A, B, K: A.ewise_add(B, 'max', mask=K.V), 'mxv': lambda A, B, K: A.mxv(B.reduce_rowwise('plus')),
 }
 SAVER = """

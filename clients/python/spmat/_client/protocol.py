@@ -1,7 +1,6 @@
-"""The commands of the protocol, and the forms of job among them: how each is written, what comes behind its line and behind its reply's, and what
-a form says of its jobs. Source: docs/protocol.md.
+"""The commands of the protocol, and the forms of job among them. Source: docs/protocol.md.
 
-A command or a form of job is added here. Connections, refusals, bounds of prices and the session scripts have what they know of it from here.
+What connections, refusals, bounds of prices and session scripts know of a command or a form they have from here.
 """
 from __future__ import annotations
 
@@ -10,7 +9,7 @@ from typing import Dict, NamedTuple, Optional, Sequence, Tuple
 
 
 class Places(enum.Enum):
-    """Where the result of a job has entries; under a mask only where the mask has some too. From this follow the bounds of what it takes."""
+    """Where the result of a job has entries; under a mask only where the mask has some too. The bounds of what a job takes follow from it."""
     ALL = 'where all operands have one'
     CHOSEN = 'where all operands have one, if the operator says so'
     ANY = 'where any operand has one'
@@ -19,8 +18,8 @@ class Places(enum.Enum):
 
 
 class Form(NamedTuple):
-    """A form of job: the names of its operators and operands, as they stand behind OUT, the kinds that its operators may have, where the result
-    has entries, the method of matrices that queues it, and the number behind the operands."""
+    """A form of job. `operators`, `operands` and `thunk` are what stands behind OUT in its command, in words; its operators are of one of
+    these `kinds`. Its results have entries at `places`, and `method` is that of matrices which queues such a job."""
     operators: str
     operands: str
     kinds: Tuple[str, ...]
@@ -46,7 +45,7 @@ class Behind(enum.Enum):
 
 
 class Syntax(NamedTuple):
-    """How a command is written behind its name, and what its reply brings. LEN is the length of the body, which comes behind the line."""
+    """How a command is written behind its name, and what its reply brings. LEN is the length of a body, which comes behind the line."""
     words: str = ''
     brings: Optional[Behind] = None
 

@@ -1,7 +1,6 @@
-"""The operations of arithmetic: the code of each, what it gives of two words, and the laws by which expressions of it become simpler; and
-the conditions of jumps.
+"""The operations of arithmetic, and the conditions of jumps. Source: RFC 9669, section 4.
 
-Source: RFC 9669, section 4. Assembly, the disassembler and the compiler of functions have what they know of an operation from here.
+What assembly, the disassembler and the compiler of functions know of an operation they have from here.
 """
 from __future__ import annotations
 
@@ -13,10 +12,12 @@ Meaning = Callable[[int, int], int]
 
 
 class Operation(NamedTuple):
-    """An operation: its code in an opcode, what it gives of two signed words before it wraps, and its sign in Python. The laws are of all words:
-    x op `neutral` is x; y op x is x op y, and (x op y) op z is x op (y op z), where it `commutes`; it may work bit by bit; x op x is x where it is
-    `idempotent`, and 0 where it `cancels`; x op y is z only for an x of `undone(z, y)`. `signed` says that it is coded as the operation of words
-    without sign, with 1 in the offset."""
+    """An operation: its code in an opcode, what it gives of two signed words before it wraps, and its sign in Python. A `signed` one has the
+    code of the operation on words without sign, and 1 in the offset.
+
+    The others are laws of all words, by which expressions become simpler. x op `neutral` is x. Where it `commutes`, x op y is y op x, and it
+    associates. Where it is `bitwise`, each bit depends on the same bit of both. x op x is x where it is `idempotent`, and 0 where it
+    `cancels`. x op y is z for no x but `undone(z, y)`."""
     code: int
     value: Meaning
     sign: str = ''
