@@ -16,7 +16,7 @@ use Rattle.csr_store.proofs.Order.{both_true}
 less : (a b : ℕ) → is_lt (nat_cmp a b) ≡ true → a < b
 less a b h = grind (arith, nat_tests)
 
-later_column : (x : ℕ) (row : List Cell) (k : ℕ) (d : Cell) → below_all nat_cmp x row ≡ true → k < length row → x < (get_or row k d).0
+pub later_column : (x : ℕ) (row : List Cell) (k : ℕ) (d : Cell) → below_all nat_cmp x row ≡ true → k < length row → x < (get_or row k d).0
 later_column x [] k d h l = absurd (omega arith)
 later_column x (c ∷ row) zero d h l = less x c.0 (both_true _ _ h).0
 later_column x (c ∷ row) (suc k) d h l = later_column x row k d (both_true _ _ h).1 (omega arith)

@@ -7,6 +7,7 @@ pub mod Adding
 pub mod Packing
 pub mod Listing
 pub mod Repeating
+pub mod Marking
 pub mod Shuffled
 pub mod Slicing
 pub mod Collecting

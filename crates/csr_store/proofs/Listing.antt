@@ -27,7 +27,7 @@ once_before p v (e ∷ es) h =
     let r = once_before p v es h.1 in
     ((t.0, r.0), ap (λ b. cond b (Some e.1) (find pos_cmp p es)) (flips p e.0 ∙ t.1) ∙ r.1)
 
-find_last : (q p : Position) (v : ℕ) (es : List Entry) → find pos_cmp p es ≡ None → find pos_cmp q (es ++ (p, v) ∷ []) ≡ cond (is_eq (pos_cmp q p)) (Some v) (find pos_cmp q es)
+pub find_last : (q p : Position) (v : ℕ) (es : List Entry) → find pos_cmp p es ≡ None → find pos_cmp q (es ++ (p, v) ∷ []) ≡ cond (is_eq (pos_cmp q p)) (Some v) (find pos_cmp q es)
 find_last q p v es n = elim (is_eq (pos_cmp q p)) as (λ b. is_eq (pos_cmp q p) ≡ b → find pos_cmp q (es ++ (p, v) ∷ []) ≡ cond b (Some v) (find pos_cmp q es)) [
   | true ↦ λ e. here es n e
   | false ↦ λ e. there es e

@@ -4,6 +4,7 @@ pub mod ByRows
 pub mod Run
 pub mod Listed
 pub mod Packed
+pub mod Repeated
 pub mod Along
 pub mod Mask
 pub mod Ascending

@@ -1,6 +1,6 @@
 -- Entries of a matrix in any order, as the tuples that `GrB_Matrix_build` of the GraphBLAS C API Specification 2.0
 -- takes where no operator joins duplicates: two of one position make no matrix.
-use Rattle.std.specs.Prelude.{if◌then◌else◌, ℕ, suc, ◌&&◌, not, nat_lt, nat_le, Option, None, Some, List, length, take, refl}
+use Rattle.std.specs.Prelude.{if◌then◌else◌, ℕ, ◌&&◌, not, nat_lt, nat_le, Option, None, Some, List, length, refl}
 use Rattle.std.specs.List.{IsDistinct}
 use Rattle.std.specs.Map.{keys_of}
 use Rattle.std.specs.Ordering.{eq_by_cmp}
@@ -24,11 +24,6 @@ listed_code =
 -- no two entries have one position
 abbrev pub NoneTwice : List Entry → Type 0
 NoneTwice es = IsDistinct (eq_by_cmp pos_cmp) (keys_of es)
-
--- the entry at place k, from 0, is the first that has the position of an earlier one
-pub record IsFirstRepeat (es : List Entry) (k : ℕ) : Type 0 where
-  pub before : NoneTwice (take k es)
-  pub here : NoneTwice (take (suc k) es) → ⊥
 
 -- why an entry is refused at once
 abbrev pub push_fault : Listed → Position → Option StoreError

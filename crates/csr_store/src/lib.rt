@@ -17,7 +17,7 @@
 //! matrices may share), `growing` (where rows start while runs are stacked), `ends` (where the rows of a run
 //! end), `moving` (ends counted from another place), `filler` (rows filled in ascending order), `merging` (those
 //! entries and others by position, as one list), `repeat`
-//! (the first entry that has the position of an earlier one), `kept` (cells of which some are kept), `reader`
+//! (the positions that two or more entries of a list have), `kept` (cells of which some are kept), `reader`
 //! (rows one after the other) and `row` (parts of a list of cells, and searches in a row), over
 //! `specs/ByRows.antt`.
 #![tactic(auto)]
@@ -52,6 +52,7 @@ pub use join::join_rows;
 pub use limits::{MOST_ENTRIES, MOST_SIDE, RUN_ROWS};
 pub use matrix::{Matrix, Version};
 pub use reader::RowReader;
+pub use repeat::RepeatedPositions;
 pub use row_copy::RowCopy;
 pub use rows::Rows;
 pub use stack::stack_runs;

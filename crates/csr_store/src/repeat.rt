@@ -1,72 +1,117 @@
-//! The first entry of a list at whose position an earlier one stands.
-ghost use Rattle.std.specs.Prelude.{◌≡◌, ◌≤◌, true, false, length, map, IfOk, MatchOption};
+//! The positions that entries of a list repeat.
+ghost use Rattle.std.specs.Prelude.{◌≡◌, ◌<◌, ◌≤◌, true, false, [], length, map, IfNone, IfSome, IsTrue};
+ghost use Rattle.std.specs.Ordering.{nat_cmp};
+ghost use Rattle.std.specs.FinMap as fin;
 ghost use Rattle.std.specs.List.Sorted.{IsNonDecreasingBy};
-ghost use Rattle.csr_store.specs.Grid.{limit};
-ghost use Rattle.csr_store.specs.Listed.{NoneTwice, IsFirstRepeat};
+ghost use Rattle.csr_store.specs.Grid.{Position, limit};
+ghost use Rattle.csr_store.specs.Listed.{NoneTwice};
 ghost use Rattle.csr_store.specs.Packed.{unpacked};
-ghost use Rattle.csr_store.specs.inner.Repeated.{keys_from, IsLeastAgain};
+ghost use Rattle.csr_store.specs.Repeated.{AreRepeats, is_met, mark_of, met_at, times};
+ghost use Rattle.csr_store.specs.inner.Repeated.{BeginsRepeat, GoesOn, found_in, place_of};
 
-use crate::limits::MOST_ENTRIES;
+use crate::limits::MOST_SIDE;
 use crate::matrix::Cell;
-use std::alloc::{AllocError, Global};
+use crate::row::cells_before;
+use std::marker::Model;
 
-/// So many places has a list of entries at most.
-const PLACES: u128 = MOST_ENTRIES as u128;
-
-/// The place of the first cell at whose position, as one number, an earlier one stands.
+/// The positions that two or more entries of a list have, and which of them were met so far.
 ///
-/// Takes 16 bytes a cell while it looks, and one sort.
-pub fn first_repeat(alloc: Global, cells: &[Cell]) -> Result<Option<usize>, AllocError>
-    requires { length cells.now ≤ limit }
-    ensures { IfOk result (λ o. MatchOption o
-        (NoneTwice (map unpacked cells.now))
-        (IsFirstRepeat (map unpacked cells.now))) }
-{
-    let mut keys = keys_of(alloc, cells)?;
-    keys.sort_unstable();
-    Ok(least_again(&keys))
+/// They are kept where the entries stood, so they take no memory of their own.
+#[derive(Drop)]
+pub struct RepeatedPositions {
+    cells: Vec<Cell>,
 }
 
-/// The position of each cell with its place behind it, both as one number.
-fn keys_of(alloc: Global, cells: &[Cell]) -> Result<Vec<u128>, AllocError>
-    ensures { IfOk result (λ v. v.items ≡ keys_from 0 cells.now) }
-{
-    let mut keys = Vec::with_capacity(alloc, cells.len())?;
-    let mut nth = 0u64;
-    for cell in cells {
-        keys.push(u128::from(cell.0) * PLACES + u128::from(nth))?;
-        nth += 1;
+impl Model for RepeatedPositions {
+    ghost use Rattle.std.specs.Prelude.{◌≡◌, true, map};
+    ghost use Rattle.std.specs.Ordering.{nat_cmp};
+    ghost use Rattle.std.specs.FinMap as fin;
+    ghost use Rattle.csr_store.specs.Packed.{unpacked};
+    ghost use Rattle.csr_store.specs.Repeated.{Marks, marks_code};
+
+    ghost Value = { Marks };
+
+    ghost coded = { marks_code };
+
+    ghost view = { λ r. fin.from_entries (map unpacked r.cells.items) };
+
+    ghost invariant = { λ r. fin.is_sorted nat_cmp r.cells.items ≡ true };
+}
+
+impl RepeatedPositions {
+    /// Meets an entry at a position, and tells whether the position is a repeated one that was met before.
+    ///
+    /// Costs a search among the repeated positions.
+    pub fn meet(&mut self, row: u64, column: u64) -> bool
+        requires row { row < limit }
+        requires column { column < limit }
+        ensures met { result ≡ is_met (fin.get self.old (row, column)) }
+        ensures marked { (p : Position) → fin.get self.new p ≡ met_at (row, column) p (fin.get self.old p) }
+    {
+        mark(&mut self.cells, row * MOST_SIDE + column)
     }
-    Ok(keys)
 }
 
-/// The least place in a key whose position the key before it has too.
-fn least_again(keys: &[u128]) -> Option<usize>
-    ensures { IsLeastAgain keys.now (length keys.now) result }
+/// The positions that two or more of these cells have, if there are any. The cells' positions don't fall.
+pub fn repeats_of(cells: Vec<Cell>) -> Option<RepeatedPositions>
+    requires { IsNonDecreasingBy (λ c. c.0) cells.items }
+    ensures once { IfNone result (NoneTwice (map unpacked cells.items)) }
+    ensures twice { IfSome result (λ _. NoneTwice (map unpacked cells.items) → ⊥) }
+    ensures repeats { IfSome result (AreRepeats (map unpacked cells.items) []) }
 {
-    let mut least = None;
-    for k in 1..keys.len() {
-        if keys[k] / PLACES == keys[k - 1] / PLACES {
-            let nth = (keys[k] % PLACES) as usize;
-            least = match least {
-                Some(before) if before <= nth => Some(before),
-                _ => Some(nth),
-            };
+    let mut cells = cells;
+    keep_repeats(&mut cells);
+    if cells.is_empty() {
+        return None;
+    }
+    Some(RepeatedPositions { cells })
+}
+
+/// Leaves one cell without a mark for each position that two or more cells have. The cells' positions don't fall.
+fn keep_repeats(cells: &mut Vec<Cell>)
+    requires { IsNonDecreasingBy (λ c. c.0) cells.old.items }
+    ensures sorted { fin.is_sorted nat_cmp cells.new.items ≡ true }
+    ensures kept { (p : Position) → found_in cells.new.items p ≡ mark_of (times p (map unpacked cells.old.items)) 0 }
+{
+    let mut kept = 0;
+    for nth in 1..cells.len() {
+        if begins_repeat(cells, kept, nth) {
+            cells[kept] = (cells[nth].0, 0);
+            kept += 1;
         }
     }
-    least
+    cells.truncate(kept);
 }
 
-/// Whether two cells have one position, as one number, where these don't fall.
-pub fn meets_again(cells: &[Cell]) -> bool
-    requires { IsNonDecreasingBy (λ c. c.0) cells.now }
-    ensures twice { result ≡ true → NoneTwice (map unpacked cells.now) → ⊥ }
-    ensures once { result ≡ false → NoneTwice (map unpacked cells.now) }
+/// Whether a cell has the position of the one before it, and the last of the first so many cells has another.
+fn begins_repeat(cells: &[Cell], kept: usize, nth: usize) -> bool
+    requires order { kept < nth }
+    requires within { nth < length cells.now }
+    ensures yes { result ≡ true → BeginsRepeat cells.now kept nth }
+    ensures no { result ≡ false → GoesOn cells.now kept nth }
 {
-    for k in 1..cells.len() {
-        if cells[k].0 == cells[k - 1].0 {
-            return true;
-        }
+    let position = cells[nth].0;
+    if cells[nth - 1].0 != position {
+        return false;
     }
-    false
+    if kept == 0 {
+        return true;
+    }
+    cells[kept - 1].0 != position
+}
+
+/// Marks the cell of a position, if there is one, and tells whether it had its mark before.
+fn mark(cells: &mut Vec<Cell>, position: u64) -> bool
+    requires { fin.is_sorted nat_cmp cells.old.items ≡ true }
+    ensures sorted { fin.is_sorted nat_cmp cells.new.items ≡ true }
+    ensures met { result ≡ is_met (found_in cells.old.items (place_of position)) }
+    ensures marked { (p : Position) → found_in cells.new.items p ≡ met_at (place_of position) p (found_in cells.old.items p) }
+{
+    let nth = cells_before(cells, position);
+    if nth >= cells.len() || cells[nth].0 != position {
+        return false;
+    }
+    let met = cells[nth].1 == 1;
+    cells[nth].1 = 1;
+    met
 }

@@ -20,7 +20,7 @@ pub fn cells_between(cells: &[Cell], from: usize, to: usize) -> &[Cell]
 }
 
 /// How many cells of a row are before column `j`.
-fn cells_before(row: &[Cell], j: u64) -> usize
+pub fn cells_before(row: &[Cell], j: u64) -> usize
     requires { IsTrue (map.is_sorted nat_cmp row.now) }
     ensures within { result ≤ length row.now }
     ensures before { (k : ℕ) → k < result → slice_index (columns_of row.now) k < j }

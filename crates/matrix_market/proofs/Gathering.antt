@@ -166,14 +166,18 @@ answer_for s f i j v p q fi fj r c w e = rw (inside_one i s.rows p (omega arith)
 written : (i k n : ℕ) → i < 2 ^ 64 → k ≡ (i + (2 ^ 64 - 1)) % 2 ^ 64 → k < n → n ≤ 16777216 → (0 < i) × (k ≡ i - 1)
 written i k n b e l m = omega arith
 
+pub usual_answer : (h : Header) (rest more : List ℕ) (u : UsualLine) (f : Found) → h.size.rows ≤ 16777216 → h.size.columns ≤ 16777216 → (line : IsEntryLine h.banner.pattern rest u more) → f.row < h.size.rows → f.column < h.size.columns
+    → f.row ≡ (u.row + (2 ^ 64 - 1)) % 2 ^ 64 → f.column ≡ (u.column + (2 ^ 64 - 1)) % 2 ^ 64 → f.word ≡ u.word → Ok f ≡ entry_answer h.size (entry_words h.banner.pattern (words line.line))
+usual_answer h rest more u f rows columns line row_in column_in row_is column_is word_is =
+    let row = written u.row f.row h.size.rows line.small.0 row_is row_in rows in
+    let column = written u.column f.column h.size.columns line.small.1 column_is column_in columns in
+    answer_for h.size f u.row u.column line.value row.0 column.0 row.1 column.1 row_in column_in line.fits (line.word ∙ sym word_is) ∙ sym (ap (entry_answer h.size) line.entry)
+
 pub adds_usual : (h : Header) (old new : Listed) (rest more : List ℕ) (at : ℕ) (u : UsualLine) (f : Found) → h.size.rows ≤ 16777216 → h.size.columns ≤ 16777216 → IsEntryLine h.banner.pattern rest u more → f.row < h.size.rows → f.column < h.size.columns
     → f.row ≡ (u.row + (2 ^ 64 - 1)) % 2 ^ 64 → f.column ≡ (u.column + (2 ^ 64 - 1)) % 2 ^ 64 → f.word ≡ u.word → Takes old h.banner.symmetric f new → Adds h old new rest at 1 more (at + 1)
 adds_usual h old new rest more at u f rows columns line row_in column_in row_is column_is word_is t =
-    let row = written u.row f.row h.size.rows line.small.0 row_is row_in rows in
-    let column = written u.column f.column h.size.columns line.small.1 column_is column_in columns in
-    let answer : Ok f ≡ entry_answer h.size (entry_words h.banner.pattern (words line.line)) =
-    answer_for h.size f u.row u.column line.value row.0 column.0 row.1 column.1 row_in column_in line.fits (line.word ∙ sym word_is) ∙ sym (ap (entry_answer h.size) line.entry) in
-    adds_line h old new rest more at at (at + 1) line.line f (record { between = []; split = line.first; counts = (let q : at ≡ at + 0 = omega arith in q); idle = tt }) refl line.content (le-ltb 1024 (length line.line) line.short) answer t
+    adds_line h old new rest more at at (at + 1) line.line f (record { between = []; split = line.first; counts = (let q : at ≡ at + 0 = omega arith in q); idle = tt }) refl line.content (le-ltb 1024 (length line.line) line.short)
+    (usual_answer h rest more u f rows columns line row_in column_in row_is column_is word_is) t
 
 -- ---- what a text has
 

@@ -1,27 +1,33 @@
 -- The line that gives a position again.
-use Rattle.std.proofs.Common.{◌≡◌, ◌≤◌, ◌<◌, ◌+◌, ℕ, zero, suc, List, [], ◌∷◌, ◌++◌, Bool, true, false, ◌&&◌, ◌||◌, not, nat_eq, cond, None, Some, is_some, Option, Ok, nat_lt, length, take, drop, get_or, refl, sym, ap, ◌∙◌, subst, arith, length-append, length-drop, append_assoc, inl, inr}
-use Rattle.std.proofs.lemmas.Bool.{cases_lt}
+use Rattle.std.proofs.Common.{◌≡◌, ◌≤◌, ◌<◌, ◌+◌, ◌-◌, ◌^◌, ◌%◌, ℕ, zero, suc, List, [], ◌∷◌, ◌++◌, Bool, true, false, ◌&&◌, ◌||◌, not, nat_eq, cond, None, Some, is_some, Option, Result, Ok, Err, nat_lt, length, refl, sym, ap, ◌∙◌, subst, arith, append_assoc, append-nil}
+use Rattle.std.specs.Prelude.{if◌then◌else◌}
+use Rattle.std.proofs.lemmas.Bool.{le-ltb}
 use Rattle.std.proofs.lemmas.Bool.Decides.{nat_tests}
-use Rattle.std.proofs.lemmas.List.{drop_at, take_at, get_or-drop, take-append-drop, take-take, take_all, length-map, length-take-le}
 use Rattle.std.specs.List.{AllByRecursion}
 use Rattle.std.specs.Str.Lines.{lines}
 use Rattle.std.specs.FinMap as fin
 use Rattle.csr_store.specs.Grid.{Position, Entry, pos_cmp}
 use Rattle.csr_store.specs.ByRows.{grid}
-use Rattle.csr_store.specs.Listed.{Listed, NoneTwice, IsFirstRepeat}
+use Rattle.csr_store.specs.Listed.{NoneTwice}
+use Rattle.csr_store.specs.Repeated.{Marks, is_met, met_at}
+use Rattle.csr_store.proofs.Repeating.{met_again, met_first, met_then, once-none}
 use Rattle.csr_store.proofs.Listing.{once_front, once_more, map_with_entry}
 use Rattle.matrix_market.specs.declared.kinds.Banner.{Banner}
 use Rattle.matrix_market.specs.declared.kinds.Size.{Size}
 use Rattle.matrix_market.specs.declared.kinds.Header.{Header}
 use Rattle.matrix_market.specs.declared.kinds.Found.{Found}
 use Rattle.matrix_market.specs.declared.cursor.Cursor.{Cursor}
+use Rattle.matrix_market.specs.declared.usual.UsualLine.{UsualLine}
+use Rattle.matrix_market.specs.declared.rule.MarketRule.{MarketRule}
 use Rattle.matrix_market.specs.declared.rule.MarketRule.TheVariants.{PositionGivenTwice}
 use Rattle.text_words.specs.Words.{words}
 use Rattle.matrix_market.specs.Market.{mirrored, is_skipped, entry_words, IsFault}
 use Rattle.matrix_market.specs.inner.Answers.{Passes, IsIdle, entry_answer, spots, some_given}
 use Rattle.matrix_market.specs.inner.Filling.{Filled}
-use Rattle.matrix_market.specs.inner.Gathering.{Begun, IsRead, Run, Taken, with_word}
-use Rattle.matrix_market.proofs.Gathering.{run_same, filled_line}
+use Rattle.matrix_market.specs.inner.Gathering.{Begun, Run, Taken, with_word}
+use Rattle.matrix_market.specs.inner.Usual.{IsEntryLine}
+use Rattle.matrix_market.specs.inner.Repeating.{HaveMet, IsEntry, IsRepeating, LacksEntry, own_entries}
+use Rattle.matrix_market.proofs.Gathering.{run_same, filled_line, found_inside, usual_answer}
 use Rattle.matrix_market.proofs.Puts.{get_put}
 use Rattle.matrix_market.proofs.Reading.{twice_fault}
 
@@ -55,23 +61,43 @@ not_idle line s i = let a = i.0 in cc
 long_not_idle : (line : List ℕ) → nat_lt 1024 (length line) ≡ true → IsIdle line → ⊥
 long_not_idle line s i = let a = i.1 in cc
 
--- ---- where the line stands in the list
+-- a line in its usual form is the next
+pub entry_usual : (h : Header) (cursor : Cursor) (u : UsualLine) (f : Found) (behind : Cursor) → IsEntryLine h.banner.pattern cursor.rest.now u behind.rest.now → f.row < h.size.rows → f.column < h.size.columns
+    → f.row ≡ (u.row + (2 ^ 64 - 1)) % 2 ^ 64 → f.column ≡ (u.column + (2 ^ 64 - 1)) % 2 ^ 64 → f.word ≡ u.word → behind.at ≡ cursor.at + 1 → behind.at + length behind.rest.now ≤ cursor.at + length cursor.rest.now → IsEntry h cursor f behind
+entry_usual h cursor u f behind line row column row_is column_is word_is at shorter =
+    record {
+      between = [];
+      line = line.line;
+      split = line.first;
+      idle = tt;
+      content = line.content;
+      short = le-ltb 1024 (length line.line) line.short;
+      answer = usual_answer h cursor.rest.now behind.rest.now u f h.rows_small h.columns_small line row column row_is column_is word_is;
+      at_is = omega (arith, at);
+      shorter = shorter;
+    }
 
-with_long : (ps : List Position) (w : ℕ) → length (with_word ps w) ≡ length ps
-with_long ps w = length-map ps (λ p. (p, w))
+-- ---- what comes next is no entry line
 
-first_spot : (symmetric : Bool) (p : Position) (w : ℕ) (es : List Entry) (d : Entry) → get_or (with_word (mirrored symmetric p) w ++ es) 0 d ≡ (p, w)
-first_spot symmetric p w es d = elim (symmetric && not (nat_eq p.0 p.1)) as (λ t. get_or (with_word (cond t (p ∷ (p.1, p.0) ∷ []) (p ∷ [])) w ++ es) 0 d ≡ (p, w)) [
-  | true ↦ refl
-  | false ↦ refl
-]
+pub lacks_end : (h : Header) (cursor : Cursor) (last : ℕ) → Passes cursor.rest.now cursor.at [] last → LacksEntry h cursor
+lacks_end h cursor last p es x = none_next x.between (lines x.more) p.between x.line p.idle (not_idle x.line x.content) (sym x.split ∙ p.split)
+
+pub lacks_long : (h : Header) (cursor : Cursor) (line : List ℕ) (ls : List (List ℕ)) (last : ℕ) → Passes cursor.rest.now cursor.at (line ∷ ls) last → nat_lt 1024 (length line) ≡ true → LacksEntry h cursor
+lacks_long h cursor line ls last p s es x =
+    let same = same_next p.between ls x.between (lines x.more) line x.line p.idle x.idle (long_not_idle line s) (not_idle x.line x.content) (sym p.split ∙ x.split) in
+    let e : nat_lt 1024 (length line) ≡ false = ap (λ (y : List ℕ). nat_lt 1024 (length y)) same.line_is ∙ x.short in
+    cc
+
+pub lacks_faulty : (h : Header) (cursor : Cursor) (line : List ℕ) (ls : List (List ℕ)) (last : ℕ) (rule : MarketRule) → Passes cursor.rest.now cursor.at (line ∷ ls) last → is_skipped line ≡ false
+    → Err rule ≡ entry_answer h.size (entry_words h.banner.pattern (words line)) → LacksEntry h cursor
+lacks_faulty h cursor line ls last rule p k a es x =
+    let same = same_next p.between ls x.between (lines x.more) line x.line p.idle x.idle (not_idle line k) (not_idle x.line x.content) (sym p.split ∙ x.split) in
+    no_answer x.found rule (x.answer ∙ ap (λ (y : List ℕ). entry_answer h.size (entry_words h.banner.pattern (words y))) (sym same.line_is) ∙ sym a)
+  where
+    no_answer : (f : Found) (r : MarketRule) → (let o : Result Found MarketRule = Ok f in o) ≡ Err r → ⊥
+    no_answer f r e = cc
 
 -- ---- the entries of a line and those before
-
-pub once_take : (es : List Entry) (m n : ℕ) → m ≤ n → NoneTwice (take n es) → NoneTwice (take m es)
-once_take es m n l h =
-    let e : take n es ≡ take m es ++ drop m (take n es) = sym (take-append-drop m (take n es)) ∙ ap (λ (xs : List Entry). xs ++ drop m (take n es)) (take-take m n es l) in
-    once_front (take m es) (drop m (take n es)) (subst (λ (xs : List Entry). NoneTwice xs) e h)
 
 none_from : (o : Option ℕ) → is_some o ≡ false → o ≡ None
 none_from None e = refl
@@ -110,136 +136,166 @@ once_spots symmetric r c w es h n =
         ∙ ap (λ t. cond t (Some w) (fin.get (fin.from_entries {R = pos_cmp} es) (c, r))) (mirror_apart r c e) ∙ none_from _ b.0 in
         subst (λ (xs : List Entry). NoneTwice xs) (append_assoc es (((r, c), w) ∷ []) (((c, r), w) ∷ [])) (once_more (es ++ ((r, c), w) ∷ []) (c, r) w front absent)
 
+-- ---- the entries of a line are met
+
+one_met : (es done left : List Entry) (p : Position) (w : ℕ) (old new : Marks) → HaveMet es done ((p, w) ∷ left) old → is_met (fin.get old p) ≡ false → ((q : Position) → fin.get new q ≡ met_at p q (fin.get old q)) → HaveMet es (done ++ (p, w) ∷ []) left new
+one_met es done left p w old new h n m =
+    record {
+      split = h.split ∙ sym (append_assoc done ((p, w) ∷ []) left);
+      repeats = met_then es done left p w old h.split h.repeats new m;
+      once = met_first es done left p w old h.split h.repeats n h.once;
+    }
+
+module _ (symmetric : Bool) (r c w : ℕ) where
+  abbrev twin : Bool
+  twin = symmetric && not (nat_eq r c)
+
+  abbrev own : List Entry
+  own = with_word (mirrored symmetric (r, c)) w
+
+  abbrev given : Bool → List Entry
+  given t = with_word (if t then (r, c) ∷ (c, r) ∷ [] else (r, c) ∷ []) w
+
+  -- the entry was met before
+  pub entry_again : (es done left : List Entry) (old : Marks) → is_met (fin.get old (r, c)) ≡ true → HaveMet es done (own ++ left) old → NoneTwice (done ++ own) → ⊥
+  entry_again es done left old m = elim twin as (λ t. HaveMet es done (given t ++ left) old → NoneTwice (done ++ given t) → ⊥) [
+    | false ↦ λ h once. met_again es done left (r, c) w old h.split h.repeats m once
+    | true ↦ λ h once. met_again es done (((c, r), w) ∷ left) (r, c) w old h.split h.repeats m
+        (once_front (done ++ ((r, c), w) ∷ []) (((c, r), w) ∷ []) (subst (λ (xs : List Entry). NoneTwice xs) (sym (append_assoc done (((r, c), w) ∷ []) (((c, r), w) ∷ []))) once))
+  ]
+
+  -- it was not, and has no mirror
+  pub entry_first : (es done left : List Entry) (old new : Marks) → twin ≡ false → is_met (fin.get old (r, c)) ≡ false → ((q : Position) → fin.get new q ≡ met_at (r, c) q (fin.get old q)) → HaveMet es done (own ++ left) old → HaveMet es (done ++ own) left new
+  entry_first es done left old new t n m h =
+      subst (λ b. HaveMet es done (given b ++ left) old → HaveMet es (done ++ given b) left new) (sym t) (λ k. one_met es done left (r, c) w old new k n m) h
+
+  module _ (es done left : List Entry) (old mid : Marks) (t : twin ≡ true) (n : is_met (fin.get old (r, c)) ≡ false) (m : (q : Position) → fin.get mid q ≡ met_at (r, c) q (fin.get old q)) where
+    halfway : HaveMet es done (given true ++ left) old → HaveMet es (done ++ ((r, c), w) ∷ []) (((c, r), w) ∷ left) mid
+    halfway h = one_met es done (((c, r), w) ∷ left) (r, c) w old mid h n m
+
+    both : (done ++ ((r, c), w) ∷ []) ++ ((c, r), w) ∷ [] ≡ done ++ given true
+    both = append_assoc done (((r, c), w) ∷ []) (((c, r), w) ∷ [])
+
+    -- the mirror was met before
+    pub mirror_again : is_met (fin.get mid (c, r)) ≡ true → HaveMet es done (own ++ left) old → NoneTwice (done ++ own) → ⊥
+    mirror_again g = subst (λ b. HaveMet es done (given b ++ left) old → NoneTwice (done ++ given b) → ⊥) (sym t) (λ h once.
+        let k = halfway h in
+        met_again es (done ++ ((r, c), w) ∷ []) left (c, r) w mid k.split k.repeats g (subst (λ (xs : List Entry). NoneTwice xs) (sym both) once))
+
+    -- neither was
+    pub mirror_first : (new : Marks) → is_met (fin.get mid (c, r)) ≡ false → ((q : Position) → fin.get new q ≡ met_at (c, r) q (fin.get mid q)) → HaveMet es done (own ++ left) old → HaveMet es (done ++ own) left new
+    mirror_first new g u = subst (λ b. HaveMet es done (given b ++ left) old → HaveMet es (done ++ given b) left new) (sym t) (λ h.
+        subst (λ (xs : List Entry). HaveMet es xs left new) both (one_met es (done ++ ((r, c), w) ∷ []) left (c, r) w mid new (halfway h) g u))
+
 -- ---- going along the lines
 
--- so far the lines give no position again, and the entries of those that follow are the list's from this place on
-pub record Walk (h : Header) (start : Cursor) (l : Listed) (repeat : ℕ) (rest : List ℕ) (at before : ℕ) : Type 0 where
+-- so far the lines give no position again, and the entries of those that follow are the list's that are left
+pub record Walk (h : Header) (start : Cursor) (marks : Marks) (rest : List ℕ) (at : ℕ) : Type 0 where
+  pub entries : List Entry
+  pub twice : NoneTwice entries → ⊥
+  pub done : List Entry
+  pub todo : List Entry
+  pub met : HaveMet entries done todo marks
   pub left : ℕ
   pub many : ℕ
   pub end : List ℕ
-  pub run : Run h.banner h.size left rest many (drop before l.entries) end
-  pub upto : before ≤ repeat
-  pub filled : (text : List ℕ) → Begun text h start → (given : ℕ) × (given + left ≤ h.size.entries) × Filled text h.banner h.size (grid h.size.rows h.size.columns (take before l.entries)) rest at given
+  pub run : Run h.banner h.size left rest many todo end
+  pub filled : (text : List ℕ) → Begun text h start → (given : ℕ) × (given + left ≤ h.size.entries) × Filled text h.banner h.size (grid h.size.rows h.size.columns done) rest at given
 
-pub walk_start : (h : Header) (start : Cursor) (l : Listed) (repeat : ℕ) → IsRead h start l → Walk h start l repeat start.rest.now start.at 0
-walk_start h start l repeat r =
-    let few = r.few in
+pub walk_start : (h : Header) (start : Cursor) (marks : Marks) → IsRepeating h start marks → Walk h start marks start.rest.now start.at
+walk_start h start marks r =
+    let few = r.read.few in
     record {
-      left = r.given;
-      many = r.adds.many;
-      end = r.end;
-      run = subst (λ (es : List Entry). Run h.banner h.size r.given start.rest.now r.adds.many es r.end) (sym r.adds.entries_are) r.adds.run;
-      upto = omega arith;
+      entries = r.list.entries;
+      twice = r.twice;
+      done = [];
+      todo = r.list.entries;
+      met = record { split = refl; repeats = r.repeats; once = once-none };
+      left = r.read.given;
+      many = r.read.adds.many;
+      end = r.read.end;
+      run = subst (λ (es : List Entry). Run h.banner h.size r.read.given start.rest.now r.read.adds.many es r.read.end) (sym r.read.adds.entries_are) r.read.adds.run;
       filled = λ text begun. (0, omega arith, begun);
     }
 
-repeat_within : (es : List Entry) (k : ℕ) → IsFirstRepeat es k → k < length es
-repeat_within es k f = elim (cases_lt k (length es)) [
-  | inl a ↦ a
-  | inr b ↦ absurd (f.here (subst (λ (xs : List Entry). NoneTwice xs) (take_all k es b ∙ sym (take_all (suc k) es (omega arith))) f.before))
-]
+pub record Head (b : Banner) (s : Size) (left : ℕ) (rest : List ℕ) (es : List Entry) (end : List ℕ) : Type 0 where
+  pub taken : Taken b s rest es
+  pub fewer : ℕ
+  pub many : ℕ
+  pub is : left ≡ suc fewer
+  pub run : Run b s fewer taken.more many taken.entries end
 
-record Head (b : Banner) (s : Size) (left : ℕ) (rest : List ℕ) (es : List Entry) (end : List ℕ) : Type 0 where
-  taken : Taken b s rest es
-  fewer : ℕ
-  many : ℕ
-  is : left ≡ suc fewer
-  run : Run b s fewer taken.more many taken.entries end
-
-head_of : (b : Banner) (s : Size) (left : ℕ) (rest : List ℕ) (many : ℕ) (es : List Entry) (end : List ℕ) → Run b s left rest many es end → 0 < length es → Head b s left rest es end
-head_of b s zero rest many es end r l = let e = ap length r.2 in absurd (omega arith)
+head_of : (b : Banner) (s : Size) (left : ℕ) (rest : List ℕ) (many : ℕ) (es : List Entry) (end : List ℕ) → Run b s left rest many es end → (es ≡ [] → ⊥) → Head b s left rest es end
+head_of b s zero rest many es end r l = absurd (l r.2)
 head_of b s (suc left) rest many es end r l = record { taken = r.0; fewer = left; many = r.1; is = refl; run = r.3 }
 
-module _ (h : Header) (start : Cursor) (l : Listed) (repeat : ℕ) (rest : List ℕ) (at before : ℕ) (walk : Walk h start l repeat rest at before) (first : IsFirstRepeat l.entries repeat) where
-  pub walk_within : before < length l.entries
-  walk_within = let u = walk.upto in let w = repeat_within l.entries repeat first in omega arith
+module _ (h : Header) (start : Cursor) (marks : Marks) (cursor : Cursor) (walk : Walk h start marks cursor.rest.now cursor.at) where
+  some_left : walk.todo ≡ [] → ⊥
+  some_left e = walk.twice (subst (λ (xs : List Entry). NoneTwice xs) (sym (walk.met.split ∙ ap (λ (xs : List Entry). walk.done ++ xs) e ∙ append-nil walk.done)) walk.met.once)
 
-  head : Head h.banner h.size walk.left rest (drop before l.entries) walk.end
-  head = head_of h.banner h.size walk.left rest walk.many (drop before l.entries) walk.end walk.run (let w = walk_within in omega (arith, length-drop before l.entries))
+  pub head : Head h.banner h.size walk.left cursor.rest.now walk.todo walk.end
+  head = head_of h.banner h.size walk.left cursor.rest.now walk.many walk.todo walk.end walk.run some_left
 
-  pub walk_end : (last : ℕ) → Passes rest at [] last → ⊥
-  walk_end last p = none_next head.taken.between (lines head.taken.more) p.between head.taken.line p.idle (not_idle head.taken.line head.taken.content) (sym head.taken.split ∙ p.split)
+  -- there is a line
+  pub walk_lacks : LacksEntry h cursor → ⊥
+  walk_lacks l = l walk.todo head.taken
 
-  pub walk_long : (line : List ℕ) (ls : List (List ℕ)) (last : ℕ) → Passes rest at (line ∷ ls) last → nat_lt 1024 (length line) ≡ true → ⊥
-  walk_long line ls last p s =
-      let x = head.taken in
-      let same = same_next p.between ls x.between (lines x.more) line x.line p.idle x.idle (long_not_idle line s) (not_idle x.line x.content) (sym p.split ∙ x.split) in
-      let e : nat_lt 1024 (length line) ≡ false = ap (λ (y : List ℕ). nat_lt 1024 (length y)) same.line_is ∙ x.short in
-      cc
+  module _ (f : Found) (behind : Cursor) (e : IsEntry h cursor f behind) where
+    same : SameNext e.between (lines behind.rest.now) head.taken.between (lines head.taken.more) e.line head.taken.line
+    same = same_next e.between (lines behind.rest.now) head.taken.between (lines head.taken.more) e.line head.taken.line e.idle head.taken.idle (not_idle e.line e.content) (not_idle head.taken.line head.taken.content) (sym e.split ∙ head.taken.split)
 
-  module _ (line more : List ℕ) (number last new : ℕ) (p : Passes rest at (line ∷ lines more) number) (e : last ≡ number + 1) (k : is_skipped line ≡ false) (s : nat_lt 1024 (length line) ≡ false)
-      (width : new ≡ before + length (mirrored h.banner.symmetric (get_or l.entries before ((0, 0), 0)).0)) where
-    abbrev f : Found
-    f = head.taken.found
+    found_is : head.taken.found ≡ f
+    found_is = one_found head.taken.found f (head.taken.answer ∙ ap (λ (y : List ℕ). entry_answer h.size (entry_words h.banner.pattern (words y))) (sym same.line_is) ∙ sym e.answer)
+      where
+        one_found : (x y : Found) → (let r : Result Found MarketRule = Ok x in r) ≡ Ok y → x ≡ y
+        one_found x y q = cc
 
-    abbrev own : List Entry
-    own = with_word (spots h.banner.symmetric f) f.word
+    -- the list goes on with what the line gives
+    todo_is : walk.todo ≡ own_entries h f ++ head.taken.entries
+    todo_is = head.taken.entries_are ∙ ap (λ (x : Found). own_entries h x ++ head.taken.entries) found_is
 
-    same : SameNext p.between (lines more) head.taken.between (lines head.taken.more) line head.taken.line
-    same = same_next p.between (lines more) head.taken.between (lines head.taken.more) line head.taken.line p.idle head.taken.idle (not_idle line k) (not_idle head.taken.line head.taken.content) (sym p.split ∙ head.taken.split)
+    pub walk_met : HaveMet walk.entries walk.done (own_entries h f ++ head.taken.entries) marks
+    walk_met = subst (λ (xs : List Entry). HaveMet walk.entries walk.done xs marks) todo_is walk.met
 
-    answer : Ok f ≡ entry_answer h.size (entry_words h.banner.pattern (words line))
-    answer = head.taken.answer ∙ ap (λ (y : List ℕ). entry_answer h.size (entry_words h.banner.pattern (words y))) (sym same.line_is)
+    passes : Passes cursor.rest.now cursor.at (e.line ∷ lines behind.rest.now) (cursor.at + length e.between)
+    passes = record { between = e.between; split = e.split; counts = refl; idle = e.idle }
 
-    here : get_or l.entries before ((0, 0), 0) ≡ ((f.row, f.column), f.word)
-    here =
-        ap (λ n. get_or l.entries n ((0, 0), 0)) (let q : before ≡ before + 0 = omega arith in q) ∙ sym (get_or-drop before l.entries 0 ((0, 0), 0))
-        ∙ ap (λ (xs : List Entry). get_or xs 0 ((0, 0), 0)) head.taken.entries_are ∙ first_spot h.banner.symmetric (f.row, f.column) f.word head.taken.entries ((0, 0), 0)
+    pub walk_inside : (f.row < h.size.rows) × (f.column < h.size.columns)
+    walk_inside = found_inside h.size (entry_words h.banner.pattern (words e.line)) f e.answer
 
-    wide : new ≡ before + length own
-    wide =
-        width ∙ ap (λ (x : Entry). before + length (mirrored h.banner.symmetric x.0)) here
-        ∙ ap (λ n. before + n) (sym (with_long (spots h.banner.symmetric f) f.word))
-
-    parts : l.entries ≡ (take before l.entries ++ own) ++ head.taken.entries
-    parts =
-        sym (take-append-drop before l.entries) ∙ ap (λ (xs : List Entry). take before l.entries ++ xs) head.taken.entries_are
-        ∙ sym (append_assoc (take before l.entries) own head.taken.entries)
-
-    count : length (take before l.entries ++ own) ≡ new
-    count = let w = walk_within in length-append (take before l.entries) own ∙ ap (λ n. n + length own) (length-take-le before l.entries (omega arith)) ∙ sym wide
-
-    taken : take new l.entries ≡ take before l.entries ++ own
-    taken = ap (take new) parts ∙ take_at (take before l.entries ++ own) head.taken.entries new count
-
-    dropped : drop new l.entries ≡ head.taken.entries
-    dropped = ap (drop new) parts ∙ drop_at (take before l.entries ++ own) head.taken.entries new count
-
-    once_before : NoneTwice (take before l.entries)
-    once_before = once_take l.entries before repeat walk.upto first.before
-
-    given_again : repeat < new → some_given (fin.from_entries (take before l.entries)) (spots h.banner.symmetric f) ≡ true
-    given_again u = elim (some_given (fin.from_entries (take before l.entries)) (spots h.banner.symmetric f)) as (λ t. some_given (fin.from_entries (take before l.entries)) (spots h.banner.symmetric f) ≡ t → t ≡ true) [
+    given_again : (NoneTwice (walk.done ++ own_entries h f) → ⊥) → some_given (fin.from_entries walk.done) (spots h.banner.symmetric f) ≡ true
+    given_again g = elim (some_given (fin.from_entries walk.done) (spots h.banner.symmetric f)) as (λ t. some_given (fin.from_entries walk.done) (spots h.banner.symmetric f) ≡ t → t ≡ true) [
       | true ↦ λ t. refl
-      | false ↦ λ t. absurd (first.here (once_take l.entries (suc repeat) new (omega arith) (subst (λ (xs : List Entry). NoneTwice xs) (sym taken) (once_spots h.banner.symmetric f.row f.column f.word (take before l.entries) once_before t))))
+      | false ↦ λ t. absurd (g (once_spots h.banner.symmetric f.row f.column f.word walk.done walk.met.once t))
     ] refl
 
-    -- the line gives the entry that repeats
-    pub walk_here : repeat < new → (text : List ℕ) → Begun text h start → IsFault text last PositionGivenTwice
-    walk_here u text begun =
+    -- the line gives a position again
+    pub walk_here : (NoneTwice (walk.done ++ own_entries h f) → ⊥) → (text : List ℕ) → Begun text h start → IsFault text behind.at PositionGivenTwice
+    walk_here g text begun =
         let filled = walk.filled text begun in
         let i = head.is in
         let few = filled.1 in
-        twice_fault text rest h.banner h.size (grid h.size.rows h.size.columns (take before l.entries)) at number last filled.0 line (lines more) f filled.2 (omega arith) p e k s answer (given_again u)
+        twice_fault text cursor.rest.now h.banner h.size (grid h.size.rows h.size.columns walk.done) cursor.at (cursor.at + length e.between) behind.at filled.0 e.line (lines behind.rest.now) f filled.2 (omega arith) passes e.at_is e.content e.short e.answer (given_again g)
 
-    -- it gives none that does
-    pub walk_on : new ≤ repeat → Walk h start l repeat more last new
-    walk_on u =
+    -- it gives none again
+    pub walk_on : (new : Marks) → HaveMet walk.entries (walk.done ++ own_entries h f) head.taken.entries new → Walk h start new behind.rest.now behind.at
+    walk_on new m =
         let i = head.is in
         record {
+          entries = walk.entries;
+          twice = walk.twice;
+          done = walk.done ++ own_entries h f;
+          todo = head.taken.entries;
+          met = m;
           left = head.fewer;
           many = head.many;
           end = walk.end;
-          run = subst (λ (es : List Entry). Run h.banner h.size head.fewer more head.many es walk.end) (sym dropped)
-              (run_same h.banner h.size head.fewer more head.taken.more head.many head.taken.entries walk.end same.more_are head.run);
-          upto = u;
+          run = run_same h.banner h.size head.fewer behind.rest.now head.taken.more head.many head.taken.entries walk.end same.more_are head.run;
           filled = λ text begun.
               let filled = walk.filled text begun in
               let few = filled.1 in (
                 filled.0 + 1,
                 omega arith,
-                subst (λ (es : List Entry). Filled text h.banner h.size (grid h.size.rows h.size.columns es) more last (filled.0 + 1)) (sym taken)
-                    (filled_line text h.banner h.size (take before l.entries) rest more at number last filled.0 line f filled.2 (omega arith) p e k s answer
-                    (subst (λ (es : List Entry). NoneTwice es) taken (once_take l.entries new repeat u first.before))),
+                filled_line text h.banner h.size walk.done cursor.rest.now behind.rest.now cursor.at (cursor.at + length e.between) behind.at filled.0 e.line f filled.2 (omega arith) passes e.at_is e.content e.short e.answer m.once,
               );
         }

@@ -1,6 +1,6 @@
 -- What is told of a text: its matrix, or its first fault.
 use Rattle.std.proofs.Common.{◌≡◌, ◌<◌, ℕ, List, Option, None, Some, Result, Ok, Err, sym, subst, arith}
-use Rattle.std.specs.Prelude.{MatchOption, MatchResult, IfOk, IfErr, IfSome, OnErr}
+use Rattle.std.specs.Prelude.{MatchOption, MatchResult, IfOk, IfErr, OnErr, OnOk}
 use Rattle.std.specs.FinMap as fin
 use Rattle.csr_store.specs.Grid.{Grid}
 use Rattle.csr_store.specs.ByRows.{grid}
@@ -58,8 +58,5 @@ err_case P r x e h = subst (λ t. IfErr t P) e h
 pub on_err : {X E : Type 0} (P : Type 0) (r : Result X E) (x : E) → r ≡ Err x → OnErr r P → P
 on_err P r x e h = subst (λ t. OnErr t P) e h
 
-pub some_case : {X : Type 0} (P : X → Type 0) (o : Option X) (x : X) → o ≡ Some x → IfSome o P → P x
-some_case P o x e h = subst (λ t. IfSome t P) e h
-
-pub none_case : {X : Type 0} (P : Type 0) (Q : X → Type 0) (o : Option X) → o ≡ None → MatchOption o P Q → P
-none_case P Q o e h = subst (λ t. MatchOption t P Q) e h
+pub on_ok : {X E : Type 0} (P : Type 0) (r : Result X E) (x : X) → r ≡ Ok x → OnOk r P → P
+on_ok P r x e h = subst (λ t. OnOk t P) e h

@@ -3,4 +3,5 @@ pub mod Answers
 pub mod Filling
 pub mod Gathering
 pub mod Refusal
+pub mod Repeating
 pub mod Usual

@@ -225,7 +225,7 @@ fn cursor_behind<'a>(cursor: Cursor<'a>, run: Run) -> Cursor<'a>
 }
 
 /// A text from a place on.
-fn text_behind(text: &[u8], from: usize) -> &[u8]
+pub fn text_behind(text: &[u8], from: usize) -> &[u8]
     requires { from ≤ length text.now }
     ensures rest { result.now ≡ drop from text.now }
     ensures shorter { from + length result.now ≡ length text.now }

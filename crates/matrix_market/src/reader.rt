@@ -1,12 +1,10 @@
 //! Text to matrices.
-ghost use Rattle.std.specs.Prelude.{◌≡◌, None, IfErr, IfOk, IfSome};
-ghost use Rattle.csr_store.specs.ByRows.{grid};
-ghost use Rattle.csr_store.specs.Listed.{NoneTwice};
+ghost use Rattle.std.specs.Prelude.{ℕ, List, IfErr, IfOk};
 ghost use Rattle.matrix_market.specs.Market.{IsTextOf};
 ghost use Rattle.matrix_market.specs.Refusal.{ExplainsRefusal, IsOnlyMatrix};
-ghost use Rattle.matrix_market.specs.inner.Gathering.{Begun, IsAnswer, IsRead, Tells};
+ghost use Rattle.matrix_market.specs.inner.Gathering.{Begun, IsAnswer};
 ghost use Rattle.matrix_market.specs.inner.Refusal.{NamesFault};
-ghost use Rattle.matrix_market.specs.declared.rule.MarketError.TheVariants.{Memory};
+ghost use Rattle.matrix_market.specs.inner.Repeating.{IsRepeating};
 
 use crate::cursor::Cursor;
 use crate::gather::{Gathering, gather};
@@ -14,7 +12,7 @@ use crate::kinds::{Header, read_banner, read_size};
 use crate::lines::{Content, MOST_BYTES, next_content};
 use crate::repeat::line_of_repeat;
 use crate::rule::{MarketError, MarketRule};
-use csr_store::{EntryList, Matrix, StoreError};
+use csr_store::{Matrix, RepeatedPositions};
 use std::alloc::Global;
 use text_words::first_line;
 
@@ -84,66 +82,31 @@ fn read_header(text: &[u8]) -> Result<(Header, Cursor<'_>), MarketError>
     }
 }
 
-/// Reads the entries that a size line says. Where a line breaks a rule and no position before it is given again, its fault is told
-/// without further memory.
+/// Reads the entries that a size line says. A fault that is found is told without further memory, and so is a position that is
+/// given again before it.
 fn read_entries(alloc: Global, header: Header, start: Cursor<'_>) -> Result<Matrix, MarketError>
     ensures { IsAnswer header start.entry result }
 {
     let Gathering { list, fault } = gather(alloc, header, start)?;
     match fault {
-        Some(fault) => {
-            if list.has_repeat() {
-                return read_again(alloc, header, start);
-            }
-            Err(fault)
-        }
-        None => match finish(list)? {
-            Some(matrix) => Ok(matrix),
-            None => read_again(alloc, header, start),
+        Some(fault) => match list.repeats() {
+            Some(repeats) => Err(fault_of_repeat(header, start, repeats)),
+            None => Err(fault),
+        },
+        None => match list.settle()? {
+            Ok(matrix) => Ok(matrix),
+            Err(repeats) => Err(fault_of_repeat(header, start, repeats)),
         },
     }
 }
 
-/// The answer to a text of which a position is given again. Its entries are gathered once more, since the sort that found this has
-/// left them in another order.
-fn read_again(alloc: Global, header: Header, start: Cursor<'_>) -> Result<Matrix, MarketError>
-    ensures { IsAnswer header start.entry result }
+/// The fault of the first line that gives a position again. A list was read from here on, of which these positions repeat.
+fn fault_of_repeat(header: Header, start: Cursor<'_>, repeats: RepeatedPositions) -> MarketError
+    requires { IsRepeating header start repeats }
+    ensures { (text : List ℕ) → Begun text header start.entry → NamesFault text result }
 {
-    conclude(header, start, gather(alloc, header, start)?)
-}
-
-/// The answer to a text of which this was gathered: the fault of the first position that is given again stands before the other.
-fn conclude(header: Header, start: Cursor<'_>, gathering: Gathering) -> Result<Matrix, MarketError>
-    requires read { IsRead header start gathering.list }
-    requires told { Tells header start gathering.list gathering.fault }
-    ensures { IsAnswer header start.entry result }
-{
-    match gathering.list.first_repeat()? {
-        Some(repeat) => Err(MarketError::Fault {
-            rule: MarketRule::PositionGivenTwice,
-            line: line_of_repeat(header, start, &gathering.list, repeat),
-        }),
-        None => match gathering.fault {
-            Some(fault) => Err(fault),
-            None => match finish(gathering.list)? {
-                Some(matrix) => Ok(matrix),
-                None => unreachable!(),
-            },
-        },
-    }
-}
-
-/// The matrix of a list, if no position is given twice.
-fn finish(list: EntryList) -> Result<Option<Matrix>, MarketError>
-    ensures once { IfOk result (λ o. IfSome o (λ _. NoneTwice list.entries)) }
-    ensures made { IfOk result (λ o. IfSome o (λ m. m ≡ grid list.rows list.columns list.entries)) }
-    ensures twice { IfOk result (λ o. o ≡ None → NoneTwice list.entries → ⊥) }
-    ensures err { IfErr result (λ e. e ≡ Memory) }
-{
-    match list.finish() {
-        Ok(matrix) => Ok(Some(matrix)),
-        Err(StoreError::PositionGivenTwice) => Ok(None),
-        Err(StoreError::Memory) => Err(MarketError::Memory),
-        Err(StoreError::IndexOutOfRange | StoreError::TooManyEntries) => unreachable!(),
+    MarketError::Fault {
+        rule: MarketRule::PositionGivenTwice,
+        line: line_of_repeat(header, start, repeats),
     }
 }

@@ -87,33 +87,55 @@ fn list_refuses_a_position_given_twice(rt: HostRuntime) {
     assert_twice(&rt, rt.alloc(), &[(0, 0, 1), (0, 0, 1)]);
 }
 
-/// Whether a list of entries of a matrix of 4 rows and 4 columns gives a position twice.
-fn repeats(alloc: Global, entries: &[Triple]) -> Result<bool, StoreError> {
+/// The place, from 0, of the first of these entries of a matrix of 4 rows and 4 columns that has the position of an earlier one.
+fn first_repeat(alloc: Global, entries: &[Triple]) -> Result<Option<usize>, StoreError> {
     let mut list = EntryList::new(alloc, 4, 4);
     for (row, column, value) in entries {
         list.push(*row, *column, *value)?;
     }
-    Ok(list.has_repeat())
+    let Some(repeats) = list.repeats() else {
+        return Ok(None);
+    };
+    let mut repeats = repeats;
+    for nth in 0..entries.len() {
+        let (row, column, _) = entries[nth];
+        if repeats.meet(row.min(3), column.min(3)) {
+            return Ok(Some(nth));
+        }
+    }
+    Ok(None)
 }
 
-/// A list gives a position twice, or it doesn't.
-fn assert_repeats(
+/// The first entry of these that has the position of an earlier one is this.
+fn assert_first_repeat(
     rt: &impl Abort,
     alloc: Global,
     entries: &[Triple],
-    wanted: bool,
+    wanted: Option<usize>,
 ) -> Result<(), Fail> {
-    let answer = repeats(alloc, entries)?;
+    let answer = first_repeat(alloc, entries)?;
     assert_eq!(rt; answer, wanted);
     Ok(())
 }
 
+/// Entries of which three positions repeat. The first that does is the last of them by rows and columns.
+const THREE_AGAIN: [Triple; 7] = [
+    (3, 3, 1),
+    (1, 1, 2),
+    (2, 0, 3),
+    (0, 2, 4),
+    (3, 3, 5),
+    (0, 2, 6),
+    (1, 1, 7),
+];
+
 #[test]
-fn repeats_are_seen_in_any_order(rt: HostRuntime) -> Result<(), Fail> {
-    assert_repeats(&rt, rt.alloc(), &[], false)?;
-    assert_repeats(&rt, rt.alloc(), &FIVE, false)?;
-    assert_repeats(&rt, rt.alloc(), &[(0, 0, 1), (0, 0, 1)], true)?;
-    assert_repeats(&rt, rt.alloc(), &[(3, 1, 5), (0, 2, 1), (3, 1, 6)], true)
+fn repeats_are_met_in_any_order(rt: HostRuntime) -> Result<(), Fail> {
+    assert_first_repeat(&rt, rt.alloc(), &[], None)?;
+    assert_first_repeat(&rt, rt.alloc(), &FIVE, None)?;
+    assert_first_repeat(&rt, rt.alloc(), &[(0, 0, 1), (0, 0, 1)], Some(1))?;
+    assert_first_repeat(&rt, rt.alloc(), &[(3, 1, 5), (0, 2, 1), (3, 1, 6)], Some(2))?;
+    assert_first_repeat(&rt, rt.alloc(), &THREE_AGAIN, Some(4))
 }
 
 /// Entries at the corners of the largest matrix.
