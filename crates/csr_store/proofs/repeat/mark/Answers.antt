@@ -1,7 +1,7 @@
-use Rattle.std.proofs.Common.{◌≡◌, ◌<◌, ◌≤◌, ◌+◌, ℕ, List, None, Some, nat_eq, length, get_or, set, refl, ap, sym, ◌∙◌, subst, arith}
+use Rattle.std.proofs.Common.{◌≡◌, ◌<◌, ℕ, List, None, nat_eq, length, get_or, ap, sym, ◌∙◌, arith}
 use Rattle.std.proofs.lemmas.List.{get_or_default}
-use Rattle.csr_store.specs.Grid.{Cell, Position}
-use Rattle.csr_store.specs.Repeated.{is_met, met_at}
+use Rattle.csr_store.specs.Grid.{Cell}
+use Rattle.csr_store.specs.Repeated.{is_met}
 use Rattle.csr_store.specs.inner.Repeated.{found_in, number_at, place_of}
 use Rattle.csr_store.proofs.Marking.{none_there, none_marked, some_there, some_marked, marked_sorted}
 use Rattle.csr_store.proofs.repeat.mark.Goals as goal

@@ -1,4 +1,4 @@
-use Rattle.matrix_market.proofs.Repeated.{Head, head, walk_start, walk_lacks, walk_met, walk_inside, walk_here, walk_on}
+use Rattle.matrix_market.proofs.Repeated.{head, walk_start, walk_lacks, walk_met, walk_inside, walk_here, walk_on}
 use Rattle.matrix_market.proofs.repeat.line_of_repeat.Goals as goal
 
 pub loop-found-init : goal.loop-found-init

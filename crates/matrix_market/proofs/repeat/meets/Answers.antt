@@ -1,4 +1,4 @@
-use Rattle.std.proofs.Common.{◌≡◌, sym, ◌∙◌}
+use Rattle.std.proofs.Common.{sym, ◌∙◌}
 use Rattle.matrix_market.proofs.Repeated.{entry_again, entry_first, mirror_again, mirror_first}
 use Rattle.matrix_market.proofs.repeat.meets.Goals as goal
 

@@ -1,4 +1,4 @@
-use Rattle.std.proofs.Common.{◌+◌, ◌-◌, ◌^◌, ◌%◌, ℕ, List, drop, refl, sym, subst, arith}
+use Rattle.std.proofs.Common.{◌+◌, ◌-◌, ◌^◌, ◌%◌, ℕ, List, refl, sym, subst, arith}
 use Rattle.matrix_market.specs.declared.kinds.Found.{Found}
 use Rattle.matrix_market.specs.inner.Usual.{IsEntryLine}
 use Rattle.matrix_market.proofs.Repeated.{entry_usual}

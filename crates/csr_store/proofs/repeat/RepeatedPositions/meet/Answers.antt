@@ -1,6 +1,6 @@
-use Rattle.std.proofs.Common.{◌≡◌, ◌+◌, ◌*◌, sym, ap, ◌∙◌}
+use Rattle.std.proofs.Common.{◌≡◌, sym, ap, ◌∙◌}
 use Rattle.std.specs.FinMap.{get}
-use Rattle.csr_store.specs.Grid.{Position, limit}
+use Rattle.csr_store.specs.Grid.{Position}
 use Rattle.csr_store.specs.Repeated.{Marks, is_met, met_at}
 use Rattle.csr_store.specs.inner.Repeated.{found_in}
 use Rattle.csr_store.proofs.Marking.{marks_are, place_back}
