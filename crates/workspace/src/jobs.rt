@@ -7,6 +7,7 @@ ghost use Rattle.job_plan.specs.Price.{total_price};
 ghost use Rattle.job_plan.specs.Refusal.{job_fault};
 ghost use Rattle.step_budget.specs.Budget.{Deals};
 ghost use Rattle.step_purse.specs.declared.dealings.Dealing.{Dealing};
+ghost use Rattle.workspace.specs.State.{State};
 ghost use Rattle.workspace.specs.Workspace.{state_of};
 ghost use Rattle.workspace.specs.Turn.{SubmitTurn, BudgetTurn, Prices, Submits};
 
@@ -19,14 +20,13 @@ use std::alloc::Global;
 use std::sync::Wait;
 use step_budget::{Reply as BudgetReply, Steps};
 
-/// `budget`: what the budget holds.
-pub fn budget<T: Steps, H: Wait>(rt: &H, workspace: &Workspace, steps: &mut T, reply: &mut Reply)
-    ensures turn { (dealings : List Dealing) ×
-        BudgetTurn (state_of workspace.now) dealings (whole reply.new) (state_of workspace.now) ×
+/// `budget`: what the budget holds, whatever the session holds.
+pub fn budget<T: Steps, H: Wait>(rt: &H, steps: &mut T, reply: &mut Reply)
+    ensures turn { (state : State) → (dealings : List Dealing) ×
+        BudgetTurn state dealings (whole reply.new) state ×
         Deals T.leads steps.old dealings steps.new }
     ensures owed { T.owes steps.new ≡ T.owes steps.old }
 {
-    let _ = workspace;
     let totals = steps.totals(rt);
     tell_budget(reply, totals.left, totals.reserved, totals.spent);
 }

@@ -66,7 +66,7 @@ pub fn answer<T: Steps, H: Threads + Wait>(
         Command::Show { name } => show(alloc, workspace, name, reply),
         Command::Types { name } => types(alloc, workspace, name, reply),
         Command::Dis { name } => disassembly(alloc, workspace, name, reply),
-        Command::Budget => budget(rt, workspace, steps, reply),
+        Command::Budget => budget(rt, steps, reply),
         Command::Quit => bye(reply),
         Command::Refuse(rule) => refuse(reply, Refusal::Session(rule)),
     }

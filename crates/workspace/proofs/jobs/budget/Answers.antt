@@ -4,5 +4,6 @@ use Rattle.workspace.proofs.jobs.budget.Goals as goal
 
 pub returns-clause-turn : goal.returns-clause-turn
 returns-clause-turn g c =
+    λ state.
     let totals = c.totals-totals.result in
     (Told totals ∷ [], (totals, refl, c.tell_budget.ensures, refl), (c.totals-totals.new.self, c.totals-totals.ensures.dealt, refl))
