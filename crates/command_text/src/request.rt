@@ -1,5 +1,5 @@
 //! What a command line asks for.
-ghost use Rattle.std.specs.Prelude.{◌≡◌, ℕ, List, Ok, Err, MatchResult};
+ghost use Rattle.std.specs.Prelude.{◌≡◌, ◌≢◌, ℕ, List, Ok, Err, MatchBool, MatchResult};
 ghost use Rattle.text_words.specs.Words as text;
 ghost use Rattle.command_text.specs.Words.{length_of};
 ghost use Rattle.command_text.specs.Requests as spec;
@@ -32,6 +32,15 @@ pub enum Command<'a> {
     Quit,
     /// A line that is refused whatever the session holds.
     Refuse(SessionRule),
+}
+
+impl Command<'_> {
+    /// Whether it is `quit`, which ends the session.
+    pub fn is_quit(&self) -> bool
+        ensures { MatchBool result (command_of self.now ≡ spec.Quit) (command_of self.now ≢ spec.Quit) }
+    {
+        matches!(self, Command::Quit)
+    }
 }
 
 /// A command whose body follows its line.

@@ -1,29 +1,34 @@
 -- How an exchange is made of its parts.
-use Rattle.std.proofs.Common.{◌≡◌, ℕ, Bool, true, false, List, [], ◌++◌, Option, None, Some, Result, Ok, Err, inl, inr, refl, sym, ap, ◌∙◌, subst}
+use Rattle.std.proofs.Common.{◌≡◌, ◌≢◌, ℕ, Bool, true, false, List, [], ◌++◌, Option, None, Some, Result, Ok, Err, inl, inr, refl, sym, ap, ◌∙◌, subst}
+use Rattle.std.specs.Bool.{then_some}
+use Rattle.std.specs.Prelude.{MatchBool}
 use Rattle.wire.specs.InputState.{Stream}
 use Rattle.wire.specs.Fetching.{Fetched, IsLined}
 use Rattle.wire.specs.Sending.{Outgoing, Sent}
 use Rattle.wire.proofs.Sending.{sent_then}
 use Rattle.wire.specs.declared.fetch.Lined.{Lined}
 use Rattle.wire.specs.declared.fetch.Lined.TheVariants as lined
-use Rattle.wire.specs.declared.device.WriteFailed.{WriteFailed}
 use Rattle.wire.proofs.Fetching.{fetched_map, fetched_on}
 use Rattle.text_words.specs.Words.{words}
-use Rattle.command_text.specs.Requests.{Request, request}
+use Rattle.command_text.specs.Requests.{Quit, Request, request}
+use Rattle.command_text.specs.Readings.{command_of}
+use Rattle.command_text.specs.declared.request.Command as code
 use Rattle.command_text.specs.declared.rules.FatalRule.{FatalRule}
 use Rattle.command_text.specs.declared.rules.FatalRule.TheVariants.{LineTooLong}
 use Rattle.step_purse.specs.declared.dealings.Dealing.{Dealing}
 use Rattle.workspace.specs.State.{State}
-use Rattle.session.specs.NextCommand.{NextCommand, Waits, Ends, Goes, refused, next, next_of, next_request}
+use Rattle.workspace.specs.Turn.{Turn}
+use Rattle.session.specs.NextCommand.{NextCommand, Waits, Ends, Goes, refused, next, next_of, next_plain, next_request}
 use Rattle.session.specs.Exchange.{Touched, Scene, IsLast, Ahead, Went, Final, FinalWhole, Exchanged, behind}
 use Rattle.session.specs.inner.Exchange.{Receives, IsReceivedOf, IsEmptied, Awaited, Responds, Tells}
 use Rattle.session.specs.declared.end.End.{End}
 use Rattle.session.specs.declared.end.End.TheVariants.{InputEnd}
+use Rattle.session.specs.declared.end.End.TheVariants as ends
 use Rattle.session.specs.declared.end.ServeFault.{ServeFault}
 use Rattle.session.specs.declared.end.ServeFault.TheVariants.{Read, Write, Turns, Memory}
 use Rattle.session.specs.declared.receiving.Received.{Received}
 use Rattle.session.specs.declared.receiving.Received.TheVariants as h
-use Rattle.session.proofs.Grammar.{next_behind}
+use Rattle.session.proofs.Grammar.{next_behind, plain_goes}
 
 -- what comes of what a command's answer says next
 last_of : (cut : Bool) (is : NextCommand) (rest : List ℕ) (old new : State) (received : Received) (ds : List Dealing) (reply : List ℕ) (end : Option End)
@@ -89,8 +94,7 @@ module _ {S : Type 0} (leads : S → Dealing → S → Type 0) (ahead : Ahead) (
   abbrev after_answer : Scene S
   after_answer = record { stream = t; touched = now }
 
-  -- what was heard was answered
-  pub exchanged_told : (end : Option End) → Tells leads was now received (Ok end) → Exchanged ahead leads before_answer after_answer (Ok end)
+  exchanged_told : (end : Option End) → Tells leads was now received (Ok end) → Exchanged ahead leads before_answer after_answer (Ok end)
   exchanged_told None w =
       let r = w.2 t.held.bytes (ahead t.held.ended (s.held.bytes ++ f.got)) f.holds in
       record {
@@ -114,9 +118,9 @@ module _ {S : Type 0} (leads : S → Dealing → S → Type 0) (ahead : Ahead) (
         w.5 e refl,
       )
 
-  -- what was heard was answered, and not all that was said is written
-  pub exchanged_cut : (failed : WriteFailed) → Tells leads was now received (Err failed) → Exchanged ahead leads before_answer after_answer (Err Write)
-  exchanged_cut failed w = (
+  -- not all that was said is written
+  exchanged_cut : Tells leads was now received (Err Write) → Exchanged ahead leads before_answer after_answer (Err Write)
+  exchanged_cut w = (
     w.2,
     record {
       dealings = w.0;
@@ -128,11 +132,31 @@ module _ {S : Type 0} (leads : S → Dealing → S → Type 0) (ahead : Ahead) (
     },
   )
 
+  -- what was heard was answered
+  pub exchanged_answered : (result : Result (Option End) ServeFault) → Tells leads was now received result → Exchanged ahead leads before_answer after_answer result
+  exchanged_answered (Ok end) w = exchanged_told end w
+  exchanged_answered (Err Write) w = exchanged_cut w
+  exchanged_answered (Err Read) w = absurd w
+  exchanged_answered (Err Turns) w = absurd w
+  exchanged_answered (Err Memory) w = absurd w
+
   -- the state was the same before
   pub exchanged_from : (state : State) (result : Result (Option End) ServeFault) → was.state ≡ state → Exchanged ahead leads before_answer after_answer result
       → Exchanged ahead leads (record { stream = s; touched = record { budget = was.budget; out = o; state = state } }) after_answer result
   exchanged_from state result kept w =
       subst (λ (x : State). Exchanged ahead leads (record { stream = s; touched = record { budget = was.budget; out = o; state = x } }) after_answer result) kept w
+
+module _ (old new : State) (command : code.Command) (ds : List Dealing) (reply : List ℕ) (turn : Turn old (command_of command) ds reply new) where
+  answered_plain : (quits : Bool) → MatchBool quits (command_of command ≡ Quit) (command_of command ≢ Quit)
+      → Responds old (h.Plain command) ds reply new (then_some quits ends.Quit)
+  answered_plain true is = λ rest n e. (Quit, e ∙ ap (λ c. next_plain c rest) is, subst (λ c. Turn old c ds reply new) is turn)
+  answered_plain false other = λ rest n e. (command_of command, e ∙ plain_goes (command_of command) rest other, turn)
+
+  -- a command without a body was answered
+  pub responds_plain : (received : Received) (quits : Bool) (end : Option End) → received ≡ h.Plain command → end ≡ then_some quits ends.Quit
+      → MatchBool quits (command_of command ≡ Quit) (command_of command ≢ Quit) → Responds old received ds reply new end
+  responds_plain received quits end is told m =
+      subst (λ r. Responds old r ds reply new end) (sym is) (subst (λ e. Responds old (h.Plain command) ds reply new e) (sym told) (answered_plain quits m))
 
 -- a refusal by which the session ends doesn't let it go on
 pub told_stopped : {S : Type 0} (leads : S → Dealing → S → Type 0) (was now : Touched S) (rule : FatalRule) → Tells leads was now (h.Stopped rule) (Ok None) → ⊥

@@ -1,5 +1,5 @@
 -- A command that is whole stays so, whatever follows.
-use Rattle.std.proofs.Common.{◌≡◌, ℕ, ◌≤◌, Bool, true, false, cond, List, ◌++◌, length, refl, ap, ◌∙◌, arith, take, drop, ltb, length-append}
+use Rattle.std.proofs.Common.{◌≡◌, ◌≢◌, ℕ, ◌≤◌, Bool, true, false, cond, List, ◌++◌, length, refl, ap, ◌∙◌, arith, take, drop, ltb, length-append}
 use Rattle.std.proofs.lemmas.List.{take-append-le, drop-append-le}
 use Rattle.std.proofs.lemmas.Bool.{ltb-false, le-ltb}
 use Rattle.wire.specs.Lines.{first, Partial, Over, Line, Nothing}
@@ -8,6 +8,22 @@ use Rattle.wire.proofs.Stays.{first-more, ended_same}
 use Rattle.text_words.specs.Words.{words}
 use Rattle.command_text.specs.Requests.{Command, Blank, Matrix, Op, Asm, Dis, Submit, Run, Show, Types, Budget, Quit, Refuse, Break, Request, Plain, Body, Fatal, request, with_body}
 use Rattle.session.specs.NextCommand.{Waits, Goes, next, next_of, next_plain, next_request}
+
+-- of the commands without a body, `quit` alone ends the session
+pub plain_goes : (c : Command) (rest : List ℕ) → c ≢ Quit → next_plain c rest ≡ Goes c rest
+plain_goes Blank rest other = refl
+plain_goes (Matrix name body) rest other = refl
+plain_goes (Op name kind body) rest other = refl
+plain_goes (Asm name kind body) rest other = refl
+plain_goes (Dis name) rest other = refl
+plain_goes (Submit submission) rest other = refl
+plain_goes Run rest other = refl
+plain_goes (Show name) rest other = refl
+plain_goes (Types name) rest other = refl
+plain_goes Budget rest other = refl
+plain_goes Quit rest other = absurd (other refl)
+plain_goes (Refuse rule) rest other = refl
+plain_goes (Break rule) rest other = refl
 
 next_plain-more : (d c : Command) (rest left more : List ℕ) → next_plain d rest ≡ Goes c left → next_plain d (rest ++ more) ≡ Goes c (left ++ more)
 next_plain-more Blank c rest left more e = cc

@@ -10,9 +10,9 @@ ghost use Rattle.session.specs.inner.Exchange.{Responds, Tells};
 ghost use Rattle.session.specs.inner.Standing.{touched_at};
 
 use crate::desk::Bench;
-use crate::end::End;
+use crate::end::{End, ServeFault};
 use crate::receiving::Received;
-use command_text::{Command, Refusal, Reply, refuse};
+use command_text::{Refusal, Reply, refuse};
 use std::alloc::Global;
 use std::sync::Wait;
 use std::thread::Threads;
@@ -48,10 +48,7 @@ fn respond<T: Steps, H: Threads + Wait>(
         }
         Received::Plain(command) => {
             answer(rt, alloc, workspace, command, steps, reply);
-            match command {
-                Command::Quit => Some(End::Quit),
-                _ => None,
-            }
+            command.is_quit().then_some(End::Quit)
         }
         Received::Whole { header, body } => {
             answer_with_body(alloc, workspace, header, body, reply);
@@ -89,7 +86,7 @@ fn say<W: Sink>(
     if last { output.flush(writer) } else { Ok(()) }
 }
 
-/// Answers what was received, and says the reply. Tells how the session ends, if it does.
+/// Answers what was received, says the reply, and counts the command. Tells how the session ends, if it does.
 ///
 /// # Errors
 ///
@@ -101,7 +98,7 @@ pub fn respond_and_say<W: Sink, T: Steps, H: Threads + Wait>(
     bench: &mut Bench,
     writer: &mut W,
     steps: &mut T,
-) -> Result<Option<End>, WriteFailed>
+) -> Result<Option<End>, ServeFault>
     requires owed { total_price (state_of bench.old.workspace).queue ≤ T.owes steps.old }
     ensures told { Tells T.leads
         (touched_at bench.old (W.state writer.old) steps.old)
@@ -110,9 +107,10 @@ pub fn respond_and_say<W: Sink, T: Steps, H: Threads + Wait>(
     ensures owed { total_price (state_of bench.new.workspace).queue + T.owes steps.old ≡
         total_price (state_of bench.old.workspace).queue + T.owes steps.new }
 {
+    bench.commands = bench.commands.saturating_add(received.count());
     let end = respond(rt, alloc, received, bench, steps);
     match say(writer, &mut bench.output, &bench.reply, end.is_some()) {
         Ok(()) => Ok(end),
-        Err(failed) => Err(failed),
+        Err(_) => Err(ServeFault::Write),
     }
 }

@@ -41,20 +41,9 @@ fn answer_line<R: Source, W: Sink, T: Steps, H: Threads + Wait>(
         total_price (state_of desk.old.bench.workspace).queue + T.owes steps.new }
     ensures bounded { reach desk.new.input ≤ reach desk.old.input }
 {
-    let Desk {
-        input,
-        line,
-        bench,
-        commands,
-    } = desk;
+    let Desk { input, line, bench } = desk;
     match receive(alloc, parse(line), input, bench, reader, writer) {
-        Ok(received) => {
-            *commands = commands.saturating_add(received.count());
-            match respond_and_say(rt, alloc, received, bench, writer, steps) {
-                Ok(end) => Ok(end),
-                Err(_) => Err(ServeFault::Write),
-            }
-        }
+        Ok(received) => respond_and_say(rt, alloc, received, bench, writer, steps),
         Err(fault) => Err(fault),
     }
 }
@@ -76,21 +65,12 @@ fn exchange<R: Source, W: Sink, T: Steps, H: Threads + Wait>(
         total_price (state_of desk.old.bench.workspace).queue + T.owes steps.new }
     ensures less { result ≡ Ok None → reach desk.new.input < reach desk.old.input }
 {
-    let Desk {
-        input,
-        line,
-        bench,
-        ..
-    } = desk;
+    let Desk { input, line, bench } = desk;
     match receive_line(input, line, &mut bench.output, reader, writer) {
         Ok(Lined::Whole) => answer_line(rt, alloc, desk, reader, writer, steps),
         Ok(Lined::Over) => {
             let received = Received::Stopped(FatalRule::LineTooLong);
-            desk.commands = desk.commands.saturating_add(received.count());
-            match respond_and_say(rt, alloc, received, &mut desk.bench, writer, steps) {
-                Ok(end) => Ok(end),
-                Err(_) => Err(ServeFault::Write),
-            }
+            respond_and_say(rt, alloc, received, &mut desk.bench, writer, steps)
         }
         Ok(Lined::Nothing) => match desk.bench.output.flush(writer) {
             Ok(()) => Ok(Some(End::InputEnd)),
@@ -219,7 +199,7 @@ impl Session {
         let Session { alloc, mut desk } = self;
         let outcome = converse(rt, alloc, &mut desk, reader, writer, steps);
         release(rt, &desk.bench.workspace, steps);
-        (outcome, desk.commands)
+        (outcome, desk.bench.commands)
     }
 }
 

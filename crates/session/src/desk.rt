@@ -17,6 +17,8 @@ pub struct Bench {
     pub workspace: Workspace,
     pub reply: Reply,
     pub output: Output,
+    /// How many commands were answered, or the largest number there is. No contract speaks of it.
+    pub commands: u64,
 }
 
 /// What a session works at: what it reads into, and its bench.
@@ -25,8 +27,6 @@ pub struct Desk {
     pub input: Input,
     pub line: Vec<u8>,
     pub bench: Bench,
-    /// How many commands were taken, or the largest number there is. No contract speaks of it.
-    pub commands: u64,
     ghost line_room: { 1026 ≤ vec_capacity line },
 }
 
@@ -51,8 +51,8 @@ impl Desk {
                 workspace,
                 reply,
                 output,
+                commands: 0,
             },
-            commands: 0,
         })
     }
 }

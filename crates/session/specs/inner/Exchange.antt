@@ -8,7 +8,6 @@ use Rattle.wire.specs.Lines as lines
 use Rattle.wire.specs.Prefixes.{IsPrefixOf}
 use Rattle.wire.specs.Sending.{Outgoing, Sent}
 use Rattle.wire.specs.declared.fetch.Lined.{Lined}
-use Rattle.wire.specs.declared.device.WriteFailed.{WriteFailed}
 use Rattle.step_purse.specs.declared.dealings.Dealing.{Dealing}
 use Rattle.step_budget.specs.Budget.{Deals, amounts_taken, amounts_settled}
 use Rattle.command_text.specs.Requests.{Command, Request, request, with_body}
@@ -71,14 +70,15 @@ LacksBody request new bytes = next_request new.ended request bytes ≡ Waits
 
 -- what was heard is answered, and the reply said; where the session ends, all is written, or a front part of it
 abbrev pub Tells : {S : Type 0} → (S → Dealing → S → Type 0) → Touched S → Touched S → Received
-    → Result (Option End) WriteFailed → Type 0
+    → Result (Option End) ServeFault → Type 0
 Tells leads old new received (Ok end) =
     (dealings : List Dealing) × (reply : List ℕ) × Responds old.state received dealings reply new.state end
     × Deals leads old.budget dealings new.budget × Sent true reply old.out new.out
     × ((e : End) → end ≡ Some e → new.out.waits ≡ [])
-Tells leads old new received (Err failed) =
+Tells leads old new received (Err Write) =
     (dealings : List Dealing) × (reply : List ℕ) × (end : Option End) × Responds old.state received dealings reply new.state end
     × Deals leads old.budget dealings new.budget × Sent false reply old.out new.out
+Tells leads old new received (Err _) = ⊥
 
 -- What was said from the start to an end or a fault, before the reservations that are still held are settled.
 pub record Spoken {S : Type 0} (cut : Bool) (leads : S → Dealing → S → Type 0) (failed_reads failed_writes : ℕ)

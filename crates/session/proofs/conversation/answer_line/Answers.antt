@@ -1,31 +1,22 @@
-use Rattle.std.proofs.Common.{Ok, Err, sym, ap, ◌∙◌}
+use Rattle.std.proofs.Common.{sym, ap, ◌∙◌}
 use Rattle.text_words.specs.Words.{words}
 use Rattle.command_text.specs.Requests.{request}
 use Rattle.command_text.specs.Readings.{request_of}
 use Rattle.session.specs.NextCommand.{next_request}
 use Rattle.session.specs.Exchange.{behind}
 use Rattle.session.specs.inner.Exchange.{LacksBody}
-use Rattle.session.specs.declared.end.ServeFault.TheVariants.{Write}
-use Rattle.session.proofs.Exchanging.{exchanged_told, exchanged_cut, exchanged_fault, exchanged_from, heard_behind}
+use Rattle.session.proofs.Exchanging.{exchanged_answered, exchanged_fault, exchanged_from, heard_behind}
 use Rattle.session.proofs.conversation.answer_line.Goals as goal
 
-pub returns-in-Ok-respond_and_say-clause-exchanged : goal.returns-in-Ok-respond_and_say-clause-exchanged
-returns-in-Ok-respond_and_say-clause-exchanged g c =
+pub returns-in-Ok-clause-exchanged : goal.returns-in-Ok-clause-exchanged
+returns-in-Ok-clause-exchanged g c =
     let line = c.args.desk.now.line.items in
     let leads = g.T.Steps.leads in
     let received = heard_behind _ _ (request_of c.parse.result) c.deref.result.now line c.in-Ok.received c.parse.ensures c.deref.ensures.value c.in-Ok.ensures.received.0 in
     let first = c.in-Ok.ensures.received.1 in
-    exchanged_from leads (behind line) _ _ _ _ _ c.in-Ok.received received first _ (Ok c.in-Ok-respond_and_say.end) c.receive.ensures.kept
-    (exchanged_told leads (behind line) _ _ _ _ _ c.in-Ok.received received first c.in-Ok-respond_and_say.end c.in-Ok-respond_and_say.ensures.told)
-
-pub returns-in-Err-respond_and_say-clause-exchanged : goal.returns-in-Err-respond_and_say-clause-exchanged
-returns-in-Err-respond_and_say-clause-exchanged g c =
-    let line = c.args.desk.now.line.items in
-    let leads = g.T.Steps.leads in
-    let received = heard_behind _ _ (request_of c.parse.result) c.deref.result.now line c.in-Ok.received c.parse.ensures c.deref.ensures.value c.in-Ok.ensures.received.0 in
-    let first = c.in-Ok.ensures.received.1 in
-    exchanged_from leads (behind line) _ _ _ _ _ c.in-Ok.received received first _ (Err Write) c.receive.ensures.kept
-    (exchanged_cut leads (behind line) _ _ _ _ _ c.in-Ok.received received first c.in-Err-respond_and_say.field-0 c.in-Err-respond_and_say.ensures.told)
+    let result = c.respond_and_say.result in
+    exchanged_from leads (behind line) _ _ _ _ _ c.in-Ok.received received first _ result c.receive.ensures.kept
+    (exchanged_answered leads (behind line) _ _ _ _ _ c.in-Ok.received received first result c.respond_and_say.ensures.told)
 
 pub returns-in-Err-clause-exchanged : goal.returns-in-Err-clause-exchanged
 returns-in-Err-clause-exchanged g c =

@@ -1,4 +1,4 @@
-use Rattle.std.proofs.Common.{◌≡◌, Ok, None, true, false, [], refl, ap, subst}
+use Rattle.std.proofs.Common.{Ok, true, false, [], refl, ap, subst}
 use Rattle.wire.specs.Fetching.{Fetched, IsLined}
 use Rattle.wire.proofs.Sending.{sent_then}
 use Rattle.command_text.specs.declared.rules.FatalRule.TheVariants.{LineTooLong}
@@ -8,7 +8,7 @@ use Rattle.session.specs.Exchange.{Touched}
 use Rattle.session.specs.inner.Exchange.{Tells, LacksLine}
 use Rattle.session.specs.inner.Standing.{touched_at}
 use Rattle.session.specs.declared.receiving.Received.TheVariants as h
-use Rattle.session.proofs.Exchanging.{exchanged_then, exchanged_told, exchanged_cut, exchanged_fault, exchanged_end, exchanged_stuck, told_stopped, heard_over, heard_end}
+use Rattle.session.proofs.Exchanging.{exchanged_then, exchanged_answered, exchanged_fault, exchanged_end, exchanged_stuck, told_stopped, heard_over, heard_end}
 use Rattle.session.proofs.conversation.exchange.Goals as goal
 
 pub returns-in-Ok-Whole-clause-exchanged : goal.returns-in-Ok-Whole-clause-exchanged
@@ -21,34 +21,26 @@ returns-in-Ok-Whole-clause-exchanged g c =
     c.in-Ok-Whole.ensures.received.1
     c.answer_line.result c.answer_line.ensures.exchanged
 
-pub returns-in-Ok-clause-exchanged : goal.returns-in-Ok-clause-exchanged
-returns-in-Ok-clause-exchanged g c =
-    exchanged_told g.T.Steps.leads next _ _ _ _ _ (h.Stopped LineTooLong) (heard_over _ _ c.receive_line.new.line.items c.in-Ok-Over.field-0 c.in-Ok-Over.field-0-is c.in-Ok-Over.ensures.received.0)
+pub returns-in-Ok-Over-clause-exchanged : goal.returns-in-Ok-Over-clause-exchanged
+returns-in-Ok-Over-clause-exchanged g c =
+    exchanged_answered g.T.Steps.leads next _ _ _ _ _ (h.Stopped LineTooLong) (heard_over _ _ c.receive_line.new.line.items c.in-Ok-Over.field-0 c.in-Ok-Over.field-0-is c.in-Ok-Over.ensures.received.0)
     c.in-Ok-Over.ensures.received.1
-    c.in-Ok.end c.in-Ok.ensures.told
+    c.respond_and_say.result c.respond_and_say.ensures.told
 
-pub returns-in-Ok-clause-less : goal.returns-in-Ok-clause-less
-returns-in-Ok-clause-less g c =
+pub returns-in-Ok-Over-clause-less : goal.returns-in-Ok-Over-clause-less
+returns-in-Ok-Over-clause-less g c =
     let was : Touched _ = record {
       budget = c.args.steps.now;
       out = record { sink = g.W.Sink.state c.receive_line.new.writer; waits = c.receive_line.new.output };
       state = state_of c.args.desk.now.bench.workspace;
     } in
     let now = touched_at c.respond_and_say.new.bench (g.W.Sink.state c.respond_and_say.new.writer) c.respond_and_say.new.steps in
-    λ e.
-    let none : c.in-Ok.end ≡ None = cc in
-    absurd (told_stopped g.T.Steps.leads was now LineTooLong (subst (λ o. Tells g.T.Steps.leads was now (h.Stopped LineTooLong) (Ok o)) none c.in-Ok.ensures.told))
+    λ e. absurd (told_stopped g.T.Steps.leads was now LineTooLong (subst (λ r. Tells g.T.Steps.leads was now (h.Stopped LineTooLong) r) e c.respond_and_say.ensures.told))
 
-pub returns-in-Err-respond_and_say-clause-exchanged : goal.returns-in-Err-respond_and_say-clause-exchanged
-returns-in-Err-respond_and_say-clause-exchanged g c =
-    exchanged_cut g.T.Steps.leads next _ _ _ _ _ (h.Stopped LineTooLong) (heard_over _ _ c.receive_line.new.line.items c.in-Ok-Over.field-0 c.in-Ok-Over.field-0-is c.in-Ok-Over.ensures.received.0)
-    c.in-Ok-Over.ensures.received.1
-    c.in-Err-respond_and_say.field-0 c.in-Err-respond_and_say.ensures.told
-
-pub returns-in-Ok-flush-clause-exchanged : goal.returns-in-Ok-flush-clause-exchanged
-returns-in-Ok-flush-clause-exchanged g c =
+pub returns-in-Ok-clause-exchanged : goal.returns-in-Ok-clause-exchanged
+returns-in-Ok-clause-exchanged g c =
     exchanged_end g.T.Steps.leads next _ _ _ _ _ _ _ refl (heard_end _ _ c.receive_line.new.line.items c.in-Ok-Nothing.field-0 c.in-Ok-Nothing.field-0-is c.in-Ok-Nothing.ensures.received.0)
-    (sent_then true [] [] _ _ _ c.in-Ok-Nothing.ensures.received.1 c.in-Ok-flush.ensures.sent, c.in-Ok-flush.ensures.none)
+    (sent_then true [] [] _ _ _ c.in-Ok-Nothing.ensures.received.1 c.in-Ok.ensures.sent, c.in-Ok.ensures.none)
 
 pub returns-in-Err-flush-clause-exchanged : goal.returns-in-Err-flush-clause-exchanged
 returns-in-Err-flush-clause-exchanged g c =
