@@ -21,7 +21,6 @@ pub mod Singly
 pub mod Folding
 pub mod InOrder
 pub mod Reducing
-pub mod Heads
 pub mod IndexCalls
 pub mod Answering
 pub mod Beside

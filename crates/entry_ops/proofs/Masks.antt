@@ -22,12 +22,9 @@ use Rattle.std.proofs.Common.{
   ◌∙◌,
   arith,
   subst,
-  cond,
   is_some,
-  slice_get,
 }
 use Rattle.std.specs.List.{AllByRecursion}
-use Rattle.std.proofs.lemmas.Bool.{ne_eqb}
 use Rattle.bpf_verify.specs.Accepted.{Accepted}
 use Rattle.csr_store.specs.Grid.{Cell}
 use Rattle.csr_store.specs.Run.{Row, Run}
@@ -48,19 +45,6 @@ use Rattle.entry_ops.proofs.Standing.{
   above_all,
   above_less,
 }
-
--- ---- where cells begin
-
-at_head : (n j : ℕ) (x : Cell) (xs : List Cell) → Ascends j n (x ∷ xs) → (x.0 ≡ j → ⊥) → at (x ∷ xs) j ≡ None
-at_head n j x xs h e =
-    ap (λ b. cond b (Some x.1) (at xs j)) (ne_eqb j x.0 (λ q. e (sym q))) ∙ at-below (suc x.0) n xs j h.2
-    (let b = h.0 in omega arith)
-
-pub begins-later : (n j : ℕ) (cs : List Cell) (c : Cell) → Some c ≡ slice_get cs 0 → Ascends j n cs → (c.0 ≡ j → ⊥) → None ≡ at cs j
-begins-later n j [] c e h q = absurd (cc)
-begins-later n j (x ∷ xs) c e h q =
-    let same : c ≡ x = cc in
-    sym (at_head n j x xs h (λ p. q (ap (λ (d : Cell). d.0) same ∙ p)))
 
 -- ---- what is listed at the mask's next column comes first
 

@@ -1,5 +1,5 @@
 -- Nothing is made of rows that are blank, or of which nothing passes.
-use Rattle.std.proofs.Common.{◌≡◌, ◌≤◌, ◌<◌, ◌+◌, ◌-◌, ℕ, zero, suc, Bool, true, false, if◌then◌else◌, List, [], ◌∷◌, ◌++◌, map, Option, None, Some, refl, sym, ap, ◌∙◌, subst, arith}
+use Rattle.std.proofs.Common.{◌≡◌, ◌≤◌, ◌<◌, ◌+◌, ◌-◌, ℕ, zero, suc, Bool, true, false, if◌then◌else◌, List, [], ◌∷◌, ◌++◌, map, Option, None, Some, ◌⊎◌, inl, inr, refl, sym, ap, ◌∙◌, subst, arith}
 use Rattle.std.specs.Prelude.{nat_eq, is_some}
 use Rattle.std.specs.FinMap.{get}
 use Rattle.std.specs.Map.{lookup}
@@ -8,14 +8,14 @@ use Rattle.csr_store.specs.Grid.{Grid, Cell, Position, row_of}
 use Rattle.csr_store.specs.Mask.{passes, cut, cut_list, mask_of, rows_under, all_listed_under}
 use Rattle.csr_store.specs.Run.{Row}
 use Rattle.csr_store.proofs.ByRow.{lookup-row_of}
+use Rattle.csr_store.proofs.Starting.{row_blank}
 use Rattle.bpf_verify.specs.Accepted.{Accepted}
 use Rattle.bpf_run.specs.Calls.{Call}
 use Rattle.bpf_run.specs.Fold.{fold, fold_calls}
 use Rattle.job_forms.specs.Forms.{applied, apply_calls, apply_at, apply_calls_at, selected, select_at, select_calls_at, united, joint, joint_calls, union_at, both_at, joint_calls_at, reduce_at, reduce_calls_at}
 use Rattle.job_forms.specs.declared.region.Chunk.{Chunk}
 use Rattle.job_forms.specs.declared.region.Region.{Region}
-use Rattle.job_forms.specs.Region.{IsMade, IsPartOf}
-use Rattle.entry_ops.specs.inner.Blank.{AreBlank, AreShut}
+use Rattle.job_forms.specs.Region.{AreBlankUnder, IsMade, IsPartOf}
 
 -- no value stands at a position, and no call is made for it
 abbrev pub HasNothing : Option Grid → (Position → Option ℕ) → (Position → List Call) → Position → Type 0
@@ -49,7 +49,7 @@ no_calls mask columns calls first (suc n) h =
     ∙ no_calls mask columns calls (suc first) n (λ i j l u. h i j (omega (arith, l)) (omega (arith, u)))
 
 -- blank rows are what is made of such a region
-pub part_of_nothing : (columns given : ℕ) → given ≡ columns → (values : Position → Option ℕ) (calls : Position → List Call) (region : Region) (made : Chunk)
+part_of_nothing : (columns given : ℕ) → given ≡ columns → (values : Position → Option ℕ) (calls : Position → List Call) (region : Region) (made : Chunk)
     → ((i j : ℕ) → region.range.start ≤ i → i < region.range.start + (region.range.end - region.range.start)
     → HasNothing (mask_of region.mask) values calls (i, j))
     → IsMade (record {
@@ -80,7 +80,7 @@ no_value true x y h = h
 no_value false x y h = refl
 
 -- nothing stands at the position
-pub nothing_there : (mask : Option Grid) (values : Position → Option ℕ) (calls : Position → List Call) (at : Position)
+nothing_there : (mask : Option Grid) (values : Position → Option ℕ) (calls : Position → List Call) (at : Position)
     → values at ≡ None → calls at ≡ [] → HasNothing mask values calls at
 nothing_there mask values calls at v c = (no_value (passes mask at) (values at) None v, no_value (passes mask at) (calls at) [] c)
 
@@ -90,11 +90,37 @@ pub nothing_passes : (mask : Option Grid) (values : Position → Option ℕ) (ca
 nothing_passes mask values calls at p =
     (ap (λ b. if b then values at else None) p, ap (λ b. if b then calls at else []) p)
 
-pub none_in_blank : (g : Grid) (i j : ℕ) → row_of g i ≡ [] → get g.cells (i, j) ≡ None
+none_in_blank : (g : Grid) (i j : ℕ) → row_of g i ≡ [] → get g.cells (i, j) ≡ None
 none_in_blank g i j e = sym (lookup-row_of g i j) ∙ ap (lookup (nat_eq j)) e
 
-pub shut_by_blank : (mask : Grid) (from n : ℕ) → AreBlank mask from n → AreShut (Some mask) from n
-shut_by_blank mask from n h i j l u = ap is_some (none_in_blank mask i j (h i l u))
+-- in a matrix that is blank under a mask row i has no cell, or the position doesn't pass
+pub blank_at : (mask : Option Grid) (a : Grid) (first n i j : ℕ) → AreBlankUnder mask a first n → first ≤ i → i < first + n
+    → (row_of a i ≡ []) ⊎ (passes mask (i, j) ≡ false)
+blank_at None a first n i j h l u = inl (row_blank a first n i h l u)
+blank_at (Some mask) a first n i j h l u = elim h [
+  | inl e ↦ inl (row_blank a first n i e l u)
+  | inr e ↦ inr (ap is_some (none_in_blank mask i j (row_blank mask first n i e l u)))
+]
+
+-- so nothing is made of it, where nothing is made of a row without a cell
+pub part_of_blank : (columns given : ℕ) → given ≡ columns → (values : Position → Option ℕ) (calls : Position → List Call)
+    → (region : Region) (made : Chunk) (a : Grid)
+    → AreBlankUnder (mask_of region.mask) a region.range.start (region.range.end - region.range.start)
+    → ((i j : ℕ) → region.range.start ≤ i → i < region.range.start + (region.range.end - region.range.start) → row_of a i ≡ []
+    → HasNothing (mask_of region.mask) values calls (i, j))
+    → IsMade (record {
+      first = region.range.start;
+      columns = given;
+      ended = along (λ i. [] ∷ []) region.range.start (region.range.end - region.range.start);
+      opened = [];
+    }) [] made
+    → IsPartOf columns values calls region made
+part_of_blank columns given same values calls region made a blank nothing =
+    part_of_nothing columns given same values calls region made
+    (λ i j l u. elim (blank_at (mask_of region.mask) a region.range.start (region.range.end - region.range.start) i j blank l u) [
+      | inl e ↦ nothing i j l u e
+      | inr p ↦ nothing_passes (mask_of region.mask) values calls (i, j) p
+    ])
 
 -- ---- form by form, at a row without a cell
 

@@ -1,8 +1,6 @@
 -- What serves this crate's own modules: contracts between them, invariants and proofs. No public contract reaches it.
-pub mod Blank
 pub mod IndexCalls
 pub mod Folding
-pub mod Heads
 pub mod Mapped
 pub mod Masked
 pub mod Paired

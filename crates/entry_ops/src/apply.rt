@@ -4,7 +4,7 @@ ghost use Rattle.bpf_insn.specs.declared.operands.Kind.TheVariants as kinds;
 ghost use Rattle.job_forms.specs.Forms.{apply_kind, apply_at, apply_calls_at, select_at, select_calls_at};
 ghost use Rattle.job_forms.specs.Region.{IsRegion, IsPartOf};
 
-use crate::blank::{blank_region, is_blank, is_shut};
+use crate::blank::blank_region;
 use crate::form::EntryForm;
 use crate::mapping::map_region;
 use crate::operand_rows::Sources;
@@ -15,7 +15,7 @@ use crate::select_unmasked::keep_region;
 use bpf_run::Calls;
 use bpf_verify::Operator;
 use csr_store::Matrix;
-use job_forms::{Chunk, Region};
+use job_forms::{Chunk, Region, is_blank_under};
 use std::alloc::Global;
 
 /// What an operator makes of each word of a region: a unary one of the word alone, an index operator of the word, its row, its
@@ -35,7 +35,7 @@ pub fn apply_region<'m>(
     ensures { IsPartOf a.now.columns (apply_at operator.now thunk a.now) (apply_calls_at operator.now thunk a.now)
         region.entry result }
 {
-    if is_blank(a, &region) || is_shut(&region) {
+    if is_blank_under(a, region.mask, &region.range) {
         return blank_region(alloc, a.columns(), region.range);
     }
     if region.mask.is_none() && is_in_run(region.range.start..region.range.end) {
@@ -72,7 +72,7 @@ pub fn select_region<'m>(
     ensures { IsPartOf a.now.columns (select_at operator.now thunk a.now) (select_calls_at operator.now thunk a.now)
         region.entry result }
 {
-    if is_blank(a, &region) || is_shut(&region) {
+    if is_blank_under(a, region.mask, &region.range) {
         return blank_region(alloc, a.columns(), region.range);
     }
     let Some(mask) = region.mask else {

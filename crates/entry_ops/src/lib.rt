@@ -29,7 +29,6 @@ mod operand_rows;
 mod pairs;
 mod ranges;
 mod reduce;
-mod row_cursor;
 mod rows;
 mod runs;
 mod select;

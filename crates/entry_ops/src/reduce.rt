@@ -6,13 +6,13 @@ ghost use Rattle.job_forms.specs.Forms.{reduce_at, reduce_calls_at};
 ghost use Rattle.job_forms.specs.Region.{IsRegion, IsPartOf};
 ghost use Rattle.entry_ops.specs.inner.Folding.{CanReduce, AddsReduced};
 
-use crate::blank::{blank_region, is_blank, is_shut};
+use crate::blank::blank_region;
 use crate::folds::{BLOCK_ROWS, Block, Folds};
 use crate::in_order::fill_in_order;
 use bpf_run::Calls;
 use bpf_verify::Operator;
 use csr_store::Matrix;
-use job_forms::{Chunk, Making, Region};
+use job_forms::{Chunk, Making, Region, is_blank_under};
 use std::alloc::{AllocError, Global};
 
 /// The rows of an operator of up to so many instructions are folded one after the other: by the clock a call of one that has more
@@ -66,7 +66,7 @@ pub fn reduce_region<'m>(
 {
     operator.recall();
     a.recall();
-    if is_blank(a, &region) || is_shut(&region) {
+    if is_blank_under(a, region.mask, &region.range) {
         return blank_region(alloc, 1, region.range);
     }
     let mut making = Making::begin(alloc, region.range.start, 1);

@@ -9,12 +9,11 @@ ghost use Rattle.entry_ops.specs.inner.Masked.{HasMaskedRows, rows_kept, calls_k
 ghost use Rattle.entry_ops.specs.inner.Walking.{with_rows, form_row, form_row_calls, IsFormMade};
 
 use crate::form::operands_of;
-use crate::row_cursor::{begin_walk, value_here, walk_to};
 use crate::select_buffer::SelectBuffer;
 use bpf_run::Calls;
 use bpf_verify::Operator;
 use csr_store::Matrix;
-use job_forms::Chunk;
+use job_forms::{Chunk, RowCursor};
 use std::alloc::{AllocError, Global};
 use std::ops::Range;
 
@@ -45,12 +44,12 @@ fn keep_row(
 {
     masked.a.recall();
     masked.mask.recall();
-    let mut cells = begin_walk(masked.a.row(row));
+    let mut cells = RowCursor::new(masked.a.row(row));
     let mut masks = masked.mask.row(row);
     while let Some((shown, rest)) = masks.split_first() {
         let column = shown.0;
-        cells = walk_to(cells, column);
-        if let Some(word) = value_here(cells, column) {
+        cells.advance_to(column);
+        if let Some(word) = cells.word_at(column) {
             let operands = operands_of(Some(thunk), row, column, word);
             sieve.keep(operator, calls, column, word, operands)?;
         }

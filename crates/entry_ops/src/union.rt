@@ -4,14 +4,14 @@ ghost use Rattle.bpf_insn.specs.declared.operands.Kind.TheVariants as kinds;
 ghost use Rattle.job_forms.specs.Forms.{union_at, both_at, joint_calls_at};
 ghost use Rattle.job_forms.specs.Region.{IsRegion, IsPartOf};
 
-use crate::blank::{blank_region, is_blank, is_shut};
+use crate::blank::blank_region;
 use crate::form::EntryForm;
 use crate::mapping::merge_region;
 use crate::operand_rows::Sources;
 use bpf_run::Calls;
 use bpf_verify::Operator;
 use csr_store::Matrix;
-use job_forms::{Chunk, Region};
+use job_forms::{Chunk, Region, is_blank_under};
 use std::alloc::Global;
 
 /// A region of the union of two matrices: the operator where both have a word, and a copy where one has.
@@ -31,7 +31,7 @@ pub fn union_region<'m>(
     ensures { IsPartOf a.now.columns (union_at operator.now a.now b.now) (joint_calls_at operator.now a.now b.now)
         region.entry result }
 {
-    if is_blank(a, &region) && is_blank(b, &region) || is_shut(&region) {
+    if is_blank_under(a, region.mask, &region.range) && is_blank_under(b, region.mask, &region.range) {
         return blank_region(alloc, a.columns(), region.range);
     }
     let sources = Sources {
@@ -66,7 +66,7 @@ pub fn both_region<'m>(
     ensures { IsPartOf a.now.columns (both_at operator.now a.now b.now) (joint_calls_at operator.now a.now b.now)
         region.entry result }
 {
-    if is_blank(a, &region) || is_blank(b, &region) || is_shut(&region) {
+    if is_blank_under(a, region.mask, &region.range) || is_blank_under(b, region.mask, &region.range) {
         return blank_region(alloc, a.columns(), region.range);
     }
     let sources = Sources {

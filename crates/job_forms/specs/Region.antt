@@ -1,15 +1,21 @@
 -- What is made of a part of a result: rows of a range, under a structural mask (GraphBLAS C API Specification 2.0, "Masks"), with
 -- the steps of the calls. That calls have steps, and what want of memory leaves, is this project's own.
-use Rattle.std.specs.Prelude.{◌≡◌, ◌≤◌, ◌+◌, ◌-◌, ◌++◌, ℕ, List, [], Option}
+use Rattle.std.specs.Prelude.{◌≡◌, ◌≤◌, ◌+◌, ◌-◌, ◌⊎◌, ◌++◌, ℕ, List, [], Option, None, Some}
 use Rattle.std.specs.Prelude.{Result, Ok, Err, IfOk, OnOk, OnErr}
 use Rattle.std.specs.declared.alloc.AllocError.{AllocError}
-use Rattle.csr_store.specs.Grid.{Position}
+use Rattle.csr_store.specs.Along.{along}
+use Rattle.csr_store.specs.Grid.{Grid, Position, row_of}
 use Rattle.csr_store.specs.Mask.{HasShape, mask_of, rows_under, all_listed_under}
 use Rattle.csr_store.specs.Run.{Row, Run}
 use Rattle.bpf_run.specs.Calls.{Call, steps_of, Charges}
 use Rattle.job_forms.specs.declared.region.Region.{Region}
 use Rattle.job_forms.specs.declared.region.Chunk.{Chunk}
 use Rattle.job_forms.specs.declared.region.Making.{Making}
+
+-- a matrix has no entry in the rows from `first` on, n of them, or the mask stores nothing there
+abbrev pub AreBlankUnder : Option Grid → Grid → ℕ → ℕ → Type 0
+AreBlankUnder None a first n = along (row_of a) first n ≡ []
+AreBlankUnder (Some mask) a first n = (along (row_of a) first n ≡ []) ⊎ (along (row_of mask) first n ≡ [])
 
 -- the region is one of a result of so many rows and columns
 pub record IsRegion (rows columns : ℕ) (region : Region) : Type 0 where

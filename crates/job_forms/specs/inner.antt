@@ -1,2 +1,3 @@
 -- What serves this crate's own modules: contracts between them, invariants and proofs. No public contract reaches it.
 pub mod Count
+pub mod Cursor

@@ -1,8 +1,9 @@
 //! A part of a result, and what is made of it.
-ghost use Rattle.std.specs.Prelude.{◌≡◌, List};
+ghost use Rattle.std.specs.Prelude.{◌≡◌, ◌≤◌, ◌-◌, ◌↔◌, List, IfSome, IsTrue};
 ghost use Rattle.bpf_run.specs.Calls.{Call};
+ghost use Rattle.csr_store.specs.Mask.{mask_of};
 ghost use Rattle.csr_store.specs.Run.{Run};
-ghost use Rattle.job_forms.specs.Region.{nothing_made, finished, IsMade};
+ghost use Rattle.job_forms.specs.Region.{AreBlankUnder, nothing_made, finished, IsMade};
 
 use csr_store::{Matrix, Rows};
 use std::alloc::{AllocError, Global};
@@ -14,6 +15,21 @@ use std::ops::Range;
 pub struct Region<'m> {
     pub range: Range<u64>,
     pub mask: Option<&'m Matrix>,
+}
+
+/// Whether a matrix or the mask has no entry in the rows of a range. That is seen from where rows start, and no row is looked at.
+pub fn is_blank_under(a: &Matrix, mask: Option<&Matrix>, range: &Range<u64>) -> bool
+    requires mask { IfSome mask (λ m. range.now.end ≤ m.now.rows) }
+    requires within { range.now.end ≤ a.now.rows }
+    ensures { IsTrue result ↔ AreBlankUnder (mask_of mask.entry) a.now range.now.start (range.now.end - range.now.start) }
+{
+    if a.is_blank(range.start..range.end) {
+        return true;
+    }
+    match mask {
+        Some(mask) => mask.is_blank(range.start..range.end),
+        None => false,
+    }
 }
 
 /// What was made of a part of a result: its rows, or want of memory; and the steps of the calls that were made.

@@ -1,9 +1,8 @@
 -- A row of B read beside the mask's row: the cells that pass.
-use Rattle.std.proofs.Common.{◌≡◌, ℕ, suc, ◌≤◌, ◌<◌, Bool, true, false, cond, nat_eq, eq-eqb, if◌then◌else◌}
-use Rattle.std.proofs.Common.{List, [], ◌∷◌, ◌++◌, Some, is_some, inl, inr, refl, sym, ap, ◌∙◌, subst, append_assoc, arith}
-use Rattle.std.proofs.lemmas.Bool.{cases_lt, ne_eqb}
+use Rattle.std.proofs.Common.{◌≡◌, ℕ, suc, ◌≤◌, Bool, true, false, if◌then◌else◌}
+use Rattle.std.proofs.Common.{List, [], ◌∷◌, ◌++◌, is_some, refl, sym, ap, ◌∙◌, subst, append_assoc, arith}
 use Rattle.csr_store.specs.Grid.{Cell}
-use Rattle.csr_store.proofs.Along.{Ascends, at, ascends-weaken, at-below, at-after}
+use Rattle.csr_store.proofs.Along.{Ascends, at, ascends-weaken}
 use Rattle.row_product.specs.inner.Adding.{taking}
 use Rattle.row_product.specs.inner.RowUnderMask.{stores, IsRowUnderMask}
 
@@ -12,30 +11,6 @@ pub taking_same : (t u : ℕ → Bool) (cs : List Cell) → ((j : ℕ) → t j �
 taking_same t u [] e = refl
 taking_same t u (c ∷ cs) e =
     ap (λ b. if b then c ∷ taking t cs else taking t cs) (e c.0) ∙ ap (λ us. if u c.0 then c ∷ us else us) (taking_same t u cs e)
-
--- a row that has nothing before column k
-pub stores_first : (n k : ℕ) (row : List Cell) (c : Cell) (more : List Cell) → row ≡ c ∷ more → Ascends k n row
-    → nat_eq c.0 k ≡ stores row k
-stores_first n k row c more e h =
-    let a = subst (Ascends k n) e h in
-    let l = a.0 in
-    elim (cases_lt k c.0) [
-      | inl m ↦ ne_eqb c.0 k (λ q. omega (arith, m, q))
-          ∙ sym (ap (λ us. stores us k) e ∙ ap is_some (at-below (suc k) n (c ∷ more) k (omega (arith, m), a.1, a.2) (omega arith)))
-      | inr m ↦ let q : c.0 ≡ k = omega (arith, l, m) in
-          eq-eqb c.0 k q ∙ sym (ap (λ us. stores us k) e
-          ∙ ap (λ b. is_some (cond b (Some c.1) (at more k))) (eq-eqb k c.0 (sym q)))
-    ]
-
--- a row without its first cell shows the same from a later column on
-pub left_further : (n column : ℕ) (row left : List Cell) (c : Cell) (more : List Cell) → left ≡ c ∷ more → c.0 < column
-    → Ascends 0 n left × ((j : ℕ) → column ≤ j → at row j ≡ at left j)
-    → Ascends 0 n more × ((j : ℕ) → column ≤ j → at row j ≡ at more j)
-left_further n column row left c more e l i =
-    let a = subst (Ascends 0 n) e i.0 in (
-      ascends-weaken 0 (suc c.0) n more (omega arith) a.2,
-      λ j h. i.1 j h ∙ (ap (λ us. at us j) e ∙ at-after c more j (omega (arith, h, l))),
-    )
 
 -- one cell further, where the mask's row is read up to its column
 pub beside_further : (whole : List Cell) (n : ℕ) (cells mask : List Cell) (c : Cell) (more left : List Cell)

@@ -17,7 +17,7 @@ use crate::progress::Progress;
 use crate::row_under_mask::{RowUnderMask, list_passing};
 use bpf_run::MOST_CALLS;
 use csr_store::Rows;
-use job_forms::Making;
+use job_forms::{Making, RowCursor};
 use std::alloc::AllocError;
 
 /// The one entry of row `i` of A, where it has no other.
@@ -92,7 +92,7 @@ fn push_row_under(
     making.rows.reserve(cells.len().min(stored.len()))?;
     let mut row = RowUnderMask {
         cells,
-        mask: stored,
+        mask: RowCursor::new(stored),
     };
     while !row.cells.is_empty() {
         row = list_passing(row, &mut progress.passing);

@@ -7,9 +7,8 @@ use Rattle.entry_ops.specs.inner.Forms.{Apply}
 use Rattle.entry_ops.specs.inner.Walking.{IsFormMade}
 use Rattle.entry_ops.proofs.Positions.{apply_is}
 use Rattle.job_forms.specs.Forms.{apply_at, apply_calls_at}
-use Rattle.entry_ops.proofs.Nothing.{part_of_nothing, nothing_passes, apply_nothing}
+use Rattle.entry_ops.proofs.Nothing.{part_of_blank, apply_nothing}
 use Rattle.entry_ops.proofs.apply.apply_region.Goals as goal
-use Rattle.entry_ops.proofs.apply.apply_region.Goals.{then-is_blank-via-then-is_blank, then-is_blank-via-else-is_blank+then-is_shut}
 
 pub returns : goal.returns
 returns c = apply_is c.args.operator.now c.args.a.now c.args.region _ c.args.thunk c.fill_region.ensures
@@ -24,14 +23,10 @@ returns-then-is_in_run c = apply_is c.args.operator.now c.args.a.now c.args.regi
     (c.args.region.range.end - c.args.region.range.start) c.map_region.result) (sym (none_there c.args.region.mask c.if-is_none.ensures))
     c.map_region.ensures)
 
-pub returns-then-is_blank : goal.returns-then-is_blank
-returns-then-is_blank c =
+pub returns-then-is_blank_under : goal.returns-then-is_blank_under
+returns-then-is_blank_under c =
     let f = c.args.operator.now in
     let a = c.args.a.now in
     let mask = mask_of c.args.region.mask in
-    part_of_nothing a.columns c.columns.result c.columns.ensures.columns (apply_at f c.args.thunk a) (apply_calls_at f c.args.thunk a) c.args.region c.blank_region.result
-    (λ i j l u. elim c.then-is_blank.branch [
-      | then-is_blank-via-then-is_blank w ↦ apply_nothing f c.args.thunk a mask i j (c.is_blank.ensures w.if-is_blank.true i l u)
-      | then-is_blank-via-else-is_blank+then-is_shut w ↦
-          nothing_passes mask (apply_at f c.args.thunk a) (apply_calls_at f c.args.thunk a) (i, j) (w.is_shut.ensures w.if-is_shut.true i j l u)
-    ]) c.blank_region.ensures
+    part_of_blank a.columns c.columns.result c.columns.ensures.columns (apply_at f c.args.thunk a) (apply_calls_at f c.args.thunk a) c.args.region c.blank_region.result a
+    (c.is_blank_under.ensures.0 c.if-is_blank_under.true) (λ i j l u e. apply_nothing f c.args.thunk a mask i j e) c.blank_region.ensures

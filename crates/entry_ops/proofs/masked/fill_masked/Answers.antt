@@ -6,14 +6,13 @@ use Rattle.entry_ops.proofs.Standing.{on_err, completes-room, completes-stop}
 use Rattle.entry_ops.proofs.masked.fill_masked.Goals as goal
 
 pub loop-shown-init : goal.loop-shown-init
-loop-shown-init c = rw (c.begin_walk-lefts.ensures.cells, c.begin_walk-rights.ensures.cells) (
+loop-shown-init c = rw (c.new-lefts.ensures, c.new-rights.ensures) (
   c.requires.ready.holds,
   masking-start _ _ _ _ _ _ _ _ _ _ c.requires.sides.left (c.second_for.ensures.ascends c.args.sides.columns c.requires.sides.right)
       c.requires.sides.mask
       (c.second_for.ensures.cells c.args.operator.now c.args.sides.row c.args.sides.columns c.args.sides.left.now c.args.mask.now)
       (c.second_for.ensures.calls c.args.operator.now c.args.sides.row c.args.sides.columns c.args.sides.left.now c.args.mask.now)
       c.requires.ready.open_row,
-  (c.begin_walk-lefts.ensures.next, c.begin_walk-rights.ensures.next),
 )
 
 pub emit-requires-clause-can : goal.emit-requires-clause-can
@@ -33,13 +32,12 @@ returns-in_err-emit c = record {
 pub loop-shown-preserved : goal.loop-shown-preserved
 loop-shown-preserved c =
     let d = c.in_ok-emit.ensures.does in
-    let l = c.walk_to-lefts.ensures.left c.args.sides.columns c.loop-shown.invariant.1.left_row in
-    let r = c.walk_to-rights.ensures.left c.args.sides.columns c.loop-shown.invariant.1.right_row in (
+    let l = c.advance_to.ensures c.args.sides.columns c.loop-shown.invariant.1.left_row in
+    let r = c.advance_to-in-Some.ensures c.args.sides.columns c.loop-shown.invariant.1.right_row in (
       d.holds,
       masking-step _ _ _ _ _ _ _ _ _ _ _ c.loop-shown.invariant.1 _ _ c.in-Some.ensures.cases.0 _ _ l
           (ascends-weaken 0 c.in-Some.shown.now.0 c.args.sides.columns _ (omega arith) r.0, r.1) _ _
-          (c.value_here.ensures c.args.sides.columns l.0) (c.value_here-in-Some.ensures c.args.sides.columns r.0) _ d.adds,
-      (c.walk_to-lefts.ensures.next, c.walk_to-rights.ensures.next),
+          (c.word_at.ensures c.args.sides.columns l.0) (c.word_at-in-Some.ensures c.args.sides.columns r.0) _ d.adds,
     )
 
 pub returns : goal.returns

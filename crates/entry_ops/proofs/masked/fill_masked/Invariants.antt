@@ -1,6 +1,5 @@
-use Rattle.std.proofs.Common.{◌≡◌, length, Some}
+use Rattle.std.proofs.Common.{length, Some}
 use Rattle.entry_ops.specs.inner.Forms.{form_of}
-use Rattle.entry_ops.specs.inner.Heads.{head_column}
 use Rattle.entry_ops.specs.inner.Placing.{Holds, standing}
 use Rattle.entry_ops.specs.inner.Walking.{row_cells, row_calls}
 use Rattle.entry_ops.proofs.Masks.{IsMasking}
@@ -11,8 +10,7 @@ invariant-loop-shown l = Holds l.operator l.emitter l.calls
     × IsMasking (form_of l.form) l.operator l.sides.row l.sides.columns
     (row_cells (form_of l.form) l.operator l.sides.row l.sides.columns l.sides.left.now l.sides.right.now (Some l.mask))
     (row_calls (form_of l.form) l.operator l.sides.row l.sides.columns l.sides.left.now l.sides.right.now (Some l.mask))
-    (standing l.operator l.fn.emitter l.fn.calls) l.lefts.cells.now l.rights.cells.now l.masks (standing l.operator l.emitter l.calls)
-    × ((l.lefts.next ≡ head_column l.lefts.cells.now) × (l.rights.next ≡ head_column l.rights.cells.now))
+    (standing l.operator l.fn.emitter l.fn.calls) l.lefts l.rights l.masks (standing l.operator l.emitter l.calls)
 
 abbrev pub decreases-loop-shown : goal.decreases-loop-shown
 decreases-loop-shown l = length l.masks

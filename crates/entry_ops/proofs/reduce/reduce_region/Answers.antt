@@ -2,9 +2,8 @@ use Rattle.std.proofs.Common.{◌-◌, arith, refl}
 use Rattle.csr_store.specs.Mask.{mask_of}
 use Rattle.entry_ops.proofs.Reducing.{few_reduced, reduced}
 use Rattle.job_forms.specs.Forms.{reduce_at, reduce_calls_at}
-use Rattle.entry_ops.proofs.Nothing.{part_of_nothing, nothing_passes, reduce_nothing}
+use Rattle.entry_ops.proofs.Nothing.{part_of_blank, reduce_nothing}
 use Rattle.entry_ops.proofs.reduce.reduce_region.Goals as goal
-use Rattle.entry_ops.proofs.reduce.reduce_region.Goals.{then-is_blank-via-then-is_blank, then-is_blank-via-else-is_blank+then-is_shut}
 
 pub fill_in_order-filled-requires : goal.fill_in_order-filled-requires
 fill_in_order-filled-requires c =
@@ -41,14 +40,10 @@ pub returns : goal.returns
 returns c = reduced c.args.operator.now c.args.a.now c.args.region c.begin-making.result c.fill_in_blocks-filled.new.making
     c.fill_in_blocks-filled.result _ c.begin-making.ensures c.fill_in_blocks-filled.ensures c.finish-2.ensures
 
-pub returns-then-is_blank : goal.returns-then-is_blank
-returns-then-is_blank c =
+pub returns-then-is_blank_under : goal.returns-then-is_blank_under
+returns-then-is_blank_under c =
     let f = c.args.operator.now in
     let a = c.args.a.now in
     let mask = mask_of c.args.region.mask in
-    part_of_nothing 1 1 refl (reduce_at f a) (reduce_calls_at f a) c.args.region c.blank_region.result
-    (λ i j l u. elim c.then-is_blank.branch [
-      | then-is_blank-via-then-is_blank w ↦ reduce_nothing f a mask i j (c.is_blank.ensures w.if-is_blank.true i l u)
-      | then-is_blank-via-else-is_blank+then-is_shut w ↦
-          nothing_passes mask (reduce_at f a) (reduce_calls_at f a) (i, j) (w.is_shut.ensures w.if-is_shut.true i j l u)
-    ]) c.blank_region.ensures
+    part_of_blank 1 1 refl (reduce_at f a) (reduce_calls_at f a) c.args.region c.blank_region.result a
+    (c.is_blank_under.ensures.0 c.if-is_blank_under.true) (λ i j l u e. reduce_nothing f a mask i j e) c.blank_region.ensures

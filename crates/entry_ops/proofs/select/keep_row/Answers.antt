@@ -18,7 +18,7 @@ loop-shown-init c =
     let a = c.args.masked.a.now in
     let mask = c.args.masked.mask.now in
     let left = c.row.result.now in
-    let masks = c.row-masks.result.now in rw c.begin_walk-cells.ensures.cells (
+    let masks = c.row-masks.result.now in rw c.new-cells.ensures (
       c.requires.ready.holds,
       masking-start _ _ _ _ _ _ _ left [] masks
           (row_ascends a c.args.row a.columns left c.recall.ensures refl c.row.ensures) tt
@@ -28,7 +28,6 @@ loop-shown-init c =
           (sym (same_calls (Select c.args.thunk) c.args.operator.now a None (Some mask) c.args.row _ _ left [] (Some masks) refl
           refl c.row.ensures refl (ap Some c.row-masks.ensures)))
           c.requires.ready.open_row,
-      c.begin_walk-cells.ensures.next,
     )
 
 pub keep-requires-clause-can : goal.keep-requires-clause-can
@@ -49,27 +48,25 @@ pub loop-shown-preserved-in_ok-keep : goal.loop-shown-preserved-in_ok-keep
 loop-shown-preserved-in_ok-keep c =
     let f = c.args.operator.now in
     let column = c.in-Some.shown.now.0 in
-    let word = c.in-Some-value_here.word in
+    let word = c.in-Some-word_at.word in
     let d = c.in_ok-keep.ensures.does in
-    let l = c.walk_to-cells.ensures.left c.args.masked.a.now.columns c.loop-shown.invariant.1.left_row in
+    let l = c.advance_to.ensures c.args.masked.a.now.columns c.loop-shown.invariant.1.left_row in
     let added = subst (λ (o : Operands). Adds (call_of f o ∷ []) (with_kept column word (value_of f o))
     (standing f c.loop-shown.sieve c.loop-shown.calls)
     (standing f c.keep.new.self c.keep.new.calls)) c.operands_of-operands.ensures d.adds in (
       d.holds,
       masking-step _ _ _ _ _ _ _ _ _ _ _ c.loop-shown.invariant.1 _ _ c.in-Some.ensures.cases.0 _ _ l
           (c.loop-shown.invariant.1.right_row, λ j b. refl) _ _
-          (c.in-Some-value_here.ensures c.args.masked.a.now.columns l.0) refl _ (adds-kept _ column word _ _ _ added),
-      c.walk_to-cells.ensures.next,
+          (c.in-Some-word_at.ensures c.args.masked.a.now.columns l.0) refl _ (adds-kept _ column word _ _ _ added),
     )
 
 pub loop-shown-preserved : goal.loop-shown-preserved
 loop-shown-preserved c =
-    let l = c.walk_to-cells.ensures.left c.args.masked.a.now.columns c.loop-shown.invariant.1.left_row in (
+    let l = c.advance_to.ensures c.args.masked.a.now.columns c.loop-shown.invariant.1.left_row in (
       c.loop-shown.invariant.0,
       masking-step _ _ _ _ _ _ _ _ _ _ _ c.loop-shown.invariant.1 _ _ c.in-Some.ensures.cases.0 _ _ l
           (c.loop-shown.invariant.1.right_row, λ j b. refl) _
-          None (c.in_default-value_here.ensures c.args.masked.a.now.columns l.0) refl _ (adds-none _),
-      c.walk_to-cells.ensures.next,
+          None (c.in_default-word_at.ensures c.args.masked.a.now.columns l.0) refl _ (adds-none _),
     )
 
 pub returns : goal.returns

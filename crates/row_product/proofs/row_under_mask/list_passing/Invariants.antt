@@ -9,9 +9,9 @@ decreases-loop-cells l = length l.cells
 
 abbrev pub invariant-loop-cells : goal.invariant-loop-cells
 invariant-loop-cells l = record {
-  listed : (whole : List Cell) (n : ℕ) → IsRowUnderMask whole n l.row.cells.now l.row.mask.now → IsRowUnderMask whole n l.cells l.mask
-      × (l.passing.items ++ taking (stores whole) l.cells ≡ taking (stores whole) l.row.cells.now);
-  few : length l.passing.items + length l.cells ≤ length l.row.cells.now;
+  listed : (whole : List Cell) (n : ℕ) → IsRowUnderMask whole n l.fn.row.cells.now l.fn.row.mask → IsRowUnderMask whole n l.cells l.mask
+      × (l.passing.items ++ taking (stores whole) l.cells ≡ taking (stores whole) l.fn.row.cells.now);
+  few : length l.passing.items + length l.cells ≤ length l.fn.row.cells.now;
   most : length l.passing.items ≤ 64;
   room : 64 ≤ vec_capacity l.passing;
 }

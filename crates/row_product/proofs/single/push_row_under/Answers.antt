@@ -49,7 +49,7 @@ loop-row-init c =
           (calls_on mul (pairs_with x (taking t us))) c.args.making.now.steps) (sym e)
           (spends-start (calls_on mul (pairs_with x passing)) c.args.making.now.steps);
       few = omega (arith, l);
-      beside = record {
+      beside = rw c.new.ensures record {
         low = 0;
         ascends = subst (Ascends 0 b.columns) (sym e) rises;
         order = c.requires.order;

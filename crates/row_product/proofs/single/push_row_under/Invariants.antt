@@ -20,7 +20,7 @@ invariant-loop-row l = record {
       l.fn.making.steps (calls_on l.factors.mul.now (pairs_with l.x (taking (stores l.stored) l.row.cells.now))) l.making.steps;
   few : l.making.steps + 8192 * length (taking (stores l.stored) l.row.cells.now)
       ≤ l.fn.making.steps + 8192 * length (taking (stores l.stored) (row_of l.factors.b.now l.k));
-  beside : IsRowUnderMask l.stored l.factors.b.now.columns l.row.cells.now l.row.mask.now;
+  beside : IsRowUnderMask l.stored l.factors.b.now.columns l.row.cells.now l.row.mask;
   sums : l.progress.sums ≡ l.fn.progress.sums;
   allowed : l.progress.allowed ≡ l.fn.progress.allowed;
   room : 64 ≤ vec_capacity l.progress.passing;
