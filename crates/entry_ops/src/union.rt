@@ -31,7 +31,9 @@ pub fn union_region<'m>(
     ensures { IsPartOf a.now.columns (union_at operator.now a.now b.now) (joint_calls_at operator.now a.now b.now)
         region.entry result }
 {
-    if is_blank_under(a, region.mask, &region.range) && is_blank_under(b, region.mask, &region.range) {
+    if is_blank_under(a, region.mask, &region.range)
+        && is_blank_under(b, region.mask, &region.range)
+    {
         return blank_region(alloc, a.columns(), region.range);
     }
     let sources = Sources {
@@ -66,7 +68,9 @@ pub fn both_region<'m>(
     ensures { IsPartOf a.now.columns (both_at operator.now a.now b.now) (joint_calls_at operator.now a.now b.now)
         region.entry result }
 {
-    if is_blank_under(a, region.mask, &region.range) || is_blank_under(b, region.mask, &region.range) {
+    if is_blank_under(a, region.mask, &region.range)
+        || is_blank_under(b, region.mask, &region.range)
+    {
         return blank_region(alloc, a.columns(), region.range);
     }
     let sources = Sources {

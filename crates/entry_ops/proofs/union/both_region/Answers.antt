@@ -15,7 +15,7 @@ returns-then-is_blank_under c =
     let b = c.args.b.now in
     let mask = mask_of c.args.region.mask in
     let part = part_of_blank a.columns c.columns.result c.columns.ensures.columns (both_at f a b) (joint_calls_at f a b) c.args.region
-        c.blank_region.result in
+    c.blank_region.result in
     elim c.then-is_blank_under.branch [
       | then-is_blank_under-via-then-is_blank_under w ↦
           part a (c.is_blank_under.ensures.0 w.if-is_blank_under.true) (λ i j l u e. left_nothing f a b mask i j e) c.blank_region.ensures
