@@ -6,7 +6,7 @@ from tests.lib.commands import (EXIT, INCREMENT, OF_OPERATORS, RESULT_IS_OPERAND
 WORKERS = 'session of three workers'
 FAILING_CHUNK = 'failing chunk'
 OLDER_VERSIONS = 'older versions'
-LATE_FAULT = 'late fault'
+LATE_FAULTS = 'late faults'
 # what stands under each name that `session_of_older_versions` ever binds
 SHOWN = [b'show %s\n' % name for name in (b'A', b'B', b'C', b'D', b'E')]
 
@@ -233,11 +233,13 @@ def session_of_older_versions() -> List[bytes]:
     ]
 
 
-def session_with_a_late_fault() -> List[bytes]:
-    """Two texts of one length: the first breaks a rule in its size line, the second in the line of its last entry."""
+def session_with_late_faults() -> List[bytes]:
+    """Three texts of one length: the first breaks a rule in its size line, the second in the line of its last entry, whose position the
+    third gives for the second time."""
     late = matrix_text(300, 300, [(row, 301 - row, row) for row in range(1, 301)])[:-1] + b'x\n'
     early = late.replace(b'\n300 300 300\n', b'\n300 300 x00\n', 1)
-    return [matrix_command('A', early), matrix_command('A', late), b'quit\n']
+    again = late.replace(b'\n300 1 300x\n', b'\n1 300 3000\n', 1)
+    return [matrix_command('A', text) for text in (early, late, again)] + [b'quit\n']
 
 
 SESSIONS = (
@@ -248,5 +250,5 @@ SESSIONS = (
     Given(FAILING_CHUNK, session_of_a_failing_chunk()),
     Given('no steps to spare', session_of_no_steps_to_spare(), steps=12),
     Given(OLDER_VERSIONS, session_of_older_versions()),
-    Given(LATE_FAULT, session_with_a_late_fault()),
+    Given(LATE_FAULTS, session_with_late_faults()),
 )
