@@ -6,7 +6,9 @@ ghost use Rattle.bpf_text.specs.inner.Names as inner;
 ghost use Rattle.bpf_text.specs.Tables.{all_registers, named};
 ghost use Rattle.bpf_text.specs.inner.Tables as tables;
 
-use bpf_insn::{AluOp, ByteOrder, Cond, EndSize, Extension, Reg, SignedSize, Size, Width};
+use bpf_insn::{
+    AluOp, ByteOrder, Cond, EndSize, Extension, Reg, SignedSize, Size, Width, by_table,
+};
 
 /// The letters of the mnemonics that name no operation, condition or order of bytes.
 #[derive(Clone, Copy)]
@@ -24,36 +26,27 @@ pub enum Stem {
 
 const WIDTHS: [Width; 2] = [Width::W32, Width::W64];
 
-const OPERATIONS: [AluOp; 14] = [
-    AluOp::Add,
-    AluOp::Sub,
-    AluOp::Mul,
-    AluOp::Div,
-    AluOp::Sdiv,
-    AluOp::Or,
-    AluOp::And,
-    AluOp::Lsh,
-    AluOp::Rsh,
-    AluOp::Mod,
-    AluOp::Smod,
-    AluOp::Xor,
-    AluOp::Mov,
-    AluOp::Arsh,
-];
+macro_rules! all_operations {
+    (
+        operations { $($number:literal $code:ident $({ $op:ident $($unused:tt)* })+)* }
+        conditions $conditions:tt
+    ) => {
+        [$($(AluOp::$op,)+)*]
+    };
+}
 
-const CONDITIONS: [Cond; 11] = [
-    Cond::Eq,
-    Cond::Gt,
-    Cond::Ge,
-    Cond::Set,
-    Cond::Ne,
-    Cond::Sgt,
-    Cond::Sge,
-    Cond::Lt,
-    Cond::Le,
-    Cond::Slt,
-    Cond::Sle,
-];
+const OPERATIONS: [AluOp; 14] = by_table!(all_operations,);
+
+macro_rules! all_conditions {
+    (
+        operations $operations:tt
+        conditions { $($number:literal $cond:ident $condition:tt)* }
+    ) => {
+        [$(Cond::$cond,)*]
+    };
+}
+
+const CONDITIONS: [Cond; 11] = by_table!(all_conditions,);
 
 const EXTENSIONS: [Extension; 5] = [
     Extension::From8To32,
@@ -117,26 +110,23 @@ pub fn width_named(name: &[u8]) -> Option<Width>
         .find(|width| width_name(*width).as_bytes() == name)
 }
 
+macro_rules! operation_names {
+    (
+        operations { $($number:literal $code:ident $({ $op:ident $offset:literal $name:literal $($unused:tt)* })+)* }
+        conditions $conditions:tt
+        $which:expr
+    ) => {
+        match $which {
+            $($(AluOp::$op => $name,)+)*
+        }
+    };
+}
+
 /// The name of an operation.
 pub fn operation_name(operation: AluOp) -> &'static str
     ensures { result.now ≡ spec.operation_name operation }
 {
-    match operation {
-        AluOp::Add => "add",
-        AluOp::Sub => "sub",
-        AluOp::Mul => "mul",
-        AluOp::Div => "div",
-        AluOp::Sdiv => "sdiv",
-        AluOp::Or => "or",
-        AluOp::And => "and",
-        AluOp::Lsh => "lsh",
-        AluOp::Rsh => "rsh",
-        AluOp::Mod => "mod",
-        AluOp::Smod => "smod",
-        AluOp::Xor => "xor",
-        AluOp::Mov => "mov",
-        AluOp::Arsh => "arsh",
-    }
+    by_table!(operation_names, operation)
 }
 
 /// The operation that has the name.
@@ -149,23 +139,23 @@ pub fn operation_named(name: &[u8]) -> Option<AluOp>
         .find(|operation| operation_name(*operation).as_bytes() == name)
 }
 
+macro_rules! condition_names {
+    (
+        operations $operations:tt
+        conditions { $($number:literal $cond:ident { $name:literal $($unused:tt)* })* }
+        $which:expr
+    ) => {
+        match $which {
+            $(Cond::$cond => $name,)*
+        }
+    };
+}
+
 /// The name of a condition.
 pub fn condition_name(condition: Cond) -> &'static str
     ensures { result.now ≡ spec.condition_name condition }
 {
-    match condition {
-        Cond::Eq => "jeq",
-        Cond::Gt => "jgt",
-        Cond::Ge => "jge",
-        Cond::Set => "jset",
-        Cond::Ne => "jne",
-        Cond::Sgt => "jsgt",
-        Cond::Sge => "jsge",
-        Cond::Lt => "jlt",
-        Cond::Le => "jle",
-        Cond::Slt => "jslt",
-        Cond::Sle => "jsle",
-    }
+    by_table!(condition_names, condition)
 }
 
 /// The condition that has the name.
