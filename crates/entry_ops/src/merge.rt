@@ -53,8 +53,7 @@ fn right_alone(row: u64, cell: &Cell) -> WordPair
     }
 }
 
-/// Adds the cells of a row of a union, or of where both have a word, all of which pass. Behind a column of both the next ones often
-/// are of both, so these have a loop of their own.
+/// Adds the cells of a row of a union, or of where both have a word, all of which pass.
 #[inline(always)]
 pub fn fill_merged(
     form: EntryForm,
@@ -82,20 +81,15 @@ pub fn fill_merged(
             emit(form, operator, calls, emitter, right_alone(sides.row, y))?;
             rights = ys;
         } else {
-            let most = lefts.len().min(rights.len());
-            let mut next = 0;
-            while next < most && lefts[next].0 == rights[next].0 {
-                let pair = WordPair {
-                    row: sides.row,
-                    column: lefts[next].0,
-                    left: Some(lefts[next].1),
-                    right: Some(rights[next].1),
-                };
-                emit(form, operator, calls, emitter, pair)?;
-                next += 1;
-            }
-            lefts = &lefts[next..];
-            rights = &rights[next..];
+            let pair = WordPair {
+                row: sides.row,
+                column: x.0,
+                left: Some(x.1),
+                right: Some(y.1),
+            };
+            emit(form, operator, calls, emitter, pair)?;
+            lefts = xs;
+            rights = ys;
         }
     }
     add_rest(form, emitter, rights)

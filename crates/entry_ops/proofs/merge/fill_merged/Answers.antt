@@ -1,5 +1,4 @@
 use Rattle.std.proofs.Common.{arith, refl, rules}
-use Rattle.std.proofs.lemmas.List.{drop_more}
 use Rattle.entry_ops.specs.inner.Forms.{form_of}
 use Rattle.entry_ops.specs.inner.Walking.{left_over}
 use Rattle.entry_ops.proofs.Nexts.{none_left, first_left, first_right, together}
@@ -122,14 +121,13 @@ loop-x-preserved-then-y-x c =
 
 -- ---- one of both
 
-pub emit-requires-in-loop-next-clause-can : goal.emit-requires-in-loop-next-clause-can
-emit-requires-in-loop-next-clause-can c =
-    let t = c.loop-next-test.true in let m = c.min-most.ensures in let i = c.loop-next.invariant.1 in
+pub emit-requires-else-y-x-clause-can : goal.emit-requires-else-y-x-clause-can
+emit-requires-else-y-x-clause-can c =
+    let i = c.loop-x.invariant.1 in
     record {
-      holds = c.loop-next.invariant.0;
+      holds = c.loop-x.invariant.0;
       fits = merging-fits _ _ _ _ _ _ _ _ _ _ i _ _ _ _ _ (together c.args.sides.columns i.low _ _ i.left_row i.right_row _ _ _ _
-          (drop_more c.loop-x.lefts.now c.loop-next.next (0, 0) (omega (arith, t, m)))
-          (drop_more c.loop-x.rights.now c.loop-next.next (0, 0) (omega (arith, t, m))) c.if-lefts-next.true);
+          c.in-Some.ensures.cases.0 c.in-Some-split_first.ensures.cases.0 (omega (arith, c.if-x-y.false, c.if-y-x.false)));
       room = completes-room _ _ _ _ _ _ i.completes c.requires.ready.room;
     }
 
@@ -137,16 +135,14 @@ pub returns-in_err-emit-3 : goal.returns-in_err-emit-3
 returns-in_err-emit-3 c = record {
   does = search rules;
   spent = on_err c.from_residual-in_err-emit-3.result
-      (completes-stop _ _ _ _ _ _ c.loop-next.invariant.1.completes _ c.in_err-emit-3.ensures.spent);
+      (completes-stop _ _ _ _ _ _ c.loop-x.invariant.1.completes _ c.in_err-emit-3.ensures.spent);
 }
 
-pub loop-next-preserved : goal.loop-next-preserved
-loop-next-preserved c =
-    let t = c.loop-next-test.true in let m = c.min-most.ensures in let i = c.loop-next.invariant.1 in
-    let d = c.in_ok-emit-3.ensures.does in (
+pub loop-x-preserved : goal.loop-x-preserved
+loop-x-preserved c =
+    let d = c.in_ok-emit-3.ensures.does in
+    let i = c.loop-x.invariant.1 in (
       d.holds,
       merging-step _ _ _ _ _ _ _ _ _ _ i _ _ _ _ _ (together c.args.sides.columns i.low _ _ i.left_row i.right_row _ _ _ _
-          (drop_more c.loop-x.lefts.now c.loop-next.next (0, 0) (omega (arith, t, m)))
-          (drop_more c.loop-x.rights.now c.loop-next.next (0, 0) (omega (arith, t, m))) c.if-lefts-next.true) _ d.adds,
-      omega (arith, t),
+          c.in-Some.ensures.cases.0 c.in-Some-split_first.ensures.cases.0 (omega (arith, c.if-x-y.false, c.if-y-x.false))) _ d.adds,
     )
