@@ -234,11 +234,11 @@ def session_of_older_versions() -> List[bytes]:
 
 
 def session_with_late_faults() -> List[bytes]:
-    """Three texts of one length: the first breaks a rule in its size line, the second in the line of its last entry, whose position the
-    third gives for the second time."""
+    """Three texts of one length: the first breaks a rule in its size line, the others in the line of their last entry, before which the
+    third gives a position again."""
     late = matrix_text(300, 300, [(row, 301 - row, row) for row in range(1, 301)])[:-1] + b'x\n'
     early = late.replace(b'\n300 300 300\n', b'\n300 300 x00\n', 1)
-    again = late.replace(b'\n300 1 300x\n', b'\n1 300 3000\n', 1)
+    again = late.replace(b'\n299 2 299\n', b'\n1 300 299\n', 1)
     return [matrix_command('A', text) for text in (early, late, again)] + [b'quit\n']
 
 
