@@ -11,7 +11,7 @@
 //! adds each term to its sum, or begins it, in a loop that was compiled for it (`terms`). By any other the terms whose column has a
 //! sum already are added together, since no two cells of one row of B have one column, and the others begin a sum
 //! (`dense_accumulator`). Nothing waits from row to row of B. The columns that have a sum are listed as long as they are fewer than
-//! one in 16: the list is put in order, and the next row clears their bits alone. Else a bit a column is read off, and all are
+//! one in 512: the list is put in order, and the next row clears their bits alone. Else a bit a column is read off, and all are
 //! cleared. A row of A with one entry is not summed at all: it makes the row of B that it names, each word multiplied, and where
 //! there is a mask it is read beside the mask's row, for the cells that pass.
 //!

@@ -15,8 +15,9 @@ use csr_store::Rows;
 use std::alloc::{AllocError, Global};
 use std::marker::Model;
 
-/// From one sum in so many columns on, going over the bits of all columns is cheaper than putting those that have one in order.
-const COLUMNS_A_SUM: u64 = 16;
+/// From one sum in so many columns on, going over the bits of all columns is cheaper than putting those that have one in order: 64
+/// columns are one word.
+const COLUMNS_A_SUM: u64 = 512;
 
 /// The sums of the row in progress. A contract sees the sum of each column, if there is one.
 #[derive(Drop)]
