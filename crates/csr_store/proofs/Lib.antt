@@ -8,6 +8,8 @@ pub mod Packing
 pub mod Listing
 pub mod Repeating
 pub mod Marking
+pub mod Parting
+pub mod Indexed
 pub mod Shuffled
 pub mod Slicing
 pub mod Collecting

@@ -67,6 +67,7 @@ push_sorted n v (c ∷ cells) h l =
 -- the first so many cells are those of the positions that repeat among the first nth
 pub record Kept (old now : List Cell) (kept nth : ℕ) : Type 0 where
   pub order : kept < nth
+  pub most : kept ≤ length old
   pub count : length now ≡ length old
   pub same : (k : ℕ) → kept ≤ k → get_or now k (0, 0) ≡ get_or old k (0, 0)
   pub sorted : is_sorted nat_cmp (take kept now) ≡ true
@@ -84,6 +85,7 @@ pub kept_none : (cells : List Cell) → Kept cells cells 0 1
 kept_none cells =
     record {
       order = omega arith;
+      most = omega arith;
       count = refl;
       same = λ k l. refl;
       sorted = refl;
@@ -176,6 +178,7 @@ module _ (old now : List Cell) (kept nth : ℕ) (up : IsNonDecreasingBy (λ (c :
   kept_on g =
       record {
         order = let o = h.order in omega (arith, o);
+        most = h.most;
         count = h.count;
         same = h.same;
         sorted = h.sorted;
@@ -248,6 +251,7 @@ module _ (old now : List Cell) (kept nth : ℕ) (up : IsNonDecreasingBy (λ (c :
     kept_push =
         record {
           order = let o = h.order in omega (arith, o);
+          most = let o = h.order in omega (arith, o, l);
           count = ap length is ∙ length-set now kept (number, 0) ∙ h.count;
           same = λ k s. ap (λ (xs : List Cell). get_or xs k (0, 0)) is ∙ get_or-set_other now kept k (number, 0) (0, 0) (λ q. omega (arith, s, q)) ∙ h.same k (omega (arith, s));
           sorted = ap (is_sorted nat_cmp) taken ∙ push_sorted number 0 front h.sorted below_front;
@@ -270,10 +274,10 @@ module _ (old now : List Cell) (kept nth : ℕ) (up : IsNonDecreasingBy (λ (c :
         ] refl
 
 -- all cells were gone over
-pub kept_all : (old now new : List Cell) (kept nth : ℕ) → Kept old now kept nth → length old ≤ nth → new ≡ take kept now
-    → (is_sorted nat_cmp new ≡ true) × ((p : Position) → found_in new p ≡ mark_of (times p (map unpacked old)) 0)
-kept_all old now new kept nth h l is =
-    (ap (is_sorted nat_cmp) is ∙ h.sorted, λ p. ap (λ (xs : List Cell). found_in xs p) is ∙ h.marks p ∙ ap (λ (xs : List Cell). mark_of (times p (map unpacked xs)) 0) (take_all nth old l))
+pub kept_all : (old now : List Cell) (kept nth : ℕ) → Kept old now kept nth → length old ≤ nth
+    → (is_sorted nat_cmp (take kept now) ≡ true) × ((p : Position) → found_in (take kept now) p ≡ mark_of (times p (map unpacked old)) 0)
+kept_all old now kept nth h l =
+    (h.sorted, λ p. h.marks p ∙ ap (λ (xs : List Cell). mark_of (times p (map unpacked xs)) 0) (take_all nth old l))
 
 -- ---- the cell of a position is marked
 
@@ -293,11 +297,10 @@ met_other q p None h = refl
 met_other q p (Some m) h = ap (λ b. Some (cond b 1 m)) h
 
 -- no cell has the position
-pub none_there : (cells xs : List Cell) (n at : ℕ) → xs ≡ cells → is_sorted nat_cmp cells ≡ true → ((k : ℕ) → k < at → slice_index (columns_of xs) k < n)
-    → ((k : ℕ) → at ≤ k → k < length xs → n ≤ slice_index (columns_of xs) k) → at ≤ length xs → (at < length cells → number_at cells at ≡ n → ⊥) → found_in cells (place_of n) ≡ None
-none_there cells xs n at e h low high within d =
-    subst (λ (ys : List Cell). is_sorted nat_cmp ys ≡ true → (at < length ys → number_at ys at ≡ n → ⊥) → found_in ys (place_of n) ≡ None) e
-    (λ s o. found_lookup n xs ∙ none_at xs n at s low high (λ l q. o l (sym (column_at xs at (0, 0) l) ∙ q)) within) h d
+pub none_there : (cells : List Cell) (n at : ℕ) → is_sorted nat_cmp cells ≡ true → ((k : ℕ) → k < at → slice_index (columns_of cells) k < n)
+    → ((k : ℕ) → at ≤ k → k < length cells → n ≤ slice_index (columns_of cells) k) → at ≤ length cells → (at < length cells → number_at cells at ≡ n → ⊥) → found_in cells (place_of n) ≡ None
+none_there cells n at s low high within d =
+    found_lookup n cells ∙ none_at cells n at s low high (λ l q. d l (sym (column_at cells at (0, 0) l) ∙ q)) within
 
 pub none_marked : (cells : List Cell) (n : ℕ) → found_in cells (place_of n) ≡ None → (p : Position) → found_in cells p ≡ met_at (place_of n) p (found_in cells p)
 none_marked cells n h p = elim (eq_by_cmp pos_cmp p (place_of n)) as (λ b. eq_by_cmp pos_cmp p (place_of n) ≡ b → found_in cells p ≡ met_at (place_of n) p (found_in cells p)) [

@@ -1,5 +1,5 @@
 -- Entries that came in ascending order, and others by position, as one list.
-use Rattle.std.proofs.Common.{zero, suc, ◌≡◌, ◌≤◌, ◌<◌, ◌+◌, ℕ, true, false, cond, List, [], ◌∷◌, ◌++◌, length, get_or, Option, None, Some, IsSome, is_some, refl, sym, ap, ◌∙◌, subst, arith, append_assoc, length-append}
+use Rattle.std.proofs.Common.{zero, suc, ◌≡◌, ◌≤◌, ◌<◌, ℕ, true, false, cond, List, [], ◌∷◌, ◌++◌, length, get_or, Option, None, Some, IsSome, is_some, refl, sym, ap, ◌∙◌, subst, arith, append_assoc, length-append}
 use Rattle.std.specs.Prelude.{nat_le}
 use Rattle.std.proofs.lemmas.Bool.{lt-ltb}
 use Rattle.std.proofs.lemmas.Bool.Decides.{nat_tests}
@@ -9,9 +9,9 @@ use Rattle.std.proofs.lemmas.List.Sorted.{IsPermutation-trans, IsPermutation-sym
 use Rattle.std.specs.Map.{keys_of}
 use Rattle.std.specs.Cmp.{tied_itself, eq_by_cmp_equiv}
 use Rattle.std.specs.Ordering.{is_eq, eq_by_cmp}
-use Rattle.std.specs.FinMap.{FinMap, entries, get, len, len-entries, from_entries, get-from_entries, get-entries}
+use Rattle.std.specs.FinMap.{entries, get, len-entries, from_entries, get-from_entries}
 use Rattle.std.specs.FinMap.Entries.{find}
-use Rattle.csr_store.specs.Grid.{Grid, IsGrid, Position, Entry, pos_cmp, limit}
+use Rattle.csr_store.specs.Grid.{Grid, Position, Entry, pos_cmp, limit}
 use Rattle.csr_store.specs.ByRows.{grid}
 use Rattle.csr_store.specs.Listed.{Listed, NoneTwice, push_fault}
 use Rattle.csr_store.specs.inner.Collected.{IsCollected}

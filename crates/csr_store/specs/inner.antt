@@ -6,6 +6,7 @@ pub mod Kept
 pub mod Moved
 pub mod Packed
 pub mod Repeated
+pub mod Parts
 pub mod Run
 pub mod Cells
 pub mod Copied

@@ -17,8 +17,8 @@
 //! matrices may share), `growing` (where rows start while runs are stacked), `ends` (where the rows of a run
 //! end), `moving` (ends counted from another place), `filler` (rows filled in ascending order), `merging` (those
 //! entries and others by position, as one list), `repeat`
-//! (the positions that two or more entries of a list have), `kept` (cells of which some are kept), `reader`
-//! (rows one after the other) and `row` (parts of a list of cells, and searches in a row), over
+//! (the positions that two or more entries of a list have), `parts` (where positions start in each part of
+//! their range), `kept` (cells of which some are kept), `reader` (rows one after the other) and `row` (parts of a list of cells, and searches in a row), over
 //! `specs/ByRows.antt`.
 #![tactic(auto)]
 
@@ -36,6 +36,7 @@ mod limits;
 pub mod matrix;
 mod merging;
 mod moving;
+mod parts;
 mod reader;
 mod repeat;
 mod row;

@@ -1,5 +1,5 @@
 //! The positions that entries of a list repeat.
-ghost use Rattle.std.specs.Prelude.{◌≡◌, ◌<◌, ◌≤◌, true, false, [], length, map, IfNone, IfSome, IsTrue};
+ghost use Rattle.std.specs.Prelude.{◌≡◌, ◌<◌, ◌≤◌, true, false, [], length, map, take, IfNone, IfSome, IsTrue};
 ghost use Rattle.std.specs.Ordering.{nat_cmp};
 ghost use Rattle.std.specs.FinMap as fin;
 ghost use Rattle.std.specs.List.Sorted.{IsNonDecreasingBy};
@@ -7,48 +7,60 @@ ghost use Rattle.csr_store.specs.Grid.{Position, limit};
 ghost use Rattle.csr_store.specs.Listed.{NoneTwice};
 ghost use Rattle.csr_store.specs.Packed.{unpacked};
 ghost use Rattle.csr_store.specs.Repeated.{AreRepeats, is_met, mark_of, met_at, times};
+ghost use Rattle.csr_store.specs.inner.Parts.{IsIndexed};
 ghost use Rattle.csr_store.specs.inner.Repeated.{BeginsRepeat, GoesOn, found_in, place_of};
 
 use crate::limits::MOST_SIDE;
 use crate::matrix::Cell;
-use crate::row::cells_before;
+use crate::parts::{part_bits, positions_before, write_starts};
 use std::marker::Model;
 
 /// The positions that two or more entries of a list have, and which of them were met so far.
 ///
-/// They are kept where the entries stood, so they take no memory of their own.
+/// They are kept where the entries stood, so they take no memory of their own. Each has two entries or more, so behind them is
+/// room for a table of where to look for a position.
 #[derive(Drop)]
 pub struct RepeatedPositions {
+    /// The positions, rising, and behind them where each part of their range starts.
     cells: Vec<Cell>,
+    /// How many positions there are.
+    count: usize,
+    /// How many low bits of a position don't tell its part.
+    bits: u32,
 }
 
 impl Model for RepeatedPositions {
-    ghost use Rattle.std.specs.Prelude.{◌≡◌, true, map};
-    ghost use Rattle.std.specs.Ordering.{nat_cmp};
+    ghost use Rattle.std.specs.Prelude.{map, take};
     ghost use Rattle.std.specs.FinMap as fin;
     ghost use Rattle.csr_store.specs.Packed.{unpacked};
     ghost use Rattle.csr_store.specs.Repeated.{Marks, marks_code};
+    ghost use Rattle.csr_store.specs.inner.Parts.{IsIndexed};
 
     ghost Value = { Marks };
 
     ghost coded = { marks_code };
 
-    ghost view = { λ r. fin.from_entries (map unpacked r.cells.items) };
+    ghost view = { λ r. fin.from_entries (map unpacked (take r.count r.cells.items)) };
 
-    ghost invariant = { λ r. fin.is_sorted nat_cmp r.cells.items ≡ true };
+    ghost invariant = { λ r. IsIndexed r.count r.bits r.cells.items };
 }
 
 impl RepeatedPositions {
     /// Meets an entry at a position, and tells whether the position is a repeated one that was met before.
     ///
-    /// Costs a search among the repeated positions.
+    /// Costs a search among the repeated positions of one part of their range, of which there are as many as positions.
     pub fn meet(&mut self, row: u64, column: u64) -> bool
         requires row { row < limit }
         requires column { column < limit }
         ensures met { result ≡ is_met (fin.get self.old (row, column)) }
         ensures marked { (p : Position) → fin.get self.new p ≡ met_at (row, column) p (fin.get self.old p) }
     {
-        mark(&mut self.cells, row * MOST_SIDE + column)
+        mark(
+            &mut self.cells,
+            self.count,
+            self.bits,
+            row * MOST_SIDE + column,
+        )
     }
 }
 
@@ -60,18 +72,24 @@ pub fn repeats_of(cells: Vec<Cell>) -> Option<RepeatedPositions>
     ensures repeats { IfSome result (AreRepeats (map unpacked cells.items) []) }
 {
     let mut cells = cells;
-    keep_repeats(&mut cells);
-    if cells.is_empty() {
+    let count = keep_repeats(&mut cells);
+    if count == 0 {
         return None;
     }
-    Some(RepeatedPositions { cells })
+    cells.truncate(count + count);
+    let (positions, starts) = cells.split_at_mut(count);
+    let bits = part_bits(positions[count - 1].0, count);
+    write_starts(positions, starts, bits);
+    Some(RepeatedPositions { cells, count, bits })
 }
 
-/// Leaves one cell without a mark for each position that two or more cells have. The cells' positions don't fall.
-fn keep_repeats(cells: &mut Vec<Cell>)
+/// Brings a cell without a mark to the front for each position that two or more cells have, and answers how many they are. The
+/// cells' positions don't fall.
+fn keep_repeats(cells: &mut Vec<Cell>) -> usize
     requires { IsNonDecreasingBy (λ c. c.0) cells.old.items }
-    ensures sorted { fin.is_sorted nat_cmp cells.new.items ≡ true }
-    ensures kept { (p : Position) → found_in cells.new.items p ≡ mark_of (times p (map unpacked cells.old.items)) 0 }
+    ensures within { result ≤ length cells.new.items }
+    ensures sorted { fin.is_sorted nat_cmp (take result cells.new.items) ≡ true }
+    ensures kept { (p : Position) → found_in (take result cells.new.items) p ≡ mark_of (times p (map unpacked cells.old.items)) 0 }
 {
     let mut kept = 0;
     for nth in 1..cells.len() {
@@ -80,7 +98,7 @@ fn keep_repeats(cells: &mut Vec<Cell>)
             kept += 1;
         }
     }
-    cells.truncate(kept);
+    kept
 }
 
 /// Whether a cell has the position of the one before it, and the last of the first so many cells has another.
@@ -101,14 +119,16 @@ fn begins_repeat(cells: &[Cell], kept: usize, nth: usize) -> bool
 }
 
 /// Marks the cell of a position, if there is one, and tells whether it had its mark before.
-fn mark(cells: &mut Vec<Cell>, position: u64) -> bool
-    requires { fin.is_sorted nat_cmp cells.old.items ≡ true }
-    ensures sorted { fin.is_sorted nat_cmp cells.new.items ≡ true }
-    ensures met { result ≡ is_met (found_in cells.old.items (place_of position)) }
-    ensures marked { (p : Position) → found_in cells.new.items p ≡ met_at (place_of position) p (found_in cells.old.items p) }
+fn mark(cells: &mut Vec<Cell>, count: usize, bits: u32, position: u64) -> bool
+    requires { IsIndexed count bits cells.old.items }
+    ensures indexed { IsIndexed count bits cells.new.items }
+    ensures met { result ≡ is_met (found_in (take count cells.old.items) (place_of position)) }
+    ensures marked { (p : Position) → found_in (take count cells.new.items) p
+        ≡ met_at (place_of position) p (found_in (take count cells.old.items) p) }
 {
-    let nth = cells_before(cells, position);
-    if nth >= cells.len() || cells[nth].0 != position {
+    let (positions, starts) = cells.split_at(count);
+    let nth = positions_before(positions, starts, bits, position);
+    if nth >= count || cells[nth].0 != position {
         return false;
     }
     let met = cells[nth].1 == 1;

@@ -1,4 +1,4 @@
-use Rattle.std.proofs.Common.{◌≡◌, ◌+◌, ◌++◌, [], ◌∷◌, List, take, drop, get_or, ap, sym, ◌∙◌, subst}
+use Rattle.std.proofs.Common.{◌≡◌, ◌+◌, ◌++◌, [], ◌∷◌, List, take, drop, get_or, sym, subst}
 use Rattle.std.proofs.lemmas.List.{map_more}
 use Rattle.std.specs.List.Sorted.{IsPermutation}
 use Rattle.csr_store.specs.Grid.{at_row, Cell, Entry}

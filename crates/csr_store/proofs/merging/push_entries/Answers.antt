@@ -1,4 +1,4 @@
-use Rattle.std.proofs.Common.{◌≡◌, None, length, take, get_or, sym, subst, arith}
+use Rattle.std.proofs.Common.{◌≡◌, None, take, get_or, sym, subst, arith}
 use Rattle.std.proofs.lemmas.List.{length-take}
 use Rattle.csr_store.specs.Listed.{Listed, push_fault}
 use Rattle.csr_store.proofs.Union.{no_fault}

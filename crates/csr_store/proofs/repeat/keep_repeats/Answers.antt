@@ -31,16 +31,19 @@ loop-nth-preserved c =
           (subst (λ (cs : List Cell). GoesOn cs c.loop-nth.kept c.loop-nth.nth) c.deref.ensures.value (c.begins_repeat.ensures.no w.if-begins_repeat.false)))
     ]
 
+pub returns-clause-within : goal.returns-clause-within
+returns-clause-within c = let m = c.loop-nth.invariant.most in let n = c.loop-nth.invariant.count in omega (arith, m, n)
+
 pub returns-clause-sorted : goal.returns-clause-sorted
 returns-clause-sorted c =
     let t = c.loop-nth-test.false in
     let n = c.len-nth-end.ensures in
     let o = c.args.cells.now.ok.0 in
-    (kept_all c.args.cells.now.items c.loop-nth.cells.items c.truncate.new.self.items c.loop-nth.kept c.loop-nth.nth c.loop-nth.invariant (omega (arith, t, n, o)) c.truncate.ensures.items).0
+    (kept_all c.args.cells.now.items c.loop-nth.cells.items c.loop-nth.kept c.loop-nth.nth c.loop-nth.invariant (omega (arith, t, n, o))).0
 
 pub returns-clause-kept : goal.returns-clause-kept
 returns-clause-kept c =
     let t = c.loop-nth-test.false in
     let n = c.len-nth-end.ensures in
     let o = c.args.cells.now.ok.0 in
-    (kept_all c.args.cells.now.items c.loop-nth.cells.items c.truncate.new.self.items c.loop-nth.kept c.loop-nth.nth c.loop-nth.invariant (omega (arith, t, n, o)) c.truncate.ensures.items).1
+    (kept_all c.args.cells.now.items c.loop-nth.cells.items c.loop-nth.kept c.loop-nth.nth c.loop-nth.invariant (omega (arith, t, n, o))).1
