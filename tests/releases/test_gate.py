@@ -56,6 +56,20 @@ class Gate(unittest.TestCase):
             run.step('slow', ['sleep', '60'], most=1)
         self.assertEqual(run.steps, [])
 
+    def test_steps_side_by_side(self) -> None:
+        """What each says stands together, and after a fault nothing begins."""
+        run = gate.Run()
+        slow, quick = gate.Command('slow', ['sh', '-c', 'echo a; sleep 1; echo b']), gate.Command('quick', ['echo', 'c'])
+        with contextlib.redirect_stdout(io.StringIO()) as told:
+            run.side_by_side([slow, quick])
+        self.assertEqual(told.getvalue().splitlines(), ['== quick: echo c', 'c', '-- quick: 0 s', '== slow: ' + ' '.join(slow.words), 'a', 'b',
+                                                        '-- slow: 1 s'])
+        self.assertEqual([step.name for step in run.steps], ['quick', 'slow'])
+        with contextlib.redirect_stdout(io.StringIO()) as told, self.assertRaisesRegex(gate.Failed, 'bad: status 3'):
+            run.side_by_side([gate.Command('bad', ['sh', '-c', 'echo why >&2; exit 3']), slow, quick, quick])
+        self.assertEqual([step.name for step in run.steps], ['quick', 'slow', 'slow'])
+        self.assertIn('== bad: sh -c echo why >&2; exit 3\nwhy\n', told.getvalue())
+
     def test_packages(self) -> None:
         """One that is here is seen, and one that isn't, by program or by module."""
         for package, there in ((packages.Package('x', 'y', program='sh'), True), (packages.Package('x', 'y', program='no-such-program'), False),
@@ -67,6 +81,6 @@ class Gate(unittest.TestCase):
         with open(os.path.join(TOP, 'tools', 'test'), encoding='utf-8') as file:
             text = file.read()
         program = gate_program()
-        made = {name.replace('_', ' ') for name in program.BOTH + program.REST}
+        made = {command.name for command in [*program.program_commands(), *program.other_commands()]}
         for name in gate.STEPS:
             self.assertTrue(name in made or "run.step('%s'" % name in text, name)

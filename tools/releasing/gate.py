@@ -8,8 +8,11 @@ import json
 import os
 import shutil
 import subprocess
+import tempfile
+import threading
 import time
-from typing import Any, Dict, List, Mapping, NamedTuple, Optional, Sequence
+from concurrent.futures import ThreadPoolExecutor
+from typing import Any, Dict, IO, List, Mapping, NamedTuple, Optional, Sequence
 
 from tools.releasing import tree
 
@@ -25,6 +28,16 @@ class Failed(Exception):
     """A step failed: its words say which, and how."""
 
 
+class Command(NamedTuple):
+    """What is to be run as a step: its name, its words, its variables beside those that there are, the most seconds that it may take, and its
+    folder."""
+    name: str
+    words: Sequence[str]
+    environment: Mapping[str, str] = {}
+    most: Optional[int] = MOST_SECONDS
+    folder: str = tree.TOP
+
+
 class Step(NamedTuple):
     """What was run, and how long it took."""
     name: str
@@ -32,26 +45,45 @@ class Step(NamedTuple):
 
 
 class Run:
-    """A run of the gate. What was run by `step` is noted by `note`."""
+    """A run of the gate. What was run by `step` or `side_by_side` is noted by `note`."""
 
     def __init__(self) -> None:
         self.began = state()
         self.steps: List[Step] = []
+        self._telling = threading.Lock()
 
     def step(self, name: str, words: Sequence[str], environment: Optional[Mapping[str, str]] = None, most: Optional[int] = MOST_SECONDS,
              folder: str = tree.TOP) -> None:
-        """Runs a command. Failed where it fails, or takes more seconds than it may: a gate without an end tells nothing. (At SIGABRT Python
-        tells where it stood.)"""
-        print('== %s: %s' % (name, ' '.join(words)), flush=True)
-        begun = time.monotonic()
-        limited = [] if most is None else ['timeout', '--signal=ABRT', '--kill-after=30', str(most)]
-        status = subprocess.run([*limited, *words], cwd=folder, env={**os.environ, 'PYTHONFAULTHANDLER': '1', **(environment or {})},
-                                check=False).returncode
-        seconds = round(time.monotonic() - begun)
-        if status:
-            raise Failed('%s: %s after %d s' % (name, 'it hung' if status == 124 else 'status %d' % status, seconds))
-        print('-- %s: %d s' % (name, seconds), flush=True)
-        self.steps.append(Step(name, seconds))
+        """Runs a command. Failed where it fails, or takes more seconds than it may: a gate without an end tells nothing."""
+        command = Command(name, words, environment or {}, most, folder)
+        print(head(command), flush=True)
+        self._passed(command, taken(command))
+
+    def side_by_side(self, commands: Sequence[Command], at_once: int = 2) -> None:
+        """Runs commands, some at once, and prints what each said when it ends. Failed where one fails: what hasn't begun by then doesn't."""
+        faults: List[Failed] = []
+        with ThreadPoolExecutor(at_once) as pool:
+            list(pool.map(lambda command: faults or self._told(command, faults), commands))
+        if faults:
+            raise faults[0]
+
+    def _told(self, command: Command, faults: List[Failed]) -> None:
+        """Runs a command, and prints what it said. A fault is added to the others."""
+        seconds = None
+        with tempfile.TemporaryFile('w+', errors='replace') as said:
+            try:
+                seconds = taken(command, said)
+            except Failed as fault:
+                faults.append(fault)
+            said.seek(0)
+            with self._telling:
+                print('%s\n%s' % (head(command), said.read().rstrip('\n')), flush=True)
+                if seconds is not None:
+                    self._passed(command, seconds)
+
+    def _passed(self, command: Command, seconds: int) -> None:
+        print('-- %s: %d s' % (command.name, seconds), flush=True)
+        self.steps.append(Step(command.name, seconds))
 
     def note(self) -> Dict[str, Any]:
         """Writes the note. Where the state is another one than at the beginning, it names no commit."""
@@ -65,6 +97,23 @@ class Run:
             json.dump(note, file, indent=1)
             file.write('\n')
         return note
+
+
+def head(command: Command) -> str:
+    """The line that begins what a step says."""
+    return '== %s: %s' % (command.name, ' '.join(command.words))
+
+
+def taken(command: Command, said: Optional[IO[str]] = None) -> int:
+    """Runs a command, which says what it says to a file or on the screen. The seconds that it took. (At SIGABRT Python tells where it stood.)"""
+    begun = time.monotonic()
+    limited = [] if command.most is None else ['timeout', '--signal=ABRT', '--kill-after=30', str(command.most)]
+    status = subprocess.run([*limited, *command.words], cwd=command.folder, env={**os.environ, 'PYTHONFAULTHANDLER': '1', **command.environment},
+                            stdout=said, stderr=subprocess.STDOUT if said else None, check=False).returncode
+    seconds = round(time.monotonic() - begun)
+    if status:
+        raise Failed('%s: %s after %d s' % (command.name, 'it hung' if status == 124 else 'status %d' % status, seconds))
+    return seconds
 
 
 def state() -> str:
