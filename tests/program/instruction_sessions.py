@@ -51,6 +51,14 @@ def shuffled(count: int) -> bytes:
     return matrix_command('A', b'\n'.join(text[:2] + body) + b'\n')
 
 
+def twice(count: int) -> bytes:
+    """All positions in random order, and then all of them again: the fault is found once half of the lines were read again."""
+    text = matrix_text(count // 8, count // 8, entries(count // 2)).split(b'\n')
+    chance, body = random.Random(count), text[2:-1]
+    size = b'%d %d %d' % (count // 8, count // 8, 2 * len(body))
+    return matrix_command('A', b'\n'.join([text[0], size] + chance.sample(body, len(body)) + chance.sample(body, len(body))) + b'\n')
+
+
 def unusual(count: int) -> bytes:
     """Lines of two blanks among the usual ones, comments, and CR LF."""
     text = matrix_text(count // 8, count // 8, entries(count)).split(b'\n')
@@ -107,6 +115,7 @@ SESSIONS: Dict[str, Tuple[Callable[[int], bytes], int]] = {
     'read, by row': (lambda n: square('A', n), 20000),
     'read, shuffled': (shuffled, 10000),
     'read, unusual lines': (unusual, 10000),
+    'read, each position twice': (twice, 10000),
     'read and show': (lambda n: square('A', n) + b'show A\n', 10000),
     'apply, long operator': (lambda n: LONG + square('A', n) + b'apply B long A\nrun\n', 20000),
     'apply by place': (lambda n: PLACE + square('A', n) + b'apply B place A 9\nrun\n', 20000),
@@ -130,3 +139,5 @@ SESSIONS: Dict[str, Tuple[Callable[[int], bytes], int]] = {
     'jobs in batches': (many_jobs, 2000),
     'budget': (lambda n: b'budget\n' * n, 5000),
 }
+# the sessions with refused commands, by the rules that refuse them
+REFUSED: Dict[str, List[bytes]] = {'read, each position twice': [b'M8']}
