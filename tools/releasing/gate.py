@@ -50,38 +50,38 @@ class Run:
     def __init__(self) -> None:
         self.began = state()
         self.steps: List[Step] = []
-        self._telling = threading.Lock()
+        self._printing = threading.Lock()
 
     def step(self, name: str, words: Sequence[str], environment: Optional[Mapping[str, str]] = None, most: Optional[int] = MOST_SECONDS,
              folder: str = tree.TOP) -> None:
         """Runs a command. Failed where it fails, or takes more seconds than it may: a gate without an end tells nothing."""
         command = Command(name, words, environment or {}, most, folder)
-        print(head(command), flush=True)
-        self._passed(command, taken(command))
+        print(heading(command), flush=True)
+        self._record(command, run_timed(command))
 
     def side_by_side(self, commands: Sequence[Command], at_once: int = 2) -> None:
         """Runs commands, some at once, and prints what each said when it ends. Failed where one fails: what hasn't begun by then doesn't."""
         faults: List[Failed] = []
         with ThreadPoolExecutor(at_once) as pool:
-            list(pool.map(lambda command: faults or self._told(command, faults), commands))
+            list(pool.map(lambda command: faults or self._run_captured(command, faults), commands))
         if faults:
             raise faults[0]
 
-    def _told(self, command: Command, faults: List[Failed]) -> None:
+    def _run_captured(self, command: Command, faults: List[Failed]) -> None:
         """Runs a command, and prints what it said. A fault is added to the others."""
         seconds = None
         with tempfile.TemporaryFile('w+', errors='replace') as said:
             try:
-                seconds = taken(command, said)
+                seconds = run_timed(command, said)
             except Failed as fault:
                 faults.append(fault)
             said.seek(0)
-            with self._telling:
-                print('%s\n%s' % (head(command), said.read().rstrip('\n')), flush=True)
+            with self._printing:
+                print('%s\n%s' % (heading(command), said.read().rstrip('\n')), flush=True)
                 if seconds is not None:
-                    self._passed(command, seconds)
+                    self._record(command, seconds)
 
-    def _passed(self, command: Command, seconds: int) -> None:
+    def _record(self, command: Command, seconds: int) -> None:
         print('-- %s: %d s' % (command.name, seconds), flush=True)
         self.steps.append(Step(command.name, seconds))
 
@@ -99,12 +99,12 @@ class Run:
         return note
 
 
-def head(command: Command) -> str:
+def heading(command: Command) -> str:
     """The line that begins what a step says."""
     return '== %s: %s' % (command.name, ' '.join(command.words))
 
 
-def taken(command: Command, said: Optional[IO[str]] = None) -> int:
+def run_timed(command: Command, said: Optional[IO[str]] = None) -> int:
     """Runs a command, which says what it says to a file or on the screen. The seconds that it took. (At SIGABRT Python tells where it stood.)"""
     begun = time.monotonic()
     limited = [] if command.most is None else ['timeout', '--signal=ABRT', '--kill-after=30', str(command.most)]
