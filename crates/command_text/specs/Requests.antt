@@ -88,8 +88,8 @@ operator_asked header _ = Fatal fatal.MalformedWords
 
 -- ---- jobs
 
--- How a form of job is written: `COMMAND OUT ..`, so many words behind the command, and perhaps `mask M`. Each number in the form is
--- the place of a word: OUT has place 0.
+-- How a form of job is written: `COMMAND OUT ..`, so many words behind the command, and perhaps `mask M`. Each number in the form
+-- is the place of a word: OUT has place 0.
 pub record JobWords : Type 0 where
   pub command : List ℕ
   pub count : ℕ

@@ -16,9 +16,9 @@
 //! `stack`; below them `cells` (one list of cells, or many), `starts` (where rows start, in a list that
 //! matrices may share), `growing` (where rows start while runs are stacked), `ends` (where the rows of a run
 //! end), `moving` (ends counted from another place), `filler` (rows filled in ascending order), `merging` (those
-//! entries and others by position, as one list), `repeat`
-//! (the positions that two or more entries of a list have), `parts` (where positions start in each part of
-//! their range), `kept` (cells of which some are kept), `reader` (rows one after the other) and `row` (parts of a list of cells, and searches in a row), over
+//! entries and others by position, as one list), `repeat` (the positions that two or more entries of a list
+//! have), `parts` (where positions start in each part of their range), `kept` (cells of which some are kept),
+//! `reader` (rows one after the other) and `row` (parts of a list of cells, and searches in a row), over
 //! `specs/ByRows.antt`.
 #![tactic(auto)]
 

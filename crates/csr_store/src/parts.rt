@@ -9,12 +9,13 @@ ghost use Rattle.csr_store.specs.inner.Repeated.{number_at};
 use crate::matrix::Cell;
 use crate::row::cells_before;
 
-/// How many low bits of a position don't tell its part, so that the last of so many positions has a part below their number.
-pub fn part_bits(last: u64, positions: usize) -> u32
-    requires { 0 < positions }
+/// How many low bits of a position don't tell its part, so that the last position is in one of so many parts.
+pub fn part_bits(last: u64, parts: usize) -> u32
+    requires { 0 < parts }
     ensures { result < 64 }
 {
-    let width = last / positions as u64;
+    let width = last / parts as u64;
+    // a shift by 64 would be none at all
     (64 - width.leading_zeros()).min(63)
 }
 

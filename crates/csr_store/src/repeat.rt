@@ -48,7 +48,7 @@ impl Model for RepeatedPositions {
 impl RepeatedPositions {
     /// Meets an entry at a position, and tells whether the position is a repeated one that was met before.
     ///
-    /// Costs a search among the repeated positions of one part of their range, of which there are as many as positions.
+    /// Costs a search in one part of the range of the repeated positions, which has some 32 of them where they stand evenly.
     pub fn meet(&mut self, row: u64, column: u64) -> bool
         requires row { row < limit }
         requires column { column < limit }
@@ -64,6 +64,10 @@ impl RepeatedPositions {
     }
 }
 
+/// About how many positions a part has. With fewer, the table of parts doesn't stay in a cache near the processor; with more, a
+/// search in a part takes longer.
+const POSITIONS_A_PART: usize = 32;
+
 /// The positions that two or more of these cells have, if there are any. The cells' positions don't fall.
 pub fn repeats_of(cells: Vec<Cell>) -> Option<RepeatedPositions>
     requires { IsNonDecreasingBy (λ c. c.0) cells.items }
@@ -76,9 +80,10 @@ pub fn repeats_of(cells: Vec<Cell>) -> Option<RepeatedPositions>
     if count == 0 {
         return None;
     }
-    cells.truncate(count + count);
+    let parts = count / POSITIONS_A_PART + 1;
+    cells.truncate(count + parts);
     let (positions, starts) = cells.split_at_mut(count);
-    let bits = part_bits(positions[count - 1].0, count);
+    let bits = part_bits(positions[count - 1].0, parts);
     write_starts(positions, starts, bits);
     Some(RepeatedPositions { cells, count, bits })
 }

@@ -1,4 +1,4 @@
-use Rattle.std.proofs.Common.{◌≡◌, ◌<◌, ◌∙◌, ◌+◌, ℕ, List, map, sym, length, take, ap, arith}
+use Rattle.std.proofs.Common.{◌≡◌, ◌<◌, ◌∙◌, ◌+◌, ◌/◌, ℕ, List, map, sym, length, take, ap, arith}
 use Rattle.std.proofs.lemmas.List.{length-take, length-take-le, take-take}
 use Rattle.std.specs.FinMap.{from_entries, get}
 use Rattle.csr_store.specs.Grid.{Cell, pos_cmp}
@@ -24,12 +24,13 @@ returns-clause-twice c =
 pub returns-clause-repeats : goal.returns-clause-repeats
 returns-clause-repeats c = λ p.
     let n = c.keep_repeats-count.result in
+    let m = n + (n / 32 + 1) in
     let o = c.truncate.new.self.ok.0 in
     let t = c.truncate.ensures.items in
-    let len : length (take (n + n) c.keep_repeats-count.new.cells.items) ≡ c.truncate.new.self.len = ap length (sym t) ∙ sym o in
+    let len : length (take m c.keep_repeats-count.new.cells.items) ≡ c.truncate.new.self.len = ap length (sym t) ∙ sym o in
     let most = c.keep_repeats-count.ensures.within in
-    let cut = length-take (n + n) c.keep_repeats-count.new.cells.items in
+    let cut = length-take m c.keep_repeats-count.new.cells.items in
     ap (λ (xs : List Cell). get (from_entries {R = pos_cmp} (map unpacked xs)) p)
     (in_front n c.truncate.new.self.len c.split_at_mut-positions.result.0.now c.write_starts.new.starts _ c.split_at_mut-positions.ensures.front_len (omega (arith, len, most, cut))
-    ∙ c.split_at_mut-positions.ensures.front ∙ ap (take n) (c.deref_mut.ensures.value ∙ t) ∙ take-take n (n + n) c.keep_repeats-count.new.cells.items (omega arith))
+    ∙ c.split_at_mut-positions.ensures.front ∙ ap (take n) (c.deref_mut.ensures.value ∙ t) ∙ take-take n m c.keep_repeats-count.new.cells.items (omega arith))
     ∙ marks_are (take n c.keep_repeats-count.new.cells.items) p ∙ c.keep_repeats-count.ensures.kept p
