@@ -1,6 +1,7 @@
 """Breadth-first search."""
 from __future__ import annotations
 
+from itertools import compress
 from typing import Any, Generic, List, NamedTuple, Optional, Tuple
 
 from ..io import matrix_text
@@ -127,9 +128,9 @@ def _next_front(lines: Lines[M], told: Tally, front: Numbers, matrix: Optional[M
     ring = LEAST if parents else REACHED
     start = Vector(front, front if parents else ones_like(front))
     if not is_large(len(front), lines):
-        return _fresh(told, lines.pushed(start, ring)), None
+        return _fresh(told, lines.pushed(start, ring, parents)), None
     reached = lines.step(lines.put(start) if matrix is None else matrix, ring, unseen.mask())
-    return lines.get(reached), reached
+    return lines.get(reached, parents), reached
 
 
 def is_large(front: int, lines: Lines[M]) -> bool:
@@ -138,13 +139,12 @@ def is_large(front: int, lines: Lines[M]) -> bool:
 
 
 def _fresh(told: Tally, got: Vector) -> Vector:
-    """Those that weren't seen before."""
+    """Those that weren't seen before, with their values where there are any."""
     if matrix_text.is_array(got.at):
         keep = told.view()[got.at] == NONE
-        return Vector(got.at[keep], got.values[keep])
-    numbers = told.numbers
-    kept: List[Tuple[int, int]] = [(i, value) for i, value in zip(got.at, got.values) if numbers[i] == NONE]
-    return Vector([i for i, _ in kept], [value for _, value in kept])
+        return Vector(got.at[keep], got.values[keep] if len(got.values) else got.values)
+    keep = [told.numbers[i] == NONE for i in got.at]
+    return Vector(list(compress(got.at, keep)), list(compress(got.values, keep)))
 
 
 @algorithm('edges from a vertex to each other one', 'source', plot='levels',

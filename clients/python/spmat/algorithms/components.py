@@ -7,7 +7,7 @@ from typing import Any, Generic, List, Optional
 from ..io import matrix_text
 from ..operators import Semiring, binary
 from .cached_properties import check_undirected, found, is_both_ways, transpose_of
-from .frontier import Columns, FEW, Lines, Rows, Vector, column_of, ones_like
+from .frontier import Columns, FEW, Lines, Rows, Vector, column_of, ones_like, values_of
 from .protocols import M, Numbers
 from .registry import algorithm
 from .utils import Progress, beside, order, root, tell
@@ -109,11 +109,11 @@ class Neighbours(Generic[M]):
         numbers: M = found(self.graph, 'numbers', lambda: self.columns.number(self.columns.ones()))
         made = [self.graph.mxv(numbers, ring) for ring in ('min_second', 'max_second')]
         if self.back is None:
-            return [self.columns.get(one) for one in made]
+            return _alike(self.columns, made)
         back = self.back
         row: M = numbers if not isinstance(back, Rows) else found(self.graph, 'numbers in a row', lambda: back.number(back.ones()))
         more = [back.step(row, ring) for ring in (LEAST, GREATEST)]
-        return [self.columns.get(one) for one in made] + [back.get(one) for one in more]
+        return _alike(self.columns, made) + _alike(back, more)
 
     def joined(self, some: Numbers, labels: Labels) -> bool:
         """Joins some vertices with what has another label among their neighbours; whether there was any. In a component that has such
@@ -122,7 +122,7 @@ class Neighbours(Generic[M]):
             return self._joined_both_ways(some, labels)
         front = self.push.put(Vector(some, labels.at(some)))
         least, greatest = (self.push.step(front, ring) for ring in (LEAST, GREATEST))
-        near, most = self.push.get(least), self.push.get(greatest).values
+        near, most = self.push.get(least), values_of(greatest)
         first, second = labels.join(near.at, near.values), labels.join(near.at, most)
         if not (first or second):
             return False
@@ -137,13 +137,12 @@ class Neighbours(Generic[M]):
         got = self._pulled(self.columns.put(Vector(every, labels.of)), some)
         row, mask = self.back.put(Vector(every, labels.of)), self.back.put(Vector(some, ones_like(some)))
         made = [self.back.step(row, ring, mask) for ring in (LEAST, GREATEST)]
-        return self._join(got + [self.back.get(one) for one in made], labels)
+        return self._join(got + _alike(self.back, made), labels)
 
     def _pulled(self, labels: M, some: Numbers) -> List[Vector]:
         """The least and the greatest label among the neighbours of some vertices."""
         mask = self.columns.put(Vector(some, ones_like(some)))
-        made = [self.graph.mxv(labels, ring, mask=mask) for ring in ('min_second', 'max_second')]
-        return [self.columns.get(one) for one in made]
+        return _alike(self.columns, [self.graph.mxv(labels, ring, mask=mask) for ring in ('min_second', 'max_second')])
 
     @staticmethod
     def _join(found_labels: List[Vector], labels: Labels) -> bool:
@@ -151,6 +150,12 @@ class Neighbours(Generic[M]):
         for got in found_labels:
             some = labels.join(got.at, got.values) or some
         return some
+
+
+def _alike(lines: Lines[M], made: List[M]) -> List[Vector]:
+    """Vectors that have entries at the same vertices."""
+    first = lines.get(made[0])
+    return [first] + [Vector(first.at, values_of(one)) for one in made[1:]]
 
 
 @algorithm("the least vertex of each one's component", are_vertices=True,

@@ -4,10 +4,10 @@ A row times a graph costs what the edges cost that leave the row's vertices, how
 the whole graph, vectors are rows, and a front *pushes*. In blocks a row lies in one block, and the product would bring the whole graph
 to that block's session: there vectors are columns, the front goes to each session, and each *pulls* along its rows of the transpose.
 
-One session always pushes. Under a mask of the vertices that weren't seen both ways take the same steps. By the clock, on graphs of 65,536
-vertices and a million edges, a search took 1.1 to 1.8 times as long where it pulled from its first large level on, or where half the
-vertices were seen: a pull looks at all rows, and wants the front as a column, which has to be sent. In the last level alone it saves a
-millisecond.
+In one session a search always pushes. Under a mask of the vertices that weren't seen both ways take the same steps. By the clock, on graphs of
+65,536 vertices and a million edges, a search took 1.1 to 1.8 times as long where it pulled from its first large level on, or where half the
+vertices were seen, also with four workers on an idle machine: a pull looks at all rows, and wants the front as a column, which has to be
+sent. In the last level alone it saves a millisecond.
 """
 from __future__ import annotations
 
@@ -55,17 +55,18 @@ class Lines(abc.ABC, Generic[M]):
         """What comes to each vertex j along the edges (i, j) from the front's vertices i: the terms `mul(front(i), edge)`, folded by
         `add`. `mul` is `first`, `second`, or commutative."""
 
-    def pushed(self, front: Vector, ring: Semiring) -> Vector:
-        """`step`, from entries to entries."""
-        return self.get(self.step(self.put(front), ring))
+    def pushed(self, front: Vector, ring: Semiring, values: bool = True) -> Vector:
+        """`step`, from entries to entries; without their values where these aren't wanted."""
+        return self.get(self.step(self.put(front), ring), values)
 
     @abc.abstractmethod
     def number(self, vector: M, more: int = 0) -> M:
         """A vector with each vertex' own number, and so many more, as its value."""
 
     @abc.abstractmethod
-    def get(self, matrix: M) -> Vector:
-        """The vector that a matrix is: lists where it is short, or numpy isn't there, else arrays."""
+    def get(self, matrix: M, values: bool = True) -> Vector:
+        """The vector that a matrix is: lists where it is short, or numpy isn't there, else arrays. `values` says whether its values are wanted;
+        else there may be none."""
 
     def ones(self) -> M:
         """A vector of ones, kept with the graph."""
@@ -80,14 +81,14 @@ class Rows(Lines[M]):
         super().__init__(graph)
         self._pushes: Dict[Semiring, Push] = {}
 
-    def pushed(self, front: Vector, ring: Semiring) -> Vector:
+    def pushed(self, front: Vector, ring: Semiring, values: bool = True) -> Vector:
         """By one trip. Where it is refused, so that who asks hears why, as any job."""
         if asked() is not None:
-            return super().pushed(front, ring)
+            return super().pushed(front, ring, values)
         if ring not in self._pushes:
             self._pushes[ring] = Push(cast(Matrix, self.graph), ring)
-        got = self._pushes[ring](Triples(zeros_like(front.at), front.at, front.values, 1, self.count))
-        return super().pushed(front, ring) if got is None else Vector(got.places, got.values)
+        got = self._pushes[ring](Triples(zeros_like(front.at), front.at, front.values, 1, self.count), values)
+        return super().pushed(front, ring, values) if got is None else Vector(got.places, got.values)
 
     def put(self, vector: Vector) -> M:
         return self.graph.session.backend.keep(Triples(zeros_like(vector.at), vector.at, vector.values, 1, self.count))
@@ -101,8 +102,8 @@ class Rows(Lines[M]):
     def number(self, vector: M, more: int = 0) -> M:
         return vector.apply('colindex', right=more)
 
-    def get(self, matrix: M) -> Vector:
-        return read(matrix.to_text(), 1)
+    def get(self, matrix: M, values: bool = True) -> Vector:
+        return read(matrix.to_text(), 1, values)
 
 
 class Columns(Lines[M]):
@@ -124,8 +125,8 @@ class Columns(Lines[M]):
     def number(self, vector: M, more: int = 0) -> M:
         return vector.apply('rowindex', right=more)
 
-    def get(self, matrix: M) -> Vector:
-        return read(matrix.to_text(), 0)
+    def get(self, matrix: M, values: bool = True) -> Vector:
+        return read(matrix.to_text(), 0, values)
 
 
 class Front:
@@ -156,7 +157,7 @@ class Fronts(Lines[M]):
     def all(self, value: int) -> Any:
         return Front(Vector(list(range(self.count)), [value] * self.count))
 
-    def pushed(self, front: Vector, ring: Semiring) -> Vector:
+    def pushed(self, front: Vector, ring: Semiring, values: bool = True) -> Vector:
         graph: Any = self.graph
         large = 4 * len(front.at) * graph.nvals >= self.count * self.count
         found: Vector = graph.reach(self.transpose, front, (ring, Semiring(ring.add, SWAPPED.get(ring.mul, ring.mul))), large)
@@ -169,7 +170,7 @@ class Fronts(Lines[M]):
         at = vector.vector.at
         return Front(Vector(at, at + more if matrix_text.is_array(at) else [i + more for i in at]))
 
-    def get(self, matrix: Any) -> Vector:
+    def get(self, matrix: Any, values: bool = True) -> Vector:
         vector: Vector = matrix.vector
         return vector
 
@@ -194,15 +195,27 @@ def column_of(like: M, values: Numbers) -> M:
     return like.session.backend.keep(Triples(at, zeros_like(at), values, len(values), 1))
 
 
-def read(text: bytes, field: int) -> Vector:
-    """The vector of a text as the server writes it; `field` 1 of a row, 0 of a column."""
-    start = matrix_text.head_of(text)[2]
+def read(text: bytes, field: int, values: bool = True) -> Vector:
+    """The vector of a text as the server writes it, without its values where these aren't wanted; `field` 1 of a row, 0 of a column. The
+    places of a full vector aren't read."""
+    nrows, ncols, nvals, start = matrix_text.head_of(text)
     if len(text) - start > 12 * FEW and matrix_text.find_numpy() is not None:
-        at, values = parse_integers.fields(text[start:], (field, 2))
-        at -= 1
-        return Vector(at, values)
+        import numpy
+        full = nvals == (ncols if field else nrows)
+        found = parse_integers.fields(text[start:], ((field,) if not full else ()) + ((2,) if values else ()))
+        at = numpy.arange(nvals) if full else found[0] - 1
+        return Vector(at, found[-1] if values else at[:0])
     words = text[start:].split()
-    return Vector([int(word) - 1 for word in words[field::3]], list(map(int, words[2::3])))
+    return Vector([int(word) - 1 for word in words[field::3]], list(map(int, words[2::3])) if values else [])
+
+
+def values_of(matrix: M) -> Numbers:
+    """The values of a vector whose places are known: a list where it is short, or numpy isn't there, else an array."""
+    text = matrix.to_text()
+    start = matrix_text.head_of(text).start
+    if len(text) - start > 12 * FEW and matrix_text.find_numpy() is not None:
+        return parse_integers.fields(text[start:], (2,))[0]
+    return list(map(int, text[start:].split()[2::3]))
 
 
 class Tally:

@@ -91,10 +91,10 @@ class System(Generic[M]):
             ranks[i] += (shares >> SPARE) * self.point.parts // self.point.whole
         return ranks
 
-    def total(self, flow: M, bases: Vector) -> float:
-        """What all ranks add up to."""
+    def total(self, flow: M, given: int) -> float:
+        """What all ranks add up to, where so much is given anew."""
         came = (flow.reduce_scalar('plus') or 0) / 2.0 ** SPARE * self.point.damping
-        return (float(sum(bases.values.tolist() if matrix_text.is_array(bases.values) else bases.values)) + came) / 2.0 ** self.point.bits
+        return (given + came) / 2.0 ** self.point.bits
 
 
 class Watch:
@@ -133,7 +133,7 @@ def solve(system: System[M], given: Vector, watch: Watch) -> Tuple[Numbers, floa
     """The ranks where each vertex is given so much in all, and what they add up to as a share of one."""
     point = system.point
     bases = _scaled(given, point.whole - point.parts, point.whole)
-    base = int(bases.values[0])
+    base, anew = int(bases.values[0]), int(bases.values.sum()) if matrix_text.is_array(bases.values) else sum(bases.values)
     even = _are_all(bases.values, base)
     column = None if even else system.lines.put(bases)
     before: Optional[M] = None
@@ -141,7 +141,7 @@ def solve(system: System[M], given: Vector, watch: Watch) -> Tuple[Numbers, floa
     while True:
         if watch.tick():
             change = 2.0 if before is None else _change(flow, before) * point.damping / 2.0 ** (point.bits + SPARE)
-            total = system.total(flow, bases)
+            total = system.total(flow, anew)
             if watch.settled(change, total):
                 return system.ranks(flow, bases), total
         shares = system.turn(flow, base) if column is None else system.turn_all(flow, column)

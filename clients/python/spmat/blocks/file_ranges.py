@@ -228,7 +228,7 @@ def written(triples: Triples, bare: bool, cut: Cut) -> List[Part]:
     for first, end in zip(ends, ends[1:]):
         at = order[first:end]
         text = matrix_text.write(Triples(rows[at], columns[at], values[at], nrows, ncols), ones=bare)
-        parts.append(Part(text[matrix_text.head_of(text)[2]:], end - first))
+        parts.append(Part(text[matrix_text.head_of(text).start:], end - first))
     return parts
 
 

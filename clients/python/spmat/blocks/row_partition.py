@@ -82,7 +82,7 @@ def evenly(nrows: int, blocks: int) -> Cut:
 
 def lines_of(text: bytes, first: int, end: int) -> Tuple[bytes, int]:
     """The lines of the entries in the rows from `first` to below `end`, and their number, out of a text as the server writes it."""
-    nrows, _, start = matrix_text.head_of(text)
+    nrows, _, _, start = matrix_text.head_of(text)
     if first <= 0 and end >= nrows:
         lines = text[start:]
     else:

@@ -192,7 +192,7 @@ def assembled(store: Store, shape: Tuple[int, int], parts: Sequence[Lines]) -> P
 def joined_vector(store: Store, blocks: Sequence[Piece]) -> Piece:
     """The whole of a vector from its blocks."""
     texts = [block.text() for block in blocks]
-    parts = [(text[matrix_text.head_of(text)[2]:], block.counts.nvals) for text, block in zip(texts, blocks)]
+    parts = [(text[matrix_text.head_of(text).start:], block.counts.nvals) for text, block in zip(texts, blocks)]
     return assembled(store, blocks[0].counts[:2], parts).marked()
 
 
@@ -226,7 +226,7 @@ def _by_numpy(piece: Piece) -> bool:
 
 def _bare(triples: Triples) -> Lines:
     text = matrix_text.write(triples)
-    return text[matrix_text.head_of(text)[2]:], len(triples.rows)
+    return text[matrix_text.head_of(text).start:], len(triples.rows)
 
 
 def pick(store: Store, many: Sequence[Any], at: int) -> Any:

@@ -143,7 +143,7 @@ class _Table:
 
 def read(text: bytes, arrays: Optional[bool] = None) -> Triples:
     """The triples of a text as the server writes it. `arrays` says whether as arrays of numpy or as lists; without it lists."""
-    nrows, ncols, start = head_of(text)
+    nrows, ncols, _, start = head_of(text)
     if arrays:
         rows, columns, values = parse_integers.fields(text[start:], (0, 1, 2))
         rows -= 1
@@ -156,12 +156,20 @@ def read(text: bytes, arrays: Optional[bool] = None) -> Triples:
     return Triples([i - 1 for i in words[0::3]], [j - 1 for j in words[1::3]], words[2::3], nrows, ncols)
 
 
-def head_of(text: bytes) -> Tuple[int, int, int]:
-    """Rows, columns, and where the entries begin in a text as the server writes it."""
+class Head(NamedTuple):
+    """What a text says before its entries: rows, columns, entries; and where the entries begin."""
+    nrows: int
+    ncols: int
+    nvals: int
+    start: int
+
+
+def head_of(text: bytes) -> Head:
+    """The head of a text as the server writes it."""
     first = text.index(b'\n') + 1
     second = text.index(b'\n', first) + 1
-    nrows, ncols, _ = map(int, text[first:second].split())
-    return nrows, ncols, second
+    nrows, ncols, nvals = map(int, text[first:second].split())
+    return Head(nrows, ncols, nvals, second)
 
 
 def swapped(text: bytes) -> bytes:

@@ -17,7 +17,7 @@ from .round_results import Body, Entries, Shown
 if TYPE_CHECKING:
     from ..session import Session
 
-FEW = 1024
+FEW = 256
 
 
 class Push:
@@ -32,8 +32,8 @@ class Push:
         ops = [session.backend.upload(op).name.encode() for op in (ring.add, ring.mul)]
         self._rest = b'product %s %s %s %s\nrun\nshow %s\nbudget\n' % (made, b' '.join(ops), self._row, graph.handle.key.encode(), made)
 
-    def __call__(self, entries: Triples) -> Optional[Entries]:
-        """The row that the product is: places and values. None where the server refuses the job, whatever for."""
+    def __call__(self, entries: Triples, values: bool = True) -> Optional[Entries]:
+        """The row that the product is: places, and values where they are wanted. None where the server refuses the job, whatever for."""
         session = self.session
         text = matrix_text.write(_listed(entries), ones=True)
         batch = CommandBatch(b'matrix %s %d\n%s\n%s' % (self._row, len(text), text, self._rest), 5)
@@ -52,7 +52,7 @@ class Push:
         shown = Shown((1, self.graph.ncols))
         line = replies.index(b'\n', at) + 1
         shown.add(1, 1, Body(replies, line, line + int(replies[at + 8:line])))
-        return shown.drain(rounds=False)
+        return shown.drain(values, rounds=False)
 
 
 def _listed(entries: Triples) -> Triples:
