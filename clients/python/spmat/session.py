@@ -49,7 +49,7 @@ class Session(Sources[Matrix]):
 
     def __init__(self, steps: float = MOST_STEPS, workers: int = 1, program: Optional[Program] = None,
                  progress: Optional[Progress] = None) -> None:
-        self._begin(Connection.to_child(steps, workers, program, progress), shared=False)
+        self._begin(Connection.to_child(steps, workers, program, progress), int(workers))
 
     @classmethod
     def connect(cls, host: str = '127.0.0.1', port: int = 7171, timeout: Optional[float] = None,
@@ -61,12 +61,13 @@ class Session(Sources[Matrix]):
         where the server has as many sessions as it serves. `timeout` in seconds; where it passes amid a command the session is
         closed."""
         session = cls.__new__(cls)
-        Session._begin(session, Connection.to_server(Address(host, port, tls), timeout, progress), shared=True)
+        Session._begin(session, Connection.to_server(Address(host, port, tls), timeout, progress), None)
         return session
 
-    def _begin(self, connection: Connection, shared: bool) -> None:
+    def _begin(self, connection: Connection, workers: Optional[int]) -> None:
         self.connection = connection
-        self.backend = self._backend_type(self, connection, shared)
+        self._workers = workers
+        self.backend = self._backend_type(self, connection, shared=workers is None)
         self._ones: Dict[int, Matrix] = {}
         self.budget()                              # says at once where there is no session
 
@@ -81,6 +82,11 @@ class Session(Sources[Matrix]):
 
     def __repr__(self) -> str:
         return '<Session, %s>' % ('%d jobs wait' % len(self.backend.queue) if self.connection.ended is None else 'ended')
+
+    @property
+    def workers(self) -> Optional[int]:
+        """How many threads a batch has at most; None of a session of `spmat serve`, which doesn't say."""
+        return self._workers
 
     @property
     def runs(self) -> int:

@@ -211,6 +211,7 @@ SESSIONS = {
                    lambda s: _file(REPEATS, lambda path: s.read_graph(path, dup_op='plus')), lambda s: _file(REPEATS, s.read_graph)],
     'run': [lambda s: _run(s)],
     'types': [lambda s: s.types(MINUS)],
+    'workers': [lambda s: s.workers],
 }
 
 

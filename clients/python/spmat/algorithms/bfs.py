@@ -8,7 +8,7 @@ from ..io import matrix_text
 from ..operators import Semiring, asm, binary
 from . import server_side_search
 from .cached_properties import is_both_ways, transpose_of
-from .frontier import Columns, FEW, Fronts, Lines, Rows, Tally, Vector, ones_like
+from .frontier import Columns, FEW, Fronts, Lines, Rows, Tally, Vector, is_shared, ones_like
 from .protocols import M, Numbers
 from .registry import algorithm
 from .utils import Progress, beside, order, places, tell
@@ -82,6 +82,14 @@ def lines_of(G: M, GT: Optional[M], check: bool, values: bool = False) -> Lines[
     if GT is not None or not G.in_one_place:
         GT = transpose_of(G, GT, check, values)
     return Rows(G) if G.in_one_place or GT is None else Columns(G, GT)
+
+
+def flow_lines(G: M, GT: Optional[M], check: bool, values: bool = False) -> Lines[M]:
+    """As `lines_of`, for full vectors that flow through a graph round after round: columns, too, where one session has the graph and many
+    workers share a product."""
+    if is_shared(G):
+        return Columns(G, transpose_of(G, GT, check, values))
+    return lines_of(G, GT, check, values)
 
 
 def fronts_of(G: M, GT: Optional[M], check: bool, values: bool = False) -> Lines[M]:

@@ -9,7 +9,7 @@ from ..io.coo import whole
 from ..io.matrix_text import find_numpy, is_array
 from ..matrix import Matrix
 from ..operators import Semiring, binary
-from .bfs import lines_of
+from .bfs import flow_lines
 from .cached_properties import extremes
 from .distance_measures import distance_counts
 from .frontier import Columns, FEW, Lines, Tally, Vector, column_of
@@ -85,7 +85,7 @@ def _steps(G: M, GT: Optional[M], weighted: bool, check: bool) -> _Steps[M]:
     least, most = extremes(G) if weighted else (1, 1)
     if least < 0 or most * max(1, G.nvals) >= 1 << 62:
         raise ValueError('weights are 0 or more, and add up to less than 2^62: here they are %d to %d' % (least, most))
-    return _Steps(lines_of(G, GT, check, weighted), weighted)
+    return _Steps(flow_lines(G, GT, check, weighted), weighted)
 
 
 def _bits(heaviest: int, growth: int = 0) -> int:
@@ -200,8 +200,8 @@ def eigenvector(G: M, GT: Optional[M] = None, tolerance: float = 1e-6, scale: in
 
     `error` is the residual: how far the vector that one more product gives, divided by the eigenvalue, is from it (2-norm). How far the
     true one is, the graph decides as well: residual by relative distance of the next eigenvalue, where each edge leads both ways. Rounds end
-    where the numbers of two that follow differ by less than `tolerance` times the vertices in all. `GT` serves blocks alone.
-    `progress('round', k, 0)` is called after each round.
+    where the numbers of two that follow differ by less than `tolerance` times the vertices in all. `GT` is as for
+    `pagerank`. `progress('round', k, 0)` is called after each round.
 
     Runs: 1 a round, and 2. Steps: up to 5 an edge, a round. Power iteration of G + 1, in whole numbers. networkx: `eigenvector_centrality`.
     igraph: `eigenvector_centrality`, whose greatest is 1. Raises ValueError where so many rounds don't do, the graph has no edge, a value is
@@ -237,7 +237,7 @@ def katz(G: M, alpha: float = 0.1, beta: float = 1.0, GT: Optional[M] = None, to
 
     `error` is proved: no number is farther from the true one than that share of it, but for half a unit of the scale. Rounds end as soon as
     it is at most `tolerance`. alpha is a fraction with a denominator of at most 1,000,000, as a number of six decimals is, and less than 1 divided by the
-    greatest eigenvalue, or the call is refused, as numbers grow on. `GT` serves blocks alone. `progress('round', k, 0)` is called after each round.
+    greatest eigenvalue, or the call is refused, as numbers grow on. `GT` is as for `pagerank`. `progress('round', k, 0)` is called after each round.
 
     Runs: 1 a round, and 1. Steps: up to 5 an edge, a round. networkx: `katz_centrality`. Raises ValueError where alpha is too great, so many rounds
     don't do, a value is below 0, and for numbers out of range.
@@ -299,7 +299,7 @@ def hits(G: M, GT: Optional[M] = None, tolerance: float = 1e-8, scale: int = ONE
     and a hub's to those of the authorities that it leads to. Each kind adds up to 1. Values of edges count with `weighted=True` alone.
 
     `error` is how far the numbers of hubs still moved in the last round, all together, and rounds end where that is less than `tolerance`. The
-    graph decides how far the true ones are. `GT` serves blocks alone. `progress('round', k, 0)` is called after each round.
+    graph decides how far the true ones are. `GT` is as for `pagerank`. `progress('round', k, 0)` is called after each round.
 
     Runs: 2 a round, and 3. Steps: up to 10 an edge, a round. Kleinberg's algorithm, in whole numbers. networkx: `hits`. igraph: `hub_score`,
     `authority_score`. Raises ValueError where so many rounds don't do, the graph has no edge, a value is below 0, and for numbers out of

@@ -8,6 +8,8 @@ In one session a search always pushes. Under a mask of the vertices that weren't
 65,536 vertices and a million edges, a search took 1.1 to 1.8 times as long where it pulled from its first large level on, or where half the
 vertices were seen, also with four workers on an idle machine: a pull looks at all rows, and wants the front as a column, which has to be
 sent. In the last level alone it saves a millisecond.
+
+Full vectors that flow through a large graph round after round are columns where many workers share a product, and rows elsewhere.
 """
 from __future__ import annotations
 
@@ -22,9 +24,10 @@ from ..matrix import Matrix
 from ..operators import Semiring, binary
 from ..pricing.upper_bounds import asked
 from .cached_properties import found
-from .protocols import M, Numbers
+from .protocols import GraphMatrix, M, Numbers
 
 FEW = 1024                                         # vectors of fewer entries are lists, which are quicker then
+MANY_WORKERS, MANY_ENTRIES, MANY_AT_A_VERTEX = 3, 500_000, 8       # from which on columns took less time than rows by the clock
 SWAPPED = {binary.first: binary.second, binary.second: binary.first}
 
 
@@ -173,6 +176,14 @@ class Fronts(Lines[M]):
     def get(self, matrix: Any, values: bool = True) -> Vector:
         vector: Vector = matrix.vector
         return vector
+
+
+def is_shared(graph: GraphMatrix) -> bool:
+    """Whether so many workers share the product of a graph with a full column that it takes less time than that of a full row, which one worker
+    makes. Of a server's session that isn't known."""
+    if not graph.in_one_place or graph.nvals < max(MANY_ENTRIES, MANY_AT_A_VERTEX * graph.nrows):
+        return False
+    return (cast(Matrix, graph).session.workers or 1) >= MANY_WORKERS
 
 
 def zeros_like(at: Numbers) -> Numbers:

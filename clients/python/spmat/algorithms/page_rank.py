@@ -6,7 +6,8 @@ from typing import Any, Generic, Mapping, NamedTuple, Optional, Tuple
 
 from ..io import matrix_text
 from ..operators import Semiring, asm, binary
-from .bfs import lines_of
+from ..pricing.upper_bounds import asked
+from .bfs import flow_lines
 from .cached_properties import extremes, found, is_both_ways
 from .frontier import Columns, FEW, Lines, Vector, column_of
 from .protocols import GraphMatrix, M, Numbers
@@ -56,6 +57,11 @@ class System(Generic[M]):
 
     def __init__(self, lines: Lines[M], out: M, weighted: bool, point: Point) -> None:
         self.lines, self.out, self.point = lines, out, point
+        # The server prices a product with a column that isn't full by a walk along the graph. So there all vertices have shares.
+        in_columns = isinstance(lines, Columns) and lines.graph.in_one_place
+        self.fills = in_columns and (asked() is not None or out.nvals < lines.count)
+        if self.fills:
+            self.out = out.ewise_add(lines.ones(), 'first')
         self.ring = Semiring(binary.plus, binary.times if weighted else binary.first)
         self.spread = asm('binary', 'mov64 r0, r1\nlsh64 r0, %d\ndiv64 r0, r2\nexit\n' % SPARE)
         self.join = asm('binary', 'mov64 r0, r2\n%sadd64 r0, r1\nexit\n' % point.damped())
@@ -135,7 +141,7 @@ def solve(system: System[M], given: Vector, watch: Watch) -> Tuple[Numbers, floa
     bases = _scaled(given, point.whole - point.parts, point.whole)
     base, anew = int(bases.values[0]), int(bases.values.sum()) if matrix_text.is_array(bases.values) else sum(bases.values)
     even = _are_all(bases.values, base)
-    column = None if even else system.lines.put(bases)
+    column = None if even and not system.fills else system.lines.put(bases)
     before: Optional[M] = None
     flow = system.flow(system.start(given))
     while True:
@@ -235,12 +241,13 @@ def pagerank(G: M, GT: Optional[M] = None, damping: float = 0.85, tolerance: flo
     get the same. What a vertex without an edge that leaves it has goes to all by the weights `dangling`, or else as what is given
     anew: as in networkx.
 
-    The damping has at most six decimals. `GT` serves blocks alone, where it is made without it. `progress('round', k, n)` is
-    called after each round, of which there are at most n, log(tolerance / 2) / log(damping) (90), but for graphs with many vertices that
-    no edge leaves. Rounds end as soon as the change of the last one shows that the tolerance is kept, which is asked every few rounds.
+    The damping has at most six decimals. `GT` serves blocks, and large graphs in a session of three workers or more; without it it
+    is made there. `progress('round', k, n)` is called after each round, of which there are at most n, log(tolerance / 2) / log(damping) (90),
+    but for graphs with many vertices that no edge leaves. Rounds end as soon as the change of the last one shows that the tolerance is kept,
+    which is asked every few rounds.
 
-    Runs: 2 a round, 3 where something else than one number is given, or some vertex that edges leave has none that come; 3 each time
-    that is asked; 8 more; all of it twice where `dangling` differs. Steps: up to 5 an edge and 10 a vertex, a round (6 an edge with
+    Runs: 2 a round, 3 where something else than one number is given, or some vertex that edges leave has none that come, and for such a large
+    graph where no edge leaves some; 3 each time that is asked; 8 more; all of it twice where `dangling` differs. Steps: up to 5 an edge and 10 a vertex, a round (6 an edge with
     weights; 15 a vertex); 5 an edge, and 10 a vertex each time that is asked. GraphBLAS: `vxm` over plus and first, damped. LAGraph:
     `LAGr_PageRank`. networkx: `pagerank`. Raises ValueError where damping, tolerance, scale (1 to 2^52) or weights are out of range, and
     where values are negative (4 jobs, once), and where GT isn't the transpose (`check=False` leaves these out).
@@ -252,7 +259,7 @@ def pagerank(G: M, GT: Optional[M] = None, damping: float = 0.85, tolerance: flo
     point = point_of(damping)
     if count == 0:
         return Columns(G, G).put(Vector([], []))
-    lines = lines_of(G, GT, check, values=weighted)
+    lines = flow_lines(G, GT, check, values=weighted)
     out = out_weights(lines, weighted)
     weight = _weight(G, out, weighted, check)
     aim = kept_tolerance(count, weight, point, tolerance, scale)

@@ -124,6 +124,11 @@ class Sessions(Inputs):
 
     # -- what is told
 
+    @property
+    def workers(self) -> int:
+        """How many threads a batch of one session has at most."""
+        return self.settings.workers
+
     def budgets(self) -> Dict[str, Budget]:
         """What each session has reserved and spent, by the name of its worker, and what all sessions have left; of workers in one process,
         which share a session, the first."""
