@@ -247,8 +247,8 @@ def pagerank(G: M, GT: Optional[M] = None, damping: float = 0.85, tolerance: flo
     which is asked every few rounds.
 
     Runs: 2 a round, 3 where something else than one number is given, or some vertex that edges leave has none that come, and for such a large
-    graph where no edge leaves some; 3 each time that is asked; 8 more; all of it twice where `dangling` differs. Steps: up to 5 an edge and 10 a vertex, a round (6 an edge with
-    weights; 15 a vertex); 5 an edge, and 10 a vertex each time that is asked. GraphBLAS: `vxm` over plus and first, damped. LAGraph:
+    graph where no edge leaves some; 3 each time that is asked; 8 more; all of it twice where `dangling` differs. Steps: up to 5 an edge and
+    10 a vertex, a round (6 an edge with weights; 15 a vertex); 5 an edge, and 10 a vertex each time that is asked. GraphBLAS: `vxm` over plus and first, damped. LAGraph:
     `LAGr_PageRank`. networkx: `pagerank`. Raises ValueError where damping, tolerance, scale (1 to 2^52) or weights are out of range, and
     where values are negative (4 jobs, once), and where GT isn't the transpose (`check=False` leaves these out).
     """
