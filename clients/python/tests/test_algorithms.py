@@ -1,11 +1,13 @@
 """Each algorithm beside plain Python, on graphs of one part and of several, directed and undirected."""
 import random
 import unittest
+from unittest import mock
 
 import graphs
 import support
 import spmat
 from spmat import algorithms
+from spmat.algorithms import components
 
 
 class Algorithms(support.InSession):
@@ -36,8 +38,19 @@ class Algorithms(support.InSession):
         def look(graph, near, G, GT):
             both = graphs.both_ways(near)
             want = {(i, 0): min(graphs.levels(both, i)) for i in range(graph.count)}
-            self.assertEqual(algorithms.connected_components(G, GT).to_dict(), want)
+            for large in (components.LARGE, 0):    # with and without a look at how many are left
+                with mock.patch.object(components, 'LARGE', large):
+                    self.assertEqual(algorithms.connected_components(G, GT).to_dict(), want)
         self.each(graphs.ALL, look)
+
+    def test_components_of_a_large_graph_without_greatest_neighbours(self):
+        """A star, of which the least neighbours join all, is asked for these alone."""
+        star = graphs.undirected('star', 60, [(0, i) for i in range(1, 60)]).matrix(self.session)
+        algorithms.connected_components(star, star)
+        jobs = self.session.jobs
+        with mock.patch.object(components, 'LARGE', 0):
+            self.assertEqual(set(algorithms.connected_components(star, star).to_list()), {0})
+        self.assertEqual(self.session.jobs - jobs, 1)
 
     def test_shortest_paths(self):
         def look(graph, near, G, GT):

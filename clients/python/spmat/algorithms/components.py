@@ -2,7 +2,7 @@
 from __future__ import annotations
 
 import collections
-from typing import Any, Generic, List, Optional
+from typing import Any, Generic, Iterator, List, Optional, Tuple
 
 from ..io import matrix_text
 from ..operators import Semiring, binary
@@ -14,6 +14,8 @@ from .utils import Progress, beside, order, root, tell
 
 GREATEST = Semiring(binary.max, binary.first)
 LEAST = Semiring(binary.min, binary.first)
+LARGE, FEW_OTHERS = 1 << 14, 8                     # vertices of a graph where greatest neighbours are worth a look at how many are left: few are
+                                                   # at most one of so many
 
 
 class Labels:
@@ -104,16 +106,25 @@ class Neighbours(Generic[M]):
             self.back = Rows(graph) if graph.in_one_place or back is None else Columns(graph, back)
         self.push: Lines[M] = Rows(graph) if graph.in_one_place else self.columns
 
-    def all(self) -> List[Vector]:
-        """Those of all vertices."""
+    def all(self) -> Iterator[List[Vector]]:
+        """The least ones of all vertices, and then the greatest ones. Of a small graph one run makes both, of a large one each has its own,
+        when it is asked for."""
+        least, small = self._of_all('min_second', LEAST), self.count < LARGE
+        greatest = self._of_all('max_second', GREATEST) if small else []
+        got = [lines.get(made) for lines, made in least]
+        yield got
+        yield [Vector(at, values_of(made)) for (at, _), (_, made) in zip(got, greatest or self._of_all('max_second', GREATEST))]
+
+    def _of_all(self, pulled: str, pushed: Semiring) -> List[Tuple[Lines[M], M]]:
+        """What comes to all vertices along the edges that leave them, and, where these lead one way alone, along those that lead to them."""
         numbers: M = found(self.graph, 'numbers', lambda: self.columns.number(self.columns.ones()))
-        made = [self.graph.mxv(numbers, ring) for ring in ('min_second', 'max_second')]
-        if self.back is None:
-            return _alike(self.columns, made)
-        back = self.back
-        row: M = numbers if not isinstance(back, Rows) else found(self.graph, 'numbers in a row', lambda: back.number(back.ones()))
-        more = [back.step(row, ring) for ring in (LEAST, GREATEST)]
-        return _alike(self.columns, made) + _alike(back, more)
+        made: List[Tuple[Lines[M], M]] = [(self.columns, self.graph.mxv(numbers, pulled))]
+        return made if self.back is None else made + [(self.back, self.back.step(self._beside(self.back, numbers), pushed))]
+
+    def _beside(self, lines: Lines[M], numbers: M) -> M:
+        """The number of each vertex as these lines have it, which columns have already."""
+        row: M = numbers if not isinstance(lines, Rows) else found(self.graph, 'numbers in a row', lambda: lines.number(lines.ones()))
+        return row
 
     def joined(self, some: Numbers, labels: Labels) -> bool:
         """Joins some vertices with what has another label among their neighbours; whether there was any. In a component that has such
@@ -159,18 +170,19 @@ def _alike(lines: Lines[M], made: List[M]) -> List[Vector]:
 
 
 @algorithm("the least vertex of each one's component", are_vertices=True,
-           runs=lambda g: 2 * g.rounds + 3, steps=lambda g: 10 * g.entries + 2 * g.vertices + 20 * g.entries * g.rounds)
+           runs=lambda g: 2 * g.rounds + 3 + (g.vertices >= LARGE), steps=lambda g: 10 * g.entries + 2 * g.vertices + 20 * g.entries * g.rounds)
 def connected_components(G: M, GT: Optional[M] = None, progress: Progress = None, *, check: bool = True) -> M:
     """The least vertex of each one's component, as a column; edges lead both ways (of a directed graph: the weak components).
 
     Of an undirected graph hand in G itself as `GT`, which is checked; without it that is found out. Another `GT` serves blocks alone.
     `progress('round', k, 0)` is called after each round.
 
-    Each vertex is joined with its least and its greatest neighbour, which the client follows to their ends. Then those outside the
-    greatest component alone look for neighbours with other labels. A component that has one is joined with another: so each round
+    Each vertex is joined with its least and its greatest neighbour, which the client follows to their ends. (Of a graph of 16,384 vertices or
+    more with the greatest only where many are outside the greatest component by then.) Then those outside the greatest component alone look
+    for neighbours with other labels. A component that has one is joined with another: so each round
     leaves at most half of them, and there are no more rounds than the logarithm of the number of vertices, however long the paths are.
 
-    Runs: 2 a round, and 3; 1 more for a directed graph. Steps: up to 10 an edge and 2 a vertex; in later rounds 20 an edge of the vertices
+    Runs: 2 a round, and 3; 1 more for such a large graph, and 1 for a directed one. Steps: up to 10 an edge and 2 a vertex; in later rounds 20 an edge of the vertices
     outside the greatest component, and for a directed graph 10 an edge. Whether each edge leads both ways is found out once, by 2 jobs (13
     steps an edge and 5 a vertex), and kept with the matrix. GraphBLAS: `mxv` over min and second, max and second. LAGraph:
     `LAGr_ConnectedComponents` (FastSV). networkx: `connected_components`, `weakly_connected_components`. Raises ValueError where G is
@@ -178,15 +190,17 @@ def connected_components(G: M, GT: Optional[M] = None, progress: Progress = None
     """
     count = order(G, GT)
     near, labels = Neighbours(G, GT, check), Labels(count)
-    alone, number, goes_on = Alone(count, labels.numpy), 1, True
-    for got in near.all():
-        labels.join(got.at, got.values)
-        alone.note(got.at)
-    tell(progress, 'round', 1)
-    while goes_on:
+    alone, number = Alone(count, labels.numpy), 1
+    for each in near.all():
+        for got in each:
+            labels.join(got.at, got.values)
+            alone.note(got.at)
         others = labels.others(alone)
-        goes_on = len(others) > 0 and near.joined(others, labels)
-        if goes_on:
-            number += 1
-            tell(progress, 'round', number)
+        if count >= LARGE and FEW_OTHERS * len(others) <= count:
+            break
+    tell(progress, 'round', 1)
+    while len(others) and near.joined(others, labels):
+        number += 1
+        tell(progress, 'round', number)
+        others = labels.others(alone)
     return beside(G, column_of(G, labels.of))
