@@ -14,8 +14,8 @@ from .utils import Progress, beside, order, root, tell
 
 GREATEST = Semiring(binary.max, binary.first)
 LEAST = Semiring(binary.min, binary.first)
-LARGE, FEW_OTHERS = 1 << 14, 8                     # vertices of a graph where greatest neighbours are worth a look at how many are left: few are
-                                                   # at most one of so many
+LARGE = 1 << 14                                    # vertices from which on it pays to see how many are left before greatest neighbours are asked for
+FEW_OTHERS = 8                                     # few are left where that is one of so many at most
 
 
 class Labels:

@@ -181,9 +181,9 @@ class Fronts(Lines[M]):
 def is_shared(graph: GraphMatrix) -> bool:
     """Whether so many workers share the product of a graph with a full column that it takes less time than that of a full row, which one worker
     makes. Of a server's session that isn't known."""
-    if not graph.in_one_place or graph.nvals < max(MANY_ENTRIES, MANY_AT_A_VERTEX * graph.nrows):
+    if not graph.in_one_place or (cast(Matrix, graph).session.workers or 1) < MANY_WORKERS:
         return False
-    return (cast(Matrix, graph).session.workers or 1) >= MANY_WORKERS
+    return graph.nvals >= max(MANY_ENTRIES, MANY_AT_A_VERTEX * graph.nrows)
 
 
 def zeros_like(at: Numbers) -> Numbers:

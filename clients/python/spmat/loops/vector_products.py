@@ -17,7 +17,7 @@ from .round_results import Body, Entries, Shown
 if TYPE_CHECKING:
     from ..session import Session
 
-FEW = 256
+FEW = 256                                          # entries of a row that are written in less time from lists than from arrays: fewer than these
 
 
 class Push:
