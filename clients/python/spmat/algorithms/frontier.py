@@ -6,7 +6,7 @@ to that block's session: there vectors are columns, the front goes to each sessi
 
 In one session a search always pushes. Under a mask of the vertices that weren't seen both ways take the same steps. By the clock, on graphs of
 65,536 vertices and a million edges, a search took 1.1 to 1.8 times as long where it pulled from its first large level on, or where half the
-vertices were seen, also with four workers on an idle machine: a pull looks at all rows, and wants the front as a column, which has to be
+vertices were seen, also with four workers and nothing else running: a pull looks at all rows, and wants the front as a column, which has to be
 sent. In the last level alone it saves a millisecond.
 
 Full vectors that flow through a large graph round after round are columns where many workers share a product, and rows elsewhere.
