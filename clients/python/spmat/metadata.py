@@ -10,6 +10,7 @@ import numbers
 from typing import Any, Dict, FrozenSet, Iterable, List, NamedTuple, Optional, Set
 
 from .operators import READY, Operator
+from .units import Unit
 
 # Binary operators for which the order of operands doesn't matter: a product of a symmetric matrix with itself stays symmetric.
 COMMUTE: FrozenSet[str] = frozenset((
@@ -65,16 +66,18 @@ def check_names(names: Nodes) -> None:
 class Notes(NamedTuple):
     """The names of the rows and of the columns, where they have any; whether an entry (i, j) may stand without one of (j, i), or
     with one of another value; and whether the values are weights that the caller gave. None: not known. `source` says what was
-    taken of the file or table that the matrix was read from, and is empty for results."""
+    taken of the file or table that the matrix was read from, and is empty for results. A stored number x stands for x / `unit`."""
     rows: Optional[Nodes] = None
     columns: Optional[Nodes] = None
     directed: Optional[bool] = None
     weighted: Optional[bool] = None
     source: str = ''
+    unit: Unit = 1
 
     def __repr__(self) -> str:
         sides = ['None' if names is None else '<%d names>' % len(names) for names in (self.rows, self.columns)]
-        return 'Notes(rows=%s, columns=%s, directed=%r, weighted=%r, source=%r)' % (*sides, self.directed, self.weighted, self.source)
+        return 'Notes(rows=%s, columns=%s, directed=%r, weighted=%r, source=%r, unit=%s)' % (
+            *sides, self.directed, self.weighted, self.source, self.unit)
 
     def names(self, axis: int) -> Optional[Nodes]:
         """The names of the rows, with an axis of 1 those of the columns."""

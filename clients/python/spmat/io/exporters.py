@@ -8,6 +8,7 @@ from typing import TYPE_CHECKING, Any, Dict, Iterable, List, Optional, Sequence,
 from .. import top_k
 from ..errors import BudgetExceeded, refusal
 from ..metadata import NOTHING, Nodes, Notes, check_names
+from ..units import Unit, as_unit
 from . import coo, matrix_text
 from .file_writers import Written
 
@@ -72,6 +73,17 @@ class Held(Written):
         """False where the matrix is known to be that of an undirected graph, whose entries stand both ways with one value; True
         where it was read as a directed one; None where nothing is known."""
         return self.notes.directed
+
+    @property
+    def unit(self) -> Unit:
+        """What the stored whole numbers are parts of: x stands for x / unit. It is 100 for what was read with `scale=100`, and 1 unless
+        anything is known. It can be set, `A.unit = 100`, which changes no stored number, so that each stands for another one.
+        ValueError where it is no number above 0."""
+        return self.notes.unit
+
+    @unit.setter
+    def unit(self, unit: Any) -> None:
+        self.notes = self.notes._replace(unit=as_unit(unit))
 
     def index(self, node: Any, axis: int = 0) -> int:
         """The row (with `axis=1` the column) of a vertex: the place of its name where rows have names, else the number itself. Where
