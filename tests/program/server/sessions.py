@@ -1,12 +1,14 @@
 """Sessions over TCP that do as they should: the sessions of tests/cases/, a purse that several share, and seats."""
+import functools
 import re
 from concurrent.futures import ThreadPoolExecutor
-from typing import Callable, Dict, List, Optional, Tuple
+from typing import Callable, Dict, List, NamedTuple, Optional, Tuple
 
 from tests.lib.commands import (EXIT, INCREMENT, RESULT_IS_OPERAND, add, assembly_command, case_file, case_folders, matrix_command,
                                 matrix_text, operator_command, run_words, show_reply)
 from tests.lib.limits import MOST_SESSIONS, MOST_STEPS
 from tests.lib.runs import Wrong, difference, expect
+from tests.program.made.long_sessions import LONG_SESSIONS
 from tests.program.server.server import BUSY, Client, Server, until
 
 CLIENTS_AT_ONCE = 4
@@ -24,52 +26,65 @@ UPLOADED = [b'ok matrix 1 2 2\n', b'ok matrix 2 1 2\n', b'ok op 3 3\n', b'ok op 
 PRODUCT = b'product C sub mul A B\n'
 
 
-def settings_of(name: str) -> Optional[Tuple[int, int]]:
-    """The steps and workers of a case of tests/cases/; none where it isn't a session, or not one that standard input alone gives."""
+class Session(NamedTuple):
+    """A session of tests/cases/, or one that is made: what it is given, its replies, and the settings that it runs with."""
+    name: str
+    given: bytes
+    wanted: bytes
+    steps: int
+    workers: int
+
+    @property
+    def shows_its_budget(self) -> bool:
+        """Whether it would have other replies where others spend the same budget."""
+        return self.steps != MOST_STEPS or re.search(rb'^(ok budget|no S8) ', self.wanted, re.M) is not None
+
+
+def folder_session(name: str) -> Optional[Session]:
+    """A case of tests/cases/; none where it isn't a session, or not one that standard input alone gives."""
     words = (case_file(name, 'args') or '\n'.join(run_words()).encode()).decode().split()
-    told = dict(zip(words[1::2], words[2::2]))
+    settings = dict(zip(words[1::2], words[2::2]))
     if words[:1] != ['run'] or (case_file(name, 'status') or b'0').strip() not in ENDED_BY_ITS_SESSION:
         return None
-    return int(told['--steps']), int(told['--workers'])
+    return Session(name, case_file(name, 'in') or b'', case_file(name, 'out') or b'', int(settings['--steps']), int(settings['--workers']))
 
 
-def shows_its_budget(name: str) -> bool:
-    """Whether a case would have other replies where others spend the same budget."""
-    steps, _ = settings_of(name) or (0, 0)
-    return steps != MOST_STEPS or re.search(rb'^(ok budget|no S8) ', case_file(name, 'out') or b'', re.M) is not None
+def all_sessions() -> List[Session]:
+    """The sessions of tests/cases/, and those whose texts are made."""
+    found = [session for session in map(folder_session, case_folders()) if session is not None]
+    found += [Session(name, *make()) for name, make in LONG_SESSIONS.items()]
+    return sorted(found)
 
 
-def one_case(server: Server, name: str) -> None:
+def converse(server: Server, session: Session) -> None:
     with server.client() as client:
-        said = client.converse(case_file(name, 'in') or b'')
-    want = case_file(name, 'out') or b''
-    if said != want:
-        raise Wrong('%s: %s' % (name, difference(want, said)))
+        said = client.converse(session.given)
+    if said != session.wanted:
+        raise Wrong('%s: %s' % (session.name, difference(session.wanted, said)))
 
 
-def alone(program: str, name: str) -> None:
+def alone(program: str, session: Session) -> None:
     """A case that needs a budget of its own, beside nobody."""
-    steps, workers = settings_of(name) or (0, 0)
-    with Server(program, steps, workers) as server:
-        one_case(server, name)
+    with Server(program, session.steps, session.workers) as server:
+        converse(server, session)
 
 
 def sessions_of_the_cases(program: str) -> None:
-    """Every session of tests/cases/, four clients at a time, gets the bytes that `run` gives: at one server for each number of workers,
-    or, where it shows what is left of the budget, at a server of its own."""
-    names = sorted(name for name in case_folders() if settings_of(name))
-    shared: Dict[int, List[str]] = {}
-    for name in names:
-        if not shows_its_budget(name):
-            shared.setdefault(settings_of(name)[1], []).append(name)
+    """Every session, four clients at a time, gets the bytes that `run` gives: at one server for each number of workers, or, where it
+    shows what is left of the budget, at a server of its own."""
+    sessions = all_sessions()
+    shared: Dict[int, List[Session]] = {}
+    for session in sessions:
+        if not session.shows_its_budget:
+            shared.setdefault(session.workers, []).append(session)
     with ThreadPoolExecutor(CLIENTS_AT_ONCE) as clients:
         for workers, together in sorted(shared.items()):
             with Server(program, workers=workers) as server:
-                list(clients.map(lambda name: one_case(server, name), together))
+                list(clients.map(functools.partial(converse, server), together))
                 server.look_at_rest()
-        list(clients.map(lambda name: alone(program, name), filter(shows_its_budget, names)))
-    if len(names) < 250 or sum(map(len, shared.values())) < 200:
-        raise Wrong('only %d sessions, %r of them at one server' % (len(names), {w: len(n) for w, n in shared.items()}))
+        list(clients.map(functools.partial(alone, program), [session for session in sessions if session.shows_its_budget]))
+    if len(sessions) < 250 or sum(map(len, shared.values())) < 200:
+        raise Wrong('only %d sessions, %r of them at one server' % (len(sessions), {w: len(n) for w, n in shared.items()}))
 
 
 def purse_of_twelve(program: str) -> None:
