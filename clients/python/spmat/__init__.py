@@ -18,7 +18,7 @@ if TYPE_CHECKING:
     from ._client.pending_jobs import Budget, JobResult
     from .errors import (BudgetExceeded, Busy, Closed, CompileError, DimensionMismatch, DomainMismatch, NoThread, NotMade,
                          NotSettled, OperatorRefused, OutOfMemory, ReadError, Refused, ResultLost, SpmatError, TextRefused,
-                         ThreadUnavailable, TooLarge)
+                         ThreadUnavailable, TooLarge, UnitsDiffer)
     from .loops import Loop, empty, loop, steady
     from .loops.fixpoint import fixpoint
     from .mask import Mask
@@ -40,7 +40,7 @@ def _version() -> str:
 __version__ = _version()
 __all__ = ['Budget', 'BudgetExceeded', 'Busy', 'Closed', 'CompileError', 'DimensionMismatch', 'DomainMismatch', 'JobResult', 'Loop',
            'Mask', 'Matrix', 'NoThread', 'NotMade', 'NotSettled', 'Operator', 'OperatorRefused', 'OutOfMemory', 'ReadError',
-           'Refused', 'ResultLost', 'Semiring', 'Session', 'SpmatError', 'TextRefused', 'ThreadUnavailable', 'TooLarge', 'algorithms',
+           'Refused', 'ResultLost', 'Semiring', 'Session', 'SpmatError', 'TextRefused', 'ThreadUnavailable', 'TooLarge', 'UnitsDiffer', 'algorithms',
            'asm', 'binary', 'bipartite', 'c', 'cdiv', 'cmod', 'code', 'code_of', 'draw', 'empty', 'explain', 'fixpoint', 'indexunary',
            'loop', 'price', 'rsh', 'select', 'semiring', 'steady', 'udiv', 'ult', 'umod', 'unary', 'where']
 
@@ -49,7 +49,7 @@ __all__ = ['Budget', 'BudgetExceeded', 'Busy', 'Closed', 'CompileError', 'Dimens
 _PLACES: Dict[str, str] = {name: module for module, names in {
     'operators.clang': 'c',
     'errors': 'BudgetExceeded Busy Closed CompileError DimensionMismatch DomainMismatch NoThread NotMade NotSettled OperatorRefused '
-              'OutOfMemory ReadError Refused ResultLost SpmatError TextRefused ThreadUnavailable TooLarge',
+              'OutOfMemory ReadError Refused ResultLost SpmatError TextRefused ThreadUnavailable TooLarge UnitsDiffer',
     '_client.pending_jobs': 'Budget JobResult',
     'loops': 'Loop empty loop steady',
     'mask': 'Mask',

@@ -3,6 +3,7 @@
     SpmatError
         Closed               the session has ended; open another one
         ReadError            a file, or a line of it, isn't what was to be read; a ValueError
+        UnitsDiffer          values of two units meet: `A.rescale(unit)` gives one matrix the other's; a ValueError
         NotMade              this matrix was the result of a run that was refused; its cause says why. Also called ResultLost
         Refused              the server answered `no ..`, or would have
             OperatorRefused      mend the operator (rules A1 to A6, V1 to V16, S9)
@@ -123,6 +124,11 @@ class NotMade(SpmatError):
 
 
 ResultLost = NotMade
+
+
+class UnitsDiffer(SpmatError, ValueError):
+    """Stored numbers of two units would meet, such as hundredths and thousandths; or a result would have values of two units. The words name
+    both units, and say what to write."""
 
 
 class CompileError(SpmatError):

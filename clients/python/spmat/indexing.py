@@ -9,6 +9,7 @@ from __future__ import annotations
 
 from typing import TYPE_CHECKING, Any, List, NamedTuple, NoReturn, Optional, Tuple, Union
 
+from . import units
 from .io.exporters import Held
 from .metadata import NOTHING, Nodes
 
@@ -36,7 +37,7 @@ def picked(matrix: 'Matrix', at: Any) -> Union['Matrix', Optional[int]]:
         part = part.mxm(_gather(matrix, columns.places, 1), 'any_first')
     if rows.one and columns.one:
         values = part.to_coo(arrays=False)[2]
-        return values[0] if values else None
+        return units.to_decimal(values[0], matrix.unit) if values else None
     return part
 
 

@@ -4,9 +4,11 @@ from __future__ import annotations
 # pylint: disable=invalid-unary-operand-type
 
 import weakref
+from decimal import Decimal
+from fractions import Fraction
 from typing import TYPE_CHECKING, Any, Dict, NamedTuple, Optional, Sequence, Tuple, Union
 
-from . import metadata, oversized_jobs
+from . import metadata, oversized_jobs, units
 from ._client.protocol import FORMS
 from .display import html
 from .errors import TooLarge, refusal
@@ -19,6 +21,7 @@ if TYPE_CHECKING:
     from ._client.handles import Handle
     from .session import Session
 
+Number = Union[int, float, Fraction, Decimal]
 Ring = Union[str, Semiring, Tuple[Op, Op]]
 MaskLike = Union['Matrix', Mask, None]
 
@@ -61,6 +64,7 @@ class Matrix(Signs):
 
     # -- what it is
 
+    _viewed: Optional['Matrix'] = None             # of a view of another matrix that one
     in_one_place = True                            # one session has it whole
     is_traced = False                              # it stands for what a loop's rounds will make
 
@@ -116,33 +120,36 @@ class Matrix(Signs):
 
     # -- jobs
 
-    def apply(self, op: Op, right: Optional[int] = None, *, left: Optional[int] = None, mask: MaskLike = None,
+    def apply(self, op: Op, right: Optional[Number] = None, *, left: Optional[Number] = None, mask: MaskLike = None,
               name: Optional[str] = None) -> 'Matrix':
         """Each entry's answer: f(x) of a unary operator; f(x, right) or f(left, x) of a binary one; of an index operator f(x,
         row, column, right), where `right` is 0 unless given. A bound binary operator is sent as an index operator of one (right)
         or two (left) more instructions, once for all numbers. In the GraphBLAS GrB_apply."""
-        sent = applied(op, right, left)
-        told = metadata.of_applied(self.notes, sent.op, sent.even)
+        sent = applied(op, right, left, self.unit)
+        told = metadata.of_applied(self.notes, sent.op, sent.even, sent.unit)
         return self._job(_Job('apply', [sent.op], [self], self.shape, told, sent.thunk), mask, name)
 
-    def select(self, op: Op, thunk: int = 0, *, mask: MaskLike = None, name: Optional[str] = None) -> 'Matrix':
+    def select(self, op: Op, thunk: Number = 0, *, mask: MaskLike = None, name: Optional[str] = None) -> 'Matrix':
         """The entries for which an index operator's answer isn't 0, with their values. Its name may be a sign: `A.select(">=",
         3)` is `A.select("valuege", 3)`. In the GraphBLAS GrB_select."""
-        found, thunk = of_form('select', op), coo.word(thunk, 'thunk')
+        found = of_form('select', op)
+        thunk = units.of_selected(found, thunk, self.unit)
         told = metadata.of_selected(self.notes, found, thunk)
         return self._job(_Job('select', [found], [self], self.shape, told, thunk), mask, name)
 
     def ewise_add(self, other: 'Matrix', op: Op = 'plus', *, mask: MaskLike = None, name: Optional[str] = None) -> 'Matrix':
         """op(x, y) where both have an entry, else a copy of the one that has. In the GraphBLAS GrB_eWiseAdd; here `union`."""
         self._check_shape('union', other, self.shape)
-        told = metadata.of_pair(self.notes, other.notes)
-        return self._job(_Job('union', [of_form('union', op)], [self, other], self.shape, told), mask, name)
+        found = of_form('union', op)
+        told = metadata.of_union(self.notes, other.notes, found)
+        return self._job(_Job('union', [found], [self, other], self.shape, told), mask, name)
 
     def ewise_mult(self, other: 'Matrix', op: Op = 'times', *, mask: MaskLike = None, name: Optional[str] = None) -> 'Matrix':
         """op(x, y) where both have an entry. In the GraphBLAS GrB_eWiseMult; here `both`."""
         self._check_shape('both', other, self.shape)
-        told = metadata.of_pair(self.notes, other.notes)
-        return self._job(_Job('both', [of_form('both', op)], [self, other], self.shape, told), mask, name)
+        found = of_form('both', op)
+        told = metadata.of_both(self.notes, other.notes, found)
+        return self._job(_Job('both', [found], [self, other], self.shape, told), mask, name)
 
     def mxm(self, other: 'Matrix', op: Ring = 'plus_times', *, mask: MaskLike = None, parts: bool = False,
             name: Optional[str] = None) -> 'Matrix':
@@ -156,7 +163,7 @@ class Matrix(Signs):
         self._check_shape('product', other, (self.ncols, None))
         ring = find_semiring(op)
         ops = [of_form('product', ring.add), of_form('product', ring.mul)]
-        told = metadata.of_product(self.notes, other.notes, ring.mul, self is other)
+        told = metadata.of_product(self.notes, other.notes, ring, self is other)
 
         def job(rows: 'Matrix') -> 'Matrix':
             return self._queued(_Job('product', ops, [rows, other], (self.nrows, other.ncols), told), mask, name)
@@ -179,8 +186,9 @@ class Matrix(Signs):
     def reduce_rowwise(self, op: Op = 'plus', *, mask: MaskLike = None, name: Optional[str] = None) -> 'Matrix':
         """A column: the fold of each row that isn't empty, from its first column to its last. In the GraphBLAS GrB_reduce by
         rows."""
-        told = metadata.of_rows(self.notes)
-        return self._job(_Job('reduce', [of_form('reduce', op)], [self], (self.nrows, 1), told), mask, name)
+        found = of_form('reduce', op)
+        told = metadata.of_rows(self.notes, found)
+        return self._job(_Job('reduce', [found], [self], (self.nrows, 1), told), mask, name)
 
     def _job(self, job: '_Job', mask: MaskLike, name: Optional[str]) -> 'Matrix':
         """Queues a job; where it is too large, says how large it is."""
@@ -222,25 +230,29 @@ class Matrix(Signs):
         ring = Semiring(of_form('product', op), binary.second)
         return self.session.ones(self.nrows).mxm(self, ring, mask=mask, name=name)
 
-    def reduce_scalar(self, op: Op = 'plus') -> Optional[int]:
+    def reduce_scalar(self, op: Op = 'plus', *, raw: bool = False) -> Any:
         """The fold of all entries as a number, or None where there are none: the folds of the rows, folded, so the operator has
-        to be associative. At most 2 jobs and 2 runs (1 and 1 of a row or a column), and one number comes back."""
+        to be associative. It is an int, or where the fold has a unit a float, what it stands for; `raw=True` gives the stored whole
+        number. At most 2 jobs and 2 runs (1 and 1 of a row or a column), and one number comes back."""
         rows = self if self.ncols == 1 else self.reduce_rowwise(op)
-        values = (rows if rows.nrows == 1 else rows.reduce_columnwise(op)).to_coo(arrays=False)[2]
-        return values[0] if values else None
+        made = rows if rows.nrows == 1 else rows.reduce_columnwise(op)
+        values = made.to_coo(arrays=False)[2]
+        return units.to_decimal(values[0], 1 if raw else made.unit) if values else None
 
     @property
     def T(self) -> 'Matrix':
         """The transpose. No job: the text comes to the client and goes back, so it runs the queue where this matrix waits, and
         costs as much as reading and writing it. While the transpose is held, asking again costs nothing."""
         held: Optional['Matrix'] = self.handle.transposed() if self.handle.transposed is not None else None
+        if held is not None and held.unit != self.unit:
+            held = units.with_unit(held, self.unit)
         if held is None:
             from .pricing import lower_bounds, upper_bounds  # which want matrices
             if upper_bounds.stays_here():
                 return lower_bounds.turned(self)
             held = self.session.from_text(matrix_text.swapped(self.to_text()))
             held.notes = metadata.turned(self.notes)
-            held.handle.transposed, self.handle.transposed = weakref.ref(self), weakref.ref(held)
+            held.handle.transposed, self.handle.transposed = weakref.ref(self._viewed or self), weakref.ref(held)
         return held
 
     def diag(self) -> 'Matrix':
@@ -288,6 +300,8 @@ class Matrix(Signs):
         where = as_mask(mask)
         if where is not None:
             _check_mask(where, self.shape)
+            if not replace:
+                units.check_same('update', self.unit, other.unit)
         inside = other if accum is None else self.ewise_add(other, accum)
         if where is None:
             return inside if accum is not None else other.dup(name=name)
@@ -302,6 +316,7 @@ class Matrix(Signs):
         and 2 runs."""
         if not isinstance(other, Matrix):
             raise TypeError('expected a matrix, got %r' % (other,))
+        units.check_same('isequal', self.unit, other.unit)
         if self.shape != other.shape or self.nvals != other.nvals:
             return False
         differ = self.ewise_mult(other, binary.ne)
@@ -330,10 +345,11 @@ class _Job(NamedTuple):
 
 
 class Applied(NamedTuple):
-    """The operator and thunk that `apply` sends, and whether its answers are the same at each row and column."""
+    """The operator and thunk that `apply` sends, whether its answers are the same at each row and column, and their unit."""
     op: Operator
     thunk: Optional[int]
     even: bool
+    unit: units.Unit
 
 
 def _check_mask(mask: Mask, shape: Tuple[int, int]) -> None:
@@ -350,20 +366,22 @@ def of_form(form: str, op: Op) -> Operator:
     return found
 
 
-def applied(op: Op, right: Optional[int], left: Optional[int]) -> Applied:
-    """What `apply` sends."""
+def applied(op: Op, right: Optional[Number], left: Optional[Number], unit: units.Unit) -> Applied:
+    """What `apply` sends of a matrix with this unit."""
     if right is not None and left is not None:
         raise TypeError('right= or left=, not both')
     bound = right is not None or left is not None
     kinds = ('binary', 'index') if bound else ('unary', 'index')
     found = find(_kind_of(op, kinds, bound), op)
-    thunk = coo.word(left if left is not None else right if right is not None else 0, 'thunk')
+    number = left if left is not None else right if right is not None else 0
     if found.kind == 'index' and left is None:
-        return Applied(found, thunk, False)
+        sent = units.of_index(found, number, unit)
+        return Applied(found, sent.thunk, False, sent.unit)
     if found.kind == 'binary' and bound:
-        return Applied(found.bind_right() if right is not None else found.bind_left(), thunk, True)
+        sent = units.of_bound(found, number, left is not None, unit)
+        return Applied(found.bind_right() if right is not None else found.bind_left(), sent.thunk, True, sent.unit)
     if found.kind == 'unary' and not bound:
-        return Applied(found, None, True)
+        return Applied(found, None, True, units.of_unary(found, unit))
     how = ' with %s=' % ('right' if right is not None else 'left') if bound else ''
     raise refusal('J4', command='apply', detail='expected a unary or index operator, or a binary one with right= or left=, '
                   'got %r%s' % (found, how))

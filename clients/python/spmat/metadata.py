@@ -9,7 +9,8 @@ import functools
 import numbers
 from typing import Any, Dict, FrozenSet, Iterable, List, NamedTuple, Optional, Set
 
-from .operators import READY, Operator
+from . import units
+from .operators import READY, Operator, Semiring
 from .units import Unit
 
 # Binary operators for which the order of operands doesn't matter: a product of a symmetric matrix with itself stays symmetric.
@@ -99,12 +100,13 @@ def _even(*both: Notes) -> Optional[bool]:
     return False if all(one.directed is False for one in both) else None
 
 
-def of_applied(first: Notes, op: Operator, even: bool) -> Notes:
-    """What is known of the result of `apply`; `even` says that the operator doesn't look at rows and columns."""
+def of_applied(first: Notes, op: Operator, even: bool, unit: Unit) -> Notes:
+    """What is known of the result of `apply`, whose unit is given; `even` says that the operator doesn't look at rows and columns."""
     if first is NOTHING:
         return NOTHING
     same = _is_ready(op, frozenset(('identity',)))
-    return first._replace(directed=_even(first) if even else None, weighted=first.weighted if same else None, source='')
+    return first._replace(directed=_even(first) if even else None, weighted=first.weighted if same else None, source='',
+                          unit=unit)
 
 
 def of_selected(first: Notes, op: Operator, thunk: int) -> Notes:
@@ -115,23 +117,33 @@ def of_selected(first: Notes, op: Operator, thunk: int) -> Notes:
     return first._replace(directed=_even(first) if even else None, source='')
 
 
-def of_pair(first: Notes, second: Notes) -> Notes:
-    """What is known of a union or an intersection."""
+def of_union(first: Notes, second: Notes, op: Operator) -> Notes:
+    """What is known of a union."""
+    return _of_pair(first, second, units.of_union(op, first.unit, second.unit))
+
+
+def of_both(first: Notes, second: Notes, op: Operator) -> Notes:
+    """What is known of an intersection."""
+    return _of_pair(first, second, units.of_both(op, first.unit, second.unit))
+
+
+def _of_pair(first: Notes, second: Notes, unit: Unit) -> Notes:
     if first is NOTHING and second is NOTHING:
         return NOTHING
-    return Notes(_same(first.rows, second.rows), _same(first.columns, second.columns), _even(first, second))
+    return Notes(_same(first.rows, second.rows), _same(first.columns, second.columns), _even(first, second), unit=unit)
 
 
-def of_product(first: Notes, second: Notes, mul: Operator, same: bool) -> Notes:
+def of_product(first: Notes, second: Notes, ring: Semiring, same: bool) -> Notes:
     """What is known of a product; `same` says that both operands are one matrix."""
     if first is NOTHING and second is NOTHING:
         return NOTHING
-    return Notes(first.rows, second.columns, _even(first) if same and _is_ready(mul, COMMUTE) else None)
+    return Notes(first.rows, second.columns, _even(first) if same and _is_ready(ring.mul, COMMUTE) else None,
+                 unit=units.of_product(ring.add, ring.mul, first.unit, second.unit))
 
 
-def of_rows(first: Notes) -> Notes:
-    """What is known of a column that has a row for each row."""
-    return NOTHING if first is NOTHING else Notes(first.rows)
+def of_rows(first: Notes, op: Operator) -> Notes:
+    """What is known of a column that has the fold of each row."""
+    return NOTHING if first is NOTHING else Notes(first.rows, unit=units.of_fold(op, first.unit))
 
 
 def masked(result: Notes, mask: Notes) -> Notes:
@@ -139,7 +151,7 @@ def masked(result: Notes, mask: Notes) -> Notes:
     if result is NOTHING and mask is NOTHING:
         return NOTHING
     return Notes(_same(result.rows, mask.rows) or result.rows, _same(result.columns, mask.columns) or result.columns,
-                 _even(result, mask), result.weighted)
+                 _even(result, mask), result.weighted, unit=result.unit)
 
 
 def of_structure(mask: Notes, value: bool) -> Notes:
@@ -151,7 +163,7 @@ def outside(result: Notes, mask: Notes) -> Notes:
     """What is known of the entries of a result that lie outside of a mask: undirected only where both are."""
     if result is NOTHING and mask is NOTHING:
         return NOTHING
-    alone = of_pair(result, mask)
+    alone = _of_pair(result, mask, result.unit)
     return masked(of_copy(result), alone)
 
 
@@ -168,14 +180,17 @@ def under(result: Notes, mask: Optional[Notes], value: bool, complement: bool) -
     return outside(result, there) if complement else masked(result, there)
 
 
-def of_update(first: Notes, second: Notes, accum: bool, mask: Optional[Notes] = None, *, value: bool = False,
+def of_update(first: Notes, second: Notes, accum: Optional[Operator], mask: Optional[Notes] = None, *, value: bool = False,
               complement: bool = False, replace: bool = False) -> Notes:
     """What is known of C<M, accum> = second, where `first` is of C."""
-    inside = of_pair(first, second) if accum else second
+    inside = second if accum is None else of_union(first, second, accum)
     if mask is None:
-        return inside if accum else of_copy(second)
+        return of_copy(second) if accum is None else inside
     there = under(of_copy(inside), mask, value, complement)
-    return there if replace else of_pair(under(of_copy(first), mask, value, not complement), there)
+    if replace:
+        return there
+    units.check_same('update', first.unit, there.unit)
+    return _of_pair(under(of_copy(first), mask, value, not complement), there, first.unit)
 
 
 def turned(first: Notes) -> Notes:
@@ -190,13 +205,13 @@ def of_both_sides(first: Notes, nrows: int, ncols: int) -> Notes:
     columns = first.columns if first.columns is not None else Nodes(range(ncols))
     apart = rows.places.keys().isdisjoint(columns.places)
     names = Nodes([*rows, *columns] if apart else [*(('row', name) for name in rows), *(('column', name) for name in columns)])
-    return Notes(names, names, False, first.weighted)
+    return Notes(names, names, False, first.weighted, unit=first.unit)
 
 
 def on_diagonal(first: Notes) -> Notes:
     """What is known of the square matrix with a column's, or a row's, entries on its diagonal."""
     names = first.rows if first.rows is not None else first.columns
-    return Notes(names, names, False)
+    return Notes(names, names, False, unit=first.unit)
 
 
 def _is_ready(op: Operator, names: FrozenSet[str]) -> bool:

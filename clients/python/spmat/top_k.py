@@ -1,6 +1,7 @@
 """The greatest entries of a matrix, found by the session: a threshold is bisected, and few entries come to the client."""
 from __future__ import annotations
 
+from fractions import Fraction
 from typing import TYPE_CHECKING, Tuple
 
 if TYPE_CHECKING:
@@ -18,19 +19,20 @@ def greatest(matrix: M, k: int) -> M:
     enough = max(FEW, SPARE * k)
     if k < 1 or matrix.nvals <= enough:
         return matrix
-    least, most = matrix.reduce_scalar('min') or 0, matrix.reduce_scalar('max') or 0
+    unit = matrix.unit
+    least, most = matrix.reduce_scalar('min', raw=True) or 0, matrix.reduce_scalar('max', raw=True) or 0
     above = matrix                                 # all entries from `least` on: more than enough
     while least < most:
         middle = least + (most - least + 1) // 2
-        found = above.select('valuege', middle)
+        found = above.select('valuege', Fraction(middle) / unit)
         if found.nvals > enough:
             above, least = found, middle
         elif found.nvals >= k:
             return found
         else:
             most = middle - 1
-    more = above.select('valuegt', least)
-    return more.ewise_add(first_entries(above.select('valueeq', least), k - more.nvals), 'first')
+    more = above.select('valuegt', Fraction(least) / unit)
+    return more.ewise_add(first_entries(above.select('valueeq', Fraction(least) / unit), k - more.nvals), 'first')
 
 
 def first_entries(matrix: M, k: int) -> M:

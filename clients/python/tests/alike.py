@@ -47,6 +47,13 @@ def _saved(session):
         return session.load(path)
 
 
+def _hundredths(matrix):
+    """A copy whose stored numbers are hundredths."""
+    made = matrix.dup()
+    made.unit = 100
+    return made
+
+
 def _first(names):
     return names[0] if names else 0
 
@@ -101,6 +108,8 @@ METHODS = {
     'to_text': [lambda g, mask: g.G.to_text()],
     'to_triples': [lambda g, mask: g.G.to_triples()],
     'top': [lambda g, mask: [g.G.top(3), g.C.top(2)]],
+    'unit': [lambda g, mask: [g.G.unit, _hundredths(g.G).mxm(_hundredths(g.B)).unit, _hundredths(g.G).apply('one').unit],
+             lambda g, mask: _hundredths(g.G).ewise_add(g.B), lambda g, mask: _hundredths(g.A).select('>=', 0.015)],
     'update': [lambda g, mask: g.G.update(g.B, None, mask), lambda g, mask: g.G.update(g.B, 'minus', mask), lambda g, mask: g.G.update(g.K, None, mask, True),
                lambda g, mask: g.G.update(g.G, 'plus', mask, True)],
     'vxm': [lambda g, mask: g.R.vxm(g.G, 'min_plus'), lambda g, mask: g.R.vxm(g.G, mask=g.R.V), lambda g, mask: g.A.vxm(g.G)],

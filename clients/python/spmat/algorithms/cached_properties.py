@@ -95,7 +95,7 @@ def is_transpose(graph: M, other: M, values: bool = False) -> bool:
     if graph.nvals != other.nvals:
         return False
     thunk, (straight, turned) = _odd(), _VALUES if values else _PLACES
-    return graph.apply(straight, thunk).reduce_scalar('plus') == other.apply(turned, thunk).reduce_scalar('plus')
+    return bool(graph.apply(straight, thunk).reduce_scalar('plus') == other.apply(turned, thunk).reduce_scalar('plus'))
 
 
 def transpose_of(graph: M, given: Optional[M], check: bool, values: bool = False) -> M:

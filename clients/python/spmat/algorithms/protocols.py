@@ -70,6 +70,10 @@ class GraphMatrix(Protocol):
     def directed(self) -> Optional[bool]:
         """False where each edge is known to lead both ways."""
 
+    @property
+    def unit(self) -> Any:
+        """What the stored numbers are parts of."""
+
     def index(self, node: Any, axis: int = ...) -> int:
         """The number of a vertex by its name."""
 
@@ -89,10 +93,10 @@ class GraphMatrix(Protocol):
     def T(self: M) -> M:
         """The transpose."""
 
-    def apply(self: M, op: Op, right: Optional[int] = ..., *, left: Optional[int] = ..., mask: Any = ...) -> M:
+    def apply(self: M, op: Op, right: Optional[Any] = ..., *, left: Optional[Any] = ..., mask: Any = ...) -> M:
         """Each entry's answer."""
 
-    def select(self: M, op: Op, thunk: int = ..., *, mask: Any = ...) -> M:
+    def select(self: M, op: Op, thunk: Any = ..., *, mask: Any = ...) -> M:
         """The entries for which an operator's answer isn't 0."""
 
     def ewise_add(self: M, other: M, op: Op = ..., *, mask: Any = ...) -> M:
@@ -110,7 +114,7 @@ class GraphMatrix(Protocol):
     def reduce_rowwise(self: M, op: Op = ..., *, mask: Any = ...) -> M:
         """The folds of the rows, as a column."""
 
-    def reduce_scalar(self, op: Op = ...) -> Optional[int]:
+    def reduce_scalar(self, op: Op = ..., *, raw: bool = ...) -> Any:
         """The fold of all entries."""
 
     def without(self: M, mask: Any) -> M:

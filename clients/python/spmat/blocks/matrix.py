@@ -6,13 +6,12 @@ from __future__ import annotations
 
 from typing import TYPE_CHECKING, Any, Dict, Iterable, List, Optional, Sequence, Tuple, Type, Union
 
-from .. import metadata
+from .. import metadata, units
 from .._client.protocol import FORMS
 from ..errors import SpmatError, refusal
 from ..indexing import Signs, picked
-from ..io import coo
 from ..mask import Mask, as_mask
-from ..matrix import Ring, applied, of_form
+from ..matrix import Number, Ring, applied, of_form
 from ..operators import Op, Semiring, binary, find_semiring, indexunary
 from . import composite_methods, frontier, html, matrix_products, repartition, row_partition, unsupported, worker_tasks
 from .row_partition import Cut
@@ -148,34 +147,38 @@ class BlockMatrix(Signs):
 
     # -- jobs at each block
 
-    def apply(self, op: Op, right: Optional[int] = None, *, left: Optional[int] = None, mask: MaskLike = None,
+    def apply(self, op: Op, right: Optional[Number] = None, *, left: Optional[Number] = None, mask: MaskLike = None,
               name: Optional[str] = None) -> 'BlockMatrix':
         """Each entry's answer. In the GraphBLAS GrB_apply."""
-        sent = applied(op, right, left)
+        sent = applied(op, right, left, self.unit)
         args = [sent.op, sent.thunk] if sent.op.kind == 'index' else [sent.op]
-        return self.job('apply', [], args, told=metadata.of_applied(self.notes, sent.op, sent.even), mask=mask, name=name)
+        return self.job('apply', [], args, told=metadata.of_applied(self.notes, sent.op, sent.even, sent.unit), mask=mask, name=name)
 
-    def select(self, op: Op, thunk: int = 0, *, mask: MaskLike = None, name: Optional[str] = None) -> 'BlockMatrix':
+    def select(self, op: Op, thunk: Number = 0, *, mask: MaskLike = None, name: Optional[str] = None) -> 'BlockMatrix':
         """The entries for which an index operator's answer isn't 0. In the GraphBLAS GrB_select."""
-        found, thunk = of_form('select', op), coo.word(thunk, 'thunk')
+        found = of_form('select', op)
+        thunk = units.of_selected(found, thunk, self.unit)
         return self.job('select', [], [found, thunk], told=metadata.of_selected(self.notes, found, thunk), mask=mask, name=name)
 
     def ewise_add(self, other: 'BlockMatrix', op: Op = 'plus', *, mask: MaskLike = None, name: Optional[str] = None) -> 'BlockMatrix':
         """op(x, y) where both have an entry, else a copy. In the GraphBLAS GrB_eWiseAdd; here `union`."""
         self.check_shape('union', other, self.shape)
-        told = metadata.of_pair(self.notes, other.notes)
-        return self.job('ewise_add', [other], [of_form('union', op)], told=told, mask=mask, name=name)
+        found = of_form('union', op)
+        told = metadata.of_union(self.notes, other.notes, found)
+        return self.job('ewise_add', [other], [found], told=told, mask=mask, name=name)
 
     def ewise_mult(self, other: 'BlockMatrix', op: Op = 'times', *, mask: MaskLike = None, name: Optional[str] = None) -> 'BlockMatrix':
         """op(x, y) where both have an entry. In the GraphBLAS GrB_eWiseMult; here `both`."""
         self.check_shape('both', other, self.shape)
-        told = metadata.of_pair(self.notes, other.notes)
-        return self.job('ewise_mult', [other], [of_form('both', op)], told=told, mask=mask, name=name)
+        found = of_form('both', op)
+        told = metadata.of_both(self.notes, other.notes, found)
+        return self.job('ewise_mult', [other], [found], told=told, mask=mask, name=name)
 
     def reduce_rowwise(self, op: Op = 'plus', *, mask: MaskLike = None, name: Optional[str] = None) -> 'BlockMatrix':
         """A column: the fold of each row that isn't empty. In the GraphBLAS GrB_reduce by rows."""
-        told = metadata.of_rows(self.notes)
-        return self.job('reduce_rowwise', [], [of_form('reduce', op)], 1, told=told, mask=mask, name=name)
+        found = of_form('reduce', op)
+        told = metadata.of_rows(self.notes, found)
+        return self.job('reduce_rowwise', [], [found], 1, told=told, mask=mask, name=name)
 
     def dup(self, *, mask: MaskLike = None, name: Optional[str] = None) -> 'BlockMatrix':
         """A copy; under a mask what of it lies there. Price and steps are those of the last of its jobs, as `Matrix` has it."""
@@ -193,16 +196,18 @@ class BlockMatrix(Signs):
         """What the GraphBLAS writes C<M, accum> = other; see `Matrix.update`."""
         self.check_shape('union', other, self.shape)
         op = None if accum is None else of_form('union', accum)
-        made = self.job('update', [other], [op], told=metadata.NOTHING, mask=mask, name=name, replace=replace)
         where = as_mask(mask)
-        made.notes = metadata.of_update(self.notes, other.notes, op is not None) if where is None else metadata.of_update(
-            self.notes, other.notes, op is not None, where.matrix.notes, value=where.value, complement=where.complement, replace=replace)
+        told = metadata.of_update(self.notes, other.notes, op) if where is None else metadata.of_update(
+            self.notes, other.notes, op, where.matrix.notes, value=where.value, complement=where.complement, replace=replace)
+        made = self.job('update', [other], [op], told=metadata.NOTHING, mask=mask, name=name, replace=replace)
+        made.notes = told
         return made
 
     def isequal(self, other: 'BlockMatrix') -> bool:
         """Whether both have the same sizes, positions and values. No job where sizes or numbers of entries differ; else 2 jobs at
         each block."""
         self._check_sessions(other)
+        units.check_same('isequal', self.unit, other.unit)
         if self.shape != other.shape or self.nvals != other.nvals:
             return False
         differ = self.ewise_mult(other, binary.ne)
@@ -292,8 +297,8 @@ class BlockMatrix(Signs):
         where = self._mask(mask, (self.nrows, other.ncols))
         if associative is None:
             associative = other.ncols > 1 and ring.add in self.sessions.associative
+        told = metadata.of_product(self.notes, other.notes, ring, self is other)
         made = matrix_products.made(self, other, matrix_products.Way(ring, where, parts), bool(associative), name)
-        told = metadata.of_product(self.notes, other.notes, ring.mul, self is other)
         made.notes = noted(told, where)
         waits = other.ncols != 1 or associative or self.sessions.engine.forgets
         return made.wait() if waits else made
@@ -318,10 +323,13 @@ class BlockMatrix(Signs):
         ones = self.sessions.full(1, self.nrows)
         return ones.mxm(self, (of_form('product', op), binary.second), mask=mask, associative=associative, name=name)
 
-    def reduce_scalar(self, op: Op = 'plus') -> Optional[int]:
+    def reduce_scalar(self, op: Op = 'plus', *, raw: bool = False) -> Any:
         """The fold of all entries as a number, or None where there are none; the operator has to be associative. Each session
-        folds its own rows, and a number a block goes on."""
-        return matrix_products.fold_all(self, of_form('reduce', op))[0]
+        folds its own rows, and a number a block goes on. `raw` is as for `Matrix.reduce_scalar`."""
+        found = of_form('reduce', op)
+        unit = self.unit if self.shape == (1, 1) else units.of_fold(found, self.unit)
+        value = matrix_products.fold_all(self, found)[0]
+        return None if value is None else units.to_decimal(value, 1 if raw else unit)
 
     def reach(self, transpose: Optional['BlockMatrix'], front: 'Vector', ring: Tuple[Semiring, Semiring], large: bool) -> 'Vector':
         """A step of a search whose front the client has, for the algorithms: pushed along the rows that the front has, or where it is large
@@ -335,7 +343,8 @@ class BlockMatrix(Signs):
         if self._transposed is None:
             self._transposed = repartition.transposed(self)
             self._transposed.notes = metadata.turned(self.notes)
-        return self._transposed
+        made: 'BlockMatrix' = units.with_unit(self._transposed, self.unit)
+        return made
 
     def diag(self) -> 'BlockMatrix':
         """Of a matrix the column of the entries on its diagonal, as `Matrix.diag`; of a column or a row the square matrix with these
