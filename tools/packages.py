@@ -42,6 +42,14 @@ PACKAGES = (
     Package('strace', 'a socket file in front of a server', program='strace'),
     Package('systemd', 'units', program='systemd-analyze'),
     Package('zsh', 'completion by zsh', program='zsh'),
+    Package('python3-sphinx', 'the site', module='sphinx'),
+    Package('python3-myst-parser', 'the site', module='myst_parser'),
+    Package('python3-numpydoc', 'the site', module='numpydoc'),
+    Package('python3-sphinx-copybutton', 'the site', module='sphinx_copybutton'),
+    Package('furo', 'the site', module='furo'),
+    Package('chromium', 'the site in a browser', program='chromium'),
+    Package('chromium-driver', 'the site in a browser', program='chromedriver'),
+    Package('python3-selenium', 'the site in a browser', module='selenium'),
 )
 
 

@@ -90,15 +90,16 @@ class Made(unittest.TestCase):
         """What can be made here."""
         asked = {'debian': 'from tools.releasing import debian; debian.check_tools()',
                  'wheels': 'from tools.releasing import wheels; wheels.builder()',
-                 'archive': 'import shutil, sys; sys.exit(shutil.which("lowdown") is None)', 'bill': ''}
+                 'archive': 'import shutil, sys; sys.exit(shutil.which("lowdown") is None)', 'bill': '',
+                 'site': 'import os, sys; sys.exit(not os.path.exists("/usr/bin/sphinx-build"))'}
         if not WHOLE:
-            del asked['debian']
+            del asked['debian'], asked['site']
         return [part for part, text in asked.items()
                 if subprocess.run([sys.executable, '-c', text], cwd=TOP, stderr=subprocess.DEVNULL, check=False).returncode == 0]
 
     def wants(self, part: str) -> None:
         if part not in self.kinds:
-            self.skipTest('nothing here makes %s' % part if WHOLE or part != 'debian' else 'tests/release --all makes packages')
+            self.skipTest('nothing here makes %s' % part if WHOLE or part not in ('debian', 'site') else 'tests/release --all makes it')
 
     def one(self, form: str) -> bytes:
         (name,) = (name for name in self.made[0] if re.fullmatch(form, name))
@@ -135,9 +136,16 @@ class Made(unittest.TestCase):
         for name in ('clap', 'strsim', 'hex', 'itoa', 'thiserror', 'crossbeam_utils', 'bpf_verify', 'glibc'):
             self.assertIn(name, known)
 
+    def test_the_site(self) -> None:
+        self.wants('site')
+        with tarfile.open(os.path.join(self.folder, next(name for name in self.made[0] if name.endswith('-site.tar.xz')))) as held:
+            names = [name.partition('/')[2] for name in held.getnames()]
+        for name in ('index.html', 'gallery.html', 'reference/index.html', 'searchindex.js', 'docs/protocol.html'):
+            self.assertIn(name, names)
+
     def test_the_archive(self) -> None:
         self.wants('archive')
-        path = os.path.join(self.folder, next(name for name in self.made[0] if name.endswith('.tar.xz')))
+        path = os.path.join(self.folder, next(name for name in self.made[0] if name.endswith('x86_64.tar.xz')))
         with lzma.open(path) as data, tarfile.open(fileobj=data) as held:
             names = {member.name.partition('/')[2]: member for member in held}
             program = held.extractfile(names['bin/spmat'])
@@ -196,7 +204,7 @@ class Made(unittest.TestCase):
     def test_the_packages(self) -> None:
         self.wants('debian')
         names = [name for name in self.made[0] if name.endswith('.deb')]
-        self.assertEqual([re.sub(r'_[\d.]+_', '_', name) for name in names], ['python3-spmat_all.deb', 'spmat_amd64.deb'])
+        self.assertEqual([re.sub(r'_[\d.]+_', '_', name) for name in names], ['python3-spmat_all.deb', 'spmat-doc_all.deb', 'spmat_amd64.deb'])
         with tempfile.TemporaryDirectory(prefix='spmat-deb-') as room:
             for name in names:
                 subprocess.run(['dpkg-deb', '-x', os.path.join(self.folder, name), room], check=True)
@@ -207,7 +215,7 @@ class Made(unittest.TestCase):
                          'usr/lib/python3/dist-packages/spmat/VERSION', 'usr/share/doc/spmat/copyright',
                          'usr/share/doc/spmat/CHANGELOG.md', 'usr/share/doc/spmat/docs/api.md', 'usr/bin/spmat-graph', 'usr/share/man/man1/spmat-graph.1.gz',
                          'usr/share/bash-completion/completions/spmat', 'usr/share/bash-completion/completions/spmat-graph',
-                         'usr/share/zsh/vendor-completions/_spmat', 'usr/share/zsh/vendor-completions/_spmat-graph'):
+                         'usr/share/doc/spmat-doc/html/index.html', 'usr/share/zsh/vendor-completions/_spmat', 'usr/share/zsh/vendor-completions/_spmat-graph'):
                 self.assertTrue(os.path.exists(os.path.join(room, path)), path)
             units = {os.path.basename(path) for path in glob.glob(os.path.join(room, '*/systemd/system/*')) +
                      glob.glob(os.path.join(room, 'usr/lib/systemd/system/*'))}

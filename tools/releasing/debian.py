@@ -1,4 +1,4 @@
-"""The two Debian packages, `spmat` and `python3-spmat`, and the manual pages, which are made of the documents."""
+"""The Debian packages, `spmat`, `python3-spmat` and `spmat-doc`, and the manual pages, which are made of the documents."""
 import email.utils
 import glob
 import os
@@ -8,7 +8,7 @@ import subprocess
 import tempfile
 from typing import Dict
 
-from tools.releasing import tree
+from tools.releasing import site, tree
 
 PACKAGING = 'packaging/debian/'
 # The manual pages of section 7: a document each, and what it is about.
@@ -124,11 +124,12 @@ def field(text: str) -> str:
 
 
 def make(to: str, program: str) -> None:
-    """Writes both packages into a folder. Missing where this machine can't make them."""
+    """Writes the packages into a folder. Missing where this machine can't make them."""
     check_tools()
     with tempfile.TemporaryDirectory(prefix='spmat-debian-') as room:
         stage = os.path.join(room, 'spmat')
         lay_out(stage)
+        site.lay_out(stage)
         environment = dict(os.environ, SPMAT_PROGRAM=program, SOURCE_DATE_EPOCH=str(tree.commit_time()), PATH=system_path(),
                            LC_ALL='C.UTF-8')
         environment.pop('PYTHONPATH', None)

@@ -10,7 +10,6 @@ from ._client.handles import Handle
 from ._client.pending_jobs import Budget, Run
 from ._client.server_program import Program
 from ._client.transport import Address
-from .aliases import alias
 from .errors import OperatorRefused, Refused, TextRefused, refusal
 from .io import coo, matrix_market, matrix_text
 from .io.graph_files import Layout, Request, name_of
@@ -18,7 +17,6 @@ from .io.importers import DupOp, Sources
 from .io.matrix_text import Triples
 from .limits import MOST_STEPS
 from .matrix import Matrix
-from .metadata import NOTHING
 from .operators import Operator, diagnostics, find
 from .pricing import upper_bounds
 
@@ -123,16 +121,15 @@ class Session(Sources[Matrix]):
         backend = self.backend
         with backend.turn():
             backend.sweep()
-            handle = Handle(backend.names, wished=name)
+            key = backend.names.take(name)
             try:
-                reply = backend.command('matrix ' + handle.key, text, lambda rule, at: matrix_text.line_at(text, at))
+                reply = backend.command('matrix ' + key, text, lambda rule, at: matrix_text.line_at(text, at))
             except BaseException:
-                handle.give_back()
+                backend.names.give_back(key)
                 raise
             nrows, ncols, nvals = map(int, reply.words[1:4])
-            handle.note_size(nrows, nvals)
-            handle.nvals = handle.most = nvals
-            return Matrix(self, handle, (nrows, ncols), name)
+            backend.names.bound(key, nrows, nvals)
+            return Matrix(self, Handle(key, nvals), (nrows, ncols), name)
 
     def _from(self, triples: Triples, dup_op: DupOp = None, name: Optional[str] = None) -> Matrix:
         return self._of_triples(self._folded(triples, dup_op), False, name)
@@ -203,15 +200,14 @@ class Session(Sources[Matrix]):
         return upper_bounds.stood(self, (n, n), n) or self._from(coo.checked(at, at, value, n, n), name=name)
 
     def ones(self, ncols: int) -> Matrix:
-        """A row of ones, which folds columns. The session keeps those of the last few lengths, but for very long ones, and gives another
-        matrix of them each time."""
+        """A row of ones, which folds columns. The session keeps those of the last few lengths, but for very long ones."""
         with self.backend.turn():
             row = self._ones.pop(ncols, None) or self.full(1, ncols)
             if ncols <= LONG and not isinstance(row, upper_bounds.Stand):
                 self._ones[ncols] = row
             while len(self._ones) > KEPT_ONES:
                 del self._ones[next(iter(self._ones))]
-            return alias(row, NOTHING)
+            return row
 
     # -- matrices out
 

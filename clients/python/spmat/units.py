@@ -11,7 +11,6 @@ import functools
 from fractions import Fraction
 from typing import Any, Dict, List, NamedTuple, NoReturn, Optional, Union
 
-from .aliases import alias
 from .errors import UnitsDiffer
 from .io import coo
 from .io.matrix_text import is_array
@@ -130,7 +129,11 @@ def are_decimals(dtype: Any) -> bool:
 
 def with_unit(matrix: Any, unit: Unit) -> Any:
     """A matrix with the same entries, whose stored numbers are parts of another unit: no job."""
-    return matrix if matrix.notes.unit == unit else alias(matrix, matrix.notes._replace(unit=unit))
+    if matrix.notes.unit == unit:
+        return matrix
+    view = object.__new__(type(matrix))
+    view.__dict__.update(matrix.__dict__, notes=matrix.notes._replace(unit=unit), _viewed=matrix)
+    return view                                    # it holds the other one, whose name at the server is given back with it
 
 
 # -- the units of results
