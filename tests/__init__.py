@@ -10,6 +10,7 @@ test; tests of the Python client are in clients/python/tests.
     snippets    the files of packaging/ that the documents name, tried by the programs that they are for; packaging/ has its tests
     release     tools/release in copies of the tree; releases/ has its tests
     packages    the packages in fresh roots, by hand
+    site        the site, in a headless browser
     quick       tests of a change in a few minutes, with no proof
     lib/        commands, sessions, replies, limits, measured figures
 """
