@@ -2,17 +2,17 @@
 from __future__ import annotations
 
 from collections import Counter
-from typing import Any, NamedTuple, Sequence, Tuple
+from typing import NamedTuple, Tuple
 
 from ..errors import refusal
 from ..limits import MOST_SIDE
 from ..matrix import Matrix
 from ..operators import Operator, Semiring, asm, binary
 from .cached_properties import extremes
-from .protocols import M
+from .protocols import M, Vertices
 from .registry import algorithm
-from .single_source_paths import CYCLE
-from .utils import Progress, loops, order, places, product, tell
+from .single_source_paths import CYCLE, TOO_LONG
+from .utils import Progress, find_places, loops, mark_rows, name_rows, order, product, tell
 
 SHORT = 16              # entries a row up to which the graph is squared, so that one push covers more edges
 GROWTH = 3              # and only where a square has no more than so many times the entries
@@ -115,8 +115,8 @@ def all_pairs(W: Matrix, progress: Progress = None) -> Matrix:
         return _by_squaring(W, progress)
     near = W.apply('times', right=2).ewise_add(loops(W, 0), 'min')
     reach, edges = _squared(near, BY_LENGTH)
-    if least < 0 and reach.select(BELOW_ZERO, 0).nvals:
-        raise ValueError(CYCLE)
+    if least < 0:
+        _check_cycles(reach)
     known = _spread(reach, reach, reach, BY_LENGTH, progress, W.nrows // edges + 2, least < 0)
     return known.apply('arsh', right=1)
 
@@ -125,22 +125,34 @@ def _by_squaring(W: Matrix, progress: Progress) -> Matrix:
     """All lengths where they leave no bit for a mark: the whole matrix squared until nothing changes."""
     count, lengths = W.nrows, W.ewise_add(loops(W, 0), 'min')
     for number in range(1, max(1, (count - 1).bit_length()) + 1):
+        _check_sums(lengths)
         longer = product(lengths, lengths, 'min_plus')
         settled = longer.isequal(lengths)
-        least, most = extremes(longer)
-        if not settled and max(most, -least) > MOST_HALF:
-            raise ValueError('lengths could pass 2^63 - 1: some are %d to %d, and two are added; divide the values' % (least, most))
         tell(progress, 'round', number)
         if settled:
             break
         lengths = longer
-    if lengths.select(BELOW_ZERO, 0).nvals:
-        raise ValueError(CYCLE)
+    _check_cycles(lengths)
     return lengths
 
 
+def _check_sums(lengths: Matrix) -> None:
+    """Raises ValueError where two lengths that are added would wrap, or there is a cycle of negative length already."""
+    least, most = extremes(lengths)
+    if max(most, -least) <= MOST_HALF:
+        return
+    _check_cycles(lengths)
+    if product(lengths, lengths, TOO_LONG).reduce_scalar('max'):
+        raise ValueError('lengths could pass 2^63 - 1: some are %d to %d, and two are added; divide the values' % (least, most))
+
+
+def _check_cycles(lengths: Matrix) -> None:
+    if lengths.select(BELOW_ZERO, 0).nvals:
+        raise ValueError(CYCLE)
+
+
 @algorithm('lengths of shortest paths from some vertices', 'sources', values=True)
-def path_lengths(W: Matrix, sources: Sequence[Any], progress: Progress = None) -> Matrix:
+def path_lengths(W: Matrix, sources: Vertices, progress: Progress = None) -> Matrix:
     """The length of the shortest path from each of some vertices, a row for each in their order, to each vertex (the column); no
     entry where no path leads. Sources and the vertices that they reach make up to 16,777,216 entries; lengths along a path stay
     below 2^60 in size. `progress('round', k, 0)` is called after each round.
@@ -150,8 +162,8 @@ def path_lengths(W: Matrix, sources: Sequence[Any], progress: Progress = None) -
     no vertex, lengths could be too large, or a source reaches a cycle of negative length.
     """
     order(W)
-    rows = places(W, sources)
-    return lengths_from(W.session.from_coo(range(len(rows)), rows, 0, len(rows), W.nrows), reach_of(W), progress)
+    rows = find_places(W, sources)
+    return name_rows(W, lengths_from(mark_rows(W, rows, 0), reach_of(W), progress), rows)
 
 
 def reach_of(W: M) -> Tuple[M, int]:

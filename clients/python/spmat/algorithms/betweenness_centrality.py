@@ -1,14 +1,14 @@
 """How many shortest paths go through each vertex, by the number of edges or by their values."""
 from __future__ import annotations
 
-from typing import Any, Callable, Generic, Iterable, List, NamedTuple, Optional, Tuple
+from typing import Any, Callable, Generic, List, NamedTuple, Optional, Tuple
 
 from ..operators import Semiring, asm, binary
 from .all_pairs_lengths import lengths_from, reach_of
 from .cached_properties import extremes, is_both_ways, is_transpose, transpose_of
 from .frontier import Tally, read
-from .multi_source_bfs import Batch, REACHED, vertices
-from .protocols import M
+from .multi_source_bfs import Batch, REACHED, find_sources
+from .protocols import M, Place, Vertices
 from .registry import algorithm
 from .utils import Progress, beside, product, tell
 
@@ -44,7 +44,7 @@ class Tight(Generic[M]):
     """Searches from some vertices along the edges of shortest paths, by values. `front` has how many of so many edges lead to each vertex:
     one with shortest paths of several numbers of edges is found as often."""
 
-    def __init__(self, edges: Edges[M], sources: List[int], count: int) -> None:
+    def __init__(self, edges: Edges[M], sources: List[Place], count: int) -> None:
         self._edges, many = edges, len(sources)
         self.front = edges.leave.session.from_coo(range(many), sources, 1, many, count)
         lengths = lengths_from(self.front.apply('zero'), edges.reach)
@@ -64,7 +64,7 @@ class Tight(Generic[M]):
            says='How many shortest paths between two other vertices go through each vertex: for each two vertices '
                 'the share of their shortest paths. Of an undirected graph each two vertices count once. With '
                 '--source only paths from these count. With --weighted values of edges are lengths, 1 or more.')
-def betweenness(G: M, sources: Optional[Iterable[Any]] = None, tolerance: float = 1e-3, scale: int = SCALE,
+def betweenness(G: M, sources: Optional[Vertices] = None, tolerance: float = 1e-3, scale: int = SCALE,
                 progress: Progress = None, *, weighted: bool = False) -> M:
     """How many shortest paths between two other vertices go through each vertex, as a column in units of 1/scale (2^-20): for each two
     vertices the share of their shortest paths. Of an undirected graph each two vertices count once. With `sources` only paths from these
@@ -83,7 +83,7 @@ def betweenness(G: M, sources: Optional[Iterable[Any]] = None, tolerance: float 
     point. LAGraph: `LAGr_Betweenness`. networkx: `betweenness_centrality` with `normalized=False`. Raises ValueError where there are too
     many paths, for a scale that isn't 1 to 2^30, and with `weighted=True` for a value below 1 or lengths beyond 2^60.
     """
-    at, count = vertices(G, sources), G.nrows
+    at, count = find_sources(G, sources), G.nrows
     if not 1 <= scale <= 1 << 30 or not 0 < tolerance < 1:
         raise ValueError('a scale is 1 to 2^30, and a tolerance lies between 0 and 1')
     if count * len(at) * scale >= 1 << 62:
@@ -110,7 +110,7 @@ def _edges(G: M) -> 'Edges[M]':
     return Edges(G)
 
 
-def _add(G: M, sources: List[int], fixed: Fixed, sums: Tally, edges: Optional['Edges[M]']) -> None:
+def _add(G: M, sources: List[Place], fixed: Fixed, sums: Tally, edges: Optional['Edges[M]']) -> None:
     """Adds what the paths from some sources give to each vertex."""
     levels, back = _by_edges(G, sources, fixed) if edges is None else _by_values(G, sources, fixed, edges)
     if len(levels) < 3:
@@ -134,14 +134,14 @@ Back = Callable[[M, M], M]
 """What the shares of a level's vertices add up to at those before them on shortest paths, of which the counts are given."""
 
 
-def _by_edges(G: M, sources: List[int], fixed: Fixed) -> Tuple[List[M], 'Back[M]']:
+def _by_edges(G: M, sources: List[Place], fixed: Fixed) -> Tuple[List[M], 'Back[M]']:
     """The numbers of shortest paths from some sources, level by level, and the way back."""
     levels, _ = _counted(Batch(G, sources, PATHS), fixed, G.nvals)
     transpose = transpose_of(G, None, False)
     return levels, lambda shares, counts: product(shares, transpose, PATHS, counts)
 
 
-def _by_values(G: M, sources: List[int], fixed: Fixed, edges: 'Edges[M]') -> Tuple[List[M], 'Back[M]']:
+def _by_values(G: M, sources: List[Place], fixed: Fixed, edges: 'Edges[M]') -> Tuple[List[M], 'Back[M]']:
     """The same by values. A level has all vertices with a shortest path of so many edges, and for each the number of all its shortest
     paths: what is behind a vertex doesn't depend on the level, and all of it is in the next one."""
     search = Tight(edges, sources, G.nrows)

@@ -2,22 +2,21 @@
 from __future__ import annotations
 
 from itertools import compress
-from typing import Any, Generic, List, NamedTuple, Optional, Tuple
+from typing import Generic, List, NamedTuple, Optional, Tuple
 
 from ..io import matrix_text
 from ..operators import Semiring, asm, binary
 from . import server_side_search
 from .cached_properties import is_both_ways, transpose_of
 from .frontier import Columns, FEW, Fronts, Lines, Rows, Tally, Vector, is_shared, ones_like
-from .protocols import M, Numbers
+from .protocols import M, Numbers, Place, Vertex, Vertices
 from .registry import algorithm
-from .utils import Progress, beside, order, places, tell
+from .utils import Progress, beside, find_place, find_places, order, tell
 
 REACHED = Semiring(binary.any, binary.first)
 LEAST = Semiring(binary.min, binary.first)
 NEXT = Semiring(binary.first, asm('binary', 'mov64 r0, r2\nadd64 r0, 1\nexit\n'))   # one more than the level of any neighbour
 NONE = -1
-Sources = Any
 
 
 class Unseen(Generic[M]):
@@ -59,21 +58,25 @@ def joined(parts: List[Numbers]) -> Vector:
 
 class Search(NamedTuple):
     """What a search looks for: its sources, how far it goes, at which vertex it stops, and who is told."""
-    sources: List[int]
-    depth: Optional[int]
-    target: Optional[int]
-    progress: Progress
+    sources: List[Place]
+    depth: Optional[int] = None
+    target: Optional[Place] = None
+    progress: Progress = None
 
 
-def search_of(G: M, source: Sources, depth: Optional[int], target: Any, progress: Progress) -> Search:
+def search_of(G: M, source: Vertices, depth: Optional[int], target: Optional[Vertex], progress: Progress) -> Search:
     """The search that a caller asks for, looked at. ValueError where a source or the target is no vertex, or the depth is below 0."""
-    order(G)
-    many = places(G, source)
+    many = find_places(G, source)
     if depth is not None and (isinstance(depth, bool) or not isinstance(depth, int) or depth < 0):
         raise ValueError('a depth is a number of edges, 0 or more, not %r' % (depth,))
     if not many:
         raise ValueError('a search wants a vertex to begin with')
-    return Search(sorted(set(many)), depth, None if target is None else G.index(target), progress)
+    return Search(sorted(set(many)), depth, None if target is None else find_place(G, target), progress)
+
+
+def find_levels(G: M, search: Search, GT: Optional[M] = None, check: bool = False) -> M:
+    """`bfs_levels` from rows, for functions within; the column has no names."""
+    return run_search(fronts_of(G, GT, check), search, False).column(G, NONE)
 
 
 def lines_of(G: M, GT: Optional[M], check: bool, values: bool = False) -> Lines[M]:
@@ -157,8 +160,8 @@ def _fresh(told: Tally, got: Vector) -> Vector:
 
 @algorithm('edges from a vertex to each other one', 'source', plot='levels',
            runs=lambda g: 3 * (g.rounds + 1), steps=lambda g: 4 * g.entries + 4 * g.vertices * (g.rounds + 1))
-def bfs_levels(G: M, source: Sources, GT: Optional[M] = None, progress: Progress = None, *, depth: Optional[int] = None,
-               target: Any = None, check: bool = True) -> M:
+def bfs_levels(G: M, source: Vertices, GT: Optional[M] = None, progress: Progress = None, *, depth: Optional[int] = None,
+               target: Optional[Vertex] = None, check: bool = True) -> M:
     """How many edges lead from the source to each vertex, as a column: 0 at the source; no entry where no path leads. Of several
     sources the nearest counts.
 
@@ -178,13 +181,13 @@ def bfs_levels(G: M, source: Sources, GT: Optional[M] = None, progress: Progress
     """
     order(G, GT)
     search = search_of(G, source, depth, target, progress)
-    return beside(G, run_search(fronts_of(G, GT, check), search, False).column(G, NONE))
+    return beside(G, find_levels(G, search, GT, check))
 
 
 @algorithm('the tree of a breadth-first search', 'source', are_vertices=True,
            runs=lambda g: 4 * (g.rounds + 1), steps=lambda g: 6 * g.entries + 7 * g.vertices * (g.rounds + 1))
-def bfs_parents(G: M, source: Sources, GT: Optional[M] = None, progress: Progress = None, *, depth: Optional[int] = None,
-                target: Any = None, check: bool = True) -> M:
+def bfs_parents(G: M, source: Vertices, GT: Optional[M] = None, progress: Progress = None, *, depth: Optional[int] = None,
+                target: Optional[Vertex] = None, check: bool = True) -> M:
     """From which vertex a breadth-first search comes to each one, as a column: of several the least; at a source itself; no entry
     where no path leads.
 

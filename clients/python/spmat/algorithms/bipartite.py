@@ -5,11 +5,12 @@ from typing import Optional
 
 from ..matrix import Matrix
 from ..operators import asm
-from .bfs import bfs_levels
+from .bfs import Search, find_levels
 from .cached_properties import transpose_of
 from .components import connected_components
+from .protocols import Place
 from .registry import algorithm
-from .utils import Progress, beside, column, nothing, order
+from .utils import Progress, beside, column, mark_rows, name_of, nothing, order, rows_of
 
 IS_ODD = asm('unary', 'mov64 r0, r1\nand64 r0, 1\nexit\n', 'is_odd')
 
@@ -33,18 +34,18 @@ def bipartite_sides(G: Matrix, GT: Optional[Matrix] = None, progress: Progress =
     near = G if back is G else G.ewise_add(back, 'first')
     own = column(G, 0).apply('rowindex', right=0)
     least = connected_components(near, near, progress, check=False).ewise_mult(own, 'eq').select('nonzero')
-    side = bfs_levels(near, least.to_coo(arrays=False)[0], near, check=False).apply(IS_ODD)
+    side = find_levels(near, Search(rows_of(least)), near).apply(IS_ODD)
     low, high = near.mxv(side, 'min_second'), near.mxv(side, 'max_second')
     for among in (low, high):
         wrong = among.ewise_mult(side, 'eq').select('nonzero')
         if wrong.nvals:
-            raise ValueError('an odd cycle: ' + _edge(near, side, wrong.to_coo(arrays=False)[0][0]))
+            raise ValueError('an odd cycle: ' + _edge(G, near, side, rows_of(wrong)[0]))
     return beside(G, side)
 
 
-def _edge(near: Matrix, side: Matrix, at: int) -> str:
+def _edge(G: Matrix, near: Matrix, side: Matrix, at: Place) -> str:
     """An edge of a vertex to one of its own side, in words."""
-    row = near.session.from_coo([0], [at], 1, 1, near.nrows).mxm(near, 'any_pair').to_coo(arrays=False)[1]
+    row = mark_rows(near, [at], 1).mxm(near, 'any_pair').to_coo(arrays=False)[1]
     sides = side.to_list()
-    other = next(vertex for vertex in row if sides[vertex] == sides[at])
-    return 'the edge between %d and %d joins vertices of one side' % (at, other)
+    other = next(Place(vertex) for vertex in row if sides[vertex] == sides[at])
+    return 'the edge between %r and %r joins vertices of one side' % (name_of(G, at), name_of(G, other))

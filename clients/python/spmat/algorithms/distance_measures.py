@@ -10,10 +10,11 @@ from typing import Callable, List, NamedTuple, Optional
 from ..limits import MOST_SIDE
 from ..matrix import Matrix
 from ..operators import Semiring, asm, binary
-from .bfs import bfs_levels
+from .bfs import Search, find_levels
 from .cached_properties import transpose_of
+from .protocols import Place
 from .registry import algorithm
-from .utils import Progress, column, nothing, order, tell
+from .utils import Progress, beside, column, nothing, order, rows_of, tell
 
 WORD = 64
 MOST_WORDS = 32                 # words at a vertex: more make the matrices larger, and nothing faster
@@ -144,8 +145,8 @@ def diameter(G: Matrix, GT: Optional[Matrix] = None, searches: Optional[int] = N
     least, most, greatest = column(G, 0), column(G, count - 1), 0
     start = _at(G.reduce_rowwise('plus') if G.nvals else least, 'max')
     for number in range(max(1, searches)):
-        there = bfs_levels(G, start, GT, check=False)
-        back = there if GT is G else bfs_levels(GT, start, G, check=False)
+        there = find_levels(G, Search([start]), GT)
+        back = there if GT is G else find_levels(GT, Search([start]), G)
         if there.nvals < count or back.nvals < count:
             raise ValueError('a vertex does not reach all others: there is no diameter')
         far, came = there.reduce_scalar('max') or 0, back.reduce_scalar('max') or 0
@@ -163,12 +164,11 @@ def diameter(G: Matrix, GT: Optional[Matrix] = None, searches: Optional[int] = N
 
 def _check_reach(G: Matrix, GT: Matrix, count: int) -> None:
     """Raises ValueError where some vertex doesn't reach all others."""
-    if bfs_levels(G, 0, GT, check=False).nvals < count or (GT is not G and bfs_levels(GT, 0, G, check=False).nvals < count):
+    first = Search([Place(0)])
+    if find_levels(G, first, GT).nvals < count or (GT is not G and find_levels(GT, first, G).nvals < count):
         raise ValueError('a vertex does not reach all others: there is no diameter')
 
 
-def _at(values: Matrix, extreme: str) -> int:
+def _at(values: Matrix, extreme: str) -> Place:
     """The first vertex with the greatest or the least value."""
-    value = values.reduce_scalar(extreme) or 0
-    rows = values.select('valueeq', value).to_coo(arrays=False)[0]
-    return int(rows[0])
+    return rows_of(values.select('valueeq', values.reduce_scalar(extreme) or 0))[0]

@@ -1,17 +1,17 @@
 """Searches from many vertices at once: a row for each of them."""
 from __future__ import annotations
 
-from typing import Any, Callable, Dict, Generic, Iterable, List, Optional
+from typing import Any, Callable, Dict, Generic, List, Optional
 
 from ..errors import TooLarge
 from ..loops import Loop, State, empty
 from ..loops.pipelined_rounds import Round
 from ..operators import Semiring, binary
 from .cached_properties import is_both_ways
-from .protocols import M
+from .protocols import M, Place, Vertices
 from .registry import algorithm
 from .server_side_search import ANY_NEXT
-from .utils import Progress, order, places, product, tell
+from .utils import Progress, find_places, mark_rows, name_rows, order, product, tell
 
 REACHED = Semiring(binary.any, binary.first)
 PART = 32                                          # levels after which what was found is gathered
@@ -21,10 +21,9 @@ SMALL = 1 << 18                                    # places of a search whose le
 class Batch(Generic[M]):
     """Searches from some vertices. `front` has what each found at the last level, with the values of the semiring."""
 
-    def __init__(self, G: M, sources: List[int], ring: Semiring) -> None:
-        many = len(sources)
+    def __init__(self, G: M, sources: List[Place], ring: Semiring) -> None:
         self.graph, self.ring, self.both_ways = G, ring, is_both_ways(G)
-        self.front = G.session.from_coo(range(many), sources, 1, many, G.nrows)
+        self.front = mark_rows(G, sources, 1)
         self.marks = [self.front.apply('zero')]
 
     def advance(self) -> None:
@@ -38,10 +37,10 @@ class Batch(Generic[M]):
         self.marks = [self.marks[-1], new] if self.both_ways else [self.marks[0].ewise_add(new, 'first')]
 
 
-def vertices(G: M, sources: Optional[Iterable[Any]]) -> List[int]:
-    """The vertices that are meant, by number: all where none are named."""
+def find_sources(G: M, sources: Optional[Vertices]) -> List[Place]:
+    """The rows of the vertices that are meant: all where none are named."""
     count = order(G)
-    return list(range(count)) if sources is None else places(G, sources)
+    return list(map(Place, range(count))) if sources is None else find_places(G, sources)
 
 
 class Hops(Generic[M]):
@@ -49,8 +48,8 @@ class Hops(Generic[M]):
     to again: where each edge leads both ways what the last two levels found, else all. `recent` has what isn't among `found` yet, so that
     a level costs no walk along all of that."""
 
-    def __init__(self, G: M, sources: List[int]) -> None:
-        start = G.session.from_coo(range(len(sources)), sources, 0, len(sources), G.nrows)
+    def __init__(self, G: M, sources: List[Place]) -> None:
+        start = mark_rows(G, sources, 0)
         self.graph, self.both_ways, self.level = G, is_both_ways(G), 0
         self.state = State({'front': start, 'near': start, 'recent': start} if self.both_ways else {'front': start, 'near': start})
         self.found: M = start
@@ -100,7 +99,7 @@ class Hops(Generic[M]):
 @algorithm('the vertices within k edges of some', 'k', 'sources',
            says='Which vertices lie within k edges of each source (of all vertices without --source): source, '
                 'vertex, number of edges; 0 at the source itself.')
-def k_hop(G: M, k: int, sources: Optional[Iterable[Any]] = None, progress: Progress = None) -> M:
+def k_hop(G: M, k: int, sources: Optional[Vertices] = None, progress: Progress = None) -> M:
     """Which vertices lie within k edges of each source: a row for each source in their order (of all vertices without `sources`), whose
     entries are the numbers of edges; 0 at the source.
 
@@ -113,7 +112,7 @@ def k_hop(G: M, k: int, sources: Optional[Iterable[Any]] = None, progress: Progr
     `single_source_shortest_path_length` with a cutoff, `ego_graph`. Raises ValueError where k is below 0, and TooLarge where the result
     has more than 16,777,216 entries.
     """
-    at = vertices(G, sources)
+    at = find_sources(G, sources)
     if k < 0:
         raise ValueError('a number of edges is 0 or more, not %d' % k)
     hops, by_loop = Hops(G, at), G.in_one_place
@@ -126,4 +125,4 @@ def k_hop(G: M, k: int, sources: Optional[Iterable[Any]] = None, progress: Progr
                 tell(progress, 'level', hops.level, k)
         if by_loop or hops.level % PART == 0:
             hops.gathered()
-    return hops.gathered()
+    return name_rows(G, hops.gathered(), at)

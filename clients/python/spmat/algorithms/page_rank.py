@@ -13,7 +13,7 @@ from .frontier import Columns, FEW, Lines, Vector, column_of
 from .protocols import GraphMatrix, M, Numbers
 from .registry import algorithm
 from .triangle_counts import degrees
-from .utils import Progress, beside, order, tell
+from .utils import Progress, beside, find_place, order, tell
 
 ONE = 1 << 40                                      # the units of a rank of 1, unless there are too many vertices for it
 MOST_SCALE = 52                                    # bits
@@ -186,7 +186,7 @@ def given_by(graph: GraphMatrix, weights: Optional[Weights], unit: int) -> Vecto
         raise ValueError('weights of vertices are 0 or more, and one is above 0')
     values = [0] * count
     for key, weight in weights.items():
-        values[graph.index(key)] = int(unit * (float(weight) / total))
+        values[find_place(graph, key)] = int(unit * (float(weight) / total))
     return Vector(list(range(count)), values) if numpy is None else Vector(numpy.arange(count), numpy.array(values, numpy.int64))
 
 

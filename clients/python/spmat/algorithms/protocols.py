@@ -1,14 +1,37 @@
 """What the algorithms ask of a matrix and of what holds it: a `Matrix` of one session, or a `BlockMatrix` of several."""
 from __future__ import annotations
 
-from typing import Any, Dict, Iterable, List, Optional, Protocol, Tuple, TypeVar, Union
+from typing import TYPE_CHECKING, Any, ClassVar, Dict, Hashable, Iterable, List, Optional, Protocol, SupportsIndex, Tuple, TypeVar, Union
 
 from ..io.matrix_text import Triples
+from ..metadata import Notes
 from ..operators import Op, Semiring
 
 Ring = Union[str, Semiring, Tuple[Op, Op]]
 M = TypeVar('M', bound='GraphMatrix')
 S = TypeVar('S', covariant=True)
+
+Vertex = Hashable
+"""A vertex as a caller says it: by its name where the graph has names, else by its number from 0. Public functions take these, and find
+each one's place once (`utils.find_place`)."""
+Vertices = Union[Vertex, Iterable[Vertex]]
+"""One vertex, or several."""
+
+if TYPE_CHECKING:
+    class Place:
+        """The row of a vertex. Functions within take these alone, and look up no name: where names are numbers, a row would be taken for
+        another vertex. At run time it is an int. To type checkers it is none, and has no hash, so that they refuse a row for a
+        vertex, and a vertex for a row."""
+
+        __hash__: ClassVar[None]  # type: ignore[assignment]
+
+        def __init__(self, row: SupportsIndex) -> None: ...
+        def __index__(self) -> int: ...
+        def __int__(self) -> int: ...
+        def __lt__(self, other: 'Place') -> bool: ...
+        def __eq__(self, other: object) -> bool: ...
+else:
+    Place = int
 
 
 class GraphBackend(Protocol[S]):
@@ -65,6 +88,9 @@ class GraphMatrix(Protocol):
     @nodes.setter
     def nodes(self, names: Optional[Iterable[Any]]) -> None:
         """Gives the vertices names."""
+
+    notes: Notes
+    """What is known of it beside its entries: the names of its rows and of its columns."""
 
     @property
     def directed(self) -> Optional[bool]:

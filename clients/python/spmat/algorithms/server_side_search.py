@@ -16,7 +16,7 @@ from ..matrix import Matrix
 from ..operators import Semiring, asm, binary
 from .cached_properties import found, is_both_ways
 from .frontier import Lines, Rows, Tally
-from .protocols import GraphMatrix, Numbers
+from .protocols import GraphMatrix, Numbers, Place
 from .utils import Progress, tell
 
 LONG = 32                                          # levels or rounds after which a search is taken for a long one
@@ -35,7 +35,7 @@ class Fronts(NamedTuple):
     before: Numbers
 
 
-def stays(lines: Lines[Any], target: Optional[int]) -> bool:
+def stays(lines: Lines[Any], target: Optional[Place]) -> bool:
     """Whether a long search is to go on at the server: one session has the graph, each edge leads both ways, nobody waits for one
     vertex, and the budget is so large that nobody counts its steps, of which this takes more. Who asks first pays for looking at the
     edges."""

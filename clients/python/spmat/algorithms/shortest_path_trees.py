@@ -8,17 +8,18 @@ from ..io import matrix_text
 from ..io.coo import whole
 from ..io.matrix_text import Triples
 from ..operators import Operator, Semiring, asm, binary
-from .bfs import LEAST, NONE, Search, bfs_levels, lines_of, run_search, search_of
+from .bfs import LEAST, NONE, Search, find_levels, lines_of, run_search
 from .cached_properties import extremes, transpose_of
 from .frontier import Columns, FEW, Lines, Tally, Vector
-from .protocols import M
+from .protocols import M, Place, Vertex
 from .registry import algorithm
-from .single_source_paths import sssp
-from .utils import Progress, beside, order, product
+from .single_source_paths import Query, find_lengths
+from .utils import Progress, beside, find_place, name_of, order, product
 
 WORD = 1 << 62                                     # what a length above the number of a vertex stays below
 IS_SUM = Semiring(binary.any, binary.eq)
 LENGTHEN = Semiring(binary.any, binary.plus)
+Route = Tuple[int, List[Place]]                    # the length of a path, and its vertices
 
 
 class NoPath(ValueError):
@@ -48,10 +49,10 @@ class PathTree(Generic[M]):
     """A shortest path from one vertex, `source`, to each that it reaches. `lengths` is a column with the length of each, and
     `predecessors` one with the vertex before each on its path: at the source itself."""
 
-    def __init__(self, graph: M, source: int, lengths: Vector, parents: Tally) -> None:
+    def __init__(self, graph: M, source: Place, lengths: Vector, parents: Tally) -> None:
         self._graph, self._from, self._parents = graph, source, parents
         self._far = _by_vertex(lengths)
-        self.source = _named(graph, source)
+        self.source = name_of(graph, source)
         zeros = [0] * len(lengths.at) if not matrix_text.is_array(lengths.at) else lengths.at * 0
         self.lengths = beside(graph, graph.session.backend.keep(Triples(lengths.at, zeros, lengths.values, graph.nrows, 1)))
         self.predecessors = beside(graph, parents.column(graph, NONE))
@@ -59,16 +60,16 @@ class PathTree(Generic[M]):
     def __repr__(self) -> str:
         return '<PathTree from %r to %d vertices>' % (self.source, len(self._far))
 
-    def __contains__(self, target: Any) -> bool:
-        return self._graph.index(target) in self._far
+    def __contains__(self, target: Vertex) -> bool:
+        return find_place(self._graph, target) in self._far
 
     def __len__(self) -> int:
         return len(self._far)
 
-    def path(self, target: Any) -> Path:
+    def path(self, target: Vertex) -> Path:
         """The path to a vertex. Raises NoPath where none leads there, and ValueError where there is no such vertex. It asks nothing of the
         server."""
-        at = self._graph.index(target)
+        at = find_place(self._graph, target)
         if at not in self._far:
             raise NoPath('no path leads from %r to %r' % (self.source, target))
         return _path(self._graph, _walk(self._parents, self._from, at), self._far)
@@ -81,54 +82,53 @@ class Way(NamedTuple):
     check: bool
 
 
-def _listed(many: Any) -> List[int]:
-    found: List[int] = many.tolist() if matrix_text.is_array(many) else many
+def _listed(many: Any) -> List[Any]:
+    found: List[Any] = many.tolist() if matrix_text.is_array(many) else many
     return found
 
 
-def _by_vertex(vector: Vector) -> Dict[int, int]:
+def _by_vertex(vector: Vector) -> Dict[Place, int]:
     return dict(zip(_listed(vector.at), _listed(vector.values)))
 
 
-def _named(graph: M, at: int) -> Any:
-    """A vertex by its name, where it has one."""
-    return at if graph.nodes is None else graph.nodes[at]
-
-
-def _walk(parents: Tally, source: int, target: int) -> List[int]:
+def _walk(parents: Tally, source: Place, target: Place) -> List[Place]:
     """The path to a vertex, from the vertices before each."""
     found = [target]
     while found[-1] != source:
-        found.append(parents.numbers[found[-1]])
+        found.append(Place(parents.numbers[found[-1]]))
         if found[-1] == NONE or len(found) > len(parents.numbers):
             raise AssertionError('the vertices before each make no path to %d' % target)
     return found[::-1]
 
 
-def _path(graph: M, vertices: List[int], far: Dict[int, int]) -> Path:
-    return Path([_named(graph, at) for at in vertices], [far[at] for at in vertices])
+def _path(graph: M, vertices: List[Place], far: Dict[Place, int]) -> Path:
+    return Path([name_of(graph, at) for at in vertices], [far[at] for at in vertices])
 
 
-def _lengths(G: M, source: Any, GT: Optional[M], way: Way, target: Any = None, cutoff: Optional[int] = None) -> Vector:
+def _lengths(G: M, source: Place, GT: Optional[M], way: Way, target: Optional[Place] = None, cutoff: Optional[int] = None) -> Vector:
     """How far the vertices are that the source reaches, by edges or by their values."""
     if way.weighted:
-        found = sssp(G, source, GT, way.progress, cutoff=cutoff, target=target, check=way.check)
+        found = find_lengths(G, source, GT, Query(cutoff, target, way.check, way.progress))
+    elif cutoff is not None and cutoff < 0:
+        return Vector([], [])                      # the source is farther
     else:
-        found = bfs_levels(G, source, GT, way.progress, depth=cutoff, target=target, check=way.check)
+        found = find_levels(G, Search([source], cutoff, target, way.progress), GT, way.check)
     rows, _, values = found.to_coo(arrays=found.nvals >= FEW and matrix_text.find_numpy() is not None)
     return Vector(rows, values)
 
 
-def _parents(lines: Lines[M], source: int, lengths: Vector, weighted: bool) -> Tally:
+def _parents(lines: Lines[M], source: Place, lengths: Vector, weighted: bool) -> Tally:
     """The vertex before each on a shortest path to it, of several the least; where edges are 0 long, or less, or lengths leave no room for
     the number of a vertex in a word, one on a path of as few edges as any of the shortest."""
+    told = Tally(lines.count, NONE)
+    if not len(lengths.at):
+        return told
     least, most = extremes(lines.graph) if weighted else (1, 1)
     bits = max(1, lines.count - 1).bit_length()
     longest = int(max(lengths.values)) + most
     if least <= 0 or longest << bits >= WORD:
-        search = Search([source], None, None, None)
-        return run_search(lines_of(_tight(lines.graph, lengths), None, False), search, True)
-    told, mask = Tally(lines.count, NONE), (1 << bits) - 1
+        return run_search(lines_of(_tight(lines.graph, lengths), None, False), Search([source]), True)
+    mask = (1 << bits) - 1
     ring = Semiring(binary.min, _longer(bits, isinstance(lines, Columns))) if weighted else LEAST
     if matrix_text.is_array(lengths.at):
         got = lines.get(lines.step(lines.put(Vector(lengths.at, (lengths.values << bits) | lengths.at)), ring))
@@ -140,7 +140,7 @@ def _parents(lines: Lines[M], source: int, lengths: Vector, weighted: bool) -> T
     for at, parent in zip(_listed(got.at), _listed(found)):
         if reached.numbers[at] == 0:
             told.numbers[at] = parent
-    told.numbers[source] = source
+    told.numbers[source] = int(source)
     return told
 
 
@@ -159,7 +159,7 @@ def _tight(graph: M, lengths: Vector) -> M:
 @algorithm('the vertices of a shortest path', 'source', 'target', 'weighted', plot='route', fields=('node', 'length'),
            says='The vertices of a shortest path from one vertex to another, in order, with how far along it each '
                 'is.')
-def shortest_path(G: M, source: Any, target: Any, GT: Optional[M] = None, progress: Progress = None, *, weighted: bool = False,
+def shortest_path(G: M, source: Vertex, target: Vertex, GT: Optional[M] = None, progress: Progress = None, *, weighted: bool = False,
                   check: bool = True) -> Path:
     """A shortest path from one vertex to another: its vertices in order, with their `lengths` along it. Its length is the number of its
     edges, or with `weighted=True` their values added, which may be negative.
@@ -174,15 +174,14 @@ def shortest_path(G: M, source: Any, target: Any, GT: Optional[M] = None, progre
     no vertex, or the source reaches a cycle of negative length.
     """
     order(G, GT)
-    start, end = G.index(source), G.index(target)
+    start, end = find_place(G, source), find_place(G, target)
     if not weighted:
-        lines = lines_of(G, GT, check)
-        parents = run_search(lines, search_of(G, source, None, target, progress), True)
+        parents = run_search(lines_of(G, GT, check), Search([start], None, end, progress), True)
         if parents.numbers[end] == NONE:
             raise NoPath('no path leads from %r to %r' % (source, target))
         vertices = _walk(parents, start, end)
         return _path(G, vertices, {at: edges for edges, at in enumerate(vertices)})
-    lengths = _lengths(G, source, GT, Way(True, progress, check), target)
+    lengths = _lengths(G, start, GT, Way(True, progress, check), end)
     far = _by_vertex(lengths)
     if end not in far:
         raise NoPath('no path leads from %r to %r' % (source, target))
@@ -192,7 +191,7 @@ def shortest_path(G: M, source: Any, target: Any, GT: Optional[M] = None, progre
 @algorithm('a shortest path to each vertex, as a tree', 'source', 'weighted', fields=('node', 'length', 'predecessor'),
            says='A shortest path to each vertex that is reached: vertex, length, and the vertex before it; that is '
                 'the source itself there.')
-def shortest_paths(G: M, source: Any, GT: Optional[M] = None, progress: Progress = None, *, weighted: bool = False,
+def shortest_paths(G: M, source: Vertex, GT: Optional[M] = None, progress: Progress = None, *, weighted: bool = False,
                    cutoff: Optional[int] = None, check: bool = True) -> 'PathTree[M]':
     """A shortest path from one vertex to each that it reaches, as a tree: `.path(target)` is one of them, `.lengths` and `.predecessors`
     are columns. Lengths are as for `shortest_path`; `cutoff` leaves out what is farther.
@@ -202,32 +201,31 @@ def shortest_paths(G: M, source: Any, GT: Optional[M] = None, progress: Progress
     `bfs_levels` and `sssp` do.
     """
     order(G, GT)
-    way = Way(weighted, progress, check)
-    lengths = _lengths(G, source, GT, way, cutoff=cutoff)
-    at = G.index(source)
+    at = find_place(G, source)
+    lengths = _lengths(G, at, GT, Way(weighted, progress, check), cutoff=cutoff)
     return PathTree(G, at, lengths, _parents(lines_of(G, GT, check, weighted), at, lengths, weighted))
 
 
 @algorithm('whether a path leads from one vertex to another', 'source', 'target', fields=('has_path',),
            says='Prints yes where a path leads from one vertex to another, else no.')
-def has_path(G: M, source: Any, target: Any, GT: Optional[M] = None, *, check: bool = True) -> bool:
+def has_path(G: M, source: Vertex, target: Vertex, GT: Optional[M] = None, *, check: bool = True) -> bool:
     """Whether a path leads from one vertex to another. It costs what `bfs_levels` costs up to the target. networkx: `has_path`. Raises
     ValueError where one of them is no vertex."""
     order(G, GT)
-    end = G.index(target)
-    return run_search(lines_of(G, GT, check), search_of(G, source, None, target, None), False).numbers[end] != NONE
+    start, end = find_place(G, source), find_place(G, target)
+    return run_search(lines_of(G, GT, check), Search([start], None, end), False).numbers[end] != NONE
 
 
 class Spurs(Generic[M]):
     """Searches by the client for paths to one vertex around what is barred. Rows of the graph are fetched as they are met, and lengths to
     the target that leave out what is barred say where to look first (A*)."""
 
-    def __init__(self, lines: Lines[M], target: int, home: Vector, weighted: bool) -> None:
+    def __init__(self, lines: Lines[M], target: Place, home: Vector, weighted: bool) -> None:
         self.target, self.home = target, _by_vertex(home)
         self._lines, self._weighted = lines, weighted
-        self._rows: Dict[int, List[Tuple[int, int]]] = {}
+        self._rows: Dict[Place, List[Tuple[Place, int]]] = {}
 
-    def near(self, i: int) -> List[Tuple[int, int]]:
+    def near(self, i: Place) -> List[Tuple[Place, int]]:
         """Where the edges of a vertex lead, and how long they are; those alone from where the target is reached. 1 run, once."""
         if i not in self._rows:
             got = self._lines.get(self._lines.step(self._lines.put(Vector([i], [0])), LENGTHEN))
@@ -236,10 +234,10 @@ class Spurs(Generic[M]):
             self._rows[i] = [(j, far) for j, far in zip(at, many) if j in self.home]
         return self._rows[i]
 
-    def search(self, start: int, barred: Set[int], not_first: Set[int]) -> Optional[Tuple[int, List[int]]]:
+    def search(self, start: Place, barred: Set[Place], not_first: Set[Place]) -> Optional[Route]:
         """The shortest path that enters no barred vertex, and leaves the start for none of some; with its length. None where there is
         none."""
-        far, before, done = {start: 0}, {}, set()  # type: Dict[int, int], Dict[int, int], Set[int]
+        far, before, done = {start: 0}, {}, set()  # type: Dict[Place, int], Dict[Place, Place], Set[Place]
         heap = [(self.home[start], self.home[start], start)]
         while heap:
             _, _, i = heapq.heappop(heap)
@@ -263,7 +261,7 @@ class Spurs(Generic[M]):
 @algorithm('the k shortest paths', 'source', 'target', 'k', 'weighted', fields=('path', 'node', 'length'),
            says='The k shortest paths that pass no vertex twice, a line for each vertex: the number of its path, '
                 'from 1, the vertex, and how far along the path it is.')
-def k_shortest_paths(G: M, source: Any, target: Any, k: int, GT: Optional[M] = None, *, weighted: bool = False,
+def k_shortest_paths(G: M, source: Vertex, target: Vertex, k: int, GT: Optional[M] = None, *, weighted: bool = False,
                      check: bool = True) -> List[Path]:
     """The k shortest paths from one vertex to another that pass no vertex twice, the shortest first; fewer where there are fewer. Lengths
     are as for `shortest_path`.
@@ -275,17 +273,17 @@ def k_shortest_paths(G: M, source: Any, target: Any, k: int, GT: Optional[M] = N
     ValueError where k is below 1, and otherwise as `shortest_path` does.
     """
     order(G, GT)
-    start, end, k = G.index(source), G.index(target), whole(k, 'number of paths')
+    start, end, k = find_place(G, source), find_place(G, target), whole(k, 'number of paths')
     if k < 1:
         raise ValueError('a number of paths is 1 or more, not %d' % k)
     back = transpose_of(G, GT, check, values=weighted)
-    home = _lengths(back, target, G, Way(weighted, None, check))
+    home = _lengths(back, end, G, Way(weighted, None, check))
     spurs = Spurs(lines_of(G, back, False, weighted), end, home, weighted)
     if start not in spurs.home:
         raise NoPath('no path leads from %r to %r' % (source, target))
     first = spurs.search(start, set(), set())
     assert first is not None
-    found, waiting, seen = [first], [], {tuple(first[1])}  # type: List[Tuple[int, List[int]]], List[Tuple[int, List[int]]], Set[Tuple[int, ...]]
+    found, waiting, seen = [first], [], {tuple(first[1])}  # type: List[Route], List[Route], Set[Tuple[Place, ...]]
     while len(found) < k:
         for candidate in _aside(spurs, found):
             if tuple(candidate[1]) not in seen:
@@ -297,7 +295,7 @@ def k_shortest_paths(G: M, source: Any, target: Any, k: int, GT: Optional[M] = N
     return [_path(G, vertices, _along(spurs, vertices)) for _, vertices in found]
 
 
-def _along(spurs: Spurs[M], vertices: List[int]) -> Dict[int, int]:
+def _along(spurs: Spurs[M], vertices: List[Place]) -> Dict[Place, int]:
     """How far along a path its vertices are."""
     far = {vertices[0]: 0}
     for i, j in zip(vertices, vertices[1:]):
@@ -305,7 +303,7 @@ def _along(spurs: Spurs[M], vertices: List[int]) -> Dict[int, int]:
     return far
 
 
-def _aside(spurs: Spurs[M], found: List[Tuple[int, List[int]]]) -> Iterable[Tuple[int, List[int]]]:
+def _aside(spurs: Spurs[M], found: List[Route]) -> Iterable[Route]:
     """The shortest paths that leave the last one that was found at each of its vertices, and go where none did."""
     last = found[-1][1]
     far = _along(spurs, last)

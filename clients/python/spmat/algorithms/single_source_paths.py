@@ -1,7 +1,7 @@
 """Shortest paths from one vertex."""
 from __future__ import annotations
 
-from typing import Any, Callable, Generic, List, NamedTuple, Optional, Tuple, cast
+from typing import Callable, Generic, List, NamedTuple, Optional, Tuple, cast
 
 from ..io import matrix_text
 from ..operators import Semiring, asm, binary
@@ -9,9 +9,9 @@ from . import server_side_search
 from .bfs import fronts_of, joined
 from .cached_properties import extremes
 from .frontier import Lines, Tally, Vector
-from .protocols import GraphMatrix, M, Numbers
+from .protocols import GraphMatrix, M, Numbers, Place, Vertex
 from .registry import algorithm
-from .utils import Progress, beside, order, tell
+from .utils import Progress, beside, find_place, nothing, order, tell
 
 CYCLE = 'a cycle of negative length: paths along it have no least length'
 WRAPS = 'a path is longer than 2^63 - 1, and its length would wrap: divide the values (check=False takes them as they come)'
@@ -51,7 +51,7 @@ class Bounds(NamedTuple):
     """What a search may use: how long paths may be, the target, whether no edge is negative, and how wide the band of lengths is
     whose vertices are taken at a time (0: all)."""
     cutoff: Optional[int]
-    target: Optional[int]
+    target: Optional[Place]
     ascending: bool
     width: int
 
@@ -60,7 +60,7 @@ class Lengths(Generic[M]):
     """The lengths that are known, and the vertices whose length changed and that weren't taken since. They are kept by the client, or
     for large fronts by jobs. Those within the band are the front; the others wait as `far`, where a vertex may stand several times."""
 
-    def __init__(self, lines: Lines[M], source: int, bounds: Bounds) -> None:
+    def __init__(self, lines: Lines[M], source: Place, bounds: Bounds) -> None:
         self.lines, self.bounds = lines, bounds
         self.known = Tally(lines.count, UNREACHED)
         self.known.put([source], [0])
@@ -233,10 +233,46 @@ def _width(W: GraphMatrix, least: int, most: int) -> int:
     return max(1, WIDE * most * W.nrows // max(1, W.nvals))
 
 
+class Query(NamedTuple):
+    """What else a caller asks of a search for lengths: how long paths may be, at which vertex it may end, whether lengths that could wrap
+    are looked for, and who is told."""
+    cutoff: Optional[int] = None
+    target: Optional[Place] = None
+    check: bool = True
+    progress: Progress = None
+
+
+def find_lengths(W: M, source: Place, WT: Optional[M], query: Query) -> M:
+    """`sssp` from a row, for functions within; the column has no names."""
+    cutoff, target, check, progress = query
+    count = W.nrows
+    least, most = extremes(W) if check or cutoff is not None or target is not None else (-1, 0)
+    bounds = Bounds(cutoff, target, least >= 0, _width(W, least, most))
+    if cutoff is not None and cutoff < 0 and bounds.ascending:
+        return nothing(W)                          # the source is farther
+    lengths = Lengths(fronts_of(W, WT, check, values=True), source, bounds)
+    told = Told(progress, count, max(abs(least), abs(most)) if check else 0)
+    may_stay = cutoff is None and target is None and server_side_search.are_close(least, most, count)
+    while len(lengths.front.at):
+        if is_large(len(lengths.front.at), lengths.lines):
+            lengths.rounds_by_jobs(told)
+        elif may_stay and told.number >= server_side_search.LONG and server_side_search.stays(lengths.lines, target):
+            if told.number:
+                tell(progress, 'round', told.number)
+            server_side_search.lengths_on(W, lengths.known, lengths.open(most), most, progress, told.number)
+            break
+        else:
+            lengths.round_by_client(told)
+    else:
+        tell(progress, 'round', told.number)
+    found = lengths.known.column(W, UNREACHED)
+    return found if cutoff is None or least >= 0 else found.select('valuele', cutoff)
+
+
 @algorithm('lengths of shortest paths from a vertex', 'source', values=True,
            runs=lambda g: 9 * g.rounds + 4, steps=lambda g: (7 * g.entries + 20 * g.vertices) * g.rounds)
-def sssp(W: M, source: Any, WT: Optional[M] = None, progress: Progress = None, *, cutoff: Optional[int] = None,
-         target: Any = None, check: bool = True) -> M:
+def sssp(W: M, source: Vertex, WT: Optional[M] = None, progress: Progress = None, *, cutoff: Optional[int] = None,
+         target: Optional[Vertex] = None, check: bool = True) -> M:
     """The length of the shortest path from the source to each vertex, as a column: 0 at the source; no entry where no path leads.
     An entry's value is the length of its edge, and may be negative.
 
@@ -257,24 +293,6 @@ def sssp(W: M, source: Any, WT: Optional[M] = None, progress: Progress = None, *
     where the source is no vertex, or reaches a cycle of negative length, and where lengths could wrap (with `check=False` they are
     taken to stay below 2^63), and where WT isn't the transpose.
     """
-    count = order(W, WT)
-    source, target = W.index(source), None if target is None else W.index(target)
-    least, most = extremes(W) if check or cutoff is not None or target is not None else (-1, 0)
-    bounds = Bounds(cutoff, target, least >= 0, _width(W, least, most))
-    lengths = Lengths(fronts_of(W, WT, check, values=True), source, bounds)
-    told = Told(progress, count, max(abs(least), abs(most)) if check else 0)
-    may_stay = cutoff is None and target is None and server_side_search.are_close(least, most, count)
-    while len(lengths.front.at):
-        if is_large(len(lengths.front.at), lengths.lines):
-            lengths.rounds_by_jobs(told)
-        elif may_stay and told.number >= server_side_search.LONG and server_side_search.stays(lengths.lines, target):
-            if told.number:
-                tell(progress, 'round', told.number)
-            server_side_search.lengths_on(W, lengths.known, lengths.open(most), most, progress, told.number)
-            break
-        else:
-            lengths.round_by_client(told)
-    else:
-        tell(progress, 'round', told.number)
-    found = lengths.known.column(W, UNREACHED)
-    return beside(W, found if cutoff is None or least >= 0 else found.select('valuele', cutoff))
+    order(W, WT)
+    until = None if target is None else find_place(W, target)
+    return beside(W, find_lengths(W, find_place(W, source), WT, Query(cutoff, until, check, progress)))

@@ -6,10 +6,10 @@ from typing import Dict, List, Optional, Tuple
 from ..io import matrix_text
 from ..io.matrix_text import Triples
 from ..matrix import Matrix
-from .bfs import bfs_levels
+from .bfs import Search, find_levels
 from .cached_properties import found, transpose_of
 from .frontier import FEW, column_of, zeros_like
-from .protocols import Numbers
+from .protocols import Numbers, Place
 from .random_vector import drawn
 from .registry import algorithm
 from .tarjan import strong_components
@@ -118,15 +118,15 @@ def strongly_connected_components(G: Matrix, GT: Optional[Matrix] = None, progre
 
 def _around(G: Matrix, GT: Optional[Matrix], parts: Parts) -> None:
     """The component of the vertex with the most edges, by those that leave it times those that lead to it."""
-    middle: Optional[int] = found(G, 'most joined', lambda: _most_joined(
+    middle: Optional[Place] = found(G, 'most joined', lambda: _most_joined(
         G.mxv(column(G, 1), 'plus_pair'), G.session.ones(G.nrows).mxm(G, 'plus_pair'), parts))
     if middle is None:
         return
-    forward = bfs_levels(G, middle, check=False).to_coo(arrays=parts.numpy is not None)[0]
+    forward = find_levels(G, Search([middle])).to_coo(arrays=parts.numpy is not None)[0]
     parts.divide(forward, _reaching(G, GT, middle, parts))
 
 
-def _most_joined(outgoing: Matrix, incoming: Matrix, parts: Parts) -> Optional[int]:
+def _most_joined(outgoing: Matrix, incoming: Matrix, parts: Parts) -> Optional[Place]:
     """The vertex with the most edges of both directions; None where no vertex has edges of both."""
     rows, _, many = outgoing.to_coo(arrays=parts.numpy is not None)
     _, columns, more = incoming.to_coo(arrays=parts.numpy is not None)
@@ -134,13 +134,13 @@ def _most_joined(outgoing: Matrix, incoming: Matrix, parts: Parts) -> Optional[i
         both = parts.numpy.zeros((2, parts.count), parts.numpy.int64)
         both[0, rows], both[1, columns] = many, more
         least = int(both.prod(0).argmax())
-        return least if both[:, least].all() else None
+        return Place(least) if both[:, least].all() else None
     counts = dict(zip(columns, more))
     scores = [(number * counts[i], -i) for i, number in zip(rows, many) if i in counts]
-    return -max(scores)[1] if scores else None
+    return Place(-max(scores)[1]) if scores else None
 
 
-def _reaching(G: Matrix, GT: Optional[Matrix], middle: int, parts: Parts) -> Numbers:
+def _reaching(G: Matrix, GT: Optional[Matrix], middle: Place, parts: Parts) -> Numbers:
     """The vertices from which a path leads to one. Without a transpose all vertices look along their edges, a few times."""
     back = GT if GT is not None else G.kept.get('transpose')
     if back is None:
@@ -148,10 +148,10 @@ def _reaching(G: Matrix, GT: Optional[Matrix], middle: int, parts: Parts) -> Num
         if pulled is not None:
             return pulled
         back = transpose_of(G, None, False)
-    return bfs_levels(back, middle, check=False).to_coo(arrays=parts.numpy is not None)[0]
+    return find_levels(back, Search([middle])).to_coo(arrays=parts.numpy is not None)[0]
 
 
-def _pulled(G: Matrix, middle: int, parts: Parts) -> Optional[Numbers]:
+def _pulled(G: Matrix, middle: Place, parts: Parts) -> Optional[Numbers]:
     """The same against the edges, None where that takes too many rounds. A round looks at all edges, until an eighth of the vertices is seen;
     then at those of the others alone, which are a mask."""
     front = seen = G.session.backend.keep(Triples([middle], [0], [1], G.nrows, 1))

@@ -1,7 +1,7 @@
 """What must come before what: levels of a directed graph without cycles, or the cycle that it has."""
 from __future__ import annotations
 
-from typing import Dict, List, Tuple
+from typing import Any, Dict, List, Tuple
 
 from ..io import matrix_text
 from ..loops import Loop, State, empty
@@ -11,10 +11,10 @@ from ..operators import Semiring, asm, binary
 from .bfs import NONE
 from .cached_properties import extremes
 from .frontier import Tally
-from .protocols import Numbers
+from .protocols import Numbers, Place
 from .registry import algorithm
 from .single_source_paths import MOST, WRAPS
-from .utils import Progress, beside, nothing, order, tell
+from .utils import Progress, beside, name_of, nothing, order, tell
 
 # An edge takes one from what the vertex that it leads to still waits for.
 TAKEN = Semiring(binary.plus, asm('binary', 'mov64 r0, -1\nexit\n', 'minus_one'))
@@ -26,11 +26,11 @@ SHOWN = 20                                         # vertices of a cycle in the 
 
 
 class CycleError(ValueError):
-    """A directed graph has a cycle: `cycle` has its vertices in their order, each with an edge to the next, and the last to the
-    first."""
+    """A directed graph has a cycle: `cycle` has its vertices in their order, by their names where the graph has any, each with an edge to
+    the next, and the last to the first."""
 
-    def __init__(self, cycle: List[int]) -> None:
-        shown = list(map(str, cycle[:SHOWN] + cycle[:1])) if len(cycle) <= SHOWN else [*map(str, cycle[:SHOWN]), '..']
+    def __init__(self, cycle: List[Any]) -> None:
+        shown = list(map(repr, cycle[:SHOWN] + cycle[:1])) if len(cycle) <= SHOWN else [*map(repr, cycle[:SHOWN]), '..']
         super().__init__('the graph has a cycle: ' + ' -> '.join(shown))
         self.cycle = cycle
 
@@ -157,8 +157,8 @@ def longest_paths(W: Matrix, progress: Progress = None, *, check: bool = True) -
     return beside(W, levels.tally.column(W, None))
 
 
-def _cycle(G: Matrix, levelled_: Numbers) -> List[int]:
-    """A cycle among the vertices that have no level. Each of them has an edge from another one: walked back by the least of these
+def _cycle(G: Matrix, levelled_: Numbers) -> List[Any]:
+    """The names of a cycle among the vertices that have no level. Each of them has an edge from another one: walked back by the least of these
     they meet one twice."""
     count = G.nrows
     rest = sorted(set(range(count)).difference(levelled_.tolist() if matrix_text.is_array(levelled_) else levelled_))
@@ -172,4 +172,4 @@ def _cycle(G: Matrix, levelled_: Numbers) -> List[int]:
         seen[at] = len(walk)
         walk.append(at)
         at = before[at]
-    return walk[seen[at]:][::-1]
+    return [name_of(G, Place(vertex)) for vertex in walk[seen[at]:][::-1]]

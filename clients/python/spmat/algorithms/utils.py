@@ -1,14 +1,15 @@
 """What the algorithms share: columns, checks of what is handed in, products by parts, and rounds until nothing changes."""
 from __future__ import annotations
 
-from typing import Any, Callable, Generic, List, Optional, Sequence, TypeVar
+from typing import Any, Callable, Generic, Iterable, List, Optional, Sequence, TypeVar, cast
 
 from ..errors import NotSettled
 from ..io.matrix_text import Triples
+from ..metadata import Nodes
 from ..operators import asm
 from ..pricing.upper_bounds import asked
 from .cached_properties import found
-from .protocols import GraphMatrix, M, Numbers, Ring
+from .protocols import GraphMatrix, M, Numbers, Place, Ring, Vertex, Vertices
 from .registry import algorithm
 
 S = TypeVar('S')
@@ -31,23 +32,57 @@ def order(graph: GraphMatrix, transpose: Optional[GraphMatrix] = None) -> int:
     return graph.nrows
 
 
-def places(graph: GraphMatrix, named: Any) -> List[int]:
-    """The vertices that are meant by one vertex, or by several: by their names where the graph has any, or as numbers. ValueError
-    where one isn't there."""
-    names = graph.nodes
+def find_place(graph: GraphMatrix, vertex: Vertex) -> Place:
+    """The row of a vertex. ValueError where there is no such vertex."""
+    return Place(graph.index(vertex))
+
+
+def find_places(graph: GraphMatrix, vertices: Vertices) -> List[Place]:
+    """The rows of one vertex, or of several in their order. A tuple that is a name is one vertex. ValueError where one isn't there."""
+    if isinstance(vertices, (str, bytes)) or not isinstance(vertices, Iterable) or _is_name(graph, vertices):
+        return [find_place(graph, cast(Vertex, vertices))]
+    return [find_place(graph, vertex) for vertex in vertices]
+
+
+def _is_name(graph: GraphMatrix, one: object) -> bool:
+    """Whether a vertex has this name."""
+    names = graph.notes.rows
     try:
-        alone = names is not None and named in names
-    except (TypeError, ValueError):
-        alone = False
-    if alone or isinstance(named, str) or not hasattr(named, '__iter__'):
-        return [graph.index(named)]
-    return [graph.index(one) for one in named]
+        return names is not None and one in names.places
+    except TypeError:                              # what has no hash is no name
+        return False
+
+
+def rows_of(column: GraphMatrix) -> List[Place]:
+    """The rows in which a column has entries."""
+    return [Place(row) for row in column.to_coo(arrays=False)[0]]
+
+
+def name_of(graph: GraphMatrix, at: Place) -> Any:
+    """The name of the vertex in a row, where the graph has names, else its number."""
+    return int(at) if graph.nodes is None else graph.nodes[at]
 
 
 def beside(graph: GraphMatrix, result: M) -> M:
     """A column that says something of each vertex, with the graph's names of its vertices."""
     if graph.nodes is not None:
         result.nodes = graph.nodes
+    return result
+
+
+def mark_rows(like: M, at: List[Place], value: int) -> M:
+    """A matrix with a row for each of some vertices, which has one entry, at the vertex."""
+    return like.session.from_coo(range(len(at)), at, value, len(at), like.nrows)
+
+
+def name_rows(graph: GraphMatrix, result: M, rows: List[Place]) -> M:
+    """A matrix with a row for each of some vertices and a column for each vertex, with their names. Rows have none where a vertex stands
+    twice."""
+    names = graph.notes.rows
+    if names is not None:
+        differ = len(set(rows)) == len(rows)
+        are_all = rows == list(range(graph.nrows))
+        result.notes = result.notes._replace(rows=names if are_all else Nodes(names[at] for at in rows) if differ else None, columns=names)
     return result
 
 

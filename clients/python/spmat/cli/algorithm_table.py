@@ -73,14 +73,13 @@ def lengths(graph: Matrix, options: argparse.Namespace, progress: Optional[Progr
     names = many(graph, options)
     if names is None:
         raise Ended(Status.WORDS, '--source is missing; all-pairs gives the lengths from all vertices')
-    return with_rows(algorithms.path_lengths(graph, [graph.index(name) for name in names], progress), names)
+    return with_rows(algorithms.path_lengths(graph, names, progress), names)
 
 
 def shared(graph: Matrix, options: argparse.Namespace, _: Optional[Progress]) -> List[Any]:
     """`shared_neighbours`, a line for each pair in their order."""
     pairs = [tuple(vertex(graph, word) for word in pair) for pair in options.pair]
-    firsts, seconds = ([graph.index(pair[side]) for pair in pairs] for side in (0, 1))
-    counts = algorithms.shared_neighbours(graph, firsts, seconds).to_list(0)
+    counts = algorithms.shared_neighbours(graph, [first for first, _ in pairs], [second for _, second in pairs]).to_list(0)
     return [(*pair, count) for pair, count in zip(pairs, counts)]
 
 
