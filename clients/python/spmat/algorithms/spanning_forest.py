@@ -5,6 +5,7 @@ from typing import Any, Dict, List, NamedTuple, Tuple
 
 from ..io import matrix_text
 from ..io.matrix_text import Triples
+from ..metadata import of_copy
 from ..operators import asm
 from .cached_properties import check_undirected, extremes, found, is_transpose
 from .frontier import FEW, zeros_like
@@ -89,7 +90,9 @@ def minimum_spanning_forest(W: M, progress: Progress = None, *, check: bool = Tr
         left = _shrunk(left, chosen.rows, met, many)
         number += 1
         tell(progress, 'round', number)
-    return W.session.backend.keep(_both_ways(taken, code, by_numpy))
+    forest = W.session.backend.keep(_both_ways(taken, code, by_numpy))
+    forest.notes = of_copy(W.notes)._replace(directed=False)
+    return forest
 
 
 def _chosen(left: M, code: Code, label: Numbers, by_numpy: bool) -> Chosen:

@@ -66,7 +66,7 @@ def name_of(graph: GraphMatrix, at: Place) -> Any:
 def beside(graph: GraphMatrix, result: M) -> M:
     """A column that says something of each vertex, with the graph's names of its vertices."""
     if graph.nodes is not None:
-        result.nodes = graph.nodes
+        result.notes = result.notes._replace(rows=graph.notes.rows)
     return result
 
 

@@ -77,8 +77,8 @@ def run(command: Command, options: argparse.Namespace) -> int:
         graph = graph_options.read_graph(session, options, graph_options.Needs(algorithm.wanted, algorithm.values or getattr(options, 'weighted', False)))
         result = command.call(graph, options, progress)
         if isinstance(result, Matrix):
-            result.notes = result.notes._replace(rows=result.notes.rows or graph.notes.rows,
-                                                 columns=graph.notes.columns if result.ncols > 1 else None)
+            is_column = result.ncols == 1 and result.column_nodes is None
+            result.notes = result.notes._replace(rows=result.notes.rows or graph.notes.rows, columns=None if is_column else graph.notes.columns)
         if getattr(options, 'plot', None):
             with graph_options.writing(options.plot):
                 draw(algorithm, graph, result, options)

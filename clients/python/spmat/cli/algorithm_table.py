@@ -3,6 +3,7 @@ from __future__ import annotations
 
 import argparse
 import functools
+import re
 import sys
 from typing import Any, Callable, Dict, List, NamedTuple, Optional
 
@@ -17,6 +18,7 @@ from ..metadata import Nodes
 from .exit_status import Ended, Status
 from .session_options import whole_number
 
+NUMBER = re.compile('-?[0-9]+')
 Call = Callable[[Matrix, argparse.Namespace, Optional[Progress]], Any]
 
 
@@ -35,7 +37,7 @@ def vertex(graph: Matrix, word: str) -> Any:
     """The vertex of a name. Ended where it is none."""
     names = graph.notes.rows
     assert names is not None
-    for name in (word, int(word) if word.lstrip('-').isdigit() else word):
+    for name in (word, int(word) if NUMBER.fullmatch(word) else word):
         if name in names.places:
             return name
     raise Ended(Status.WORDS, 'no vertex %s: %s' % (word, near(word, names) or 'they are ' + told(names) if names else 'the graph has none'))

@@ -208,8 +208,10 @@ def write(options: argparse.Namespace, lines: Iterable[str]) -> None:
 
 def rows_of(options: argparse.Namespace, matrix: Matrix, called: str, value_of: Callable[[int], Any] = int) -> Result:
     """A matrix as rows, one an entry: the names of its row and its column, of a column the row's alone, and the value, which is called
-    so. Nothing is asked of the server once they are handed out."""
-    entries: List[Tuple[Any, ...]] = [*(matrix.to_edgelist() if matrix.ncols != 1 else matrix.by_node().items())]
+    so. A result's only column has no name, which tells it from a matrix of one vertex. Nothing is asked of the server once they are handed
+    out."""
+    is_column = matrix.ncols == 1 and matrix.column_nodes is None
+    entries: List[Tuple[Any, ...]] = [*(matrix.by_node().items() if is_column else matrix.to_edgelist())]
     if options.top is not None:
         entries = heapq.nlargest(options.top, entries, key=operator.itemgetter(-1))
-    return named([(*entry[:-1], value_of(entry[-1])) for entry in entries], called, matrix.ncols == 1)
+    return named([(*entry[:-1], value_of(entry[-1])) for entry in entries], called, is_column)
