@@ -120,7 +120,8 @@ class Test(support.InSession):
             got, found = outcome(name, graph, names, turned)
             with self.subTest(algorithm=name, names=names, seed=seed, transpose=way, edges=drawn.values):
                 self.assertEqual(got, due)
-                self.assertEqual([list(one.row_nodes or ()) for one in columns_of(found)], [list(names)] * len(columns_of(found)))
+                for one in columns_of(found):
+                    self.assertEqual((one.row_nodes, one.column_nodes if one.ncols > 1 else names), (names, names))
 
     def test_each_algorithm(self):
         kinds = itertools.cycle(NAMES.values())

@@ -103,7 +103,7 @@ def distance_counts(G: Matrix, GT: Optional[Matrix] = None, progress: Progress =
         else:
             found[level - 1] = found[level - 1].ewise_add(many, 'plus')
     _searches(G, GT, visit, progress)
-    return found
+    return [beside(G, many) for many in found]
 
 
 @algorithm('edges from each vertex to the farthest one', ranked=True)
@@ -120,7 +120,7 @@ def eccentricity(G: Matrix, GT: Optional[Matrix] = None, progress: Progress = No
     def visit(level: int, fresh: Matrix) -> None:
         found[0] = found[0].ewise_add(fresh.reduce_rowwise('first').apply('second', right=level), 'max')
     _searches(GT, G, visit, progress)              # pylint: disable=arguments-out-of-order  # along the edges
-    return found[0]
+    return beside(G, found[0])
 
 
 @algorithm('edges between the two that are farthest apart')

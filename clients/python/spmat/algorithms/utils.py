@@ -70,6 +70,12 @@ def beside(graph: GraphMatrix, result: M) -> M:
     return result
 
 
+def name_pairs(graph: GraphMatrix, result: M) -> M:
+    """A matrix that says something of each two vertices, with the graph's names of its vertices."""
+    result.notes = result.notes._replace(rows=graph.notes.rows, columns=graph.notes.columns)
+    return result
+
+
 def mark_rows(like: M, at: List[Place], value: int) -> M:
     """A matrix with a row for each of some vertices, which has one entry, at the vertex."""
     return like.session.from_coo(range(len(at)), at, value, len(at), like.nrows)
