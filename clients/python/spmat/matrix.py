@@ -56,8 +56,7 @@ class Matrix(Signs):
     def __repr__(self) -> str:
         known = self.handle
         state = 'never made' if known.lost is not None else 'queued: .wait() runs it' if known.waits else '%d entries' % (known.nvals or 0)
-        source = '; ' + self.notes.source if self.notes.source else ''
-        return '<Matrix %s %dx%d, %s%s>' % (self.name, self.nrows, self.ncols, state, source)
+        return '<Matrix %s %dx%d, %s%s>' % (self.name, self.nrows, self.ncols, state, self._told())
 
     def _repr_html_(self) -> str:
         return html.matrix(self)

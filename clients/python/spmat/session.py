@@ -3,7 +3,7 @@ from __future__ import annotations
 
 from typing import TYPE_CHECKING, Any, Dict, List, Optional, Tuple, Type, Union
 
-from . import limits
+from . import limits, units
 from ._client.backend import Backend
 from ._client.connection import Connection, Progress
 from ._client.handles import Handle
@@ -161,6 +161,7 @@ class Session(Sources[Matrix]):
         `values=False` not read, so that each entry is 1, also of `complex` files. ValueError names the file and the line. In
         python-graphblas `io.mmread`; `read_graph` reads other formats too."""
         request = Request('mtx', Layout(values=values, scale=scale))
+        units.of_read(scale, dup_op)
         return self._market(name_of(source), matrix_market.load(source), request, dup_op, name)
 
     def _market(self, file: str, text: bytes, request: Request, dup_op: DupOp, name: Optional[str]) -> Matrix:

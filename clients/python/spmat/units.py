@@ -8,13 +8,14 @@ from __future__ import annotations
 
 import decimal
 import functools
+import math
 from fractions import Fraction
-from typing import Any, Dict, List, NamedTuple, NoReturn, Optional, Union
+from typing import Any, Dict, NamedTuple, NoReturn, Optional, Union
 
 from .errors import UnitsDiffer
 from .io import coo
 from .io.matrix_text import is_array
-from .operators import READY, Operator
+from .operators import Op, READY, Operator, find
 
 Unit = Union[int, Fraction]
 
@@ -106,6 +107,11 @@ def to_text(value: int, unit: Unit) -> str:
     return '%s%s.%s' % ('-' if value < 0 else '', whole, rest or '0')
 
 
+def to_exact(value: int, unit: Unit) -> Any:
+    """The same as a number that is printed with these digits."""
+    return value if unit == 1 else decimal.Decimal(to_text(value, unit))
+
+
 @functools.lru_cache(maxsize=64)
 def _places(divisor: int) -> Optional[int]:
     """How many decimals a whole number has at most that is divided by another; None where they go on for ever."""
@@ -186,6 +192,16 @@ def of_fold(op: Operator, unit: Unit) -> Unit:
     if _meaning(op) in (OVER, UNDER, TIMES, COMPARE, NUMBER):
         raise UnitsDiffer('%s gives numbers that are no parts of 1/%s, as the values are that stand alone and are copied: take '
                           'A.rescale(1), or A.unit = 1 to work on the stored whole numbers' % (_name(op), unit))
+    return unit
+
+
+def of_read(scale: Any, dup_op: Optional[Op]) -> Unit:
+    """The unit of what is read with a scale. UnitsDiffer where values that share a position are folded to numbers of another one."""
+    if scale is None:
+        return 1
+    unit = as_unit(scale)
+    if dup_op is not None:
+        of_fold(find('binary', dup_op), unit)      # one of the caller's own is taken to keep what its scale says
     return unit
 
 
@@ -284,8 +300,49 @@ def of_selected(op: Operator, thunk: Any, unit: Unit) -> int:
 
 # -- another unit
 
-def check_fits(extremes: List[int], factor: Fraction) -> None:
-    """ValueError where a value would be beyond 64 bits in another unit."""
-    for value in extremes:
-        if not coo.LEAST <= value * factor <= coo.MOST:
-            raise ValueError('%d times %s is beyond 64 bits: values lie in -2^63 to 2^63 - 1' % (value, factor))
+def rescaled(matrix: Any, unit: Any, exact: bool) -> Any:
+    """A matrix with the same numbers in another unit; see `Held.rescale`."""
+    wanted = as_unit(unit)
+    factor = Fraction(wanted) / matrix.unit
+    if factor == 1:
+        return matrix
+    made, more, less = with_unit(matrix, 1), factor.numerator, factor.denominator
+    if less != 1:
+        left = made.apply('cmod', right=less).select('nonzero')
+        if exact and left.nvals:
+            some = made.dup(mask=left.S).reduce_scalar('any', raw=True)
+            raise ValueError('%d of %d values would lose digits in parts of 1/%s, such as %s: exact=False rounds them'
+                             % (left.nvals, matrix.nvals, wanted, to_text(some, matrix.unit)))
+        if not left.nvals:
+            made, less = made.apply('cdiv', right=less), 1
+    if more != 1:
+        _check_fits(made, Fraction(more, less), wanted)
+    if less != 1:
+        made = made.apply(_rounding(more, less))
+    elif more != 1:
+        made = made.apply('times', right=more)
+    made.notes = matrix.notes._replace(source='', unit=wanted)
+    return made
+
+
+def _check_fits(matrix: Any, factor: Fraction, wanted: Unit) -> None:
+    """ValueError where a stored value times a factor is beyond 64 bits."""
+    least, most = math.ceil(coo.LEAST / factor), math.floor(coo.MOST / factor)
+    outside = [matrix.select('valuelt', least) if least > coo.LEAST else None, matrix.select('valuegt', most) if most < coo.MOST else None]
+    many = sum(part.nvals for part in outside if part is not None)
+    if many:
+        raise ValueError('%d of %d values are beyond 64 bits in parts of 1/%s: a smaller unit holds them' % (many, matrix.nvals, wanted))
+
+
+def _rounding(more: int, less: int) -> Operator:
+    """x times more / less, rounded to the nearest, halves to the even one. ValueError where this takes more than 64 bits."""
+    if more * less >= 1 << 62:
+        raise ValueError('a factor of %d/%d can not be rounded in 64 bits: rescale in two steps' % (more, less))
+
+    def nearest(x: int) -> int:
+        whole = x // less
+        over = (x - whole * less) * more
+        found = whole * more + over // less
+        rest = (over - over // less * less) * 2
+        return found + ((rest > less) | ((rest == less) & (found & 1)))
+    return READY['unary'](nearest, name='rescale')

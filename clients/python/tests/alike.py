@@ -108,6 +108,8 @@ METHODS = {
     'to_text': [lambda g, mask: g.G.to_text()],
     'to_triples': [lambda g, mask: g.G.to_triples()],
     'top': [lambda g, mask: [g.G.top(3), g.C.top(2)]],
+    'rescale': [lambda g, mask: [_hundredths(g.G).rescale(1000), g.G.rescale(0.5, exact=False), _hundredths(g.A).rescale(7, exact=False)],
+                lambda g, mask: g.G.rescale(0.01), lambda g, mask: g.G.rescale(1 << 63)],
     'unit': [lambda g, mask: [g.G.unit, _hundredths(g.G).mxm(_hundredths(g.B)).unit, _hundredths(g.G).apply('one').unit],
              lambda g, mask: _hundredths(g.G).ewise_add(g.B), lambda g, mask: _hundredths(g.A).select('>=', 0.015)],
     'update': [lambda g, mask: g.G.update(g.B, None, mask), lambda g, mask: g.G.update(g.B, 'minus', mask), lambda g, mask: g.G.update(g.K, None, mask, True),
@@ -331,7 +333,7 @@ def plain(found):
     if hasattr(found, 'to_text') and hasattr(found, 'mxm'):
         found.wait()
         notes = found.notes
-        return ('matrix', found.to_text(), notes.rows, notes.columns, notes.directed, notes.weighted)
+        return ('matrix', found.to_text(), notes.rows, notes.columns, notes.directed, notes.weighted, notes.unit)
     if isinstance(found, (list, tuple)):
         return [plain(one) for one in found]
     if type(found).__module__.startswith('spmat.algorithms') and hasattr(found, '__dict__') and not isinstance(found, Exception):

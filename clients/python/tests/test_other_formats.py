@@ -77,7 +77,7 @@ class ByNetworkx(Case):
 
 class Lists(Case):
     def test_dictionaries(self):
-        self.assertEqual(self.read(b"# c\n1 2 {'weight': 0.5}\n", scale=2).to_edgelist(), [(1, 2, 1)])
+        self.assertEqual(self.read(b"# c\n1 2 {'weight': 0.5}\n", scale=2).to_edgelist(), [(1, 2, 0.5)])
         self.assertEqual(self.read(b"1 2 {'weight': 5}\n2 3 {}\n").to_edgelist(), [(1, 2, 5), (2, 3, 1)])
         self.assertEqual(self.read(b"1 2 {'weight': 5}\n", values=False).to_edgelist(), [(1, 2, 1)])
         self.assertIn('line 2: an edge is written as networkx writes it', self.said(b"1 2 {'weight': 3}\n2 3\n"))

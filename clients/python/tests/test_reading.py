@@ -53,7 +53,7 @@ class Formats(Case):
         G = self.s.read_graph(data('edges.txt'))
         self.assertEqual((G.shape, G.nodes, G.to_dict()), ((4, 4), None, dict.fromkeys([(0, 1), (1, 2), (2, 0), (2, 3)], 1)))
         G = self.s.read_edgelist(data('lengths.txt'), scale=1000)
-        self.assertEqual(G.to_edgelist(), [(101, 205, 500), (205, 330, 1250), (330, 101, 2000), (330, 412, 10125)])
+        self.assertEqual(G.to_edgelist(), [(101, 205, 0.5), (205, 330, 1.25), (330, 101, 2), (330, 412, 10.125)])
         self.assertEqual(G.nodes, [101, 205, 330, 412])
 
     def test_dimacs(self):
@@ -64,7 +64,7 @@ class Formats(Case):
         self.assertEqual((H.nvals, H.directed, H.nodes), (14, False, [1, 2, 3, 4, 5, 6]))
         self.assertEqual(spmat.algorithms.triangle_count(H), 2)
         self.assertEqual(self.s.read_graph(data('roads.gr'), directed=False).nvals, 12)
-        self.assertEqual(self.edges('p max 3 2\nn 1 s\nn 3 t\na 1 2 5\na 2 3 .5\n', scale=2), [(1, 2, 10), (2, 3, 1)])
+        self.assertEqual(self.edges('p max 3 2\nn 1 s\nn 3 t\na 1 2 5\na 2 3 .5\n', scale=2), [(1, 2, 5), (2, 3, 0.5)])
 
     def test_two_kinds_of_vertices(self):
         B = self.s.read_edgelist(data('clubs.csv'), header=True, bipartite=True)
@@ -172,7 +172,7 @@ class Lists(Case):
     def test_values(self):
         self.assertEqual(self.edges('a b 2.0\nb c -3e2\n'), [('a', 'b', 2), ('b', 'c', -300)])
         self.assertEqual(self.edges('a b 9223372036854775807\n'), [('a', 'b', 2 ** 63 - 1)])
-        self.assertEqual(self.edges('a b 0.29\nb c 1.005\nc d -2.5\n', scale=100), [('a', 'b', 29), ('b', 'c', 100), ('c', 'd', -250)])
+        self.assertEqual(self.edges('a b 0.29\nb c 1.005\nc d -2.5\n', scale=100), [('a', 'b', 0.29), ('b', 'c', 1), ('c', 'd', -2.5)])
         self.assertEqual(self.edges('a b 0.5\nb c 1.5\n', scale=1), [('a', 'b', 0), ('b', 'c', 2)])
         for scale in (0, -1, float('nan'), float('inf')):
             self.assertIn('above 0', self.said(self.read, 'a b 1\n', scale=scale))
@@ -381,7 +381,7 @@ class FromPython(Case):
         import pandas
         frame = pandas.DataFrame({'who': ['a', 'b', 'c'], 'whom': ['b', 'c', 'a'], 'sum': [1.5, 2, 3]}, index=[10, 20, 30])
         G = self.s.from_pandas_edgelist(frame, 'who', 'whom', 'sum', scale=2)
-        self.assertEqual(G.to_edgelist(), [('a', 'b', 3), ('b', 'c', 4), ('c', 'a', 6)])
+        self.assertEqual(G.to_edgelist(), [('a', 'b', 1.5), ('b', 'c', 2), ('c', 'a', 3)])
         self.assertEqual(self.s.from_pandas_edgelist(frame, 'who', 'whom', directed=False).nvals, 6)
         self.assertIn('row 10: a value is a whole number, not 1.5', self.said(self.s.from_pandas_edgelist, frame, 'who', 'whom', 'sum'))
         self.assertIn("no column 'source'", self.said(self.s.from_pandas_edgelist, frame, kind=KeyError))

@@ -2,7 +2,7 @@
 from __future__ import annotations
 
 import weakref
-from typing import TYPE_CHECKING, Any, Dict, List, Optional, Tuple
+from typing import TYPE_CHECKING, Any, Tuple
 
 from ..io import matrix_text
 from ..io.matrix_text import Triples
@@ -29,24 +29,14 @@ class Entries:
             return Triples(rows.tolist(), columns.tolist(), values.tolist(), nrows, ncols)
         return Triples(list(rows), list(columns), list(values), nrows, ncols)
 
-    def to_coo(self, *, arrays: Optional[bool] = None) -> Tuple[Any, Any, Any]:
-        """Rows, columns (from 0) and values, as `Matrix.to_coo`."""
-        numpy = matrix_text.find_numpy() if arrays is None or arrays else None
-        if numpy is None:
-            if arrays:
-                raise ImportError('arrays are those of numpy, which is not here')
+    def _stored(self, arrays: bool) -> Tuple[Any, Any, Any]:
+        if not arrays:
             return self._lists()[:3]
+        numpy = matrix_text.find_numpy()
+        if numpy is None:
+            raise ImportError('arrays are those of numpy, which is not here')
         rows, columns, values = (numpy.array(many, numpy.int64) for many in self._entries[:3])
         return rows, columns, values
-
-    def to_triples(self) -> List[Tuple[int, int, int]]:
-        """(row, column, value) by ascending row and column."""
-        return list(zip(*self._lists()[:3]))
-
-    def to_dict(self) -> Dict[Tuple[int, int], int]:
-        """{(row, column): value}."""
-        rows, columns, values = self._lists()[:3]
-        return dict(zip(zip(rows, columns), values))
 
 
 class DeferredHandle(Handle):

@@ -24,6 +24,7 @@ from .components import connected_components as connected_components
 from .core_decomposition import core_numbers as core_numbers, k_core as k_core
 from .distance_measures import (Bounds as Bounds, diameter as diameter, distance_counts as distance_counts,
                                 eccentricity as eccentricity)
+from .graph_units import keep_units
 from .independent_set import maximal_independent_set as maximal_independent_set
 from .label_propagation_communities import label_propagation as label_propagation
 from .louvain_communities import Communities as Communities, louvain as louvain, modularity as modularity
@@ -49,7 +50,7 @@ TYPES = ('Bounds', 'Centrality', 'Communities', 'CycleError', 'GraphMatrix', 'No
 _NAMES = sorted([*TYPES, *ALGORITHMS], key=str.lower)
 __doc__ = '%s\n%s\n' % (__doc__, '\n'.join(table()))
 # each algorithm looks at the budget before its first job; type checkers know the imports above
-globals().update({name: guarded(one.function) for name, one in ALGORITHMS.items()}, __all__=_NAMES)
+globals().update({name: guarded(keep_units(one)) for name, one in ALGORITHMS.items()}, __all__=_NAMES)
 
 
 def __dir__() -> list[str]:

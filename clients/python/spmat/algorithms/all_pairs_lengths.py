@@ -91,7 +91,7 @@ def _check_room(W: Matrix) -> None:
         raise refusal('J7', detail='%d pairs of vertices have a path: path_lengths takes some sources at a time' % pairs)
 
 
-@algorithm('lengths of shortest paths between all', values=True)
+@algorithm('lengths of shortest paths between all', values=True, lengths=True)
 def all_pairs(W: Matrix, progress: Progress = None) -> Matrix:
     """The length of the shortest path from each vertex (the row) to each (the column); no entry where no path leads. An entry's
     value is the length of its edge, and may be negative.
@@ -151,7 +151,7 @@ def _check_cycles(lengths: Matrix) -> None:
         raise ValueError(CYCLE)
 
 
-@algorithm('lengths of shortest paths from some vertices', 'sources', values=True)
+@algorithm('lengths of shortest paths from some vertices', 'sources', values=True, lengths=True)
 def path_lengths(W: Matrix, sources: Vertices, progress: Progress = None) -> Matrix:
     """The length of the shortest path from each of some vertices, a row for each in their order, to each vertex (the column); no
     entry where no path leads. Sources and the vertices that they reach make up to 16,777,216 entries; lengths along a path stay

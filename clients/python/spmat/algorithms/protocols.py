@@ -100,6 +100,10 @@ class GraphMatrix(Protocol):
     def unit(self) -> Any:
         """What the stored numbers are parts of."""
 
+    @unit.setter
+    def unit(self, unit: Any) -> None:
+        """Says what they are parts of."""
+
     def index(self, node: Any, axis: int = ...) -> int:
         """The number of a vertex by its name."""
 
@@ -155,7 +159,7 @@ class GraphMatrix(Protocol):
     def to_text(self) -> bytes:
         """The canonical text."""
 
-    def to_coo(self, *, arrays: Optional[bool] = ...) -> Tuple[Any, Any, Any]:
+    def to_coo(self, *, arrays: Optional[bool] = ..., dtype: Any = ...) -> Tuple[Any, Any, Any]:
         """Rows, columns and values."""
 
 

@@ -36,8 +36,8 @@ Bound = Callable[[Size], int]
 class Algorithm(NamedTuple):
     """An algorithm: its function, and what it gives in a few words. Then what the command line has to know: the options beside those of
     every graph, what a value is counted in (1 where it is a whole number), whether a value is a vertex, what draws the result, which graphs
-    it is for, whether their values count, whether the greatest values can be asked for alone, the fields of a row of a list, and what the
-    command says of itself where that isn't what the function says. `runs` and `steps` are what its docstring says of its cost, for tests: on
+    it is for, whether their values count, whether the greatest values can be asked for alone, the fields of a row of a list, whether what it
+    gives is in the unit of the values where these count, and what the command says of itself where that isn't what the function says. `runs` and `steps` are what its docstring says of its cost, for tests: on
     a graph whose rounds are few, and whose products aren't made by parts."""
     function: Callable[..., Any]
     gives: str
@@ -49,6 +49,7 @@ class Algorithm(NamedTuple):
     values: bool = False
     ranked: bool = False
     fields: Sequence[str] = ()
+    lengths: bool = False
     says: str = ''
     command: bool = True
     runs: Optional[Bound] = None

@@ -8,6 +8,7 @@ from ..io import matrix_text
 from ..io.coo import whole
 from ..io.matrix_text import Triples
 from ..operators import Operator, Semiring, asm, binary
+from ..units import Unit, to_decimals
 from .bfs import LEAST, NONE, Search, find_levels, lines_of, run_search
 from .cached_properties import extremes, transpose_of
 from .frontier import Columns, FEW, Lines, Tally, Vector
@@ -28,14 +29,18 @@ class NoPath(ValueError):
 
 class Path(List[Any]):
     """The vertices of a path in order, by their names where the graph has any. `lengths` has how far along the path each of them is: the
-    values of the edges up to there added, or their number."""
+    values of the edges up to there added, or their number; floats where the values have a unit."""
 
     def __init__(self, vertices: Iterable[Any], lengths: Iterable[int]) -> None:
         super().__init__(vertices)
-        self.lengths = list(lengths)
+        self.lengths: List[Any] = list(lengths)
+
+    def set_unit(self, unit: Unit) -> None:
+        """Makes the stored lengths what they stand for."""
+        self.lengths = to_decimals(self.lengths, unit)
 
     @property
-    def length(self) -> int:
+    def length(self) -> Any:
         """The length of the whole path."""
         return self.lengths[-1]
 
@@ -72,7 +77,13 @@ class PathTree(Generic[M]):
         at = find_place(self._graph, target)
         if at not in self._far:
             raise NoPath('no path leads from %r to %r' % (self.source, target))
-        return _path(self._graph, _walk(self._parents, self._from, at), self._far)
+        found = _path(self._graph, _walk(self._parents, self._from, at), self._far)
+        found.set_unit(self.lengths.unit)
+        return found
+
+    def set_unit(self, unit: Unit) -> None:
+        """Says what the lengths are parts of."""
+        self.lengths.unit = unit
 
 
 class Way(NamedTuple):
@@ -156,7 +167,7 @@ def _tight(graph: M, lengths: Vector) -> M:
     return product(product(far, graph, LENGTHEN), far, IS_SUM).select('nonzero')
 
 
-@algorithm('the vertices of a shortest path', 'source', 'target', 'weighted', plot='route', fields=('node', 'length'),
+@algorithm('the vertices of a shortest path', 'source', 'target', 'weighted', plot='route', fields=('node', 'length'), lengths=True,
            says='The vertices of a shortest path from one vertex to another, in order, with how far along it each '
                 'is.')
 def shortest_path(G: M, source: Vertex, target: Vertex, GT: Optional[M] = None, progress: Progress = None, *, weighted: bool = False,
@@ -188,7 +199,7 @@ def shortest_path(G: M, source: Vertex, target: Vertex, GT: Optional[M] = None, 
     return _path(G, _walk(_parents(lines_of(G, GT, check, True), start, lengths, True), start, end), far)
 
 
-@algorithm('a shortest path to each vertex, as a tree', 'source', 'weighted', fields=('node', 'length', 'predecessor'),
+@algorithm('a shortest path to each vertex, as a tree', 'source', 'weighted', fields=('node', 'length', 'predecessor'), lengths=True,
            says='A shortest path to each vertex that is reached: vertex, length, and the vertex before it; that is '
                 'the source itself there.')
 def shortest_paths(G: M, source: Vertex, GT: Optional[M] = None, progress: Progress = None, *, weighted: bool = False,
@@ -258,7 +269,7 @@ class Spurs(Generic[M]):
         return None
 
 
-@algorithm('the k shortest paths', 'source', 'target', 'k', 'weighted', fields=('path', 'node', 'length'),
+@algorithm('the k shortest paths', 'source', 'target', 'k', 'weighted', fields=('path', 'node', 'length'), lengths=True,
            says='The k shortest paths that pass no vertex twice, a line for each vertex: the number of its path, '
                 'from 1, the vertex, and how far along the path it is.')
 def k_shortest_paths(G: M, source: Vertex, target: Vertex, k: int, GT: Optional[M] = None, *, weighted: bool = False,

@@ -269,7 +269,7 @@ def find_lengths(W: M, source: Place, WT: Optional[M], query: Query) -> M:
     return found if cutoff is None or least >= 0 else found.select('valuele', cutoff)
 
 
-@algorithm('lengths of shortest paths from a vertex', 'source', values=True,
+@algorithm('lengths of shortest paths from a vertex', 'source', values=True, lengths=True,
            runs=lambda g: 9 * g.rounds + 4, steps=lambda g: (7 * g.entries + 20 * g.vertices) * g.rounds)
 def sssp(W: M, source: Vertex, WT: Optional[M] = None, progress: Progress = None, *, cutoff: Optional[int] = None,
          target: Optional[Vertex] = None, check: bool = True) -> M:

@@ -51,7 +51,7 @@ def _encoded(W: M, code: Code) -> M:
     return W.apply(asm('index', text), right=0)
 
 
-@algorithm('the lightest edges that join what is joined', wanted=BOTH_WAYS, values=True,
+@algorithm('the lightest edges that join what is joined', wanted=BOTH_WAYS, values=True, lengths=True,
            says='The edges of a minimum spanning forest of an undirected graph, each once, with their weights, which '
                 'may be negative. Of edges of one weight the one with the lesser vertices is taken. Loops don\'t '
                 'count. --both-ways takes each edge of a list both ways.')

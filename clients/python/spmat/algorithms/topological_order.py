@@ -119,7 +119,7 @@ def topological_levels(G: Matrix, progress: Progress = None) -> Matrix:
     return beside(G, levels.tally.column(G, None))
 
 
-@algorithm('lengths of longest paths in a graph without cycles', values=True, ranked=True,
+@algorithm('lengths of longest paths in a graph without cycles', values=True, lengths=True, ranked=True,
            runs=lambda g: 8 * min(4 * g.rounds + 12, g.rounds + 128) + 9)
 def longest_paths(W: Matrix, progress: Progress = None, *, check: bool = True) -> Matrix:
     """The length of the longest path that ends at each vertex of a directed graph without cycles, as a column. An entry's value is the

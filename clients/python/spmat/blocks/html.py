@@ -25,9 +25,9 @@ def matrix(shown: 'BlockMatrix') -> str:
         about[1:1] = ['%s entries' % format(shown.nvals, ',')]
         if shown.nvals <= html.FEW:
             found = html.few(shown)
-            parts = [html.corner(shown, found.corner), html.raster(shown.shape, found.raster)]
+            parts = [html.corner(shown, html.values_of(shown, found.corner)), html.raster(shown.shape, found.raster)]
         else:
-            parts = [html.corner(shown, first_cells(shown))]
+            parts = [html.corner(shown, html.values_of(shown, first_cells(shown)))]
     except SpmatError as fault:
         return html.headed('BlockMatrix', about, '<div>%s</div>' % html.text_of(fault))
     return html.headed('BlockMatrix', about + html.known(shown), html.beside(listed(shown), *parts))

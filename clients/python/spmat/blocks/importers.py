@@ -6,7 +6,7 @@ import os
 import uuid
 from typing import TYPE_CHECKING, Any, Callable, Iterable, Iterator, List, Optional, Sequence, Tuple, Union
 
-from .. import limits
+from .. import limits, units
 from ..errors import Refused, TextRefused, refusal
 from ..io import coo, matrix_market, matrix_text
 from ..io.graph_files import Request, name_of
@@ -89,6 +89,7 @@ class Inputs(Sources[BlockMatrix]):
         than a block is held; it may be larger than one session takes. `array` files, which are small, are read at once. `values`,
         `scale` and `dup_op` are as for `Session.mmread`. What is refused names the file and the line. `progress('read', done, of)` is
         called after each piece, with bytes. In python-graphblas `io.mmread`."""
+        units.of_read(scale, dup_op)
         made = None if dup_op is not None else parallel_read.read_matrix_market(self, source, matrix_market.Values(values, scale), cut, name)
         if made is not None:
             return made
@@ -106,7 +107,7 @@ class Inputs(Sources[BlockMatrix]):
     def _read(self, path: Any, request: Request, dup_op: DupOp, name: Optional[str]) -> BlockMatrix:
         """The matrix of a file, or of a folder of lists or parquet, by the workers where they see it."""
         layout = request.layout
-        asked = parallel_edgelist.Asked(request.directed is not False, request.bipartite, dup_op, name)
+        asked = parallel_edgelist.Asked(request.directed is not False, request.bipartite, dup_op, name, layout.scale)
         made = None if dup_op is not None or request.format not in (None, 'mtx') else parallel_read.read_matrix_market(
             self, path, matrix_market.Values(layout.values, layout.scale), None, name)
         if made is None and request.format in (None, 'edges', 'csv', 'tsv', 'parquet'):

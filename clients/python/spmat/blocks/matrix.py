@@ -66,7 +66,7 @@ class BlockMatrix(Signs):
         raise TypeError('a matrix belongs to its sessions, and can not be pickled: pickle to_coo(), or write a file')
 
     def __repr__(self) -> str:
-        return '<BlockMatrix %s %dx%d, %d blocks>' % (self.name, *self.shape, self.cut.blocks)
+        return '<BlockMatrix %s %dx%d, %d blocks%s>' % (self.name, *self.shape, self.cut.blocks, ', unit %s' % self.unit if self.unit != 1 else '')
 
     def _repr_html_(self) -> str:
         return html.matrix(self)

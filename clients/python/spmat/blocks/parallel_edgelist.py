@@ -8,7 +8,7 @@ from __future__ import annotations
 import os
 from typing import TYPE_CHECKING, Any, List, NamedTuple, Optional, Sequence, Tuple
 
-from .. import limits
+from .. import limits, units
 from ..errors import ReadError, Refused, refusal
 from ..io import edgelist_numpy, edgelist_text, matrix_text
 from ..io.detect_format import check_format
@@ -37,6 +37,7 @@ class Asked(NamedTuple):
     bipartite: bool = False
     dup_op: DupOp = None
     name: Optional[str] = None
+    scale: Optional[float] = None
 
 
 class _Vertices(NamedTuple):
@@ -132,7 +133,8 @@ def of_sources(sessions: 'Inputs', sources: Sequence[Source], asked: Asked) -> O
     to = [To(numbers, sizes[0], sizes[-1], asked.directed, not weighted and op is None) for numbers in vertices.places]
     made = _Moved(sessions, places, labels, parts, to).made(op, weighted, vertices, asked.name)
     rows, columns = (_named(names) for names in (vertices.names[0], vertices.names[-1]))
-    made.notes = Notes(rows, rows if len(sizes) == 1 else columns, asked.directed, weighted or op is not None, told[0][2])
+    made.notes = Notes(rows, rows if len(sizes) == 1 else columns, asked.directed, weighted or op is not None, told[0][2],
+                       units.of_read(asked.scale, asked.dup_op) if weighted else 1)
     return made
 
 

@@ -9,7 +9,7 @@ import re
 import textwrap
 from typing import Any, Callable, Iterable
 
-from .. import draw as pictures
+from .. import draw as pictures, units
 from ..algorithms.registry import Algorithm
 from ..matrix import Matrix
 from . import graph_options, output
@@ -101,12 +101,12 @@ def lines_of(algorithm: Algorithm, result: Any, options: argparse.Namespace) -> 
 
 def shown(algorithm: Algorithm, result: Matrix) -> Callable[[int], Any]:
     """What makes a vertex, a fraction or a number of a value."""
-    names, scale = result.notes.rows, algorithm.scale
+    names, scale, unit = result.notes.rows, algorithm.scale, result.unit
     if algorithm.are_vertices:
         assert names is not None
         return names.__getitem__
     if scale == 1:
-        return int
+        return lambda value: units.to_exact(value, unit)
     return lambda value: value / scale
 
 

@@ -5,7 +5,8 @@ import argparse
 import functools
 import re
 import sys
-from typing import Any, Callable, Dict, List, NamedTuple, Optional
+from decimal import Decimal
+from typing import Any, Callable, Dict, Iterable, List, NamedTuple, Optional
 
 from .. import algorithms
 from .._client.connection import Progress
@@ -99,11 +100,16 @@ def end(graph: Matrix, options: argparse.Namespace) -> Any:
     return vertex(graph, options.target)
 
 
+def exact(lengths: Iterable[Any]) -> List[Any]:
+    """Lengths as they are printed: those of a graph whose values have a unit by the digits that they have."""
+    return [Decimal(repr(length)) if isinstance(length, float) else length for length in lengths]
+
+
 def path(graph: Matrix, options: argparse.Namespace, progress: Optional[Progress]) -> List[Any]:
     """`shortest_path`, a line for each vertex, with how far along the path it is."""
     found = algorithms.shortest_path(graph, start(graph, options), end(graph, options), transposed(graph, options), progress,
                                      weighted=options.weighted)
-    return list(zip(found, found.lengths))
+    return list(zip(found, exact(found.lengths)))
 
 
 def tree(graph: Matrix, options: argparse.Namespace, progress: Optional[Progress]) -> List[Any]:
@@ -111,14 +117,15 @@ def tree(graph: Matrix, options: argparse.Namespace, progress: Optional[Progress
     found = algorithms.shortest_paths(graph, start(graph, options), transposed(graph, options), progress, weighted=options.weighted)
     names, before = graph.notes.rows, found.predecessors.by_node()
     assert names is not None
-    return [(name, length, names[before[name]]) for name, length in found.lengths.by_node().items()]
+    far = found.lengths.by_node()
+    return [(name, length, names[before[name]]) for name, length in zip(far, exact(far.values()))]
 
 
 def some_paths(graph: Matrix, options: argparse.Namespace, _: Optional[Progress]) -> List[Any]:
     """`k_shortest_paths`, a line for each vertex of each path: the path's number, the vertex, and how far along it is."""
     found = algorithms.k_shortest_paths(graph, start(graph, options), end(graph, options), options.k, transposed(graph, options),
                                         weighted=options.weighted)
-    return [(number, *step) for number, one in enumerate(found, 1) for step in zip(one, one.lengths)]
+    return [(number, *step) for number, one in enumerate(found, 1) for step in zip(one, exact(one.lengths))]
 
 
 def reaches(graph: Matrix, options: argparse.Namespace, _: Optional[Progress]) -> List[Any]:

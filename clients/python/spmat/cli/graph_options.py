@@ -211,7 +211,7 @@ def rows_of(options: argparse.Namespace, matrix: Matrix, called: str, value_of: 
     so. A result's only column has no name, which tells it from a matrix of one vertex. Nothing is asked of the server once they are handed
     out."""
     is_column = matrix.ncols == 1 and matrix.column_nodes is None
-    entries: List[Tuple[Any, ...]] = [*(matrix.by_node().items() if is_column else matrix.to_edgelist())]
+    entries: List[Tuple[Any, ...]] = [*(matrix.by_node(raw=True).items() if is_column else matrix.to_edgelist(raw=True))]
     if options.top is not None:
         entries = heapq.nlargest(options.top, entries, key=operator.itemgetter(-1))
     return named([(*entry[:-1], value_of(entry[-1])) for entry in entries], called, is_column)

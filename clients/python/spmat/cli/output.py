@@ -8,6 +8,7 @@ from __future__ import annotations
 
 import argparse
 import csv
+import decimal
 import io
 import json
 from typing import Any, Iterable, Iterator, NamedTuple, Sequence, Tuple
@@ -18,7 +19,8 @@ BLANKS, TABS = ' ', '\t'
 
 
 class Result(NamedTuple):
-    """The names of the fields, and rows of so many: names of vertices, whole numbers, and floats where a value is a fraction.
+    """The names of the fields, and rows of so many: names of vertices, whole numbers, floats where a value is a fraction, and decimals
+    where values have a unit.
     `single` says that there is one row, such as a number that is the whole result."""
     fields: Sequence[str]
     rows: Iterable[Sequence[Any]]
@@ -84,12 +86,14 @@ def _plain_object(cell: Any) -> Any:
     """A cell as JSON has it: whole numbers as such, also those of numpy; names that are no text or number by their words."""
     if cell is None or isinstance(cell, (bool, int, float, str, list, dict)):
         return cell
+    if isinstance(cell, decimal.Decimal):
+        return float(cell)
     return int(cell) if hasattr(cell, '__index__') else str(cell)
 
 
 def _written(cell: Any) -> str:
-    """A cell as text: fractions to nine decimals."""
-    return '%.9f' % cell if isinstance(cell, float) else '' if cell is None else str(cell)
+    """A cell as text: fractions to nine decimals, decimals of the graph's unit as they are."""
+    return '%.9f' % cell if isinstance(cell, float) else format(cell, 'f') if isinstance(cell, decimal.Decimal) else '' if cell is None else str(cell)
 
 
 def named(entries: Iterable[Tuple[Any, ...]], called: str, single_column: bool) -> Result:

@@ -9,6 +9,7 @@ import math
 from typing import Any, Dict, List, Set, Tuple
 
 from ..matrix import Matrix
+from ..units import to_decimal
 from .matplotlib_style import GREY, INK, LABELS, SHORT, WARM, figure_of, halo, many, note, shortened
 
 XY = Tuple[float, float]
@@ -92,7 +93,7 @@ def drawn(G: Matrix) -> Any:
         for i, j in lines:
             (x, y), (u, v) = place[i], place[j]
             share = .3 if directed and (j, i) in pairs else .5
-            note(axes, format(values[i, j], ','), (x + share * (u - x), y + share * (v - y)), (0, -3), fontsize=7, color=WARM, path_effects=halo(),
+            note(axes, format(to_decimal(values[i, j], G.unit), ','), (x + share * (u - x), y + share * (v - y)), (0, -3), fontsize=7, color=WARM, path_effects=halo(),
                  zorder=3)
     dots(axes, G, place, inside)
     loops = len(values) - len(pairs)

@@ -8,9 +8,10 @@ from __future__ import annotations
 
 import html
 import math
-from typing import TYPE_CHECKING, Any, Dict, List, NamedTuple, Optional, Sequence, Tuple
+from typing import TYPE_CHECKING, Any, Dict, List, Mapping, NamedTuple, Optional, Sequence, Tuple
 
 from ..errors import SpmatError
+from ..units import to_text
 
 if TYPE_CHECKING:
     from .._client.pending_jobs import Budget, JobResult
@@ -59,7 +60,7 @@ def matrix(shown: 'Matrix') -> str:
         found = few(shown) if shown.nvals <= FEW else many(shown)
     except SpmatError as fault:
         return headed('Matrix', about, '<div>%s</div>' % text_of(fault))
-    return headed('Matrix', about, beside(corner(shown, found.corner), raster(shown.shape, found.raster)))
+    return headed('Matrix', about, beside(corner(shown, values_of(shown, found.corner)), raster(shown.shape, found.raster)))
 
 
 def mask(shown: 'Mask') -> str:
@@ -103,6 +104,7 @@ def sizes(shown: 'Held') -> str:
 def known(shown: 'Held') -> List[str]:
     """What is known of a matrix beside its entries."""
     told = ['undirected'] if shown.directed is False else ['directed'] if shown.directed else []
+    told += ['unit %s' % shown.unit] if shown.unit != 1 else []
     return told + (['named'] if shown.row_nodes is not None or shown.column_nodes is not None else [])
 
 
@@ -150,7 +152,12 @@ def first_cells(shown: 'Matrix') -> 'Matrix':
     return first.mxm(shown, 'any_second', mask=where.S)
 
 
-def corner(shown: 'Held', near: Cells) -> str:
+def values_of(shown: 'Held', near: Cells) -> Dict[Tuple[int, int], str]:
+    """What stored values stand for, as text."""
+    return {at: to_text(value, shown.unit) for at, value in near.items()}
+
+
+def corner(shown: 'Held', near: Mapping[Tuple[int, int], Any]) -> str:
     """The first rows and columns with their values and names."""
     rows, columns = (range(min(CORNER, side)) for side in shown.shape)
     first: Sequence[Any] = shown.row_nodes or range(shown.nrows)

@@ -8,28 +8,32 @@ from __future__ import annotations
 import json
 import os
 import zipfile
+from fractions import Fraction
 from typing import Any, Dict, Iterable, List, Mapping, Optional, Tuple
 
 from ..errors import ReadError, refusal
 from ..limits import MOST_TEXT
 from ..metadata import Nodes, Notes
+from ..units import plain
 from .exporters import Held
 from .file_writers import replacing
 
 CONTENTS = 'matrices.json'
-VERSION = 1
+VERSION = 2                                        # 1 has no units
 KINDS = (str, int, float, bool, type(None))        # of names, beside tuples of these
 
 
 def save(path: Any, matrices: Mapping[str, Held]) -> None:
     """Writes matrices with their names; a file that is there is replaced at the end. TypeError for a name of a vertex that is no text,
     number or tuple of these."""
-    contents: Dict[str, Any] = {'spmat': VERSION, 'matrices': {}}
+    contents: Dict[str, Any] = {'spmat': 1, 'matrices': {}}
     for number, (name, matrix) in enumerate(matrices.items()):
         contents['matrices'][name] = {
             'entries': '%d.mtx' % number, 'rows': _encoded(matrix.notes.rows, name),
             'columns': 'rows' if matrix.notes.columns is matrix.notes.rows else _encoded(matrix.notes.columns, name),
             'directed': matrix.notes.directed, 'weighted': matrix.notes.weighted, 'source': matrix.notes.source}
+        if matrix.unit != 1:                       # a client that knows no units doesn't read the file
+            contents['matrices'][name]['unit'], contents['spmat'] = str(matrix.unit), VERSION
     with replacing(os.fspath(path)) as part, zipfile.ZipFile(part, 'w', zipfile.ZIP_DEFLATED, compresslevel=1) as file:
         file.writestr(CONTENTS, json.dumps(contents, ensure_ascii=False))
         for number, matrix in enumerate(matrices.values()):
@@ -42,8 +46,8 @@ def read(path: Any) -> Iterable[Tuple[str, bytes, Notes]]:
     try:
         with zipfile.ZipFile(path) as file:
             contents = json.loads(file.read(CONTENTS))
-            if contents.get('spmat') != VERSION:
-                raise ReadError(name, None, 'its version is %r, and this client reads version %d' % (contents.get('spmat'), VERSION))
+            if contents.get('spmat') not in (1, VERSION):
+                raise ReadError(name, None, 'its version is %r, and this client reads versions 1 and %d' % (contents.get('spmat'), VERSION))
             for called, about in contents['matrices'].items():
                 if file.getinfo(about['entries']).file_size > MOST_TEXT:
                     raise refusal('S7', detail='%s of %s' % (called, name))
@@ -57,7 +61,7 @@ def read(path: Any) -> Iterable[Tuple[str, bytes, Notes]]:
 def _notes(about: Dict[str, Any]) -> Notes:
     rows = _decoded(about['rows'])
     columns = rows if about['columns'] == 'rows' else _decoded(about['columns'])
-    return Notes(rows, columns, about['directed'], about['weighted'], about['source'])
+    return Notes(rows, columns, about['directed'], about['weighted'], about['source'], plain(Fraction(about.get('unit', 1))))
 
 
 def _encoded(names: Optional[Nodes], matrix: str) -> Any:

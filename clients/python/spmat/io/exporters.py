@@ -3,18 +3,19 @@ from __future__ import annotations
 
 import difflib
 import heapq
-from typing import TYPE_CHECKING, Any, Dict, Iterable, List, Optional, Sequence, Tuple
+from typing import TYPE_CHECKING, Any, Dict, Iterable, List, Optional, Sequence, Tuple, TypeVar
 
 from .. import top_k
 from ..errors import BudgetExceeded, refusal
 from ..metadata import NOTHING, Nodes, Notes, check_names
-from ..units import Unit, as_unit
+from ..units import Unit, are_decimals, as_unit, rescaled, to_decimal, to_decimals
 from . import coo, matrix_text
 from .file_writers import Written
 
 if TYPE_CHECKING:
     from ..session import Session
 
+Self = TypeVar('Self', bound='Held')
 FEW_NAMES = 6                                      # so many names are told where one isn't found
 FEW_NEAR, LIKE = 2, .7                              # so many names that are so much alike
 
@@ -85,6 +86,37 @@ class Held(Written):
     def unit(self, unit: Any) -> None:
         self.notes = self.notes._replace(unit=as_unit(unit))
 
+    def _told(self) -> str:
+        """What `repr` says of the unit, and of the file that the matrix was read from."""
+        return (', unit %s' % self.unit if self.unit != 1 else '') + ('; ' + self.notes.source if self.notes.source else '')
+
+    def rescale(self: Self, unit: Any, *, exact: bool = True) -> Self:
+        """The same numbers in another unit: 1.25 of 125 stored hundredths is 1250 thousandths after `A.rescale(1000)`.
+
+        Parameters
+        ----------
+        unit : number
+            What the new stored whole numbers are parts of, such as 1000.
+        exact : bool
+            False rounds values that have more digits than the new unit, halves to the even one.
+
+        Returns
+        -------
+        Matrix
+            A new matrix; this one where it has the unit already.
+
+        Raises
+        ------
+        ValueError
+            Where a value would lose digits, unless `exact=False`; where one would be beyond 64 bits.
+
+        Notes
+        -----
+        3 jobs and 1 run; 2 more jobs and 1 more run where a unit is no multiple of the other.
+        """
+        made: Self = rescaled(self, unit, exact)
+        return made
+
     def index(self, node: Any, axis: int = 0) -> int:
         """The row (with `axis=1` the column) of a vertex: the place of its name where rows have names, else the number itself. Where
         no name is a number, numbers are places as well. ValueError where there is no such vertex."""
@@ -106,25 +138,38 @@ class Held(Written):
         this matrix waits, as all of the following do."""
         raise NotImplementedError
 
-    def to_coo(self, *, arrays: Optional[bool] = None) -> Tuple[Any, Any, Any]:
+    def to_coo(self, *, arrays: Optional[bool] = None, dtype: Any = None) -> Tuple[Any, Any, Any]:
         """Rows, columns (from 0) and values, by ascending row and column: arrays of numpy where it is there, else lists; `arrays`
-        says which. In python-graphblas the same name."""
-        wanted = matrix_text.find_numpy() is not None if arrays is None else arrays
-        return matrix_text.read(self.to_text(), wanted)[:3]
+        says which. Values are the stored whole numbers, with `dtype=float` what these stand for. In python-graphblas the same name."""
+        rows, columns, values = self._stored(matrix_text.find_numpy() is not None if arrays is None else arrays)
+        return rows, columns, self._floats(values) if are_decimals(dtype) else values
+
+    def _stored(self, arrays: bool) -> Tuple[Any, Any, Any]:
+        """Rows, columns and stored values."""
+        return matrix_text.read(self.to_text(), arrays)[:3]
+
+    def _floats(self, values: Any) -> Any:
+        """What stored values stand for, as floats."""
+        return to_decimals(values, self.unit) if self.unit != 1 else list(map(float, values)) if isinstance(values, list) else values * 1.0
+
+    def _shown(self, values: Any, raw: bool) -> Any:
+        """Values as people are shown them: what they stand for, or with `raw` as they are stored."""
+        return values if raw else to_decimals(values, self.unit)
 
     def to_triples(self) -> List[Tuple[int, int, int]]:
-        """(row, column, value) by ascending row and column."""
-        return list(zip(*matrix_text.read(self.to_text())[:3]))
+        """(row, column, value) by ascending row and column; values are the stored whole numbers."""
+        return list(zip(*self._stored(False)))
 
     def to_dict(self) -> Dict[Tuple[int, int], int]:
-        """{(row, column): value}. In python-graphblas `to_dicts`."""
-        rows, columns, values = matrix_text.read(self.to_text())[:3]
+        """{(row, column): value}; values are the stored whole numbers. In python-graphblas `to_dicts`."""
+        rows, columns, values = self._stored(False)
         return dict(zip(zip(rows, columns), values))
 
-    def to_list(self, missing: Any = None) -> List[Any]:
-        """The values of a column or a row, `missing` where there is no entry. DimensionMismatch for another shape."""
+    def to_list(self, missing: Any = None, dtype: Any = None) -> List[Any]:
+        """The values of a column or a row, `missing` where there is no entry: the stored whole numbers, with `dtype=float` what these
+        stand for. DimensionMismatch for another shape."""
         count = self._length('a column or a row')
-        rows, columns, values = self.to_coo(arrays=False)
+        rows, columns, values = self.to_coo(arrays=False, dtype=dtype)
         if len(values) == count:
             return list(values)
         out = [missing] * count
@@ -132,24 +177,26 @@ class Held(Written):
             out[at] = value
         return out
 
-    def by_node(self) -> Dict[Any, int]:
-        """{name: value} of a column or a row, {number: value} where it has no names; nothing of a vertex without an entry.
-        DimensionMismatch for another shape. In networkx results have this form."""
+    def by_node(self, *, raw: bool = False) -> Dict[Any, Any]:
+        """{name: value} of a column or a row, {number: value} where it has no names; nothing of a vertex without an entry. Values are
+        what stored numbers stand for: floats where there is a unit, unless `raw` is set. DimensionMismatch for another shape. In networkx
+        results have this form."""
         self._length('a column or a row')
-        rows, columns, values = matrix_text.read(self.to_text())[:3]
+        rows, columns, values = self._stored(False)
         at, names = (rows, self.notes.rows) if self.ncols == 1 else (columns, self.notes.columns)
-        return dict(zip(at if names is None else map(names.__getitem__, at), values))
+        return dict(zip(at if names is None else map(names.__getitem__, at), self._shown(values, raw)))
 
-    def to_edgelist(self) -> List[Tuple[Any, Any, int]]:
-        """(row, column, value) of each entry, with names where rows and columns have them. In networkx the same name."""
-        rows, columns, values = matrix_text.read(self.to_text())[:3]
+    def to_edgelist(self, *, raw: bool = False) -> List[Tuple[Any, Any, Any]]:
+        """(row, column, value) of each entry, with names where rows and columns have them, and values as `by_node` has them. In networkx
+        the same name."""
+        rows, columns, values = self._stored(False)
         first, second = self.notes.rows, self.notes.columns
         return list(zip(rows if first is None else map(first.__getitem__, rows),
-                        columns if second is None else map(second.__getitem__, columns), values))
+                        columns if second is None else map(second.__getitem__, columns), self._shown(values, raw)))
 
-    def top(self, k: int = 10) -> List[Tuple[Any, ...]]:
+    def top(self, k: int = 10, *, raw: bool = False) -> List[Tuple[Any, ...]]:
         """The k entries of the greatest values, the greatest first, of equals the first: (name, value) of a column or a row, (name,
-        name, value) of another matrix; numbers where there are no names. Of many entries the session finds those from a threshold on, by some
+        name, value) of another matrix; numbers where there are no names, and values as `by_node` has them. Of many entries the session finds those from a threshold on, by some
         50 small jobs, and these come to the client; all come where the budget has too little left. In pandas `nlargest`."""
         few: Any = self
         try:
@@ -158,8 +205,9 @@ class Held(Written):
             pass                                   # entries can be read all the same
         if few is not self:
             few.notes = self.notes
-        found: Iterable[Tuple[Any, ...]] = few.by_node().items() if 1 in self.shape else few.to_edgelist()
-        return heapq.nlargest(k, found, key=lambda entry: int(entry[-1]))
+        found: Iterable[Tuple[Any, ...]] = few.by_node(raw=True).items() if 1 in self.shape else few.to_edgelist(raw=True)
+        most = heapq.nlargest(k, found, key=lambda entry: int(entry[-1]))
+        return most if raw else [(*entry[:-1], to_decimal(entry[-1], self.unit)) for entry in most]
 
     def _length(self, wanted: str) -> int:
         """The length of a column or a row."""
@@ -167,26 +215,31 @@ class Held(Written):
             raise refusal('J5', detail='expected %s, got %dx%d' % (wanted, *self.shape))
         return self.nrows if self.ncols == 1 else self.ncols
 
-    def to_dense(self, fill: int = 0) -> Any:
-        """An array of numpy of this shape, `fill` where there is no entry. In python-graphblas the same name."""
+    def to_dense(self, fill: Any = 0, dtype: Any = None) -> Any:
+        """An array of numpy of this shape, `fill` where there is no entry: int64, the stored whole numbers, or with `to_dense(float)`
+        float64, what these stand for. In python-graphblas the same name."""
         import numpy
-        table = numpy.full(self.shape, coo.word(fill, 'fill'), numpy.int64)
-        rows, columns, values = self.to_coo(arrays=True)
+        if dtype is None and (isinstance(fill, (type, str)) or hasattr(fill, 'itemsize') and not hasattr(fill, '__float__')):
+            fill, dtype = 0, fill
+        kind = numpy.float64 if are_decimals(dtype) else numpy.int64
+        table = numpy.full(self.shape, fill if kind is numpy.float64 else coo.word(fill, 'fill'), kind)
+        rows, columns, values = self.to_coo(arrays=True, dtype=dtype)
         table[rows, columns] = values
         return table
 
-    def to_scipy_sparse(self, format: str = 'csr') -> Any:
-        """A matrix of scipy.sparse, of int64. In python-graphblas `io.to_scipy_sparse`."""
+    def to_scipy_sparse(self, format: str = 'csr', dtype: Any = None) -> Any:
+        """A matrix of scipy.sparse, of int64, the stored whole numbers, or with `dtype=float` of float64, what these stand for. In
+        python-graphblas `io.to_scipy_sparse`."""
         import scipy.sparse
-        rows, columns, values = self.to_coo(arrays=True)
+        rows, columns, values = self.to_coo(arrays=True, dtype=dtype)
         return scipy.sparse.coo_matrix((values, (rows, columns)), self.shape).asformat(format)
 
     def to_networkx(self, directed: Optional[bool] = None, weight: Optional[str] = 'weight',
-                    nodes: Optional[Sequence[Any]] = None) -> Any:
+                    nodes: Optional[Sequence[Any]] = None, *, raw: bool = False) -> Any:
         """A networkx graph of a square matrix: a Graph where `directed` is False, or isn't given and the matrix is known to be that
         of an undirected graph, else a DiGraph. (A Graph that is asked for has an edge where one of (i, j) and (j, i) is.) Its nodes
-        are `nodes`, or this matrix's, or 0 to n - 1. Values are the edges' `weight`, unless that is None, or the matrix came from a
-        graph without weights. In python-graphblas `io.to_networkx`."""
+        are `nodes`, or this matrix's, or 0 to n - 1. Values, as `by_node` has them, are the edges' `weight`, unless that is None, or the
+        matrix came from a graph without weights. In python-graphblas `io.to_networkx`."""
         import networkx
         if self.nrows != self.ncols:
             raise refusal('J5', detail='expected a square matrix, got %dx%d: `spmat.bipartite` makes one of it' % self.shape)
@@ -196,7 +249,8 @@ class Held(Written):
             raise ValueError('%d nodes for %d rows' % (len(labels), self.nrows))
         graph = networkx.Graph() if (self.directed if directed is None else directed) is False else networkx.DiGraph()
         graph.add_nodes_from(labels)
-        named = ((labels[i], labels[j], value) for i, j, value in self.to_triples())
+        rows, columns, values = self._stored(False)
+        named = ((labels[i], labels[j], value) for i, j, value in zip(rows, columns, self._shown(values, raw)))
         if weight is None or self.notes.weighted is False:
             graph.add_edges_from((u, v) for u, v, _ in named)
         else:

@@ -5,9 +5,10 @@ import contextlib
 import csv
 import io
 import os
-from typing import IO, Any, Dict, Iterator, List, Optional, Sequence, Tuple
+from typing import IO, Any, Callable, Dict, Iterator, List, Optional, Sequence, Tuple
 
 from ..metadata import NOTHING, Notes
+from ..units import Unit, to_decimal, to_decimals, to_text
 
 EDGE = ('source', 'target', 'weight')
 NODE = ('node', 'value')
@@ -16,23 +17,34 @@ NODE = ('node', 'value')
 class Written:
     """What writes a matrix. Rows and columns have their names, or numbers from 0 where they have none.
 
-    `scale` is what values were multiplied by when they were read: they are divided by it, and are floats then."""
+    Values are what stored numbers stand for: they are divided by the matrix' unit. `raw=True` writes stored numbers; `scale` divides these by
+    another number."""
 
     nrows: int
     ncols: int
     notes: Notes = NOTHING
 
-    def to_coo(self, *, arrays: Optional[bool] = None) -> Tuple[Any, Any, Any]:
+    def to_coo(self, *, arrays: Optional[bool] = None, dtype: Any = None) -> Tuple[Any, Any, Any]:
         """Rows, columns (from 0) and values."""
         raise NotImplementedError
 
-    def _columns(self, scale: Optional[float]) -> Tuple[List[Any], ...]:
-        """Names and values: of a column or a row (names, values), of another matrix (sources, targets, values)."""
+    def _columns(self, scale: Optional[float], raw: bool, shown: Callable[[int, Unit], Any]) -> Tuple[List[Any], ...]:
+        """Names and values, as they are shown: of a column or a row (names, values), of another matrix (sources, targets, values)."""
         rows, columns, values = self.to_coo(arrays=False)
-        values = values if scale is None else [value / scale for value in values]
+        unit = self._divisor(scale, raw)
+        if scale is not None:
+            values = [value / scale for value in values]
+        elif unit != 1:
+            values = [shown(value, unit) for value in values]
         ends = [rows] if self.ncols == 1 else [columns] if self.nrows == 1 else [rows, columns]
         names = [self.notes.rows] if self.ncols == 1 else [self.notes.columns] if self.nrows == 1 else [self.notes.rows, self.notes.columns]
         return (*(list(end) if known is None else list(map(known.__getitem__, end)) for known, end in zip(names, ends)), list(values))
+
+    def _divisor(self, scale: Optional[float], raw: bool) -> Any:
+        """What stored numbers are divided by. TypeError where callers want two things."""
+        if raw and scale is not None:
+            raise TypeError('raw=True writes the stored whole numbers, and scale= divides them: one of both')
+        return scale if scale is not None else 1 if raw else self.notes.unit
 
     def _fields(self, given: Optional[Sequence[str]]) -> Sequence[str]:
         """The names of the fields. ValueError where other numbers of them are given."""
@@ -42,10 +54,11 @@ class Written:
         return given if given is not None else wanted
 
     def to_csv(self, target: Any = None, fields: Optional[Sequence[str]] = None, *, sep: str = ',', header: bool = True,
-               scale: Optional[float] = None) -> Optional[str]:
+               scale: Optional[float] = None, raw: bool = False) -> Optional[str]:
         """Writes a line an entry to a path, or a file open in text, or gives the text: source, target, weight; of a column or a row
-        node, value. `fields` calls them otherwise, `header=False` leaves them out. `read_graph` reads it again. In pandas `to_csv`."""
-        columns, named = self._columns(scale), self._fields(fields)
+        node, value. `fields` calls them otherwise, `header=False` leaves them out. `read_graph` reads it again, with
+        `scale=` where the matrix has a unit. In pandas `to_csv`."""
+        columns, named = self._columns(scale, raw, to_text), self._fields(fields)
         text = io.StringIO() if target is None else None
         with _opened(text if text is not None else target) as file:
             writer = csv.writer(file, delimiter=sep, lineterminator='\n')
@@ -54,10 +67,11 @@ class Written:
             writer.writerows(zip(*columns))
         return text.getvalue() if text is not None else None
 
-    def write_edgelist(self, target: Any, delimiter: str = ' ', *, values: bool = True, scale: Optional[float] = None) -> None:
+    def write_edgelist(self, target: Any, delimiter: str = ' ', *, values: bool = True, scale: Optional[float] = None,
+                       raw: bool = False) -> None:
         """Writes an edge a line, names and value parted by a blank, to a path or a file open in text; `values=False` leaves them out.
         ValueError, before anything is written, where a name has the delimiter in it. In networkx `write_weighted_edgelist`."""
-        columns = self._columns(scale)
+        columns = self._columns(scale, raw, to_text)
         wrong = next((name for column in columns[:-1] for name in column
                       if delimiter in str(name) or not str(name) or (delimiter == ' ' and len(str(name).split()) > 1)), None)
         if wrong is not None:
@@ -65,16 +79,17 @@ class Written:
         with _opened(target) as file:
             file.writelines(delimiter.join(map(str, row)) + '\n' for row in zip(*(columns if values else columns[:-1])))
 
-    def to_pandas(self, *, scale: Optional[float] = None) -> Any:
+    def to_pandas(self, *, scale: Optional[float] = None, raw: bool = False) -> Any:
         """Of a column or a row a Series of pandas by name; of another matrix a table as `to_pandas_edgelist` has it."""
         import pandas
         if 1 not in (self.nrows, self.ncols):
-            return self.to_pandas_edgelist(scale=scale)
-        names, values = self._columns(scale)
-        return pandas.Series(values, pandas.Index(names, name=NODE[0], tupleize_cols=False), 'int64' if scale is None else 'float64', NODE[1])
+            return self.to_pandas_edgelist(scale=scale, raw=raw)
+        names, values = self._columns(scale, raw, to_decimal)
+        kind = 'int64' if scale is None and (raw or self.notes.unit == 1) else 'float64'
+        return pandas.Series(values, pandas.Index(names, name=NODE[0], tupleize_cols=False), kind, NODE[1])
 
     def to_pandas_edgelist(self, source: str = 'source', target: str = 'target', edge_attr: Optional[str] = 'weight', *,
-                           scale: Optional[float] = None) -> Any:
+                           scale: Optional[float] = None, raw: bool = False) -> Any:
         """A table of pandas with a row an entry: the names of its row and its column, and its value as `edge_attr`, unless that is None.
         `from_pandas_edgelist` takes it again. In networkx the same name."""
         import pandas
@@ -83,12 +98,13 @@ class Written:
         for called, names, at in ((source, self.notes.rows, rows), (target, self.notes.columns, columns)):
             table[called] = at if names is None else pandas.Series(list(names), dtype=None if names else object).take(at).to_numpy()
         if edge_attr is not None:
-            table[edge_attr] = values if scale is None else values / scale
+            unit = self._divisor(scale, raw)
+            table[edge_attr] = values / scale if scale is not None else to_decimals(values, unit)
         return pandas.DataFrame(table)
 
-    def to_parquet(self, path: Any, *, scale: Optional[float] = None) -> None:
+    def to_parquet(self, path: Any, *, scale: Optional[float] = None, raw: bool = False) -> None:
         """Writes what `to_pandas` gives as a parquet file, by pandas with pyarrow or fastparquet. In pandas the same name."""
-        table = self.to_pandas(scale=scale)
+        table = self.to_pandas(scale=scale, raw=raw)
         (table.to_frame().reset_index() if 1 in (self.nrows, self.ncols) else table).to_parquet(path, index=False)
 
 

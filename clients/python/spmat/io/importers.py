@@ -4,6 +4,7 @@ from __future__ import annotations
 import abc
 from typing import Any, Dict, Generic, Iterable, Optional, Sequence, TypeVar
 
+from .. import units
 from ..operators import Op
 from . import archive, coo, matrix_market, networkx_adjacency, pandas
 from .detect_format import check_format, from_edges
@@ -40,14 +41,15 @@ class Sources(abc.ABC, Generic[Made]):
         With `symmetric` each entry (i, j) stands at (j, i), too, and the matrix is square: an undirected graph of which each edge is
         given once, in either direction. It is loaded in less time. In python-graphblas `Matrix.from_coo`."""
         whole, rounding = scaled(values, scale)
+        unit = units.of_read(scale, dup_op)
         triples = coo.checked(rows, columns, whole, nrows, ncols)
         if (square or symmetric) and nrows is None and ncols is None:
             triples = triples._replace(nrows=max(triples.nrows, triples.ncols), ncols=max(triples.nrows, triples.ncols))
         if not symmetric:
-            return _told(self._from(triples, dup_op, name), rounding)
+            return _told(self._from(triples, dup_op, name), rounding, unit)
         if triples.nrows != triples.ncols:
             raise ValueError('symmetric=True is of a square matrix, not of %d rows and %d columns' % (triples.nrows, triples.ncols))
-        made = _told(self._both_ways(self._folded(triples, dup_op), name), rounding)
+        made = _told(self._both_ways(self._folded(triples, dup_op), name), rounding, unit)
         made.notes = made.notes._replace(directed=False)
         return made
 
@@ -76,8 +78,9 @@ class Sources(abc.ABC, Generic[Made]):
         `from_coo` has it. ValueError names the edge whose weight isn't whole, or that has parallel ones, unless `dup_op` folds them (1 job
         and 1 run where there are any). In python-graphblas `io.from_networkx`."""
         triples, notes = networkx_adjacency.triples_of(graph, weight, nodelist, networkx_adjacency.Asked(dup_op is not None, scale))
+        unit = units.of_read(scale, dup_op) if weight is not None else 1
         made = self._from(triples, dup_op, name)
-        made.notes = notes
+        made.notes = notes._replace(unit=unit)
         return made
 
     def from_edgelist(self, edges: Iterable[Any], *, directed: bool = True, nodelist: Optional[Sequence[Any]] = None, values: bool = True,
@@ -89,7 +92,7 @@ class Sources(abc.ABC, Generic[Made]):
         An edge leads one way; with `directed=False` both. With `bipartite` rows and columns are two kinds, each with its names. An edge
         that is given twice is a ValueError where it has values, unless `dup_op` folds them; without values, or with `values=False`, it
         counts once, or with `dup_op="plus"` as often as it is given. `scale` is as for `from_coo`. In networkx and python-graphblas `from_edgelist`."""
-        return self._graph(from_edges(edges, How(directed, nodelist, bipartite, dup_op is not None), values, scale), dup_op, name)
+        return self._graph(from_edges(edges, How(directed, nodelist, bipartite, dup_op is not None), values, scale), scale, dup_op, name)
 
     def from_pandas_edgelist(self, frame: Any, source: Any = 'source', target: Any = 'target', edge_attr: Any = None, *,
                              scale: Optional[float] = None, directed: bool = True, nodelist: Optional[Sequence[Any]] = None,
@@ -97,7 +100,7 @@ class Sources(abc.ABC, Generic[Made]):
         """The adjacency matrix of a table of pandas: the columns `source` and `target` have the names, `edge_attr` the values (None: 1
         each), multiplied by `scale` and rounded where that is given. The rest is as `from_edgelist` has it. In networkx the same name."""
         edges = pandas.edges_of(frame, (source, target), edge_attr, scale)
-        return self._graph(pandas.graph_of(edges, How(directed, nodelist, bipartite, dup_op is not None)), dup_op, name)
+        return self._graph(pandas.graph_of(edges, How(directed, nodelist, bipartite, dup_op is not None)), scale, dup_op, name)
 
     def read_edgelist(self, path: Any, *, delimiter: Optional[str] = None, header: Optional[bool] = None,
                       columns: Optional[Sequence[Column]] = None, values: bool = True, scale: Optional[float] = None,
@@ -151,7 +154,7 @@ class Sources(abc.ABC, Generic[Made]):
         file, text = name_of(path), matrix_market.load(path)
         if check_format(file, text, request.format) == 'mtx':
             return self._market(file, text, request, dup_op, name)
-        return self._graph(read(file, text, request, dup_op is not None, self._tell), dup_op, name)
+        return self._graph(read(file, text, request, dup_op is not None, self._tell), request.layout.scale, dup_op, name)
 
     def _tell(self, what: str, done: int, of: int) -> None:
         """Tells of long work, where somebody listens."""
@@ -171,17 +174,19 @@ class Sources(abc.ABC, Generic[Made]):
     def _folded(self, triples: Triples, dup_op: DupOp) -> Triples:
         """Each position once: what shares one is folded by an operator."""
 
-    def _graph(self, graph: Graph, dup_op: DupOp, name: Optional[str]) -> Made:
+    def _graph(self, graph: Graph, scale: Optional[float], dup_op: DupOp, name: Optional[str]) -> Made:
         """A matrix of edges; of an undirected graph the other direction of each is added here."""
         triples, notes = graph
+        if notes.weighted:
+            notes = notes._replace(unit=units.of_read(scale, dup_op))
         triples = self._folded(triples, dup_op)
         made = self._from(triples, name=name) if notes.directed is not False else self._both_ways(triples, name)
         made.notes = notes if dup_op is None else notes._replace(weighted=True)
         return made
 
 
-def _told(made: Made, rounding: Rounding) -> Made:
-    """A matrix that says what rounding did to its values."""
+def _told(made: Made, rounding: Rounding, unit: units.Unit) -> Made:
+    """A matrix that says what rounding did to its values, and what they are parts of."""
     if rounding.scale is not None:
-        made.notes = made.notes._replace(source=str(rounding))
+        made.notes = made.notes._replace(source=str(rounding), unit=unit)
     return made

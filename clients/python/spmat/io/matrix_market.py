@@ -12,6 +12,7 @@ from typing import Any, Dict, Iterator, List, NamedTuple, Optional, Tuple
 from ..errors import Refused, refusal
 from ..limits import MOST_SIDE
 from ..metadata import Notes
+from ..units import as_unit
 from . import compression
 from .coo import LEAST
 from .edge_values import NOT_WHOLE, check_scale, scaled_array, whole_of
@@ -48,7 +49,9 @@ class Kind(NamedTuple):
     @property
     def notes(self) -> Notes:
         """What is known of the matrix."""
-        return Notes(directed=False if self.symmetry == 'symmetric' else None, weighted=self.field != 'pattern' and self.values.read)
+        weighted = self.field != 'pattern' and self.values.read
+        return Notes(directed=False if self.symmetry == 'symmetric' else None, weighted=weighted,
+                     unit=as_unit(self.values.scale) if weighted and self.values.scale is not None else 1)
 
 
 def is_plain(text: bytes) -> bool:

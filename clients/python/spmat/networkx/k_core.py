@@ -84,7 +84,7 @@ def k_corona(G: SpmatGraph, k: int, core_number: Optional[Cores] = None) -> Any:
     core: Cores = dict(zip(G, cores(G))) if core_number is None else core_number
     inside = G.spots([v for v in core if core[v] >= k])
     near = G.named(G.A.mxv(inside, 'plus_pair')).by_node()
-    return _part(G, core, k, lambda v, k, core: core[v] == k == near.get(v, 0))
+    return _part(G, core, k, lambda v, k, core: bool(core[v] == k == near.get(v, 0)))
 
 
 @serves(SIMPLE_UNDIRECTED, pays=PRODUCTS)
