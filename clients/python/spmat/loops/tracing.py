@@ -10,6 +10,7 @@ from typing import TYPE_CHECKING, Any, Callable, Dict, List, Mapping, NamedTuple
 
 from .._client.handles import Handle
 from .._client.pending_jobs import Most, most_of
+from ..errors import UnitsDiffer
 from ..limits import MOST_SIDE
 from ..matrix import Matrix
 from ..metadata import Notes
@@ -186,6 +187,9 @@ def results(step: Step, state: State, number: int) -> Dict[str, Any]:
             raise TypeError('what a step returns as %r is no matrix, but %s' % (name, type(made).__name__))
         if name in state and made.shape != state[name].shape:
             raise ValueError('%s is %dx%d before a round and %dx%d behind it' % (name, *state[name].shape, *made.shape))
+        if name in state and made.unit != state[name].unit:
+            raise UnitsDiffer('%s has a unit of %s before a round and of %s behind it: work on A.rescale(1), or set A.unit = 1 and work on the '
+                              'stored whole numbers' % (name, state[name].unit, made.unit))
     return out
 
 
