@@ -44,11 +44,9 @@ class Matrix(Signs):
         self.session, self.handle = session, handle
         self.nrows, self.ncols = shape
         self.notes = metadata.NOTHING
-        self.kept: Dict[str, Any] = {}             # what algorithms found out about it
-        key = '' if handle.is_deferred else handle.key
-        self.name = name or key
-        if key:
-            session.backend.hold(self, key)
+        self.kept = handle.kept                    # what algorithms found out about its entries
+        self.name = name or ('' if handle.is_deferred else handle.key)
+        handle.add_matrix(self)
 
     def __reduce__(self) -> Any:
         raise TypeError('a matrix belongs to its session, and can not be pickled: pickle to_text() or to_coo()')
@@ -63,7 +61,6 @@ class Matrix(Signs):
 
     # -- what it is
 
-    _viewed: Optional['Matrix'] = None             # of a view of another matrix that one
     in_one_place = True                            # one session has it whole
     is_traced = False                              # it stands for what a loop's rounds will make
 
@@ -162,7 +159,7 @@ class Matrix(Signs):
         self._check_shape('product', other, (self.ncols, None))
         ring = find_semiring(op)
         ops = [of_form('product', ring.add), of_form('product', ring.mul)]
-        told = metadata.of_product(self.notes, other.notes, ring, self is other)
+        told = metadata.of_product(self.notes, other.notes, ring, self.handle is other.handle)
 
         def job(rows: 'Matrix') -> 'Matrix':
             return self._queued(_Job('product', ops, [rows, other], (self.nrows, other.ncols), told), mask, name)
@@ -241,18 +238,18 @@ class Matrix(Signs):
     @property
     def T(self) -> 'Matrix':
         """The transpose. No job: the text comes to the client and goes back, so it runs the queue where this matrix waits, and
-        costs as much as reading and writing it. While the transpose is held, asking again costs nothing."""
-        held: Optional['Matrix'] = self.handle.transposed() if self.handle.transposed is not None else None
-        if held is not None and held.unit != self.unit:
-            held = units.with_unit(held, self.unit)
-        if held is None:
+        costs as much as reading and writing it. While some transpose is held, asking again costs nothing. Each has names of its own,
+        which are those of this matrix as it is asked for."""
+        owner: Optional['Handle'] = self.handle.transposed() if self.handle.transposed is not None else None
+        if owner is None:
             from .pricing import lower_bounds, upper_bounds  # which want matrices
             if upper_bounds.stays_here():
                 return lower_bounds.turned(self)
-            held = self.session.from_text(matrix_text.swapped(self.to_text()))
-            held.notes = metadata.turned(self.notes)
-            held.handle.transposed, self.handle.transposed = weakref.ref(self._viewed or self), weakref.ref(held)
-        return held
+            owner = self.session.from_text(matrix_text.swapped(self.to_text())).handle
+            owner.transposed, self.handle.transposed = weakref.ref(self.handle), weakref.ref(owner)
+        made = Matrix(self.session, owner, (self.ncols, self.nrows))
+        made.notes = metadata.turned(self.notes)
+        return made
 
     def diag(self) -> 'Matrix':
         """Of a column or a row the square matrix with its entries on the diagonal, by the client like `T`. Of any other matrix

@@ -10,6 +10,7 @@ from ._client.handles import Handle
 from ._client.pending_jobs import Budget, Run
 from ._client.server_program import Program
 from ._client.transport import Address
+from .aliases import alias
 from .errors import OperatorRefused, Refused, TextRefused, refusal
 from .io import coo, matrix_market, matrix_text
 from .io.graph_files import Layout, Request, name_of
@@ -17,6 +18,7 @@ from .io.importers import DupOp, Sources
 from .io.matrix_text import Triples
 from .limits import MOST_STEPS
 from .matrix import Matrix
+from .metadata import NOTHING
 from .operators import Operator, diagnostics, find
 from .pricing import upper_bounds
 
@@ -121,15 +123,16 @@ class Session(Sources[Matrix]):
         backend = self.backend
         with backend.turn():
             backend.sweep()
-            key = backend.names.take(name)
+            handle = Handle(backend.names, wished=name)
             try:
-                reply = backend.command('matrix ' + key, text, lambda rule, at: matrix_text.line_at(text, at))
+                reply = backend.command('matrix ' + handle.key, text, lambda rule, at: matrix_text.line_at(text, at))
             except BaseException:
-                backend.names.give_back(key)
+                handle.give_back()
                 raise
             nrows, ncols, nvals = map(int, reply.words[1:4])
-            backend.names.bound(key, nrows, nvals)
-            return Matrix(self, Handle(key, nvals), (nrows, ncols), name)
+            handle.note_size(nrows, nvals)
+            handle.nvals = handle.most = nvals
+            return Matrix(self, handle, (nrows, ncols), name)
 
     def _from(self, triples: Triples, dup_op: DupOp = None, name: Optional[str] = None) -> Matrix:
         return self._of_triples(self._folded(triples, dup_op), False, name)
@@ -201,14 +204,15 @@ class Session(Sources[Matrix]):
         return upper_bounds.stood(self, (n, n), n) or self._from(coo.checked(at, at, value, n, n), name=name)
 
     def ones(self, ncols: int) -> Matrix:
-        """A row of ones, which folds columns. The session keeps those of the last few lengths, but for very long ones."""
+        """A row of ones, which folds columns. The session keeps those of the last few lengths, but for very long ones, and gives another
+        matrix of them each time."""
         with self.backend.turn():
             row = self._ones.pop(ncols, None) or self.full(1, ncols)
             if ncols <= LONG and not isinstance(row, upper_bounds.Stand):
                 self._ones[ncols] = row
             while len(self._ones) > KEPT_ONES:
                 del self._ones[next(iter(self._ones))]
-            return row
+            return alias(row, NOTHING)
 
     # -- matrices out
 

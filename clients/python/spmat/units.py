@@ -12,6 +12,7 @@ import math
 from fractions import Fraction
 from typing import Any, Dict, NamedTuple, NoReturn, Optional, Union
 
+from .aliases import alias
 from .errors import UnitsDiffer
 from .io import coo
 from .io.matrix_text import is_array
@@ -135,11 +136,7 @@ def are_decimals(dtype: Any) -> bool:
 
 def with_unit(matrix: Any, unit: Unit) -> Any:
     """A matrix with the same entries, whose stored numbers are parts of another unit: no job."""
-    if matrix.notes.unit == unit:
-        return matrix
-    view = object.__new__(type(matrix))
-    view.__dict__.update(matrix.__dict__, notes=matrix.notes._replace(unit=unit), _viewed=matrix)
-    return view                                    # it holds the other one, whose name at the server is given back with it
+    return matrix if matrix.notes.unit == unit else alias(matrix, matrix.notes._replace(unit=unit))
 
 
 # -- the units of results

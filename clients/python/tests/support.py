@@ -44,14 +44,14 @@ unittest.TestCase.run = _watched
 
 def needs(*modules):
     """Skips a test where a module isn't there, and says which."""
-    missing = [module for module in modules if not _is_there(module)]
+    missing = [module for module in modules if not has(module)]
     return unittest.skipIf(missing, 'no module ' + ', '.join(missing))
 
 
-def _is_there(module):
+def has(module):
     """Whether a module can be imported. Of one in a package the package is looked at first: find_spec would raise without it."""
     package = module.rpartition('.')[0]
-    return (not package or _is_there(package)) and importlib.util.find_spec(module) is not None
+    return (not package or has(package)) and importlib.util.find_spec(module) is not None
 
 
 class InSession(unittest.TestCase):

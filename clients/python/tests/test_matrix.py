@@ -276,8 +276,9 @@ class Made(Matrices):
         before = self.s.connection.commands
         self.assertEqual((A.T.to_dict(), A.T.shape), ({(2, 0): 5, (0, 1): -1}, (3, 2)))
         T = A.T
-        self.assertIs(T.T, A)
-        self.assertIs(A.T, T)
+        self.assertEqual(self.cost(lambda: T.T), (A.to_dict(), 0, 0))
+        before = self.s.connection.commands
+        self.assertEqual((T.T.shape, A.T.shape, self.s.connection.commands), ((2, 3), (3, 2), before))
         self.assertEqual(self.cost(lambda: A.apply('abs').T), ({(2, 0): 5, (0, 1): 1}, 1, 1))
         self.assertGreater(self.s.connection.commands, before)
 

@@ -194,11 +194,11 @@ class Lists(Case):
     def test_faults_name_file_and_line(self):
         for text, at, words in (
                 ('a,b,5\nb,c\n', 2, "2 fields, and the first line has 3 (commas part them): 'b,c'"),
-                ('a b 5\n\n# c\nb c x\n', 4, "expected a number as the value, got 'x': values=False reads none: 'b c x'"),
+                ('# c\na b 5\n\nb c x\n', 4, "expected a number as the value, got 'x': values=False reads none: 'b c x'"),
                 ('a b 5\nb c 0.5\n', 2, '0.5 is a number that is not whole: scale=1000 takes thousandths (0.125 is 125 then), '
                  "values=False reads no values: 'b c 0.5'"),
                 ('a b 5\nb c 9223372036854775808\n', 2, '9223372036854775808 is beyond 64 bits'), ('a b 1\nb c nan\n', 2, "the value is missing ('nan')"),
-                ('a,b\n,c\n', 2, "a name is empty: ',c'"), ('a,b,5\nb,c,\n', 2, "the value is missing ('')"), ('a b 1_0\n', 1, '3 columns, and no header'),
+                ('a,b\n,c\n', 2, "a name is empty: missing=\"skip\" leaves the line out: ',c'"), ('a,b,5\nb,c,\n', 2, "the value is missing ('')"), ('a b 1_0\n', 1, '3 columns, and no header'),
                 ('a,b,1\nb,c,1_0\n', 2, "expected a number as the value, got '1_0'"), ('alone\n', 1, "an edge has two names, and this line one field"),
                 ('a,b\n"c,d\n', 2, 'no list of fields'), (b'a,b\n\xe9,c\n', 2, 'no UTF-8 (byte e9)'), (b'a b\n\n\xe9 c\n', 3, 'no UTF-8'),
                 ('p sp 2 1\na 1 3 5\n', 2, 'a vertex is 1 to 2, not 3'), ('p sp 2 1\na 1 2\n', 2, 'an edge of this kind is `a FROM TO VALUE`'),
@@ -342,7 +342,7 @@ class Both(Case):
     @support.needs('numpy')
     def test_taken(self):
         """The quick way is taken for plain lists."""
-        for text in (b'0 1\n1 2\n', b'# c\n5\t7\t2.5\n', b'source,target\r\n"a","b c"\r\n\r\n# c\r\nd , e\r\n', 'ä b 1.5\nö\tü  2\n'.encode(),
+        for text in (b'0 1\n1 2\n', b'# c\n5\t7\t2.5\n', b'source,target\r\n"a","b c"\r\n\r\n#c,%\r\nd , e\r\n', 'ä b 1.5\nö\tü  2\n'.encode(),
                      b'a,12345678901234567,5\n"long names are words of eight bytes",b,-7\n', b'w;from;to\n1;a;b\n', b'source,target,weight\n1,2,3\n4,5,6\n', b'1 2 3\r\n2 3 4\r\n'):
             before, edgelist_text.FEW = edgelist_text.FEW, 0
             try:

@@ -9,6 +9,8 @@ import support
 import spmat
 from spmat._client import connection, handles, transport
 
+USED_AGAIN = unittest.skipIf(os.environ.get(handles.POISONED), 'no name is used again, and each is overwritten')
+
 
 class Versions(unittest.TestCase):
     """A job takes the versions that its names have when it is submitted, so what waits is run before it is used."""
@@ -29,6 +31,7 @@ class Versions(unittest.TestCase):
             M = A.select('valuegt', 1)
             self.assertEqual(A.apply('one', mask=M.S).to_dict(), {(1, 1): 1})
 
+    @USED_AGAIN
     def test_name_that_was_bound_before(self):
         """Where a name was bound before, the server would silently take the old matrix."""
         with spmat.Session() as s:
@@ -42,6 +45,7 @@ class Versions(unittest.TestCase):
             self.assertEqual(C.apply('identity').to_dict(), {(0, 0): 7})
 
 
+@USED_AGAIN
 class UsedAgain(unittest.TestCase):
     """Names of matrices that nobody holds are used again, but not while a job waits that will bind them."""
 
@@ -87,6 +91,7 @@ class UsedAgain(unittest.TestCase):
             self.assertEqual(s.from_triples([(0, 0, 3)], name='no name at all, and far too long for one').nvals, 1)
 
 
+@USED_AGAIN
 class Overwritten(unittest.TestCase):
     """No command forgets a matrix: what nobody holds and is large is overwritten before the next command."""
 

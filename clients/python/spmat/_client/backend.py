@@ -1,6 +1,6 @@
-"""What a session and its matrices ask of the server: operators are uploaded, jobs submitted, matrices read and held.
+"""What a session and its matrices ask of the server: operators are uploaded, jobs submitted, matrices read.
 
-A matrix speaks to `submit`, `read`, `hold` and `flush` alone. What makes many rounds of its own (`spmat.loops`) also has the handles, the
+A matrix speaks to `submit`, `read` and `flush` alone. What makes many rounds of its own (`spmat.loops`) also has the handles, the
 queue and the connection."""
 from __future__ import annotations
 
@@ -38,7 +38,7 @@ class Backend:
     def __init__(self, session: 'Session', connection: Connection, shared: bool) -> None:
         self.session, self.connection = session, connection
         self.names = Names()
-        self.queue = Queue(connection, self.names, shared)
+        self.queue = Queue(connection, shared)
         self.jobs = 0
         self._turns = Turn(connection)
         self._operators: Dict[Operator, Uploaded] = {}
@@ -55,8 +55,13 @@ class Backend:
     def sweep(self) -> None:
         """Overwrites large matrices that nobody holds, as no command forgets one."""
         if self.names.dropped:
-            for name in self.names.settle(self.queue.names()):
-                self.connection.put(Command('matrix ' + name, matrix_text.EMPTY))
+            for name, text in self.names.settle():
+                self.connection.put(Command('matrix ' + name, text))
+
+    def poison(self) -> None:
+        """The same before what waits to be sent with the next command, where names that are given back are poisoned."""
+        if self.names.poisons:
+            self.sweep()
 
     def flush(self) -> None:
         """Sends the jobs that wait to be sent, so that their prices are known. No run but those that stand behind them."""
@@ -70,17 +75,18 @@ class Backend:
         wants them."""
         return Kept(self.session, entries)
 
-    def send(self, entries: Triples, handle: Handle) -> str:
-        """Sends the entries of a matrix that the client keeps, with the next command; its name."""
+    def send(self, entries: Triples, handle: Handle) -> None:
+        """Sends the entries of a matrix that the client keeps, with the next command, under a name that its handle takes."""
         def lost(cause: BaseException) -> None:
             handle.lost = without_frames(cause)
         with self.turn():
-            key, text = self.names.take(), matrix_text.write(entries, ones=True)
-            self.connection.put(Command('matrix ' + key, text, lost=lost, matters=True))
-            self.names.bound(key, entries.nrows, len(entries.rows))
+            self.poison()
+            text = matrix_text.write(entries, ones=True)
+            handle.take_name(self.names)
+            self.connection.put(Command('matrix ' + handle.key, text, lost=lost, matters=True))
+            handle.note_size(entries.nrows, len(entries.rows))
             if self.connection.is_full:
                 self.connection.exchange()
-            return key
 
     def read(self, matrix: Matrix) -> bytes:
         """The canonical text of a matrix. Runs the queue where it waits."""
@@ -96,10 +102,6 @@ class Backend:
             if self.connection.refused is not None:
                 raise self.connection.refused
             return body
-
-    def hold(self, matrix: Matrix, key: str) -> None:
-        """Takes a name back when its matrix is collected."""
-        self.names.hold(matrix, key)
 
     def check_usable(self, handle: Handle) -> None:
         """Raises Closed where the session has ended, and NotMade where the run of a matrix was refused."""
@@ -174,7 +176,8 @@ class Backend:
 
     def _handed_in(self, form: str, words: List[str], most: Most, name: Optional[str]) -> Job:
         """A job that is handed in, now or with the next command."""
-        job = Job(self.names.take(name), form, most)
+        self.poison()
+        job = Job(Handle(self.names, None, most.entries, name), form, most)
         line = ' '.join([form, job.name, *words])
         if self.queue.is_sure(most):
             self.queue.add_later(job, line)
@@ -187,6 +190,6 @@ class Backend:
                 self.queue.add_now(job, line)
         except BaseException:
             if job.is_wanted:
-                self.names.give_back(job.name)
+                job.handle.give_back()
             raise
         return job

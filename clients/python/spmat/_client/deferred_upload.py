@@ -1,7 +1,6 @@
 """Matrices that the client has the entries of, which are sent when a job first wants them."""
 from __future__ import annotations
 
-import weakref
 from typing import TYPE_CHECKING, Any, Tuple
 
 from ..io import matrix_text
@@ -44,19 +43,16 @@ class DeferredHandle(Handle):
 
     is_deferred = True
 
-    def __init__(self, kept: 'Kept', entries: Triples) -> None:
+    def __init__(self, session: 'Session', entries: Triples) -> None:
         self._key = ''
-        super().__init__('', len(entries.rows))
-        self._kept, self._entries = weakref.ref(kept), entries
+        super().__init__(None, len(entries.rows))
+        self._session, self._entries = session, entries
 
     @property
     def key(self) -> str:
-        """The server's name of the matrix: it is sent where it wasn't."""
+        """The server's name of the matrix: it is taken, and the matrix sent, where it wasn't."""
         if not self._key:
-            kept = self._kept()
-            assert kept is not None
-            self._key = kept.session.backend.send(self._entries, self)
-            kept.session.backend.hold(kept, self._key)
+            self._session.backend.send(self._entries, self)
         return self._key
 
     @key.setter
@@ -72,4 +68,4 @@ class Kept(Entries, Matrix):
 
     def __init__(self, session: 'Session', entries: Triples) -> None:
         self._entries = entries
-        super().__init__(session, DeferredHandle(self, entries), (entries.nrows, entries.ncols), 'of the client')
+        super().__init__(session, DeferredHandle(session, entries), (entries.nrows, entries.ncols), 'of the client')

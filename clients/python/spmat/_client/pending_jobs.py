@@ -3,7 +3,7 @@ from __future__ import annotations
 
 import collections
 import weakref
-from typing import Callable, Deque, Dict, Iterable, List, NamedTuple, Optional, Sequence, Set, Tuple
+from typing import Callable, Deque, Dict, Iterable, List, NamedTuple, Optional, Sequence, Tuple
 
 from ..display import html
 from ..errors import BudgetExceeded, Refused, without_frames
@@ -11,7 +11,7 @@ from ..limits import MOST_PRICE, MOST_SIDE
 from ..matrix import Matrix
 from .commands import Command
 from .connection import Connection
-from .handles import Handle, Names
+from .handles import Handle
 from .protocol import FORMS, Places
 from .replies import Reply
 
@@ -66,12 +66,12 @@ def most_of(form: str, length: int, operands: Sequence[Matrix], mask: Optional[M
 
 
 class Job:
-    """A job that was handed in: the name that its result will have, the result's handle, and its price once the server answered. Where the
-    job is refused, or lost, `cause` says why. `is_wanted` until whoever asked for it was interrupted: its result is nobody's then."""
+    """A job that was handed in: the result's handle, with the name that it will have, and its price once the server answered. So the name is
+    taken until the job ran, whoever holds the result. Where the job is refused, or lost, `cause` says why. `is_wanted` until whoever asked
+    for it was interrupted: its result is nobody's then."""
 
-    def __init__(self, name: str, form: str, most: Most) -> None:
-        self.name, self.form, self.most = name, form, most
-        self.handle = Handle(name, None, most.entries)
+    def __init__(self, handle: Handle, form: str, most: Most) -> None:
+        self.handle, self.name, self.form, self.most = handle, handle.key, form, most
         self.matrix: Callable[[], Optional[Matrix]] = lambda: None
         self.refused, self.is_wanted = False, True
         self.cause: Optional[BaseException] = None
@@ -89,8 +89,8 @@ class Queue:
     """Jobs that wait to be run, sent or not, and runs that wait to be sent. `left` is what the budget has for sure: all of it where
     nobody shares it. `ceiling` is what it can have at most, were all prices settled with nothing."""
 
-    def __init__(self, connection: Connection, names: Names, shared: bool) -> None:
-        self._connection, self._names, self.shared = connection, names, shared
+    def __init__(self, connection: Connection, shared: bool) -> None:
+        self._connection, self.shared = connection, shared
         self._waiting: Dict[str, Job] = {}
         self._running: Deque[List[Job]] = collections.deque()      # in the order in which they will be answered
         self._results = Run()
@@ -109,10 +109,6 @@ class Queue:
     def running(self) -> int:
         """Jobs whose run waits to be sent."""
         return sum(map(len, self._running))
-
-    def names(self) -> Set[str]:
-        """The names that jobs will bind."""
-        return {job.name for jobs in self._running for job in jobs}.union(self._waiting)
 
     def has(self, matrices: Iterable[Matrix]) -> bool:
         """Whether one of these is a result that no run stands behind yet."""
@@ -164,8 +160,6 @@ class Queue:
         self._waiting[job.name] = job
         self.left -= job.most.steps
         self._queued(job, reply)
-        if not job.is_wanted:
-            self._names.drop(job.name)
 
     def _queued(self, job: Job, reply: Reply) -> None:
         price = job.handle.price = int(reply.words[2])
@@ -199,7 +193,7 @@ class Queue:
             assert price is not None
             self.left += price - steps
             self.ceiling -= steps
-            self._names.bound(job.name, nrows, entries)
+            job.handle.note_size(nrows, entries)
             if job.cause is None:
                 job.handle.ran(entries, steps)
             self._results.append(JobResult(job.matrix(), job.form, price, steps))

@@ -3,6 +3,7 @@ from __future__ import annotations
 
 from typing import Optional
 
+from ..aliases import is_same
 from ..matrix import Matrix
 from ..operators import asm
 from .bfs import Search, find_levels
@@ -31,7 +32,7 @@ def bipartite_sides(G: Matrix, GT: Optional[Matrix] = None, progress: Progress =
     if count == 0:
         return nothing(G)
     back = transpose_of(G, GT, check)
-    near = G if back is G else G.ewise_add(back, 'first')
+    near = G if is_same(back, G) else G.ewise_add(back, 'first')
     own = column(G, 0).apply('rowindex', right=0)
     least = connected_components(near, near, progress, check=False).ewise_mult(own, 'eq').select('nonzero')
     side = find_levels(near, Search(rows_of(least)), near).apply(IS_ODD)

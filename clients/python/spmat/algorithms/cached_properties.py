@@ -2,8 +2,11 @@
 from __future__ import annotations
 
 import random
-from typing import Any, Callable, Optional, Tuple
+from typing import Any, Callable, Optional, Tuple, cast
 
+from ..aliases import alias, is_same
+from ..io.exporters import Held
+from ..metadata import NOTHING, turned
 from ..operators import asm
 from ..pricing import upper_bounds
 from .protocols import GraphMatrix, M
@@ -42,13 +45,14 @@ UNDIRECTED = 'algorithms.undirected(G) is the graph without directions, weights 
 
 
 def found(graph: GraphMatrix, name: str, find: Callable[[], Any]) -> Any:
-    """A fact of a graph: as it was found before, or as it is found now."""
+    """A fact of a graph's entries: as it was found before, or as it is found now. Of a matrix another one each time, without names."""
     if name not in graph.kept:
         asked = upper_bounds.asked()
         if asked is not None:
             return asked.fact(graph, name, find)
         graph.kept[name] = find()
-    return graph.kept[name]
+    fact = graph.kept[name]
+    return alias(fact, NOTHING) if isinstance(fact, Held) else fact
 
 
 def _odd() -> int:
@@ -90,7 +94,7 @@ def check_undirected(graph: GraphMatrix, check: bool, loops: bool = False) -> No
 def is_transpose(graph: M, other: M, values: bool = False) -> bool:
     """Whether another matrix is the transpose: its places, and where `values` is set its values. 4 jobs (up to 24 steps an edge), as
     `is_both_ways`."""
-    if other is graph and not values:
+    if is_same(other, graph) and not values:
         return is_both_ways(graph)
     if graph.nvals != other.nvals:
         return False
@@ -102,11 +106,14 @@ def transpose_of(graph: M, given: Optional[M], check: bool, values: bool = False
     """The transpose: the one that is given (a ValueError where it isn't), the graph itself where each edge leads both ways, else one
     that is made, and kept while the graph is held."""
     if given is not None:
-        if check and not (graph.kept.get('transpose') is given or is_transpose(graph, given, values)):
+        held = graph.kept.get('transpose')
+        if check and not ((held is not None and is_same(held, given)) or is_transpose(graph, given, values)):
             raise ValueError('GT has to be the transpose, and is not: G.T is, and G itself where each edge leads both ways; '
                              'check=False leaves this check out')
         return given
     if not values and is_both_ways(graph):
         return graph
-    made: M = found(graph, 'transpose', lambda: graph.T)
-    return made
+    made: Any = found(graph, 'transpose', lambda: graph.T)
+    made.notes = turned(cast(Any, graph).notes)
+    result: M = made
+    return result

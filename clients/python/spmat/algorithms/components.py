@@ -4,6 +4,7 @@ from __future__ import annotations
 import collections
 from typing import Any, Generic, Iterator, List, Optional, Tuple
 
+from ..aliases import is_same
 from ..io import matrix_text
 from ..operators import Semiring, binary
 from .cached_properties import check_undirected, found, is_both_ways, transpose_of
@@ -99,7 +100,7 @@ class Neighbours(Generic[M]):
         self.graph, self.count = graph, graph.nrows
         self.columns = Columns(graph, graph)
         self.back: Optional[Lines[M]] = None       # what pushes along the edges, where these lead one way alone
-        if transpose is graph:
+        if transpose is not None and is_same(transpose, graph):
             check_undirected(graph, check, loops=True)
         elif not is_both_ways(graph):
             back = transpose_of(graph, transpose, check) if transpose is not None or not graph.in_one_place else None

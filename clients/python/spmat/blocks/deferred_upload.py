@@ -1,7 +1,7 @@
 """Vectors that the client has the entries of: they are sent when a job first wants them, in one text for all sessions."""
 from __future__ import annotations
 
-from typing import TYPE_CHECKING, Any, List, Optional
+from typing import TYPE_CHECKING, Any, List
 
 from .._client.deferred_upload import Entries
 from ..io import matrix_text
@@ -21,7 +21,6 @@ class HeldVector(Entries, BlockMatrix):
 
     def __init__(self, sessions: 'Sessions', entries: Triples, cut: Cut) -> None:
         self._entries = entries
-        self._sent: Optional[List[Any]] = None
         super().__init__(sessions, [], cut, entries.ncols, 'of the client')
 
     of_client = True
@@ -29,11 +28,12 @@ class HeldVector(Entries, BlockMatrix):
     @property
     def futures(self) -> List[Any]:
         """The blocks, which are sent where they weren't."""
-        if self._sent is None:
+        if 'sent' not in self.kept:
             with chunked_input.Held(self._entries) as held:
-                self._sent = [self.sessions.put(block, self.cut.label(block), text)
-                              for block, text in enumerate(held.texts(self.cut))]
-        return self._sent
+                self.kept['sent'] = [self.sessions.put(block, self.cut.label(block), text)
+                                     for block, text in enumerate(held.texts(self.cut))]
+        sent: List[Any] = self.kept['sent']
+        return sent
 
     @futures.setter
     def futures(self, given: List[Any]) -> None:
@@ -62,10 +62,10 @@ class HeldVector(Entries, BlockMatrix):
 
     def whole(self) -> Any:
         """This vector as one piece, or the future of one, for all sessions."""
-        if self.whole_piece is None:
+        if 'whole' not in self.kept:
             text = matrix_text.write(self._entries)
-            self.whole_piece = self.sessions.share(Piece(Counts(*self.shape, self.nvals), text=text).marked())
-        return self.whole_piece
+            self.kept['whole'] = self.sessions.share(Piece(Counts(*self.shape, self.nvals), text=text).marked())
+        return self.kept['whole']
 
     def at_rows(self, cut: Cut) -> 'HeldVector':
         """The same vector, cut elsewhere."""

@@ -9,6 +9,7 @@ from ..io import edgelist_numpy, edgelist_text, graphml_gml_parquet, matrix_mark
 from ..io.edge_values import Rounding
 from ..io.edgelist_header import Layout
 from ..io.factorize import Coded, ascending, factorized
+from ..io.left_out import LeftOut
 from ..io.matrix_text import Triples
 from . import file_ranges
 from .file_ranges import Part, Range
@@ -62,6 +63,7 @@ class EdgePart(NamedTuple):
     names: List[Names]
     values: Optional[Any]
     told: str = ''
+    left_out: LeftOut = LeftOut()
 
 
 def read(source: Source, bipartite: bool) -> Optional[EdgePart]:
@@ -77,10 +79,10 @@ def read(source: Source, bipartite: bool) -> Optional[EdgePart]:
             edges = graphml_gml_parquet.table(source.path, file.read(), source.layout)
     else:
         edges = edgelist_text.read(source.path, matrix_market.load(source.path), source.layout)
-    return _numbered(edges.sources, edges.targets, edges.values, bipartite, edges.told)
+    return _numbered(edges.sources, edges.targets, edges.values, bipartite)._replace(told=edges.told, left_out=edges.left_out)
 
 
-def _numbered(sources: Any, targets: Any, values: Any, bipartite: bool, told: str = '') -> EdgePart:
+def _numbered(sources: Any, targets: Any, values: Any, bipartite: bool) -> EdgePart:
     import numpy
     codes, names = [], []
     for columns in ([[sources], [targets]] if bipartite else [[sources, targets]]):
@@ -97,7 +99,7 @@ def _numbered(sources: Any, targets: Any, values: Any, bipartite: bool, told: st
         else:
             codes += [column.codes for column in columns]
             names.append(columns[0].names)
-    return EdgePart(codes, names, None if values is None else numpy.asarray(values, numpy.int64), told)
+    return EdgePart(codes, names, None if values is None else numpy.asarray(values, numpy.int64))
 
 
 def _coded(columns: Sequence[List[Any]]) -> List[Any]:

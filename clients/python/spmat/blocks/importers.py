@@ -8,7 +8,7 @@ from typing import TYPE_CHECKING, Any, Callable, Iterable, Iterator, List, Optio
 
 from .. import limits, units
 from ..errors import Refused, TextRefused, refusal
-from ..io import coo, matrix_market, matrix_text
+from ..io import column_names, coo, matrix_market, matrix_text
 from ..io.graph_files import Request, name_of
 from ..io.importers import DupOp, Sources
 from ..io.matrix_text import Triples
@@ -115,11 +115,14 @@ class Inputs(Sources[BlockMatrix]):
         return super()._read(path, request, dup_op, name) if made is None else made
 
     def from_dask_dataframe(self, frame: Any, source: Any = 'source', target: Any = 'target', edge_attr: Any = None, *, directed: bool = True,
-                            bipartite: bool = False, dup_op: DupOp = None, name: Optional[str] = None) -> BlockMatrix:
+                            bipartite: Optional[bool] = None, dup_op: DupOp = None, name: Optional[str] = None) -> BlockMatrix:
         """The adjacency matrix of a `dask.dataframe`, as `from_pandas_edgelist` has it of a table of pandas: each worker takes its partitions, and
         the caller's process gets the names alone. By `Dask` the partitions are computed by the same cluster. ValueError where edges with
         values repeat, unless `dup_op` folds them, and where names of some partitions are whole numbers and of others aren't."""
-        return parallel_edgelist.of_frame(self, frame, (source, target), edge_attr, parallel_edgelist.Asked(directed, bipartite, dup_op, name))
+        question = column_names.two_kinds(str(source), str(target)) if bipartite is None else None
+        if question is not None:
+            raise ValueError(question)
+        return parallel_edgelist.of_frame(self, frame, (source, target), edge_attr, parallel_edgelist.Asked(directed, bool(bipartite), dup_op, name))
 
     def _refolded(self, spool: 'chunked_input.Spooled', cut: Optional[Sequence[int]], name: Optional[str], dup_op: DupOp) -> BlockMatrix:
         """A matrix of a file's entries, whose positions may repeat: they are folded as they stand in the file, and then the other

@@ -8,6 +8,7 @@ from typing import TYPE_CHECKING, Any, Dict, Iterable, List, Optional, Sequence,
 
 from .. import metadata, units
 from .._client.protocol import FORMS
+from ..aliases import alias, is_same
 from ..errors import SpmatError, refusal
 from ..indexing import Signs, picked
 from ..mask import Mask, as_mask
@@ -48,10 +49,7 @@ class BlockMatrix(Signs):
         self.sessions, self.futures, self.cut = sessions, list(futures), cut
         self.nrows, self.ncols, self.name, self.notes = cut.nrows, ncols, name or 'in blocks', metadata.NOTHING
         self.holds: Tuple[Any, ...] = tuple(dict.fromkeys(holds))[-HELD:] if sessions.engine.forgets else ()
-        self._counts: Optional[List[Counts]] = None
-        self.whole_piece: Any = None
-        self._transposed: Optional['BlockMatrix'] = None
-        self.kept: Dict[str, Any] = {}
+        self.kept: Dict[str, Any] = {}             # what was found out about its entries
         self.form = ''                             # of a job's result, as the protocol names it
 
     @property
@@ -97,15 +95,16 @@ class BlockMatrix(Signs):
 
     def counts(self) -> List[Counts]:
         """The sizes, entries, price and steps of each block, once all are made."""
-        if self._counts is None:
+        if 'counts' not in self.kept:
             labels = [self.cut.label(k) for k in range(self.cut.blocks)]
             told = [self.sessions.submit(k, label, worker_tasks.told, future) for k, (label, future) in enumerate(zip(labels, self.futures))]
             try:
-                self._counts = self.sessions.results(told, labels)
+                self.kept['counts'] = self.sessions.results(told, labels)
             except SpmatError:
                 self.sessions.forget(self)         # so that `run` doesn't tell a failure that was told
                 raise
-        return self._counts
+        counts: List[Counts] = self.kept['counts']
+        return counts
 
     @property
     def nvals(self) -> int:
@@ -138,12 +137,12 @@ class BlockMatrix(Signs):
     @property
     def waits(self) -> bool:
         """Whether it isn't known yet that all blocks are made."""
-        return self._counts is None
+        return 'counts' not in self.kept
 
     @property
     def made(self) -> bool:
         """Whether all blocks are made, or have failed, as far as the engine has told. It waits for nothing."""
-        return self._counts is not None or all(future.done() for future in self.futures)
+        return 'counts' in self.kept or all(future.done() for future in self.futures)
 
     # -- jobs at each block
 
@@ -297,7 +296,7 @@ class BlockMatrix(Signs):
         where = self._mask(mask, (self.nrows, other.ncols))
         if associative is None:
             associative = other.ncols > 1 and ring.add in self.sessions.associative
-        told = metadata.of_product(self.notes, other.notes, ring, self is other)
+        told = metadata.of_product(self.notes, other.notes, ring, is_same(self, other))
         made = matrix_products.made(self, other, matrix_products.Way(ring, where, parts), bool(associative), name)
         made.notes = noted(told, where)
         waits = other.ncols != 1 or associative or self.sessions.engine.forgets
@@ -339,12 +338,12 @@ class BlockMatrix(Signs):
     @property
     def T(self) -> 'BlockMatrix':
         """The transpose, by text and without steps: each block's lines are sorted at its worker, and each block of the transpose gets
-        some of each. A square matrix's is cut at the same rows, another's by entries. It is kept while this matrix is held."""
-        if self._transposed is None:
-            self._transposed = repartition.transposed(self)
-            self._transposed.notes = metadata.turned(self.notes)
-        made: 'BlockMatrix' = units.with_unit(self._transposed, self.unit)
-        return made
+        some of each. A square matrix's is cut at the same rows, another's by entries. It is kept while this matrix is held, and each time
+        another matrix of it is given, with names of its own."""
+        if 'turned' not in self.kept:
+            self.kept['turned'] = repartition.transposed(self)
+        kept: 'BlockMatrix' = self.kept['turned']
+        return alias(kept, metadata.turned(self.notes))
 
     def diag(self) -> 'BlockMatrix':
         """Of a matrix the column of the entries on its diagonal, as `Matrix.diag`; of a column or a row the square matrix with these

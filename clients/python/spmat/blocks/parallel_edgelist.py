@@ -5,6 +5,7 @@ part the numbers of its names: whole numbers ascending, others in the order in w
 lines go to the blocks. Of a single list what is unusual or wrong is read by the caller's process, which names the line."""
 from __future__ import annotations
 
+import functools
 import os
 from typing import TYPE_CHECKING, Any, List, NamedTuple, Optional, Sequence, Tuple
 
@@ -15,6 +16,7 @@ from ..io.detect_format import check_format
 from ..io.edgelist_matrix import FOLDS
 from ..io.graph_files import Request
 from ..io.importers import DupOp
+from ..io.left_out import LeftOut
 from ..metadata import Nodes, Notes
 from ..operators import Operator, find
 from . import edgelist_partitions, parallel_read, row_partition, worker_tasks
@@ -51,7 +53,7 @@ def of_file(sessions: 'Inputs', path: Any, request: Request, asked: Asked) -> Op
     if isinstance(path, (str, os.PathLike)) and os.path.isdir(path):
         return of_sources(sessions, _in_folder(os.fspath(path), request), asked)
     file = parallel_read.seen(sessions, path)
-    if file is None or request.nodelist is not None or request.layout.scale is not None:
+    if file is None or request.nodelist is not None or request.layout.scale is not None or request.layout.comments not in (True, None):
         return None
     try:
         table = _table(file.path, request)
@@ -64,7 +66,7 @@ def of_file(sessions: 'Inputs', path: Any, request: Request, asked: Asked) -> Op
     except (Refused, ReadError):                   # whoever reads it line by line names the line
         return None
     if made is not None:
-        made.notes = made.notes._replace(source=table.told.replace(file.path, os.fspath(path)))
+        made.notes = made.notes._replace(source=table.left_out.behind(table.told.replace(file.path, os.fspath(path))))
     return made
 
 
@@ -82,7 +84,7 @@ def _table(path: str, request: Request) -> Optional[edgelist_text.Table]:
 
 def _has_dictionaries(head: bytes, request: Request) -> bool:
     from ..io.graphml_gml_parquet import has_dictionaries
-    return request.layout.columns is None and has_dictionaries(head)
+    return request.layout.columns is None and has_dictionaries(head, request.layout.comments)
 
 
 def _in_folder(folder: str, request: Request) -> List[Source]:
@@ -124,18 +126,23 @@ def of_sources(sessions: 'Inputs', sources: Sequence[Source], asked: Asked) -> O
     parts = [sessions.submit(place, label, worker_tasks.read_edges, list(source), type(source), asked.bipartite)
              for place, label, source in zip(places, labels, sources)]
     told = _told(sessions, places, labels, parts, sources)
-    vertices = None if told is None else _vertices([names for names, _, _ in told])
+    vertices = None if told is None else _vertices([names for names, *_ in told])
     if told is None or vertices is None:
         return None
-    weighted = any(valued for _, valued, _ in told)
+    weighted = any(valued for _, valued, *_ in told)
     op = None if asked.dup_op is None else find('binary', asked.dup_op)
     sizes = [len(names) for names in vertices.names]
     to = [To(numbers, sizes[0], sizes[-1], asked.directed, not weighted and op is None) for numbers in vertices.places]
     made = _Moved(sessions, places, labels, parts, to).made(op, weighted, vertices, asked.name)
     rows, columns = (_named(names) for names in (vertices.names[0], vertices.names[-1]))
-    made.notes = Notes(rows, rows if len(sizes) == 1 else columns, asked.directed, weighted or op is not None, told[0][2],
+    made.notes = Notes(rows, rows if len(sizes) == 1 else columns, asked.directed, weighted or op is not None, _left_out(told).behind(told[0][2]),
                        units.of_read(asked.scale, asked.dup_op) if weighted else 1)
     return made
+
+
+def _left_out(told: Sequence[Any]) -> LeftOut:
+    """What all parts leave out."""
+    return functools.reduce(LeftOut.plus, (part[3] for part in told), LeftOut())
 
 
 def _named(names: Nodes) -> Optional[Nodes]:

@@ -40,17 +40,17 @@ def whole(matrix: 'BlockMatrix') -> Any:
     if matrix.of_client:
         held: Any = matrix
         return held.whole()
-    if matrix.whole_piece is None:
+    if 'whole' not in matrix.kept:
         if matrix.ncols == 1 and matrix.cut.blocks > 1:
-            matrix.whole_piece = matrix.sessions.submit(next(matrix.sessions.turns), 'the whole of a %dx%d matrix' % matrix.shape,
+            matrix.kept['whole'] = matrix.sessions.submit(next(matrix.sessions.turns), 'the whole of a %dx%d matrix' % matrix.shape,
                                                    worker_tasks.joined_vector, matrix.futures)
         elif matrix.cut.blocks == 1:
-            matrix.whole_piece = matrix.futures[0]
+            matrix.kept['whole'] = matrix.futures[0]
         else:
             parts = [_lines(matrix, block, first, end) for block, (first, end) in enumerate(matrix.cut.ranges())]
-            matrix.whole_piece = matrix.sessions.submit(next(matrix.sessions.turns), 'the whole of a %dx%d matrix' % matrix.shape,
+            matrix.kept['whole'] = matrix.sessions.submit(next(matrix.sessions.turns), 'the whole of a %dx%d matrix' % matrix.shape,
                                                    worker_tasks.assembled, matrix.shape, parts)
-    return matrix.whole_piece
+    return matrix.kept['whole']
 
 
 def recut(matrix: 'BlockMatrix', cut: Cut) -> 'BlockMatrix':

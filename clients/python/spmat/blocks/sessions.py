@@ -12,6 +12,7 @@ from typing import Any, Callable, Dict, Iterable, List, Optional, Sequence, Tupl
 
 from .._client.pending_jobs import Budget, JobResult, Run
 from .._client.server_program import Program
+from ..aliases import is_same
 from ..errors import BudgetExceeded, SpmatError
 from ..io import coo
 from ..limits import MOST_STEPS, MOST_WORKERS
@@ -188,7 +189,7 @@ class Sessions(Inputs):
 
     def forget(self, matrix: BlockMatrix) -> None:
         """Takes a result from those that `run` waits for."""
-        self._waiting[:] = [one for one in self._waiting if one() is not matrix]
+        self._waiting[:] = [one for one in self._waiting if (held := one()) is not None and not is_same(held, matrix)]
 
     def _one(self, label: str, function: Callable[..., Any], *args: Any) -> Any:
         """What a task gives at one of the sessions, whichever."""

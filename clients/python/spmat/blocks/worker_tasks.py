@@ -81,8 +81,8 @@ def read_edges(store: Store, source: Sequence[Any], kind: Any, bipartite: bool) 
 
 
 def names_of(store: Store, part: Optional[edgelist_partitions.EdgePart]) -> Any:
-    """The names that stand in a part, whether its edges have values, and what was taken of it."""
-    return None if part is None else (part.names, part.values is not None, part.told)
+    """The names that stand in a part, whether its edges have values, what was taken of it, and what was left out."""
+    return None if part is None else (part.names, part.values is not None, part.told, part.left_out)
 
 
 def edge_counts(store: Store, part: edgelist_partitions.EdgePart, to: edgelist_partitions.To, edges: Sequence[int]) -> Any:

@@ -32,13 +32,19 @@ def add_graph_options(command: argparse.ArgumentParser) -> None:
                          'for standard input' % ', '.join(matrix_market.ENDINGS))
     command.add_argument('--undirected', action='store_true', help='take the graph without directions, weights and loops')
     command.add_argument('--both-ways', action='store_true', help='each edge leads both ways, with its value, of two the lesser')
-    command.add_argument('--bipartite', action='store_true', help='sources and targets (rows and columns) are two kinds of vertices')
+    command.add_argument('--bipartite', action='store_true', default=None, help='sources and targets (rows and columns) are two kinds of vertices')
+    command.add_argument('--one-kind', dest='bipartite', action='store_false', help='.. are one kind, also where the header names two')
     group = command.add_argument_group('how the file is read')
     group.add_argument('--format', choices=FORMATS, help='what it is (default: by what stands in it)')
     group.add_argument('--delimiter', type=character, metavar='C', help='what parts the fields of a list (default: tab, comma, semicolon or blanks)')
     group.add_argument('--header', action='store_true', default=None, help='the first line of a list names its columns')
     group.add_argument('--no-header', dest='header', action='store_false', help='.. is an edge (default: by what stands there)')
     group.add_argument('--columns', metavar='FROM,TO[,VALUE]', help='which columns of a list are read: by name, or from 0')
+    group.add_argument('--comments', action='append', metavar='TEXT', help='what begins a comment in any line of a list; may stand several times '
+                       '(default: lines above the first row that begin with # or %%)')
+    group.add_argument('--no-comments', dest='comments', action='store_const', const=[], help='no line is a comment')
+    group.add_argument('--missing', choices=('raise', 'skip', 'keep'), default='raise', help='lines with a missing name or value are refused or '
+                       'left out; keep: nan is a name as any other (default: raise)')
     group.add_argument('--pattern', action='store_true', help='read no values: each edge has 1')
     group.add_argument('--scale', type=float, metavar='N', help='multiply values by N and round them to whole numbers')
     group.add_argument('--dup-op', metavar='OP', help='joins the values of an edge that repeats: plus, max, first, ..')
@@ -120,8 +126,8 @@ def read_graph(session: Session, options: argparse.Namespace, needs: Needs) -> M
     if not text.strip():
         raise ReadError(file, None, 'it is empty')
     request = request_of(options, text, needs)
-    graph = session.read_graph(Loaded(file, text), request.format, directed=request.directed, bipartite=request.bipartite,
-                               dup_op=options.dup_op, nodelist=request.nodelist, **request.layout._asdict())
+    graph = session.read_graph(Loaded(file, text), request.format, directed=request.directed, dup_op=options.dup_op, nodelist=request.nodelist,
+                               **request.layout._asdict())
     if graph.notes.source and not options.quiet:
         print(graph.notes.source, file=sys.stderr)             # which columns were taken, so that a wrong guess is seen
     name_vertices(graph, 1 if format_of(text) == 'mtx' else 0)
@@ -146,9 +152,10 @@ def request_of(options: argparse.Namespace, text: bytes, needs: Needs) -> Reques
     columns = None if options.columns is None else [int(word) if word.isdigit() else word for word in options.columns.split(',')]
     plain = format_of(text) == 'mtx' and matrix_market.is_plain(text)
     values = not options.pattern and (plain or (needs.values and not options.undirected) or options.scale is not None)
-    layout = Layout(options.delimiter, options.header, columns, values, options.scale)
-    two = options.bipartite and format_of(text) not in ('mtx', 'dimacs', 'graphml', 'gexf', 'gml')
-    return Request(options.format, layout, None, None, two)
+    two = options.bipartite if format_of(text) not in ('mtx', 'dimacs', 'graphml', 'gexf', 'gml') else False
+    layout = Layout(options.delimiter, options.header, columns, values, options.scale, two, True if options.comments is None else options.comments,
+                    None if options.missing == 'keep' else options.missing)
+    return Request(options.format, layout)
 
 
 def name_vertices(graph: Matrix, first: int) -> None:

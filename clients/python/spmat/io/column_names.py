@@ -34,6 +34,16 @@ WEAK_VALUES = {'amount', 'amt', 'cost', 'count', 'cnt', 'counts', 'distance', 'd
                'volume', 'similarity', 'trips', 'calls', 'passengers', 'messages', 'bytes'}
 NO_VALUES = {'', 'id', 'index', 'idx', 'key', 'edge', 'edgeid', 'edgeno', 'rowid', 'rowno', 'no', 'nr', 'unnamed0', 'label', 'type',
              'timestamp', 'time', 'date', 'datetime', 'year', 'ts'}
+# Words that name what things are, where those of ends name what part a thing takes: two of these are two kinds of vertices.
+KINDS = {
+    'account', 'actor', 'album', 'app', 'article', 'artist', 'author', 'board', 'book', 'business', 'category', 'channel', 'city', 'club', 'comment',
+    'company', 'conference', 'country', 'course', 'customer', 'department', 'device', 'director', 'disease', 'doctor', 'document', 'domain', 'drug',
+    'employee', 'event', 'film', 'firm', 'game', 'gene', 'group', 'hashtag', 'item', 'job', 'journal', 'keyword', 'member', 'merchant', 'movie', 'order',
+    'page', 'paper', 'patient', 'person', 'player', 'post', 'product', 'project', 'protein', 'publication', 'query', 'reader', 'repository', 'restaurant',
+    'shop', 'skill', 'song', 'species', 'store', 'student', 'subreddit', 'supplier', 'tag', 'task', 'teacher', 'team', 'topic', 'track', 'user', 'vendor',
+    'venue', 'video', 'word', 'worker'}
+# Words beside them that name no kind.
+NO_KINDS = {'id', 'ids', 'idx', 'index', 'name', 'no', 'nr', 'number', 'key', 'code', 'uuid', 'title', 'label'}
 
 
 class Pair(NamedTuple):
@@ -65,6 +75,24 @@ def pairs(fields: Sequence[str]) -> List[Pair]:
             if pair is not None:
                 found.append(pair)
     return sorted(found, key=lambda pair: pair.rank)
+
+
+def two_kinds(source: str, target: str) -> Optional[str]:
+    """What asks for `bipartite=` where two columns are called by two kinds of things, as `user_id` and `item_id` are; None where they
+    aren't. The number of a user is no number of an item."""
+    kinds = _kind(source), _kind(target)
+    if None in kinds or kinds[0] == kinds[1]:
+        return None
+    return ('%r and %r name two kinds of vertices: bipartite=True keeps %s 1 and %s 1 apart, bipartite=False takes equal names for one vertex'
+            % (source, target, *kinds))
+
+
+def _kind(field: str) -> Optional[str]:
+    """The kind of things that a column is called by."""
+    words = [word for word in parts(field) if word not in NO_KINDS]
+    last = words[-1] if words else ''
+    spelled = (last, last[:-1] if last.endswith('s') else last, last[:-2] if last.endswith('id') else last)
+    return next((word for word in spelled if word in KINDS), None)
 
 
 def _pair(source: Tuple[int, str], target: Tuple[int, str], weak: Set[Tuple[str, str]]) -> Optional[Pair]:

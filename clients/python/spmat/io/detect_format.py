@@ -25,7 +25,11 @@ class Request(NamedTuple):
     layout: Layout = Layout()
     directed: Optional[bool] = None
     nodelist: Optional[Sequence[Any]] = None
-    bipartite: bool = False
+
+    @property
+    def bipartite(self) -> bool:
+        """Whether sources and targets are two kinds of vertices."""
+        return bool(self.layout.bipartite)
 
 
 def format_of(text: bytes) -> str:
@@ -88,7 +92,7 @@ def _edges_of(file: str, text: bytes, request: Request, folds: bool) -> Tuple[Ed
                                    nodelist=nodes if how.nodelist is None else how.nodelist)
     if format == 'parquet':
         return graphml_gml_parquet.table(file, text, layout), how
-    if layout.columns is None and graphml_gml_parquet.has_dictionaries(text):
+    if layout.columns is None and graphml_gml_parquet.has_dictionaries(text, layout.comments):
         return graphml_gml_parquet.with_dictionaries(file, text, layout), how
     delimiter = layout.delimiter if layout.delimiter is not None else PARTED.get(format)
     return edgelist_text.read(file, text, layout._replace(delimiter=delimiter)), how

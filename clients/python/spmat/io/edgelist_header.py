@@ -9,19 +9,25 @@ from typing import List, NamedTuple, Optional, Sequence, Tuple, Union
 
 from ..errors import ReadError
 from . import column_names
+from .comment_lines import Comments
 from .edge_values import is_missing
+from .left_out import RAISE
 
 Column = Union[int, str]
 
 
 class Layout(NamedTuple):
     """How a list is written. None: by what stands in it. `columns` are those of the two names, and perhaps of the value: numbers from
-    0, or words of the header."""
+    0, or words of the header. `bipartite` says whether sources and targets are two kinds of vertices; None where nobody said it, which
+    is asked where the header names two. `missing` None takes nothing for missing."""
     delimiter: Optional[str] = None
     header: Optional[bool] = None
     columns: Optional[Sequence[Column]] = None
     values: bool = True
     scale: Optional[float] = None
+    bipartite: Optional[bool] = None
+    comments: Comments = True
+    missing: Optional[str] = RAISE
 
 
 class Head(NamedTuple):
@@ -61,7 +67,16 @@ def _called(first: Sequence[str], at: int, header: bool) -> str:
 
 
 def chosen(head: Head, layout: Layout) -> Choice:
-    """Which columns are read. ReadError where that can't be told, with the arguments that tell it."""
+    """Which columns are read. ReadError where that can't be told, with the arguments that tell it; also where the header names two
+    kinds of vertices."""
+    choice = _chosen(head, layout)
+    question = column_names.two_kinds(*(head.first[at] for at in choice.ends)) if choice.header and layout.bipartite is None else None
+    if question is not None:
+        raise head.fault(question)
+    return choice
+
+
+def _chosen(head: Head, layout: Layout) -> Choice:
     if layout.columns is not None:
         return _asked_for(head, layout)
     if len(head.first) < 2:

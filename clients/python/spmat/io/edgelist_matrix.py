@@ -12,6 +12,7 @@ from ..limits import MOST_SIDE
 from ..metadata import Nodes, Notes
 from . import coo, matrix_market
 from .factorize import Coded, ascending, factorized
+from .left_out import LeftOut
 from .matrix_text import FEW, Triples, find_numpy, is_array
 
 FOLDS = 'dup_op= folds them: "plus", "min", "max", "first", ..'
@@ -19,12 +20,13 @@ FOLDS = 'dup_op= folds them: "plus", "min", "max", "first", ..'
 
 class Edges(NamedTuple):
     """Edges in order: from where, to where, and their values, or None where they have none. `where(k)` says in words where edge k
-    stands, `told` what was taken of a file."""
+    stands, `told` what was taken of a file, `left_out` what was not."""
     sources: Any
     targets: Any
     values: Any
     where: Callable[[int], str]
     told: str = ''
+    left_out: LeftOut = LeftOut()
 
 
 class How(NamedTuple):
@@ -61,7 +63,7 @@ def graph_of(edges: Edges, how: How) -> Graph:
         triples = matrix_market.lowered(triples, 'symmetric')
     if not how.folds:
         triples = _once(triples, edges, first, second)
-    notes = Notes(_named(first), _named(second), how.directed, edges.values is not None, edges.told)
+    notes = Notes(_named(first), _named(second), how.directed, edges.values is not None, edges.left_out.behind(edges.told))
     return Graph(triples, notes._replace(columns=notes.rows) if second is first else notes)
 
 
@@ -70,7 +72,7 @@ def _among(edges: Edges, kept: Any) -> Edges:
     sources, targets = _plain(edges.sources), _plain(edges.targets)
     inside = [at for at, (u, v) in enumerate(zip(sources, targets)) if u in kept and v in kept]
     values = edges.values if edges.values is None else [edges.values[at] for at in inside]
-    return Edges([sources[at] for at in inside], [targets[at] for at in inside], values, lambda k: edges.where(inside[k]), edges.told)
+    return Edges([sources[at] for at in inside], [targets[at] for at in inside], values, lambda k: edges.where(inside[k]), *edges[4:])
 
 
 def _plain(column: Any) -> List[Any]:

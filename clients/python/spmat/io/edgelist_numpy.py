@@ -18,7 +18,6 @@ MOST_DIGITS = 18                                   # of a name or a value that i
 MOST_WORDS = 32                                    # of eight bytes, in a name
 LF, BLANK, MINUS, ZERO = 10, 32, 45, 48
 ODD = bytes(code for code in range(32) if code not in b'\t\n\r') + b'\x7f'
-COMMENTS = b'#%'
 SPACE = re.compile(r'[^\S \t\n\r]')                # of other alphabets, which str.strip takes away
 FLOAT = b'0123456789.eE+-'
 WHOLE = re.compile('0|-?[1-9][0-9]*')
@@ -65,7 +64,7 @@ def read(text: bytes, start: int, shape: Shape, rounding: Rounding) -> Optional[
     for kind in kinds:
         names, values = kind(shape.ends), None if shape.value is None else _Values(shape.value)
         if all(cut is not None and names.take(cut) and (values is None or values.take(cut)) for cut in _cuts(text, start, shape)):
-            found = names.joined(len(text))
+            found = names.joined(len(text), shape.blanks)
             made = None if values is None else values.joined(rounding)
             return None if found is None or (values is not None and made is None) else Columns(found[0], found[1], made)
     return None
@@ -100,19 +99,17 @@ def _plain(piece: bytes, shape: Shape) -> Optional[bytes]:
         return piece.replace(b'\t', b' ')
     if b'"' in piece:
         part = re.escape(shape.delimiter)
-        piece = re.sub(rb'(?m)(?:^|(?<=%s)) *"([^"\n%s]*)"(?=%s|$)' % (part, part, part), rb'\1', piece)
+        piece = re.sub(rb'(?m)(?:^|(?<=%s)) *"(?! )([^"\n%s]*)(?<! )"(?=%s|$)' % (part, part, part), rb'\1', piece)
     return None if b'"' in piece or (shape.delimiter != b'\t' and b'\t' in piece) else piece
 
 
 def _tidied(piece: bytes, shape: Shape) -> bytes:
-    """A piece without comments, blank lines, and blanks around fields."""
+    """A piece without blank lines, and blanks around fields."""
     if shape.blanks:
-        piece = re.sub(rb'(?m)^[#%].*$', b'', piece)
         piece = re.sub(rb' +', b' ', piece)
         piece = re.sub(rb'(?m)^ | $', b'', piece)
     else:
         piece = re.sub(rb'(?m)^ +| +$', b'', piece)
-        piece = re.sub(rb'(?m)^[#%].*$', b'', piece)
         piece = re.sub(rb' *(%s) *' % re.escape(shape.delimiter), rb'\1', piece)
     return re.sub(rb'\n{2,}', b'\n', piece).lstrip(b'\n')
 
@@ -134,10 +131,7 @@ def _cut(piece: bytes, shape: Shape) -> Optional[_Cut]:
         return None
     words: Any = numpy.ndarray((len(marks) - 7,), '<u8', marks.data, 0, (1,))
     cut = _Cut(marks, words, starts, ends)
-    first = marks[starts[:, 0]]
-    if ((first == COMMENTS[0]) | (first == COMMENTS[1])).any() or not all(_is_bare(cut, at, shape) for at in {0, *shape.ends}):
-        return None
-    return cut
+    return cut if all(_is_bare(cut, at, shape) for at in {0, *shape.ends}) else None
 
 
 def _is_bare(cut: _Cut, at: int, shape: Shape) -> bool:
@@ -216,8 +210,8 @@ class _Names:
         """Adds those of a piece; False where they are of another kind."""
         raise NotImplementedError
 
-    def joined(self, size: int) -> Optional[Tuple[Any, Any]]:
-        """The two columns, of a text of so many bytes. None where they have to be read line by line."""
+    def joined(self, size: int, blanks: bool) -> Optional[Tuple[Any, Any]]:
+        """The two columns, of a text of so many bytes; `blanks` says what parts its fields. None where they have to be read line by line."""
         raise NotImplementedError
 
 
@@ -232,7 +226,7 @@ class _Numbers(_Names):
         self._parts.append(found)
         return True
 
-    def joined(self, size: int) -> Optional[Tuple[Any, Any]]:
+    def joined(self, size: int, blanks: bool) -> Optional[Tuple[Any, Any]]:
         """The two columns."""
         return _concatenated([part[0] for part in self._parts]), _concatenated([part[1] for part in self._parts])
 
@@ -256,9 +250,9 @@ class _Texts(_Names):
         self._parts.append(rows)
         return True
 
-    def joined(self, size: int) -> Optional[Tuple[Any, Any]]:
-        """The two columns. None where a few long names would take more memory than twice the text, and where names may be missing, or
-        are long whole numbers."""
+    def joined(self, size: int, blanks: bool) -> Optional[Tuple[Any, Any]]:
+        """The two columns. None where a few long names would take more memory than twice the text, and where names may be missing, are
+        long whole numbers, or may begin a comment."""
         import numpy
         count = max((rows.shape[1] for rows in self._parts), default=1)
         total = sum(len(rows) for rows in self._parts)
@@ -272,7 +266,8 @@ class _Texts(_Names):
             at += len(rows)
         codes, first = first_seen(keys)
         names = [name.decode('utf-8') for name in keys[first].astype('<u8').view('S%d' % (8 * count)).ravel().tolist()]
-        if any(len(name) <= LONGEST_MISSING and is_missing(name) for name in names) or all(map(WHOLE.fullmatch, names)):
+        if any(len(name) <= LONGEST_MISSING and is_missing(name) for name in names) or all(map(WHOLE.fullmatch, names)) or (
+                blanks and any(not name.strip('#%') for name in names)):
             return None
         return Coded(codes[0::2], names), Coded(codes[1::2], names)
 

@@ -1,34 +1,38 @@
 """Edge lists: a line an edge, with the names of two vertices and perhaps a value, parted by commas, tabs, semicolons or blanks.
 
-A line that begins with # or %, and one without anything, is passed over. Fields parted by commas, tabs or semicolons may be quoted, as
-the module csv has it. Long lists are read in bulk where numpy is there (`edgelist_numpy`), and line by line where anything is unusual.
+A line without anything is passed over, and so are comments (`comment_lines`). Fields parted by commas, tabs or semicolons may be quoted
+(`quoted_fields`). Long lists are read in bulk where numpy is there (`edgelist_numpy`), and line by line where anything is unusual.
 """
 from __future__ import annotations
 
-import csv
-import io
 import itertools
-from typing import Any, Iterator, List, NamedTuple, Optional, Tuple
+import re
+from typing import Any, Iterable, List, NamedTuple, Optional, Tuple
 
 from ..errors import ReadError
-from . import edgelist_numpy
+from . import column_names, comment_lines, edgelist_numpy
+from .comment_lines import Comments
 from .edge_values import Rounding, Wrong, is_missing, whole_values
 from .edgelist_header import Head, Layout, chosen, is_number
 from .edgelist_matrix import Edges
+from .left_out import NO_NAMES, SKIP, SKIPS, LeftOut, check_missing
 from .matrix_text import FEW, find_numpy, line_at
+from .quoted_fields import Quoted, Row, fields_of, rows_of
 
 # What may part the fields. (Where commas are those of decimals, semicolons are in every line.)
 DELIMITERS = (b'\t', b';', b',', b'|')
 NAMES = {'\t': 'tabs', ',': 'commas', ';': 'semicolons', '|': 'bars'}
-COMMENTS = (b'#', b'%')
+VALUELESS = 'the value is missing (%%r): fill it in, or %s; values=False reads no values' % (SKIPS % 'line')
 SAMPLE = 100                                       # lines that are looked at
 LONG = 1 << 20                                     # of so many bytes, at most
 
 
 class Table(NamedTuple):
-    """A list to be read: its name for errors, its bytes, what parts the fields (None: blanks), the number of lines before the first
-    edge, the places of the two names and of the value, how many fields a line has, and what is taken, in words."""
+    """A list to be read: its name for errors, its bytes as they are and without comments, what parts the fields (None: blanks), the number of
+    lines before the first edge, the places of the two names and of the value, how many fields a line has, what is taken, in words, and what is
+    passed over."""
     file: str
+    original: bytes
     text: bytes
     delimiter: Optional[str]
     skipped: int
@@ -36,47 +40,79 @@ class Table(NamedTuple):
     value: Optional[int]
     width: int
     told: str
+    left_out: LeftOut = LeftOut()
 
 
 def read(file: str, text: bytes, layout: Layout) -> Edges:
     """The edges of a list. ReadError, a ValueError, names the file and the line of what is wrong."""
     table = laid_out(file, text, layout)
-    return _in_bulk(table, layout.scale) or _slowly(table, layout.scale)
+    return _in_bulk(table, layout.scale) or _slowly(table, layout)
 
 
 # -- how it is written
 
 def laid_out(file: str, text: bytes, layout: Layout) -> Table:
     """How a list is written, by what the caller says and by its first lines. ReadError where that can't be told."""
-    delimiter = layout.delimiter if layout.delimiter is not None else delimiter_of(text)
+    check_missing(layout.missing)
+    plain, left_out = comment_lines.blanked(text, layout.comments)
+    comments = list(comment_lines.above(text)) if layout.comments is True and left_out.comments else []
+    delimiter = layout.delimiter if layout.delimiter is not None else delimiter_of(plain if plain.strip() else b'\n'.join(line for _, line in comments))
     delimiter = None if delimiter is None or not delimiter.strip(' ') else delimiter
     if delimiter is not None and len(delimiter) != 1:
         raise ValueError('a delimiter is one character, or blanks, not %r' % delimiter)
-    rows = _first_rows(file, text, delimiter)
+    rows = _first_rows(file, plain, delimiter)
+    header = _header_above(file, comments, rows, delimiter, layout)
     if not rows:
-        return Table(file, text, delimiter, 0, (0, 1), None, 2, '')
-    number, first = rows[0]
-    choice = chosen(Head(file, number, first, [fields for _, fields in rows[1:]]), layout)
-    return Table(file, text, delimiter, number if choice.header else 0, choice.ends, choice.value, len(first), '%s: %s' % (file, choice.told(first)))
+        return Table(file, text, plain, delimiter, 0, (0, 1), None, 2, '', left_out)
+    number, first = header or rows[0]
+    below = [fields for _, fields in (rows if header else rows[1:])]
+    choice = chosen(Head(file, number, first, below), layout if header is None else layout._replace(header=True))
+    skipped = rows[0].number - (0 if choice.header and header is None else 1)
+    left_out = left_out if header is None else left_out._replace(comments=left_out.comments - 1)
+    return Table(file, text, plain, delimiter, skipped, choice.ends, choice.value, len(first), '%s: %s' % (file, choice.told(first)), left_out)
 
 
-def _first_rows(file: str, text: bytes, delimiter: Optional[str]) -> List[Tuple[int, List[str]]]:
-    """The first lines that have fields, with their numbers."""
+def _first_rows(file: str, text: bytes, delimiter: Optional[str]) -> List[Row]:
+    """The first lines that have fields."""
     end = len(text) if len(text) <= LONG else text.rfind(b'\n', 0, LONG) + 1 or len(text)
-    rows: List[Tuple[int, List[str]]] = []
+    rows: List[Row] = []
     try:
-        rows.extend(row for _, row in zip(range(SAMPLE), rows_of(file, text[:end], delimiter)))
+        rows.extend(itertools.islice(rows_of(file, text[:end], delimiter), SAMPLE))
     except ReadError:                              # it comes again where the whole is read; a quotation may only end later
         if not rows:
             raise
     return rows
 
 
+def _header_above(file: str, comments: List[Tuple[int, bytes]], rows: List[Row], delimiter: Optional[str], layout: Layout) -> Optional[Row]:
+    """The header where it begins with # or %, as `#id,from,to`: a comment line directly above the first row with known words, or those of
+    `columns=`, and as many fields as the row. ReadError for a line that may as well be an edge: one that is written as the rows are, without
+    a blank behind its mark."""
+    if rows and layout.header is not False and column_names.pairs(rows[0].fields):
+        return None
+    for at, (number, line) in enumerate(comments):
+        words = line.decode('utf-8', 'replace')
+        marked, fields = (fields_of(part, delimiter) for part in (words, words.lstrip('#%')))
+        fits = len(marked) == len(rows[0].fields) if rows else len(marked) > 1
+        if at + 1 == len(comments) and layout.header is not False and len(fields) == (len(rows[0].fields) if rows else len(marked)) > 1:
+            known = set(layout.columns or ()) <= set(fields) if layout.columns is not None else bool(column_names.pairs(fields))
+            if known and (delimiter is not None or comment_lines.is_attached(line)):
+                return Row(number, fields)
+        if fits and comment_lines.is_attached(line):
+            raise _comment_or_row(file, number, words)
+    return None
+
+
+def _comment_or_row(file: str, number: int, line: str) -> ReadError:
+    return ReadError(file, number, 'this line may be a comment or a row: comments="%s" passes over such lines, comments=None reads them' % line[0], line)
+
+
 def delimiter_of(text: bytes) -> Optional[str]:
-    """What parts the fields: a tab, a semicolon, a comma or a bar, where the first line and most of those behind it have one; else
-    None, blanks. A semicolon has to be in each line as often as in the first, where commas are there too."""
-    lines = [line for line in text[:1 << 16].split(b'\n')[:SAMPLE] if line.strip() and not line.startswith(COMMENTS)]
+    """What parts the fields: a tab, a semicolon, a comma or a bar, where the first line and most of those behind it have one outside of
+    quotation marks; else None, blanks. A semicolon has to be in each line as often as in the first, where commas are there too."""
+    lines = [line for line in text[:1 << 16].split(b'\n')[:SAMPLE] if line.strip()]
     lines = lines[:-1] if len(lines) > 1 and len(text) > 1 << 16 else lines          # the last one may be cut
+    lines = [re.sub(rb'"[^"]*"', b'""', line) for line in lines]
     for delimiter in DELIMITERS:
         often = [line.count(delimiter) for line in lines]
         if not lines or not often[0] or 2 * sum(map(bool, often)) <= len(lines):
@@ -87,46 +123,49 @@ def delimiter_of(text: bytes) -> Optional[str]:
     return None
 
 
-def rows_of(file: str, text: bytes, delimiter: Optional[str]) -> Iterator[Tuple[int, List[str]]]:
-    """Each line's number and fields. ReadError where it isn't UTF-8, or a quotation doesn't end."""
-    if delimiter is None:
-        for number, line in enumerate(text.split(b'\n'), 1):
-            fields = _decoded(file, number, line).split()
-            if fields and not line.startswith(COMMENTS):
-                yield number, fields
-        return
-    reader = csv.reader(io.StringIO(_decoded(file, None, text), newline=''), delimiter=delimiter, skipinitialspace=True, strict=True)
-    before = 0
-    try:
-        for row in reader:
-            number, before = before + 1, reader.line_num
-            if row and not row[0].startswith(('#', '%')) and (len(row) > 1 or row[0].strip()):
-                yield number, [field.strip() for field in row]
-    except csv.Error as fault:
-        raise ReadError(file, before + 1, 'no list of fields (%s)' % fault, line_at(text, before + 1)) from None
-
-
-def _decoded(file: str, number: Optional[int], line: bytes) -> str:
-    try:
-        return line.decode('utf-8')
-    except UnicodeDecodeError as fault:
-        number = number if number is not None else line.count(b'\n', 0, fault.start) + 1
-        raise ReadError(file, number, 'no UTF-8 (byte %02x): convert it, as iconv -f latin1 -t utf-8 does' % line[fault.start]) from None
-
-
 # -- what stands in it
 
-def _slowly(table: Table, scale: Optional[float]) -> Edges:
+class _Columns(NamedTuple):
+    """Of each edge the line, the two names, and the field of its value; and the edges of which a name is missing."""
+    numbers: List[int]
+    sources: List[str]
+    targets: List[str]
+    values: List[str]
+    nameless: List[int]
+
+    def without(self, some: Iterable[int]) -> _Columns:
+        """The others of these edges."""
+        gone = set(some)
+        if not gone:
+            return self
+        all_columns: List[List[Any]] = [self.numbers, self.sources, self.targets, self.values]
+        numbers, *fields = [[field for at, field in enumerate(column) if at not in gone] for column in all_columns]
+        return _Columns(numbers, fields[0], fields[1], fields[2], [])
+
+
+def _slowly(table: Table, layout: Layout) -> Edges:
     """Line by line."""
-    numbers, sources, targets, values = _fields(table)
+    columns, left_out = _fields(table, layout.comments), table.left_out
 
     def wrong(at: int, words: str) -> ReadError:
-        return ReadError(table.file, numbers[at], words, line_at(table.text, numbers[at]))
-    for column in (sources, targets):
-        _check_names(column, wrong)
-    rounding = Rounding(scale)
-    whole = None if table.value is None else whole_values(values, scale, wrong, rounding)
-    return Edges(*_names(sources, targets), whole, lambda at: '%s, line %d' % (table.file, numbers[at]), _told(table, rounding))
+        return ReadError(table.file, columns.numbers[at], words, line_at(table.original, columns.numbers[at]))
+    if layout.missing is not None:
+        nameless = sorted({*columns.nameless, *_nameless_numbers(columns.sources), *_nameless_numbers(columns.targets)})
+        if nameless and layout.missing != SKIP:
+            raise wrong(nameless[0], _said_of_name(columns, nameless[0]))
+        left_out, columns = left_out._replace(names=len(nameless)), columns.without(nameless)
+    if layout.missing == SKIP and table.value is not None:
+        valueless = [at for at, value in enumerate(columns.values) if is_missing(value)]
+        left_out, columns = left_out._replace(values=len(valueless)), columns.without(valueless)
+    for column in (columns.sources, columns.targets):
+        _check_line_ends(column, wrong)
+
+    def no_value(at: int, words: str) -> ReadError:
+        return wrong(at, VALUELESS % columns.values[at] if layout.missing is not None and is_missing(columns.values[at]) else words)
+    rounding = Rounding(layout.scale)
+    whole = None if table.value is None else whole_values(columns.values, layout.scale, no_value, rounding)
+    return Edges(*_names(columns.sources, columns.targets), whole, lambda at: '%s, line %d' % (table.file, columns.numbers[at]),
+                 _told(table, rounding), left_out)
 
 
 def _told(table: Table, rounding: Rounding) -> str:
@@ -134,44 +173,59 @@ def _told(table: Table, rounding: Rounding) -> str:
     return table.told if table.value is None or rounding.scale is None else '%s; %s' % (table.told, rounding)
 
 
-def _check_names(names: List[str], wrong: Wrong) -> None:
-    """Raises the error of a name with a line end, and of one that is missing where all others of its column are numbers."""
+def _said_of_name(columns: _Columns, at: int) -> str:
+    """What is said of an edge of which a name is missing."""
+    name = next(name for name in (columns.sources[at], columns.targets[at]) if is_missing(name))
+    skip = SKIPS % 'line'
+    return 'a name is empty: %s' % skip if not name else 'a name is missing (%r): %s, missing=None takes it for a name' % (name, skip)
+
+
+def _check_line_ends(names: List[str], wrong: Wrong) -> None:
+    """Raises the error of a name with a line end."""
     joined = '\0'.join(names)
     if '\n' in joined or '\r' in joined:
         raise wrong(next(at for at, name in enumerate(names) if '\n' in name or '\r' in name), 'a name has an end of line in it')
-    missing = next((at for at, name in enumerate(names) if is_missing(name)), None)
-    if missing is not None and len(names) > 1 and all(is_number(name) or is_missing(name) for name in names) and any(map(is_number, names)):
-        raise wrong(missing, 'a name is missing (%r), and the others of its column are numbers: leave the line out' % names[missing])
 
 
-def _fields(table: Table) -> Tuple[List[int], List[str], List[str], List[str]]:
-    """Of each edge the line, the two names, and the field of its value."""
-    numbers: List[int] = []
-    sources: List[str] = []
-    targets: List[str] = []
-    values: List[str] = []
+def _nameless_numbers(names: List[str]) -> List[int]:
+    """The names that are missing where all others of a column are numbers."""
+    missing = [at for at, name in enumerate(names) if is_missing(name)]
+    are_numbers = missing and any(map(is_number, names)) and all(is_number(name) or is_missing(name) for name in names)
+    return missing if are_numbers else []
+
+
+def _fields(table: Table, comments: Comments) -> _Columns:
+    """The fields of each edge that are read. A name in quotation marks isn't missing, unless its whole line is written so. ReadError where
+    blanks part the fields of a line, and it begins with # alone, as comments do."""
+    asks = comments is True and table.delimiter is None
+    found = _Columns([], [], [], [], [])
     first, second = table.ends
     for number, fields in rows_of(table.file, table.text, table.delimiter):
         if number <= table.skipped:
             continue
         if len(fields) != table.width:
             raise _of_another_width(table, number, fields)
-        if not fields[first] or not fields[second]:
-            raise ReadError(table.file, number, 'a name is empty', line_at(table.text, number))
-        numbers.append(number)
-        sources.append(fields[first])
-        targets.append(fields[second])
+        if asks and not fields[0].strip('#%'):
+            raise _comment_or_row(table.file, number, line_at(table.text, number))
+        if any(fields[at] in NO_NAMES and (not fields[at] or not isinstance(fields[at], Quoted) or all(isinstance(field, Quoted) for field in fields))
+               for at in table.ends):
+            found.nameless.append(len(found.numbers))
+        found.numbers.append(number)
+        found.sources.append(fields[first])
+        found.targets.append(fields[second])
         if table.value is not None:
-            values.append(fields[table.value])
-    return numbers, sources, targets, values
+            found.values.append(fields[table.value])
+    return found
 
 
 def _of_another_width(table: Table, number: int, fields: List[str]) -> ReadError:
     parted = NAMES.get(table.delimiter or '', 'blanks' if table.delimiter is None else repr(table.delimiter))
     words = '%d field%s, and the first line has %d (%s part them)' % (len(fields), '' if len(fields) == 1 else 's', table.width, parted)
-    if line_at(table.text, 1).startswith('%%') or table.file.endswith('.mtx'):
+    if table.original.startswith(b'%%') or table.file.endswith('.mtx'):
         words += '; this is no Matrix Market file'
-    return ReadError(table.file, number, words, line_at(table.text, number))
+    elif fields[0].startswith(('#', '%')):
+        words += '; comments="%s" passes over lines that begin so' % fields[0][0]
+    return ReadError(table.file, number, words, line_at(table.original, number))
 
 
 def _names(sources: List[str], targets: List[str]) -> Tuple[List[Any], List[Any]]:
@@ -179,11 +233,10 @@ def _names(sources: List[str], targets: List[str]) -> Tuple[List[Any], List[Any]
     try:
         numbers = [list(map(int, column)) for column in (sources, targets)]
     except ValueError:
-        return sources, targets
-    same = all(list(map(str, many)) == column for many, column in zip(numbers, (sources, targets)))
-    if not same:
-        return sources, targets
-    return numbers[0], numbers[1]
+        numbers = []
+    if numbers and all(list(map(str, many)) == column for many, column in zip(numbers, (sources, targets))):
+        return numbers[0], numbers[1]
+    return list(map(str, sources)), list(map(str, targets))
 
 
 def _in_bulk(table: Table, scale: Optional[float]) -> Optional[Edges]:
@@ -194,7 +247,9 @@ def _in_bulk(table: Table, scale: Optional[float]) -> Optional[Edges]:
     shape = edgelist_numpy.Shape(delimiter, table.width, table.ends, table.value)
     rounding = Rounding(scale)
     found = edgelist_numpy.read(table.text, _behind(table), shape, rounding)
-    return None if found is None else Edges(*found, lambda at: '%s, line %d' % (table.file, _line_of(table, at)), _told(table, rounding))
+    if found is None:
+        return None
+    return Edges(*found, lambda at: '%s, line %d' % (table.file, _line_of(table, at)), _told(table, rounding), table.left_out)
 
 
 def _line_of(table: Table, at: int) -> int:

@@ -8,7 +8,8 @@ import re
 from typing import Any, List, NamedTuple, Optional, Tuple
 
 from ..errors import ReadError
-from . import pandas
+from . import comment_lines, pandas
+from .comment_lines import Comments
 from .edge_values import Rounding, scaled
 from .edgelist_header import Head, Layout, chosen
 from .edgelist_matrix import Edges
@@ -86,16 +87,16 @@ def table(file: str, text: bytes, layout: Layout) -> Edges:
     return edges._replace(told=told + ('; ' + edges.told if edges.told else ''), where=lambda at: '%s, row %d' % (file, at))
 
 
-def has_dictionaries(text: bytes) -> bool:
+def has_dictionaries(text: bytes, comments: Comments) -> bool:
     """Whether the first edge of a list has a dictionary behind it, as networkx' `write_edgelist` writes it."""
-    for line in text[:1 << 16].split(b'\n'):
-        if line.strip() and not line.startswith((b'#', b'%')):
+    for line in comment_lines.blanked(text[:1 << 16], comments)[0].split(b'\n'):
+        if line.strip():
             return DICTIONARY.fullmatch(line.decode('utf-8', 'replace')) is not None
     return False
 
 
 def dictionaries(file: str, text: bytes, layout: Layout) -> Tuple[List[Tuple[int, str, str]], Optional[List[Any]]]:
-    """The lines and names of a list as networkx writes it, and the values, None where no edge has one. ReadError names the line."""
+    """The lines and names of a list as networkx writes it, without comments, and the values, None where no edge has one. ReadError names the line."""
     found: List[Tuple[int, str, str]] = []
     held: List[Any] = []
     for number, line in enumerate(text.split(b'\n'), 1):
@@ -103,7 +104,7 @@ def dictionaries(file: str, text: bytes, layout: Layout) -> Tuple[List[Tuple[int
             words = line.decode('utf-8')
         except UnicodeDecodeError:
             raise ReadError(file, number, 'no UTF-8: convert it, as iconv -f latin1 -t utf-8 does') from None
-        if not words.strip() or words.startswith(('#', '%')):
+        if not words.strip():
             continue
         parts = DICTIONARY.fullmatch(words)
         try:
@@ -120,7 +121,8 @@ def dictionaries(file: str, text: bytes, layout: Layout) -> Tuple[List[Tuple[int
 
 def with_dictionaries(file: str, text: bytes, layout: Layout) -> Edges:
     """The edges of a list as networkx writes it."""
-    found, values = dictionaries(file, text, layout)
+    plain, left_out = comment_lines.blanked(text, layout.comments)
+    found, values = dictionaries(file, plain, layout)
     rounding = Rounding(None)
     if values is not None:
         try:
@@ -131,4 +133,5 @@ def with_dictionaries(file: str, text: bytes, layout: Layout) -> Edges:
     names = [[source for _, source, _ in found], [target for _, _, target in found]]
     whole = all(re.fullmatch('0|-?[1-9][0-9]*', name) for column in names for name in column)
     columns: List[Any] = [list(map(int, column)) for column in names] if whole else names
-    return Edges(columns[0], columns[1], values, lambda at: '%s, line %d' % (file, found[at][0]), told + ('; %s' % rounding if rounding.count else ''))
+    told += '; %s' % rounding if rounding.count else ''
+    return Edges(columns[0], columns[1], values, lambda at: '%s, line %d' % (file, found[at][0]), told, left_out)

@@ -6,7 +6,8 @@ from typing import Any, Dict, Generic, Iterable, Optional, Sequence, TypeVar
 
 from .. import units
 from ..operators import Op
-from . import archive, coo, matrix_market, networkx_adjacency, pandas
+from . import archive, column_names, coo, matrix_market, networkx_adjacency, pandas
+from .comment_lines import Comments
 from .detect_format import check_format, from_edges
 from .edge_values import Rounding, scaled
 from .edgelist_header import Column
@@ -84,7 +85,7 @@ class Sources(abc.ABC, Generic[Made]):
         return made
 
     def from_edgelist(self, edges: Iterable[Any], *, directed: bool = True, nodelist: Optional[Sequence[Any]] = None, values: bool = True,
-                      scale: Optional[float] = None, bipartite: bool = False, dup_op: DupOp = None, name: Optional[str] = None) -> Made:
+                      scale: Optional[float] = None, bipartite: Optional[bool] = None, dup_op: DupOp = None, name: Optional[str] = None) -> Made:
         """The adjacency matrix of edges by name: (from, to), (from, to, value), or (from, to, {'weight': value}). It is square, and its
         `nodes` are the names: whole numbers ascending, others as they first stand; just 0 to n - 1 need no names. `nodelist` gives them
         in another order, with those that have no edge; edges that leave it are left out.
@@ -92,45 +93,54 @@ class Sources(abc.ABC, Generic[Made]):
         An edge leads one way; with `directed=False` both. With `bipartite` rows and columns are two kinds, each with its names. An edge
         that is given twice is a ValueError where it has values, unless `dup_op` folds them; without values, or with `values=False`, it
         counts once, or with `dup_op="plus"` as often as it is given. `scale` is as for `from_coo`. In networkx and python-graphblas `from_edgelist`."""
-        return self._graph(from_edges(edges, How(directed, nodelist, bipartite, dup_op is not None), values, scale), scale, dup_op, name)
+        return self._graph(from_edges(edges, How(directed, nodelist, bool(bipartite), dup_op is not None), values, scale), scale, dup_op, name)
 
     def from_pandas_edgelist(self, frame: Any, source: Any = 'source', target: Any = 'target', edge_attr: Any = None, *,
                              scale: Optional[float] = None, directed: bool = True, nodelist: Optional[Sequence[Any]] = None,
-                             bipartite: bool = False, dup_op: DupOp = None, name: Optional[str] = None) -> Made:
+                             bipartite: Optional[bool] = None, dup_op: DupOp = None, name: Optional[str] = None) -> Made:
         """The adjacency matrix of a table of pandas: the columns `source` and `target` have the names, `edge_attr` the values (None: 1
-        each), multiplied by `scale` and rounded where that is given. The rest is as `from_edgelist` has it. In networkx the same name."""
+        each), multiplied by `scale` and rounded where that is given. The rest is as `from_edgelist` has it, but that `bipartite=` has to
+        be said where the columns are called by two kinds of vertices, such as user and item. In networkx the same name."""
+        question = column_names.two_kinds(str(source), str(target)) if bipartite is None else None
+        if question is not None:
+            raise ValueError(question)
         edges = pandas.edges_of(frame, (source, target), edge_attr, scale)
-        return self._graph(pandas.graph_of(edges, How(directed, nodelist, bipartite, dup_op is not None)), scale, dup_op, name)
+        return self._graph(pandas.graph_of(edges, How(directed, nodelist, bool(bipartite), dup_op is not None)), scale, dup_op, name)
 
     def read_edgelist(self, path: Any, *, delimiter: Optional[str] = None, header: Optional[bool] = None,
                       columns: Optional[Sequence[Column]] = None, values: bool = True, scale: Optional[float] = None,
-                      directed: bool = True, nodelist: Optional[Sequence[Any]] = None, bipartite: bool = False, dup_op: DupOp = None,
-                      name: Optional[str] = None) -> Made:
+                      directed: bool = True, nodelist: Optional[Sequence[Any]] = None, bipartite: Optional[bool] = None,
+                      comments: Comments = True, missing: Optional[str] = 'raise', dup_op: DupOp = None, name: Optional[str] = None) -> Made:
         """The adjacency matrix of a list of edges: a path (also .gz and .bz2), or a file opened in binary, with an edge a line: two names
-        and perhaps a value, parted by commas, tabs, semicolons or blanks (CSV, TSV, edge list). Lines that begin with # or % are passed
-        over.
+        and perhaps a value, parted by commas, tabs, semicolons or blanks (CSV, TSV, edge list).
+
+        Lines above the first row that begin with # or % are comments, unless they are written as the rows are; `notes.source` counts them.
+        `comments="#"`, or several such texts, begins a comment in any line, but for quoted fields, as in networkx and pandas; with None nothing
+        is a comment. A missing name or value is a ReadError; `missing="skip"` leaves its line out, and `notes.source` counts these. Names
+        are missing where pandas takes them to be (nan, NA, null, nothing), unless they are quoted or `missing` is None.
 
         What isn't given is seen from the first lines: the `delimiter`; whether the first line is a `header` (it has known words, or no
         number where the columns below have numbers); and the `columns` of the two names and of the value, by the header's words (source
         and target, from and to, payer and payee, origin_id and dest_id, and others like these, in whatever columns; weight, value, w,
         amount), or without such words the first two of two columns, or of three with numbers in the third. What they leave open is a
         ReadError that says which argument tells it; `notes.source` has what was taken. `columns` are given by words, or from 0.
-        `values=False` reads no values. Values are whole numbers; with `scale` they are multiplied by it and rounded.
+        `values=False` reads no values. Values are whole numbers; with `scale` they are multiplied by it and rounded. Where the header names
+        two kinds of vertices, such as user and item, `bipartite=` has to say whether they are kept apart.
 
         Names, `directed`, `nodelist`, `bipartite` and `dup_op` are as for `from_edgelist`. ReadError, a ValueError, names the file and
         the line. In networkx `read_edgelist`, in pandas `read_csv`."""
-        layout = Layout(delimiter, header, columns, values, scale)
-        return self._read(path, Request('edges', layout, directed, nodelist, bipartite), dup_op, name)
+        layout = Layout(delimiter, header, columns, values, scale, bipartite, comments, missing)
+        return self._read(path, Request('edges', layout, directed, nodelist), dup_op, name)
 
     def read_graph(self, path: Any, format: Optional[str] = None, *, values: bool = True, scale: Optional[float] = None,
-                   directed: Optional[bool] = None, bipartite: bool = False, dup_op: DupOp = None, name: Optional[str] = None,
+                   directed: Optional[bool] = None, bipartite: Optional[bool] = None, dup_op: DupOp = None, name: Optional[str] = None,
                    **layout: Any) -> Made:
         """The matrix of a file of any format: 'mtx' (Matrix Market, see `mmread`), 'edges', 'csv' or 'tsv' (see `read_edgelist`, whose
-        `delimiter`, `header`, `columns` and `nodelist` it takes), 'dimacs' (.gr, .max, .col; vertices are named from 1), 'graphml', 'gexf'
+        `delimiter`, `header`, `columns`, `comments`, `missing` and `nodelist` it takes), 'dimacs' (.gr, .max, .col; vertices are named from 1), 'graphml', 'gexf'
         and 'gml' by networkx, 'parquet' by pandas. Without a format the content says. `directed` None is as the file
         has it: a DIMACS graph of edges `e` is undirected, the edges of a list lead one way. `values`, `scale`, `bipartite` and `dup_op` are as for `read_edgelist`."""
         nodelist = layout.pop('nodelist', None)
-        return self._read(path, Request(format, Layout(values=values, scale=scale, **layout), directed, nodelist, bipartite), dup_op, name)
+        return self._read(path, Request(format, Layout(values=values, scale=scale, bipartite=bipartite, **layout), directed, nodelist), dup_op, name)
 
     def save(self, path: Any, **matrices: Made) -> None:
         """Writes matrices with the names of their vertices into one file: those that are given, as `save(path, G=G, ranks=ranks)`, or all

@@ -5,9 +5,9 @@ themselves. `run` stands only before a job that wants a result, so the last jobs
 """
 from __future__ import annotations
 
-import weakref
-from typing import TYPE_CHECKING, Dict, FrozenSet, Iterable, List, NamedTuple, Optional, Sequence, Set, Tuple
+from typing import TYPE_CHECKING, Dict, FrozenSet, List, NamedTuple, Optional, Sequence, Set, Tuple, Union
 
+from .._client.handles import Handle
 from ..limits import QUEUE
 from ..matrix import Matrix
 from .tracing import Given, Made, Traced, TracedJob, Value
@@ -17,14 +17,16 @@ if TYPE_CHECKING:
     from ..session import Session
 
 QUEUED, RAN, LINE = 4, 4, 5                        # words of the replies to a job and to a run, and of each line of that
-StateNames = Dict[str, bytes]
-"""The server's names of the state's matrices."""
+Source = Union[Matrix, Handle]
+"""A matrix of the session, or the owner of what a round made, of which nobody has a matrix yet."""
+Sources = Dict[str, Source]
+"""The state's matrices by their names in the loop."""
 
 
 class Pending(NamedTuple):
-    """A job that is queued and not run: the name that it binds, its results, how many rounds ago it was asked for, and whether it is
-    to be shown."""
-    name: bytes
+    """A job that is queued and not run: the server's name that it binds, its results, how many rounds ago it was asked for, and whether it
+    is to be shown."""
+    name: str
     results: Tuple[str, ...]
     back: int
     shown: bool
@@ -39,14 +41,15 @@ class Counted(NamedTuple):
 
 class Template(NamedTuple):
     """The commands of a round under certain names: text with places for numbers, which are slope * round + start; how many words are
-    replied, where counts stand among them, which results are shown, in order; and the names and the jobs that are left behind it."""
+    replied, where counts stand among them, which results are shown, in order; the state behind it, of which a text is what had this name
+    before it; and the jobs that are left behind it."""
     pieces: List[bytes]
     numbers: List[Tuple[int, int]]
     words: int
     counts: List[Counted]
     shows: List[Tuple[int, Tuple[str, ...]]]
     commands: int
-    names: StateNames
+    after: Dict[str, Union[Source, str]]
     pending: Tuple[Pending, ...]
 
     def text(self, number: int) -> bytes:
@@ -58,34 +61,42 @@ class Template(NamedTuple):
             out += [b'%d' % (slope * number + start), piece]
         return b''.join(out)
 
+    def state(self, before: Sources) -> Sources:
+        """The state behind a round, of that before it."""
+        return {name: before[source] if isinstance(source, str) else source for name, source in self.after.items()}
+
 
 class OwnNames:
-    """The names that a loop has taken from its session. They are given back when the loop is collected."""
+    """The owners of names that a loop has taken from its session, and writes again."""
 
     def __init__(self, names: 'Names', size: int) -> None:
         self._names, self._size = names, size
-        self.own: List[bytes] = []
-        weakref.finalize(self, _give_back, names, self.own).atexit = False
+        self._own: List[Handle] = []
 
-    def free(self, taken: Set[bytes]) -> bytes:
-        """One that isn't taken."""
-        for name in self.own:
-            if name not in taken:
-                return name
-        made = self._names.take()
-        self._names.bound(made, self._size, 0)
-        self.own.append(made.encode())
-        return self.own[-1]
+    def free(self, taken: Set[str]) -> Handle:
+        """One whose name isn't taken."""
+        for owner in self._own:
+            if owner.key not in taken:
+                return owner
+        made = Handle(self._names)
+        made.note_size(self._size, 0)
+        self._own.append(made)
+        return made
 
-    def hand_over(self, name: bytes) -> None:
-        """A name that a matrix has from now on."""
-        if name in self.own:
-            self.own.remove(name)
+    def hand_over(self, owner: Handle) -> None:
+        """An owner that a matrix has from now on."""
+        if owner in self._own:
+            self._own.remove(owner)
 
 
-def _give_back(names: 'Names', own: Iterable[bytes]) -> None:
-    for name in own:
-        names.drop(name.decode())
+def key_of(source: Source) -> str:
+    """The server's name of a matrix."""
+    return source.key if isinstance(source, Handle) else source.handle.key
+
+
+def keys_of(sources: Sources) -> Tuple[str, ...]:
+    """The server's names of a state's matrices."""
+    return tuple(map(key_of, sources.values()))
 
 
 class Renderer:
@@ -94,7 +105,7 @@ class Renderer:
     def __init__(self, session: 'Session', traced: Traced, show: Sequence[str]) -> None:
         self.traced = traced
         self._ops = [[session.backend.upload(op).name.encode() for op in job.ops] for job in traced.jobs]
-        self._templates: Dict[Tuple[Tuple[bytes, ...], FrozenSet[bytes], Tuple[Pending, ...]], Template] = {}
+        self._templates: Dict[Tuple[Tuple[str, ...], FrozenSet[str], Tuple[Pending, ...]], Template] = {}
         self._labels: Dict[Value, List[str]] = {}
         for name, value in traced.out.items():
             if isinstance(value, Made):
@@ -104,26 +115,20 @@ class Renderer:
         size = max((job.shape[0] + job.most.entries for job in traced.jobs), default=0)
         self.names = OwnNames(session.backend.names, size)
 
-    def template(self, names: StateNames, held: FrozenSet[bytes], pending: Tuple[Pending, ...]) -> Template:
-        """The commands of a round: `names` are those of the state, `held` those that it mustn't write."""
-        key = (tuple(names.values()), held, pending)
+    def template(self, state: Sources, held: FrozenSet[str], pending: Tuple[Pending, ...]) -> Template:
+        """The commands of a round; `held` are names that it mustn't write."""
+        key = (keys_of(state), held, pending)
         if key not in self._templates:
-            self._templates[key] = _Writing(self, names, held, pending).made()
+            self._templates[key] = _Writing(self, state, held, pending).made()
         return self._templates[key]
-
-    def key(self, value: Value, names: StateNames, made: Dict[int, bytes]) -> bytes:
-        """The server's name of a value."""
-        if isinstance(value, Matrix):
-            return value.handle.key.encode()
-        return names[value.name] if isinstance(value, Given) else made[value.job]
 
     def labels(self, job: int) -> Tuple[str, ...]:
         """The results that a job makes."""
         return tuple(self._labels.get(Made(job), ()))
 
-    def hand_over(self, name: bytes) -> None:
-        """A name that a matrix has from now on: no round writes it any more."""
-        self.names.hand_over(name)
+    def hand_over(self, owner: Handle) -> None:
+        """An owner that a matrix has from now on: no round writes its name any more."""
+        self.names.hand_over(owner)
         self._templates.clear()
 
     def is_shown(self, job: int) -> bool:
@@ -149,14 +154,14 @@ def _constants(traced: Traced) -> List[Matrix]:
 class _Writing:
     """The text of one round as it is written."""
 
-    def __init__(self, renderer: Renderer, names: StateNames, held: FrozenSet[bytes], pending: Tuple[Pending, ...]) -> None:
-        self._renderer, self._names = renderer, names
+    def __init__(self, renderer: Renderer, state: Sources, held: FrozenSet[str], pending: Tuple[Pending, ...]) -> None:
+        self._renderer, self._state = renderer, state
         self._pending = list(pending)
-        self._taken = {*names.values(), *held, *(job.name for job in pending)}
+        self._taken = {*keys_of(state), *held, *(job.name for job in pending)}
         self._text: List[bytes] = []
         self._pieces: List[bytes] = []
         self._numbers: List[Tuple[int, int]] = []
-        self._made: Dict[int, bytes] = {}
+        self._made: Dict[int, Handle] = {}
         self._words = self._commands = 0
         self._counts: List[Counted] = []
         self._shows: List[Tuple[int, Tuple[str, ...]]] = []
@@ -166,31 +171,38 @@ class _Writing:
         for number, job in enumerate(renderer.traced.jobs):
             self._job(number, job)
         self._pieces.append(b''.join(self._text))
-        after = {name: renderer.key(renderer.traced.out[name], self._names, self._made) for name in self._names}
+        after = {name: self._after(renderer.traced.out[name]) for name in self._state}
         left = tuple(job._replace(back=job.back + 1) for job in self._pending)
         return Template(self._pieces, self._numbers, self._words, self._counts, self._shows, self._commands, after, left)
 
+    def _after(self, value: Value) -> Union[Source, str]:
+        return value if isinstance(value, Matrix) else value.name if isinstance(value, Given) else self._made[value.job]
+
+    def _key(self, value: Value) -> str:
+        """The server's name of a value."""
+        after = self._after(value)
+        return key_of(self._state[after] if isinstance(after, str) else after)
+
     def _job(self, number: int, job: TracedJob) -> None:
         renderer = self._renderer
-        operands = [renderer.key(value, self._names, self._made) for value in job.operands]
-        mask: Optional[bytes] = None if job.mask is None else renderer.key(job.mask, self._names, self._made)
+        operands = list(map(self._key, job.operands))
+        mask = None if job.mask is None else self._key(job.mask)
         waiting = {one.name for one in self._pending}
         if len(waiting) >= QUEUE or mask in waiting or not waiting.isdisjoint(operands):
             self._run()
-        name = renderer.names.free(self._taken)
-        self._taken.add(name)
-        self._made[number] = name
-        line = b' '.join([job.form.encode(), name, *renderer.ops(number), *operands])
+        owner = self._made[number] = renderer.names.free(self._taken)
+        self._taken.add(owner.key)
+        line = b' '.join([job.form.encode(), owner.key.encode(), *renderer.ops(number), *(key.encode() for key in operands)])
         if job.thunk is not None and job.thunk[0] == 0:
             line += b' %d' % job.thunk[1]
         elif job.thunk is not None:
             self._pieces.append(b''.join(self._text) + line + b' ')
             self._numbers.append(job.thunk)
             self._text, line = [], b''
-        self._text.append(line + (b' mask ' + mask if mask is not None else b'') + b'\n')
+        self._text.append(line + (b' mask ' + mask.encode() if mask is not None else b'') + b'\n')
         self._words += QUEUED
         self._commands += 1
-        self._pending.append(Pending(name, renderer.labels(number), 0, renderer.is_shown(number)))
+        self._pending.append(Pending(owner.key, renderer.labels(number), 0, renderer.is_shown(number)))
 
     def _run(self) -> None:
         text, words, counts, shows = run_of(self._pending, self._words)
@@ -211,5 +223,5 @@ def run_of(pending: Sequence[Pending], words: int) -> Tuple[bytes, int, List[Cou
             counts.append(Counted(words + 3, job.back, job.results))
         words += LINE
     shown = [job for job in pending if job.shown]
-    text += [b'show %s\n' % job.name for job in shown]
+    text += [b'show %s\n' % job.name.encode() for job in shown]
     return b''.join(text), words, counts, [(job.back, job.results) for job in shown]

@@ -13,7 +13,7 @@ from .._client.handles import Handle
 from .._client.pending_jobs import AMPLE
 from ..limits import MOST_PRICE, MOST_SIDE
 from ..matrix import Matrix
-from .command_templates import Counted, Pending, Renderer, StateNames, Template, run_of
+from .command_templates import Counted, Pending, Renderer, Sources, Template, keys_of, run_of
 from .round_results import Body
 from .tracing import Given, State, Traced
 from .vector_products import flush
@@ -29,11 +29,9 @@ Counts = Dict[str, int]
 
 
 class Place(NamedTuple):
-    """How far a loop is: rounds that were made, the names of the state, the matrices that have some of these, by name, and numbers of
-    entries."""
+    """How far a loop is: rounds that were made, the state, and numbers of entries."""
     number: int
-    names: StateNames
-    matrices: Dict[bytes, Matrix]
+    state: Sources
     counts: Counts
 
 
@@ -50,7 +48,9 @@ class Trip(CommandBatch):
                  text: bytes, commands: int) -> None:
         super().__init__(text, commands)
         self.start, self.templates, self.ends, self.ends_shown = start, templates, ends, ends_shown
-        self.names = templates[-1].names
+        self.state = start.state
+        for template in templates:
+            self.state = template.state(self.state)
 
     @property
     def number(self) -> int:
@@ -157,23 +157,23 @@ class Trips:
 
     def _trip(self, rounds: int) -> Trip:
         last = self.under_way[-1] if self.under_way else None
-        start = self.place if last is None else Place(last.number, last.names, {}, {})
-        held: Set[bytes] = {*self.place.names.values(), *start.names.values()}
+        start = self.place if last is None else Place(last.number, last.state, {})
+        held: Set[str] = {*keys_of(self.place.state), *keys_of(start.state)}
         for trip in self.under_way:
-            held.update(trip.names.values())
+            held.update(keys_of(trip.state))
         return self._written(start, rounds, frozenset(held))
 
-    def _written(self, start: Place, rounds: int, held: FrozenSet[bytes]) -> Trip:
+    def _written(self, start: Place, rounds: int, held: FrozenSet[str]) -> Trip:
         """The commands of so many rounds; at their end all is run."""
         templates: List[Template] = []
         text, commands = [], 0
-        names: StateNames = start.names
+        state = start.state
         pending: Tuple[Pending, ...] = ()
         for at in range(rounds):
-            template = self.renderer.template(names, held, pending)
+            template = self.renderer.template(state, held, pending)
             templates.append(template)
             text.append(template.text(start.number + at + 1))
-            names, pending = template.names, template.pending
+            state, pending = template.state(state), template.pending
             commands += template.commands
         ends, shown = [], []  # type: List[Counted], List[Tuple[int, Tuple[str, ...]]]
         if pending:
@@ -221,8 +221,7 @@ class Trips:
     def accept(self, rounds: List[Round]) -> None:
         """The first trip under way is what the loop goes on from."""
         trip = self.under_way.popleft()
-        matrices = {key: matrix for key, matrix in self.place.matrices.items() if key in trip.names.values()}
-        self.place = Place(trip.number, trip.names, matrices, rounds[-1].counts)
+        self.place = Place(trip.number, trip.state, rounds[-1].counts)
 
     def stop(self) -> None:
         """Forgets what is under way: the loop is where its first trip began."""
@@ -236,24 +235,28 @@ class Trips:
             self._left(self.session.connection.collect(last))
 
     def matrices(self) -> State:
-        """The state, as matrices that have their names from now on."""
-        session, place = self.session, self.place
-        with session.backend.turn():
-            for name, key in place.names.items():
-                if key not in place.matrices:
-                    place.matrices[key] = self._matrix(key, name, place)
-            return State((name, place.matrices[key]) for name, key in place.names.items())
+        """The state, as matrices that have their names from now on. What the caller has, of the state or outside of the step, is itself."""
+        place, state = self.place, State()
+        with self.session.backend.turn():
+            for name, source in place.state.items():
+                state[name] = source if isinstance(source, Matrix) else self._matrix(name, source)
+        return state
 
-    def _matrix(self, key: bytes, name: str, place: Place) -> Matrix:
-        self.renderer.hand_over(key)
-        rows, columns = self.shapes[name]
-        self.session.backend.names.bound(key.decode(), rows, place.counts[name])
-        made = Matrix(self.session, Handle(key.decode(), place.counts[name]), (rows, columns), name)
-        made.notes = self.renderer.traced.notes[name]
+    def _matrix(self, name: str, owner: Handle) -> Matrix:
+        """The matrix of what a round made, in the place of its owner."""
+        place, found = self.place, owner.matrices()
+        if found:                                  # it was asked for while later rounds were under way
+            made: Matrix = found[0]
+        else:
+            self.renderer.hand_over(owner)
+            owner.nvals = owner.most = place.counts[name]
+            owner.note_size(self.shapes[name][0], owner.nvals)
+            made = Matrix(self.session, owner, self.shapes[name], name)
+            made.notes = self.renderer.traced.notes[name]
+        place.state.update((other, made) for other, source in place.state.items() if source is owner)
         return made
 
 
 def place_of(state: State, number: int) -> Place:
     """A place of matrices."""
-    names = {name: matrix.handle.key.encode() for name, matrix in state.items()}
-    return Place(number, names, {names[name]: matrix for name, matrix in state.items()}, {name: matrix.nvals for name, matrix in state.items()})
+    return Place(number, dict(state), {name: matrix.nvals for name, matrix in state.items()})

@@ -84,7 +84,7 @@ class Loop:
         return '<Loop of %s, %d rounds made>' % (', '.join(self._names()), self.number)
 
     def _names(self) -> List[str]:
-        return list(self._state) if self._trips is None else list(self._trips.place.names)
+        return list(self._state) if self._trips is None else list(self._trips.place.state)
 
     @property
     def number(self) -> int:

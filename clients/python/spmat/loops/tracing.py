@@ -84,7 +84,7 @@ class TracedMatrix(Matrix):
     is_traced = True
 
     def __init__(self, tracer: 'Tracer', shape: Tuple[int, int], most: int, label: str) -> None:
-        super().__init__(cast('Session', tracer), Handle('', None, min(most, MOST_SIDE)), shape, label)
+        super().__init__(cast('Session', tracer), Handle(None, None, min(most, MOST_SIDE)), shape, label)
 
     def _none(self) -> NoReturn:
         raise NotTraced(NO_ENTRIES % self.name)

@@ -27,8 +27,9 @@ class Push:
         session = graph.session
         self.session, self.graph = session, graph.wait()
         self._names = OwnNames(session.backend.names, graph.ncols)
-        self._row = self._names.free(set())
-        made = self._names.free({self._row})
+        row = self._names.free(set()).key
+        made = self._names.free({row}).key.encode()
+        self._row = row.encode()
         ops = [session.backend.upload(op).name.encode() for op in (ring.add, ring.mul)]
         self._rest = b'product %s %s %s %s\nrun\nshow %s\nbudget\n' % (made, b' '.join(ops), self._row, graph.handle.key.encode(), made)
 
@@ -65,6 +66,7 @@ def _listed(entries: Triples) -> Triples:
 def flush(session: 'Session') -> None:
     """Sends and runs what waits in a session, so that no other run takes it for its own."""
     queue = session.backend.queue
+    session.backend.poison()
     if len(queue) or queue.running:
         session.run()
     if session.connection.waiting:

@@ -10,6 +10,7 @@ from typing import TYPE_CHECKING, Any, Callable, Dict, List, NamedTuple, Optiona
 
 from .._client.pending_jobs import most_of
 from .._client.protocol import FORMS, Places
+from ..aliases import is_same
 from ..errors import BudgetExceeded
 from ..limits import MOST_PRICE, MOST_SIDE
 from ..matrix import Matrix
@@ -58,7 +59,7 @@ class Certain(Asked):
         many = operands if mask is None else [*operands, mask]
         made = stand(session, shape, max(least.entries, _chosen(ops[0], operands[0]) if places is Places.CHOSEN and mask is None else 0))
         made.handle.most = most_of(form, 1, operands, mask, shape).entries
-        if places in (Places.ALL, Places.ANY) and len({id(_root(matrix)) for matrix in many}) == 1:
+        if places in (Places.ALL, Places.ANY) and len({id(_root(matrix).kept) for matrix in many}) == 1:
             made.within, made.whole = operands[0], True
         return made
 
@@ -92,7 +93,7 @@ class Certain(Asked):
         a, b = operands
         terms, cells = self._terms(a, b), shape[0] * shape[1]
         is_open = mask is None or _entries(mask) == cells
-        if not is_open and (mask is None or _root(mask) is not _root(a)):
+        if not is_open and (mask is None or not is_same(_root(mask), _root(a))):
             return Least(0, 0, 0)
         length = add.length + mul.length
         price = min(terms, min(MOST_SIDE, MOST_PRICE // length) // 2) * length        # by parts the largest has more than half of the most
@@ -115,10 +116,11 @@ class Certain(Asked):
 
     def _mirrors(self, a: Matrix, b: Matrix) -> bool:
         """Whether one is known to be the transpose of the other, but for values."""
-        if a is b:
-            return a.directed is False or bool(a.kept.get('both ways')) or bool(self._taken.get((id(a), 'both ways'), (None, False))[1])
+        if is_same(a, b):
+            return a.directed is False or bool(a.kept.get('both ways')) or bool(self._taken.get((id(a.kept), 'both ways'), (None, False))[1])
         turned = a.handle.transposed() if a.handle.transposed is not None else None
-        return turned is b or a.kept.get('transpose') is b or b.kept.get('transpose') is a or getattr(b, 'turned', None) is a
+        there = [(a.kept.get('transpose'), b), (b.kept.get('transpose'), a), (getattr(b, 'turned', None), a)]
+        return turned is b.handle or any(one is not None and is_same(one, other) for one, other in there)
 
 
 def turned(matrix: Matrix) -> Matrix:
@@ -143,7 +145,7 @@ def _root(matrix: Matrix) -> Matrix:
 
 def _overlap(matrices: Sequence[Matrix]) -> int:
     """The places at which all of these have an entry, at the least."""
-    places = {id(_root(matrix)): _entries(matrix) for matrix in matrices}
+    places = {id(_root(matrix).kept): _entries(matrix) for matrix in matrices}
     nrows, ncols = matrices[0].shape
     return max(0, sum(places.values()) - (len(places) - 1) * nrows * ncols)
 

@@ -43,7 +43,7 @@ class Asked:
     def fact(self, graph: Any, name: str, find: Callable[[], Any]) -> Any:
         """A fact of a graph that isn't known yet. What it takes is counted, and what only a result would tell is taken for what most
         algorithms ask for."""
-        key = (id(graph), name)
+        key = (id(graph.kept), name)
         if key not in self._taken:
             try:
                 self._taken[key] = graph, find()
@@ -180,7 +180,7 @@ def granted(facts: Dict[str, Any]) -> Iterator[None]:
 
 def stand(session: Session, shape: Tuple[int, int], entries: int) -> Stand:
     """What stands for a matrix with so many entries."""
-    made = Stand(session, Foretold('', None, entries), shape, 'foreseen')
+    made = Stand(session, Foretold(None, None, entries), shape, 'foreseen')
     made.least = entries
     return made
 
