@@ -97,6 +97,21 @@ class Lists(unittest.TestCase):
             self.same(s, scale=2)
         self.assertEqual(self.by_workers[len(texts):], [True, False, False])
 
+    def test_repeated_edges_with_values_below_zero(self):
+        """Of long parts, whose lines have signs: they are folded, and refused, as one session has it."""
+        chance = random.Random(6)
+        with mock.patch.object(parallel_read, 'MOST', 1 << 15), blocks.Sessions(2) as s:
+            for kind, least, most in (('0 to n - 1', -9, 9), ('words', -9, 99999), ('some numbers', -10 ** 17, 10 ** 17)):
+                edges = {(chance.randrange(900), chance.randrange(900)): chance.randint(least, most) for _ in range(2500)}
+                lines = ['%s,%s,%d' % (NAMES[kind](i), NAMES[kind](j), value) for (i, j), value in edges.items()]
+                self.write('\n'.join(['source,target,weight', *lines, *chance.sample(lines, 7), '']).encode())
+                with self.subTest(least=least, names=kind):
+                    for options in ({'dup_op': 'max'}, {'dup_op': 'minus', 'directed': False}, {'dup_op': 'second', 'bipartite': True}):
+                        self.same(s, **options)
+                    self.assertEqual(alike.outcome(lambda: s.read_graph(self.path)), alike.outcome(lambda: self.one.read_graph(self.path)))
+            self.same(s, dup_op='max', scale=1)
+        self.assertEqual(self.by_workers, 3 * [True, True, True, False] + [False])
+
     def test_matrix_market_by_read_graph(self):
         text = self.one.identity(30).to_text()
         self.write(text)

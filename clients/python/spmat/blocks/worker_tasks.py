@@ -104,7 +104,8 @@ def of_edges(store: Store, bare: bool, shape: Tuple[int, int], parts: Sequence[f
     except TextRefused as fault:
         if fault.rule != 'M8':
             raise
-    columns = parse_integers.fields(b''.join(part.text() for part in parts), range(2 if bare else 3), 2 if bare else 3)
+    unsigned = b''.join(part.text() for part in parts).replace(b'+', b'0')     # `matrix_text.write` signs each value where one is below 0
+    columns = parse_integers.fields(unsigned, range(2 if bare else 3), 2 if bare else 3)
     rows, at, values = columns[0] - 1, columns[1] - 1, columns[2] if not bare else columns[0] * 0 + 1
     triples = Triples(rows, at, values, *shape)
     if op is not None:
