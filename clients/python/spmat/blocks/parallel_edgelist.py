@@ -53,7 +53,8 @@ def of_file(sessions: 'Inputs', path: Any, request: Request, asked: Asked) -> Op
     if isinstance(path, (str, os.PathLike)) and os.path.isdir(path):
         return of_sources(sessions, _in_folder(os.fspath(path), request), asked)
     file = parallel_read.seen(sessions, path)
-    if file is None or request.nodelist is not None or request.layout.scale is not None or request.layout.comments not in (True, None):
+    layout = request.layout
+    if file is None or request.nodelist is not None or layout.scale is not None or layout.nodetype or layout.comments not in (True, None):
         return None
     try:
         table = _table(file.path, request)

@@ -7,11 +7,11 @@ object alone where the result is `single`. Rows may come one by one from a gener
 from __future__ import annotations
 
 import argparse
-import csv
 import decimal
-import io
 import json
 from typing import Any, Iterable, Iterator, NamedTuple, Sequence, Tuple
+
+from ..io.list_writer import csv_line
 
 EDGE = ('source', 'target')
 NODE = ('node',)
@@ -52,21 +52,9 @@ def _plain(result: Result) -> Iterator[str]:
 
 def _csv(result: Result) -> Iterator[str]:
     """A header and a line a row. (Quoted where a name has commas, as RFC 4180 has it, with LF at the ends of lines.)"""
-    text = io.StringIO()
-    writer = csv.writer(text, lineterminator='\n')
-    writer.writerow(result.fields)
-    yield _taken(text)
+    yield csv_line(result.fields)
     for row in result.rows:
-        writer.writerow([_written(cell) for cell in row])
-        yield _taken(text)
-
-
-def _taken(text: io.StringIO) -> str:
-    """What was written meanwhile."""
-    line = text.getvalue()
-    text.seek(0)
-    text.truncate()
-    return line
+        yield csv_line(map(_written, row))
 
 
 def _json(result: Result) -> Iterator[str]:

@@ -16,6 +16,7 @@ SLIP = 2.0 ** -50                                  # a product of floats is as n
 NOT_WHOLE = 'a number that is not whole'
 # What stands for a value that isn't there: in tables of pandas, R, SQL and spreadsheets.
 MISSING = {'', 'na', 'n/a', '#n/a', '<na>', 'nan', '-nan', 'null', '#null!', 'none', 'nil', '-', '?', '.', '\\n'}
+LONGEST = max(map(len, MISSING))
 SCALE = 'scale=1000 takes thousandths (0.125 is 125 then), values=False reads no values'
 
 Wrong = Callable[[int, str], ReadError]

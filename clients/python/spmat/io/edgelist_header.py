@@ -19,7 +19,7 @@ Column = Union[int, str]
 class Layout(NamedTuple):
     """How a list is written. None: by what stands in it. `columns` are those of the two names, and perhaps of the value: numbers from
     0, or words of the header. `bipartite` says whether sources and targets are two kinds of vertices; None where nobody said it, which
-    is asked where the header names two. `missing` None takes nothing for missing."""
+    is asked where the header names two. `missing` None takes nothing for missing; `nodetype` is str or int where names are to be these."""
     delimiter: Optional[str] = None
     header: Optional[bool] = None
     columns: Optional[Sequence[Column]] = None
@@ -28,6 +28,7 @@ class Layout(NamedTuple):
     bipartite: Optional[bool] = None
     comments: Comments = True
     missing: Optional[str] = RAISE
+    nodetype: Optional[type] = None
 
 
 class Head(NamedTuple):
@@ -143,11 +144,14 @@ def mostly_numbers(fields: Sequence[str]) -> bool:
 def _is_header(head: Head, found: Sequence[column_names.Pair]) -> bool:
     """Whether the first line names columns. ReadError where it is as likely an edge."""
     first = head.first
-    if found and not _is_edge_too(head, found[0]):
-        return True
     over = [at for at, field in enumerate(first) if not is_number(field) and not is_missing(field) and mostly_numbers(head.below(at))]
-    if any(has_numbers(head.below(at)) for at in over) and not any(map(is_number, first)):
+    numbers = any(map(is_number, first))
+    if any(has_numbers(head.below(at)) for at in over) and not numbers:
         return True
+    if found and not numbers and not _is_edge_too(head, found[0]):
+        return True
+    if found and not over and numbers and found[0].stem:         # v1,v2,7 above v2,v3,8
+        return False
     if found or over:
         raise head.fault('the first line may name columns, or be an edge: header=True or header=False says which')
     return False
@@ -178,6 +182,9 @@ def _unnamed_ends(head: Head, layout: Layout, header: bool) -> Tuple[int, int]:
     can have meant others."""
     width = len(head.first)
     if width == 2:
+        called = [at for at in (0, 1) if header and column_names.plain(head.first[at]) in column_names.VALUES and has_numbers(head.below(at))]
+        if called:
+            raise head.fault('this is a column of values, and an edge has two names: columns=(%r, %r) takes both for names' % (head.first[0], head.first[1]))
         return 0, 1
     values = [at for at, field in enumerate(head.first) if column_names.plain(field) in column_names.VALUES] if header else []
     if width == 3 and len(values) == 1:

@@ -9,7 +9,7 @@ from __future__ import annotations
 import re
 from typing import Any, Iterator, List, NamedTuple, Optional, Sequence, Tuple, Type
 
-from .edge_values import MISSING, Rounding, is_missing, scaled_array
+from .edge_values import LONGEST, Rounding, is_missing, scaled_array
 from .factorize import Coded, first_seen
 
 PIECE = 1 << 20                                    # bytes that are looked at together, so that their tables stay in a cache
@@ -21,7 +21,6 @@ ODD = bytes(code for code in range(32) if code not in b'\t\n\r') + b'\x7f'
 SPACE = re.compile(r'[^\S \t\n\r]')                # of other alphabets, which str.strip takes away
 FLOAT = b'0123456789.eE+-'
 WHOLE = re.compile('0|-?[1-9][0-9]*')
-LONGEST_MISSING = max(map(len, MISSING))
 
 
 class Shape(NamedTuple):
@@ -266,7 +265,7 @@ class _Texts(_Names):
             at += len(rows)
         codes, first = first_seen(keys)
         names = [name.decode('utf-8') for name in keys[first].astype('<u8').view('S%d' % (8 * count)).ravel().tolist()]
-        if any(len(name) <= LONGEST_MISSING and is_missing(name) for name in names) or all(map(WHOLE.fullmatch, names)) or (
+        if any(len(name) <= LONGEST and is_missing(name) for name in names) or all(map(WHOLE.fullmatch, names)) or (
                 blanks and any(not name.strip('#%') for name in names)):
             return None
         return Coded(codes[0::2], names), Coded(codes[1::2], names)

@@ -12,7 +12,7 @@ from typing import Any, Iterable, List, NamedTuple, Optional, Tuple
 from ..errors import ReadError
 from . import column_names, comment_lines, edgelist_numpy
 from .comment_lines import Comments
-from .edge_values import Rounding, Wrong, is_missing, whole_values
+from .edge_values import LONGEST, Rounding, Wrong, is_missing, whole_values
 from .edgelist_header import Head, Layout, chosen, is_number
 from .edgelist_matrix import Edges
 from .left_out import NO_NAMES, SKIP, SKIPS, LeftOut, check_missing
@@ -46,7 +46,7 @@ class Table(NamedTuple):
 def read(file: str, text: bytes, layout: Layout) -> Edges:
     """The edges of a list. ReadError, a ValueError, names the file and the line of what is wrong."""
     table = laid_out(file, text, layout)
-    return _in_bulk(table, layout.scale) or _slowly(table, layout)
+    return (_in_bulk(table, layout.scale) if layout.nodetype is None else None) or _slowly(table, layout)
 
 
 # -- how it is written
@@ -54,6 +54,8 @@ def read(file: str, text: bytes, layout: Layout) -> Edges:
 def laid_out(file: str, text: bytes, layout: Layout) -> Table:
     """How a list is written, by what the caller says and by its first lines. ReadError where that can't be told."""
     check_missing(layout.missing)
+    if layout.nodetype not in (None, str, int):
+        raise ValueError('nodetype is str or int, or None for whole numbers where all are; not %r' % (layout.nodetype,))
     plain, left_out = comment_lines.blanked(text, layout.comments)
     comments = list(comment_lines.above(text)) if layout.comments is True and left_out.comments else []
     delimiter = layout.delimiter if layout.delimiter is not None else delimiter_of(plain if plain.strip() else b'\n'.join(line for _, line in comments))
@@ -126,12 +128,14 @@ def delimiter_of(text: bytes) -> Optional[str]:
 # -- what stands in it
 
 class _Columns(NamedTuple):
-    """Of each edge the line, the two names, and the field of its value; and the edges of which a name is missing."""
+    """Of each edge the line, the two names, and the field of its value; and the edges of which a name is missing, or is where the others of
+    its column are numbers."""
     numbers: List[int]
     sources: List[str]
     targets: List[str]
     values: List[str]
     nameless: List[int]
+    doubtful: List[int]
 
     def without(self, some: Iterable[int]) -> _Columns:
         """The others of these edges."""
@@ -140,7 +144,7 @@ class _Columns(NamedTuple):
             return self
         all_columns: List[List[Any]] = [self.numbers, self.sources, self.targets, self.values]
         numbers, *fields = [[field for at, field in enumerate(column) if at not in gone] for column in all_columns]
-        return _Columns(numbers, fields[0], fields[1], fields[2], [])
+        return _Columns(numbers, fields[0], fields[1], fields[2], [], [])
 
 
 def _slowly(table: Table, layout: Layout) -> Edges:
@@ -150,7 +154,7 @@ def _slowly(table: Table, layout: Layout) -> Edges:
     def wrong(at: int, words: str) -> ReadError:
         return ReadError(table.file, columns.numbers[at], words, line_at(table.original, columns.numbers[at]))
     if layout.missing is not None:
-        nameless = sorted({*columns.nameless, *_nameless_numbers(columns.sources), *_nameless_numbers(columns.targets)})
+        nameless = sorted({*columns.nameless, *_nameless_numbers(columns, columns.sources), *_nameless_numbers(columns, columns.targets)})
         if nameless and layout.missing != SKIP:
             raise wrong(nameless[0], _said_of_name(columns, nameless[0]))
         left_out, columns = left_out._replace(names=len(nameless)), columns.without(nameless)
@@ -164,7 +168,7 @@ def _slowly(table: Table, layout: Layout) -> Edges:
         return wrong(at, VALUELESS % columns.values[at] if layout.missing is not None and is_missing(columns.values[at]) else words)
     rounding = Rounding(layout.scale)
     whole = None if table.value is None else whole_values(columns.values, layout.scale, no_value, rounding)
-    return Edges(*_names(columns.sources, columns.targets), whole, lambda at: '%s, line %d' % (table.file, columns.numbers[at]),
+    return Edges(*_names(columns.sources, columns.targets, layout.nodetype, wrong), whole, lambda at: '%s, line %d' % (table.file, columns.numbers[at]),
                  _told(table, rounding), left_out)
 
 
@@ -187,18 +191,18 @@ def _check_line_ends(names: List[str], wrong: Wrong) -> None:
         raise wrong(next(at for at, name in enumerate(names) if '\n' in name or '\r' in name), 'a name has an end of line in it')
 
 
-def _nameless_numbers(names: List[str]) -> List[int]:
-    """The names that are missing where all others of a column are numbers."""
-    missing = [at for at, name in enumerate(names) if is_missing(name)]
-    are_numbers = missing and any(map(is_number, names)) and all(is_number(name) or is_missing(name) for name in names)
-    return missing if are_numbers else []
+def _nameless_numbers(columns: _Columns, names: List[str]) -> List[int]:
+    """The names that may be missing, where all others of a column are numbers."""
+    missing = [at for at in columns.doubtful if is_missing(names[at])]
+    gone = set(missing)
+    return missing if missing and len(gone) < len(names) and all(is_number(name) for at, name in enumerate(names) if at not in gone) else []
 
 
 def _fields(table: Table, comments: Comments) -> _Columns:
     """The fields of each edge that are read. A name in quotation marks isn't missing, unless its whole line is written so. ReadError where
     blanks part the fields of a line, and it begins with # alone, as comments do."""
     asks = comments is True and table.delimiter is None
-    found = _Columns([], [], [], [], [])
+    found = _Columns([], [], [], [], [], [])
     first, second = table.ends
     for number, fields in rows_of(table.file, table.text, table.delimiter):
         if number <= table.skipped:
@@ -207,9 +211,9 @@ def _fields(table: Table, comments: Comments) -> _Columns:
             raise _of_another_width(table, number, fields)
         if asks and not fields[0].strip('#%'):
             raise _comment_or_row(table.file, number, line_at(table.text, number))
-        if any(fields[at] in NO_NAMES and (not fields[at] or not isinstance(fields[at], Quoted) or all(isinstance(field, Quoted) for field in fields))
-               for at in table.ends):
-            found.nameless.append(len(found.numbers))
+        for name in (fields[first], fields[second]):
+            if len(name) <= LONGEST and is_missing(name) and (not name or not isinstance(name, Quoted) or all(isinstance(field, Quoted) for field in fields)):
+                (found.nameless if name in NO_NAMES else found.doubtful).append(len(found.numbers))
         found.numbers.append(number)
         found.sources.append(fields[first])
         found.targets.append(fields[second])
@@ -228,13 +232,23 @@ def _of_another_width(table: Table, number: int, fields: List[str]) -> ReadError
     return ReadError(table.file, number, words, line_at(table.original, number))
 
 
-def _names(sources: List[str], targets: List[str]) -> Tuple[List[Any], List[Any]]:
-    """Names as whole numbers where all are, as they would be written."""
+def is_whole(name: str) -> bool:
+    """Whether a name is a whole number, as it would be written."""
+    return edgelist_numpy.WHOLE.fullmatch(name) is not None
+
+
+def _names(sources: List[str], targets: List[str], wanted: Optional[type], wrong: Wrong) -> Tuple[List[Any], List[Any]]:
+    """Names as whole numbers where all are, as they would be written, unless text is wanted. ReadError where one isn't, and numbers are."""
+    columns = sources, targets
+    if wanted is int:
+        odd = next((at for at, names in enumerate(zip(sources, targets)) if not all(map(is_whole, names))), None)
+        if odd is not None:
+            raise wrong(odd, 'a name is no whole number, and nodetype=int was asked for')
     try:
-        numbers = [list(map(int, column)) for column in (sources, targets)]
+        numbers = [list(map(int, column)) for column in columns] if wanted is not str else []
     except ValueError:
         numbers = []
-    if numbers and all(list(map(str, many)) == column for many, column in zip(numbers, (sources, targets))):
+    if numbers and all(list(map(str, many)) == column for many, column in zip(numbers, columns)):
         return numbers[0], numbers[1]
     return list(map(str, sources)), list(map(str, targets))
 

@@ -2,16 +2,17 @@
 from __future__ import annotations
 
 import contextlib
-import csv
-import io
+import itertools
 import os
-from typing import IO, Any, Callable, Dict, Iterator, List, Optional, Sequence, Tuple
+from typing import IO, Any, Callable, Dict, Iterable, Iterator, List, Optional, Sequence, Tuple
 
 from ..metadata import NOTHING, Notes
 from ..units import Unit, to_decimal, to_decimals, to_text
+from . import list_writer
 
 EDGE = ('source', 'target', 'weight')
 NODE = ('node', 'value')
+SAMPLE = 200                                       # lines that are looked at before they are written
 
 
 class Written:
@@ -28,6 +29,12 @@ class Written:
         """Rows, columns (from 0) and values."""
         raise NotImplementedError
 
+    def _is_vector(self) -> bool:
+        """Whether this is a column or a row, and not a graph: one that was read, or of one row and one column both of which have a name,
+        or none."""
+        named = self.notes.rows is not None, self.notes.columns is not None
+        return 1 in (self.nrows, self.ncols) and self.notes.directed is None and (self.nrows != self.ncols or named[0] != named[1])
+
     def _columns(self, scale: Optional[float], raw: bool, shown: Callable[[int, Unit], Any]) -> Tuple[List[Any], ...]:
         """Names and values, as they are shown: of a column or a row (names, values), of another matrix (sources, targets, values)."""
         rows, columns, values = self.to_coo(arrays=False)
@@ -36,9 +43,10 @@ class Written:
             values = [value / scale for value in values]
         elif unit != 1:
             values = [shown(value, unit) for value in values]
-        ends = [rows] if self.ncols == 1 else [columns] if self.nrows == 1 else [rows, columns]
-        names = [self.notes.rows] if self.ncols == 1 else [self.notes.columns] if self.nrows == 1 else [self.notes.rows, self.notes.columns]
-        return (*(list(end) if known is None else list(map(known.__getitem__, end)) for known, end in zip(names, ends)), list(values))
+        sides = [(self.notes.rows, rows), (self.notes.columns, columns)]
+        if self._is_vector():
+            sides = sides[:1] if self.ncols == 1 and (self.nrows > 1 or self.notes.columns is None) else sides[1:]
+        return (*(list(end) if known is None else list(map(known.__getitem__, end)) for known, end in sides), list(values))
 
     def _divisor(self, scale: Optional[float], raw: bool) -> Any:
         """What stored numbers are divided by. TypeError where callers want two things."""
@@ -48,7 +56,7 @@ class Written:
 
     def _fields(self, given: Optional[Sequence[str]]) -> Sequence[str]:
         """The names of the fields. ValueError where other numbers of them are given."""
-        wanted = NODE if 1 in (self.nrows, self.ncols) else EDGE
+        wanted = NODE if self._is_vector() else EDGE
         if given is not None and len(given) != len(wanted):
             raise ValueError('expected %d fields, such as %r, got %d' % (len(wanted), wanted, len(given)))
         return given if given is not None else wanted
@@ -56,33 +64,42 @@ class Written:
     def to_csv(self, target: Any = None, fields: Optional[Sequence[str]] = None, *, sep: str = ',', header: bool = True,
                scale: Optional[float] = None, raw: bool = False) -> Optional[str]:
         """Writes a line an entry to a path, or a file open in text, or gives the text: source, target, weight; of a column or a row
-        node, value. `fields` calls them otherwise, `header=False` leaves them out. `read_graph` reads it again, with
-        `scale=` where the matrix has a unit. In pandas `to_csv`."""
-        columns, named = self._columns(scale, raw, to_text), self._fields(fields)
-        text = io.StringIO() if target is None else None
-        with _opened(text if text is not None else target) as file:
-            writer = csv.writer(file, delimiter=sep, lineterminator='\n')
-            if header:
-                writer.writerow(named)
-            writer.writerows(zip(*columns))
-        return text.getvalue() if text is not None else None
+        node, value. `fields` calls them otherwise, `header=False` leaves them out. `read_graph` reads the same edges again, with
+        `scale=` where the matrix has a unit: names are quoted where they need it. ValueError, before anything is written, for names that no list has, such as one with an end of line;
+        a warning for names that come back as others, such as tuples, or '1', which `nodetype=str` reads as text. In pandas `to_csv`."""
+        named = self._fields(fields)
+        lines = self._lines(self._columns(scale, raw, to_text), sep, named if header else None)
+        if target is None:
+            return ''.join(lines)
+        with _opened(target) as file:
+            file.writelines(lines)
+        return None
+
+    def _lines(self, columns: Sequence[List[Any]], sep: str, fields: Optional[Sequence[str]]) -> Iterable[str]:
+        """The lines of a list, which is looked at before anything is written."""
+        count = 1 if self._is_vector() else 2
+        lines = list_writer.Lists(sep, columns[:count], fields).lines(columns[count] if len(columns) > count else None)
+        if count == 1:
+            return lines
+        first = list(itertools.islice(lines, SAMPLE))
+        list_writer.check_reading(sep, first, fields is not None, len(columns))
+        list_writer.warn_of_types(dict.fromkeys(itertools.chain(*columns[:2])))
+        return itertools.chain(first, lines)
 
     def write_edgelist(self, target: Any, delimiter: str = ' ', *, values: bool = True, scale: Optional[float] = None,
                        raw: bool = False) -> None:
         """Writes an edge a line, names and value parted by a blank, to a path or a file open in text; `values=False` leaves them out.
-        ValueError, before anything is written, where a name has the delimiter in it. In networkx `write_weighted_edgelist`."""
+        With another delimiter names are quoted where they need it. ValueError and a warning, before anything is written, are as `to_csv`
+        has them; a list parted by blanks can't quote, so it has fewer names. In networkx `write_weighted_edgelist`."""
         columns = self._columns(scale, raw, to_text)
-        wrong = next((name for column in columns[:-1] for name in column
-                      if delimiter in str(name) or not str(name) or (delimiter == ' ' and len(str(name).split()) > 1)), None)
-        if wrong is not None:
-            raise ValueError('the name %r has what parts the fields in it: another delimiter=, or to_csv, which quotes' % (wrong,))
+        lines = self._lines(columns if values else columns[:-1], delimiter, None)
         with _opened(target) as file:
-            file.writelines(delimiter.join(map(str, row)) + '\n' for row in zip(*(columns if values else columns[:-1])))
+            file.writelines(lines)
 
     def to_pandas(self, *, scale: Optional[float] = None, raw: bool = False) -> Any:
         """Of a column or a row a Series of pandas by name; of another matrix a table as `to_pandas_edgelist` has it."""
         import pandas
-        if 1 not in (self.nrows, self.ncols):
+        if not self._is_vector():
             return self.to_pandas_edgelist(scale=scale, raw=raw)
         names, values = self._columns(scale, raw, to_decimal)
         kind = 'int64' if scale is None and (raw or self.notes.unit == 1) else 'float64'
@@ -105,7 +122,7 @@ class Written:
     def to_parquet(self, path: Any, *, scale: Optional[float] = None, raw: bool = False) -> None:
         """Writes what `to_pandas` gives as a parquet file, by pandas with pyarrow or fastparquet. In pandas the same name."""
         table = self.to_pandas(scale=scale, raw=raw)
-        (table.to_frame().reset_index() if 1 in (self.nrows, self.ncols) else table).to_parquet(path, index=False)
+        (table.to_frame().reset_index() if self._is_vector() else table).to_parquet(path, index=False)
 
 
 @contextlib.contextmanager

@@ -110,7 +110,8 @@ class Sources(abc.ABC, Generic[Made]):
     def read_edgelist(self, path: Any, *, delimiter: Optional[str] = None, header: Optional[bool] = None,
                       columns: Optional[Sequence[Column]] = None, values: bool = True, scale: Optional[float] = None,
                       directed: bool = True, nodelist: Optional[Sequence[Any]] = None, bipartite: Optional[bool] = None,
-                      comments: Comments = True, missing: Optional[str] = 'raise', dup_op: DupOp = None, name: Optional[str] = None) -> Made:
+                      comments: Comments = True, missing: Optional[str] = 'raise', nodetype: Optional[type] = None, dup_op: DupOp = None,
+                      name: Optional[str] = None) -> Made:
         """The adjacency matrix of a list of edges: a path (also .gz and .bz2), or a file opened in binary, with an edge a line: two names
         and perhaps a value, parted by commas, tabs, semicolons or blanks (CSV, TSV, edge list).
 
@@ -118,6 +119,7 @@ class Sources(abc.ABC, Generic[Made]):
         `comments="#"`, or several such texts, begins a comment in any line, but for quoted fields, as in networkx and pandas; with None nothing
         is a comment. A missing name or value is a ReadError; `missing="skip"` leaves its line out, and `notes.source` counts these. Names
         are missing where pandas takes them to be (nan, NA, null, nothing), unless they are quoted or `missing` is None.
+        Names are whole numbers where all are, else text; `nodetype=str` takes text, `int` refuses any other.
 
         What isn't given is seen from the first lines: the `delimiter`; whether the first line is a `header` (it has known words, or no
         number where the columns below have numbers); and the `columns` of the two names and of the value, by the header's words (source
@@ -129,14 +131,14 @@ class Sources(abc.ABC, Generic[Made]):
 
         Names, `directed`, `nodelist`, `bipartite` and `dup_op` are as for `from_edgelist`. ReadError, a ValueError, names the file and
         the line. In networkx `read_edgelist`, in pandas `read_csv`."""
-        layout = Layout(delimiter, header, columns, values, scale, bipartite, comments, missing)
+        layout = Layout(delimiter, header, columns, values, scale, bipartite, comments, missing, nodetype)
         return self._read(path, Request('edges', layout, directed, nodelist), dup_op, name)
 
     def read_graph(self, path: Any, format: Optional[str] = None, *, values: bool = True, scale: Optional[float] = None,
                    directed: Optional[bool] = None, bipartite: Optional[bool] = None, dup_op: DupOp = None, name: Optional[str] = None,
                    **layout: Any) -> Made:
         """The matrix of a file of any format: 'mtx' (Matrix Market, see `mmread`), 'edges', 'csv' or 'tsv' (see `read_edgelist`, whose
-        `delimiter`, `header`, `columns`, `comments`, `missing` and `nodelist` it takes), 'dimacs' (.gr, .max, .col; vertices are named from 1), 'graphml', 'gexf'
+        `delimiter`, `header`, `columns`, `comments`, `missing`, `nodetype` and `nodelist` it takes), 'dimacs' (.gr, .max, .col; vertices are named from 1), 'graphml', 'gexf'
         and 'gml' by networkx, 'parquet' by pandas. Without a format the content says. `directed` None is as the file
         has it: a DIMACS graph of edges `e` is undirected, the edges of a list lead one way. `values`, `scale`, `bipartite` and `dup_op` are as for `read_edgelist`."""
         nodelist = layout.pop('nodelist', None)
