@@ -16,7 +16,7 @@ from typing import TYPE_CHECKING, Any, Dict, List
 if TYPE_CHECKING:
     from . import algorithms, draw
     from ._client.pending_jobs import Budget, JobResult
-    from .errors import (BudgetExceeded, Busy, Closed, CompileError, DimensionMismatch, DomainMismatch, NoThread, NotMade,
+    from .errors import (BudgetExceeded, Busy, Closed, CompileError, DimensionMismatch, DomainMismatch, MaskWarning, NoThread, NotMade,
                          NotSettled, OperatorRefused, OutOfMemory, ReadError, Refused, ResultLost, SpmatError, TextRefused,
                          ThreadUnavailable, TooLarge, UnitsDiffer)
     from .loops import Loop, empty, loop, steady
@@ -39,7 +39,7 @@ def _version() -> str:
 
 __version__ = _version()
 __all__ = ['Budget', 'BudgetExceeded', 'Busy', 'Closed', 'CompileError', 'DimensionMismatch', 'DomainMismatch', 'JobResult', 'Loop',
-           'Mask', 'Matrix', 'NoThread', 'NotMade', 'NotSettled', 'Operator', 'OperatorRefused', 'OutOfMemory', 'ReadError',
+           'Mask', 'MaskWarning', 'Matrix', 'NoThread', 'NotMade', 'NotSettled', 'Operator', 'OperatorRefused', 'OutOfMemory', 'ReadError',
            'Refused', 'ResultLost', 'Semiring', 'Session', 'SpmatError', 'TextRefused', 'ThreadUnavailable', 'TooLarge', 'UnitsDiffer', 'algorithms',
            'asm', 'binary', 'bipartite', 'c', 'cdiv', 'cmod', 'code', 'code_of', 'draw', 'empty', 'explain', 'fixpoint', 'indexunary',
            'loop', 'price', 'rsh', 'select', 'semiring', 'steady', 'udiv', 'ult', 'umod', 'unary', 'where']
@@ -48,7 +48,7 @@ __all__ = ['Budget', 'BudgetExceeded', 'Busy', 'Closed', 'CompileError', 'Dimens
 # that makes a session doesn't wait for pictures.
 _PLACES: Dict[str, str] = {name: module for module, names in {
     'operators.clang': 'c',
-    'errors': 'BudgetExceeded Busy Closed CompileError DimensionMismatch DomainMismatch NoThread NotMade NotSettled OperatorRefused '
+    'errors': 'BudgetExceeded Busy Closed CompileError DimensionMismatch DomainMismatch MaskWarning NoThread NotMade NotSettled OperatorRefused '
               'OutOfMemory ReadError Refused ResultLost SpmatError TextRefused ThreadUnavailable TooLarge UnitsDiffer',
     '_client.pending_jobs': 'Budget JobResult',
     'loops': 'Loop empty loop steady',

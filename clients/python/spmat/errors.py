@@ -106,6 +106,10 @@ class Closed(SpmatError):
     are what the program said, its status among them."""
 
 
+class MaskWarning(UserWarning):
+    """A matrix was given as a mask: it means its structure, `A.S`, where the C API of the GraphBLAS means its values, `A.V`."""
+
+
 class ReadError(SpmatError, ValueError):
     """A file isn't what was to be read: `.file` its name, `.at` the line, from 1, or None, `.line` what stands there."""
 

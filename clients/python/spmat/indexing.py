@@ -1,22 +1,25 @@
-"""`G[i, j]`, `G[i, :]`, `G[rows, columns]`, made of products; and Python's signs, which say what to write in their place.
+"""`G[i, j]`, `G[i, :]`, `G[rows, columns]`, `G[mask]`, made of products and copies: what an index means, and what it gives.
 
 A product with a matrix of ones gathers rows or columns, as GrB_extract does: P G has the rows of G that P names, G Q the columns.
 """
 from __future__ import annotations
 
-# the signs raise, so none gives what Python wants of it
-# pylint: disable=invalid-length-returned,non-iterator-returned,abstract-method
-
-from typing import TYPE_CHECKING, Any, List, NamedTuple, NoReturn, Optional, Tuple, Union
+import sys
+from collections.abc import Iterator, KeysView, Set, ValuesView
+from typing import TYPE_CHECKING, Any, Hashable, List, NamedTuple, NoReturn, Optional, Union
 
 from . import units
 from .io.exporters import Held
+from .io.matrix_text import is_array
+from .mask import Mask
 from .metadata import NOTHING, Nodes
 
 if TYPE_CHECKING:
     from .matrix import Matrix
 
-Index = Union[Any, slice, List[Any]]
+WHAT = ('row', 'column')
+TWO = ('an index is two: G[i, j], G[i, :], G[:, j], G[rows, columns], or a mask: G[M.S]; G.by_node()[i] is one value of a column')
+COLLECTIONS = (Set, dict, Iterator, KeysView, ValuesView)    # what has no order of its own, or is read once
 
 
 class Chosen(NamedTuple):
@@ -27,106 +30,224 @@ class Chosen(NamedTuple):
 
 def picked(matrix: 'Matrix', at: Any) -> Union['Matrix', Optional[int]]:
     """See `Matrix.__getitem__`."""
-    if not isinstance(at, tuple) or len(at) != 2:
-        raise TypeError('an index is two: G[i, j], G[i, :], G[:, j], G[rows, columns]; G.by_node()[i] is one value of a column')
-    rows, columns = _chosen(matrix, at[0], 0), _chosen(matrix, at[1], 1)
+    if isinstance(at, Mask):
+        return matrix.dup(mask=at)
+    rows, columns = (choose_places(matrix, index, axis) for axis, index in enumerate(_pair_of(at)))
     part = matrix
     if rows.places is not None:
-        part = _gather(matrix, rows.places, 0).mxm(part, 'any_second')
+        part = gather(matrix, rows.places, 0).mxm(part, 'any_second')
     if columns.places is not None:
-        part = part.mxm(_gather(matrix, columns.places, 1), 'any_first')
+        part = part.mxm(gather(matrix, columns.places, 1), 'any_first')
     if rows.one and columns.one:
         values = part.to_coo(arrays=False)[2]
         return units.to_decimal(values[0], matrix.unit) if values else None
     return part
 
 
-def _chosen(matrix: 'Matrix', index: Index, axis: int) -> Chosen:
-    """The rows (or columns) that an index means. ValueError where one isn't there."""
+def _pair_of(at: Any) -> Any:
+    """The index of the rows and that of the columns. TypeError where there aren't two."""
+    if isinstance(at, Held):
+        raise TypeError('a matrix as an index is a mask: write G[M.S] for the positions that are stored in M, G[M.V] for those '
+                        'whose value is not 0')
+    if _is_boolean_table(at):
+        raise TypeError('an array of True and False as an index of both sides is a mask: write G.select(">", 3) for a condition '
+                        'on values, or G[s.from_dense(array, missing=0).S]')
+    found = list(at) if isinstance(at, tuple) else [at]
+    if any(index is None for index in found):
+        raise TypeError('None adds a dimension in numpy, and a matrix has two: write : for all rows or columns')
+    if any(index is Ellipsis for index in found):
+        place = next(place for place, index in enumerate(found) if index is Ellipsis)
+        found[place:place + 1] = [slice(None)] * (3 - len(found))
+    if len(found) != 2 or any(index is Ellipsis for index in found):
+        raise TypeError(TWO)
+    return found
+
+
+def _is_boolean_table(at: Any) -> bool:
+    return getattr(at, 'ndim', 0) == 2 and all(kind == bool for kind in getattr(at, 'dtypes', [getattr(at, 'dtype', None)]))
+
+
+def choose_places(matrix: 'Matrix', index: Any, axis: int) -> Chosen:
+    """The rows (or columns) that an index means: by names where they have some, else by position. ValueError where one isn't
+    there, IndexError where a filter has another length, TypeError for what is no index."""
     if isinstance(index, slice):
-        if index == slice(None):
-            return Chosen(None)
-        ends = [None if end is None else matrix.index(end, axis) if not _is_number(end) else end for end in (index.start, index.stop)]
-        return Chosen(list(range(*slice(ends[0], ends[1], index.step).indices(matrix.shape[axis]))))
-    if isinstance(index, (list, range)) or type(index).__name__ == 'ndarray':
-        return Chosen([matrix.index(one, axis) for one in index])
-    return Chosen([matrix.index(index, axis)], one=True)
+        return _of_slice(matrix, index, axis)
+    if isinstance(index, (Mask, Held)):
+        return Chosen(_of_column(matrix, index, axis))
+    series = _pandas('Series')
+    if series is not None and isinstance(index, series) and _is_boolean(index):
+        return Chosen(_of_series(matrix, index, axis))
+    if isinstance(index, (list, range)) or is_array(index) or _is_pandas(index):
+        return Chosen(_of_list(matrix, index, axis))
+    if isinstance(index, COLLECTIONS) and not _is_name(matrix.notes.names(axis), index):
+        raise TypeError('%ss are chosen by a list, an array, a slice or a name, not by a %s: write list(..)'
+                        % (WHAT[axis], type(index).__name__))
+    return Chosen([locate(matrix, index, axis)], one=True)
 
 
-def _is_number(end: Any) -> bool:
-    return hasattr(end, '__index__')
+def locate(matrix: 'Matrix', index: Any, axis: int) -> int:
+    """The place of one row (or column). A number that is no whole one, and a truth value, are names alone, where names are such."""
+    kind = bool if _is_truth(index) else float if isinstance(index, float) or _is_number_kind(index, 'f') else None
+    if kind is not None:
+        names = matrix.notes.names(axis)
+        found = names.places.get(index) if names is not None else None
+        if names is None or found is None or not isinstance(names[found], kind):
+            _refuse_kind(index, axis, kind)
+        return found
+    names = matrix.notes.names(axis)
+    if (names is None or not names.numbered) and hasattr(index, '__index__') and not _is_name(names, index) and index < 0:
+        raise ValueError('no vertex %d: they are 0 to %d; negative numbers count from the end in slices alone, G[-2:, :]'
+                         % (index, matrix.shape[axis] - 1))
+    return matrix.index(index, axis)
 
 
-def _gather(matrix: 'Matrix', places: List[int], axis: int) -> 'Matrix':
-    """The matrix of ones that gathers some rows (from the left) or columns (from the right)."""
+def _refuse_kind(index: Any, axis: int, kind: type) -> NoReturn:
+    if kind is bool:
+        raise TypeError('%s is no %s: a filter is a list with True or False for each' % (index, WHAT[axis]))
+    raise TypeError('%r is a float, and a %s is a name or a whole number' % (index, WHAT[axis])
+                    + (': write %d' % index if float(index).is_integer() else ''))
+
+
+def _is_name(names: Optional[Nodes], index: Any) -> bool:
+    return names is not None and isinstance(index, Hashable) and index in names.places
+
+
+def _is_truth(thing: Any) -> bool:
+    return isinstance(thing, bool) or _is_number_kind(thing, 'b')
+
+
+def _is_number_kind(thing: Any, kind: str) -> bool:
+    """Whether this is a number of numpy of a kind."""
+    return getattr(thing, 'ndim', None) == 0 and getattr(getattr(thing, 'dtype', None), 'kind', '') == kind
+
+
+def _pandas(name: str) -> Any:
+    """A class of pandas, where that is imported."""
+    return getattr(sys.modules.get('pandas'), name, None)
+
+
+def _is_pandas(thing: Any) -> bool:
+    """Whether this is a column, an index or an array of pandas."""
+    kinds = [_pandas(name) for name in ('Series', 'Index')]
+    extension = getattr(_pandas('api'), 'extensions', None)
+    kinds.append(getattr(extension, 'ExtensionArray', None))
+    return isinstance(thing, tuple(kind for kind in kinds if kind is not None))
+
+
+def _is_boolean(many: Any) -> bool:
+    """Whether a list, an array or a column has truth values, and nothing else."""
+    kind = getattr(getattr(many, 'dtype', None), 'kind', None)
+    if kind is not None and kind != 'O':
+        return bool(kind == 'b')
+    if isinstance(many, range):
+        return False
+    return len(many) > 0 and all(map(_is_truth, many))
+
+
+def _of_slice(matrix: 'Matrix', index: slice, axis: int) -> Chosen:
+    """The places of a slice: names count at both ends, as in pandas; positions from the first to before the last, as in numpy."""
+    start, stop, step = index.start, index.stop, index.step
+    if start is None and stop is None and step is None:
+        return Chosen(None)
+    for end in (start, stop):
+        if _is_truth(end) or isinstance(end, float):
+            _refuse_kind(end, axis, type(end) if isinstance(end, float) else bool)
+    backward = step is not None and step < 0
+    if start is not None and _names_vertex(matrix, start, axis):
+        start = matrix.index(start, axis)
+    if stop is not None and _names_vertex(matrix, stop, axis):
+        last = matrix.index(stop, axis)
+        stop = last + 1 if not backward else last - 1 if last else None
+    return Chosen(list(range(*slice(start, stop, step).indices(matrix.shape[axis]))))
+
+
+def _names_vertex(matrix: 'Matrix', end: Any, axis: int) -> bool:
+    """Whether an end of a slice is a name, and not a position."""
+    names = matrix.notes.names(axis)
+    return not hasattr(end, '__index__') or (names is not None and names.numbered)
+
+
+def _of_list(matrix: 'Matrix', many: Any, axis: int) -> List[int]:
+    """The places that a list, an array or a column of pandas names, or filters."""
+    if getattr(many, 'ndim', 1) != 1:
+        raise IndexError('%ss are chosen by an array of one dimension, not of %d' % (WHAT[axis], many.ndim))
+    if _has_gaps(many):
+        raise IndexError('an index of %ss has missing values: fillna(False) makes a filter whole' % WHAT[axis])
+    if _is_boolean(many):
+        return _filtered(matrix, many, axis)
+    plain = many.tolist() if hasattr(many, 'tolist') else many
+    if any(map(_is_truth, plain)):
+        raise TypeError('an index of %ss has truth values and others: a filter has True or False alone' % WHAT[axis])
+    return [locate(matrix, one, axis) for one in plain]
+
+
+def _has_gaps(many: Any) -> bool:
+    """Whether some values of a column of pandas, or of a masked array, are missing."""
+    if hasattr(many, 'isna'):
+        return bool(many.isna().any())
+    return bool(getattr(many, 'mask', None) is not None and getattr(many, 'mask').any())
+
+
+def _filtered(matrix: 'Matrix', many: Any, axis: int) -> List[int]:
+    count = matrix.shape[axis]
+    if len(many) != count:
+        raise IndexError('a filter of %d values for %d %ss' % (len(many), count, WHAT[axis]))
+    return [place for place, chosen in enumerate(many) if chosen]
+
+
+def _of_series(matrix: 'Matrix', series: Any, axis: int) -> List[int]:
+    """The places of a column of pandas that filters: by its labels where they name the rows, else by position."""
+    if _has_gaps(series):
+        raise IndexError('a filter of %ss has missing values: fillna(False) makes it whole' % WHAT[axis])
+    names, labels = matrix.notes.names(axis), series.index.tolist()
+    wanted = list(names) if names is not None else list(range(matrix.shape[axis]))
+    by_label = dict(zip(labels, series.tolist()))
+    if len(by_label) == len(labels) and all(name in by_label for name in wanted):
+        if names is None and len(labels) != len(wanted):
+            return _filtered(matrix, series, axis)
+        return [place for place, name in enumerate(wanted) if by_label[name]]
+    if labels == list(range(len(labels))) and (names is None or not names.numbered):
+        return _filtered(matrix, series.tolist(), axis)
+    lacking = next((name for name in wanted if name not in by_label), None)
+    raise IndexError('the labels of the filter do not name the %ss: %s; write filter.to_numpy() to filter by position' % (
+        WHAT[axis], 'some stand twice' if lacking is None else 'there is none %r' % (lacking,)))
+
+
+def _of_column(matrix: 'Matrix', column: Any, axis: int) -> List[int]:
+    """The places of a column (or row) of spmat that filters, or of a mask of one; aligned by names where both have some."""
+    mask = column if isinstance(column, Mask) else None
+    values: Any = column if mask is None else mask.matrix
+    if 1 not in values.shape:
+        raise TypeError('%ss are filtered by a column or a row, not by a matrix of %dx%d' % (WHAT[axis], *values.shape))
+    length = values.nrows if values.ncols == 1 else values.ncols
+    rows, columns, numbers = values.to_coo(arrays=False)
+    at = rows if values.ncols == 1 else columns
+    if mask is None and not set(numbers) <= {0, 1}:
+        raise TypeError('a column of other values than 0 and 1 is no filter: write c.S for the %ss with an entry, c.V for those whose '
+                        'value is not 0, or c.to_list() for a list of %ss' % (WHAT[axis], WHAT[axis]))
+    stored = {place for place, number in zip(at, numbers) if number or (mask is not None and not mask.value)}
+    inside = mask is None or not mask.complement
+    own, names = values.notes.names(0 if values.ncols == 1 else 1), matrix.notes.names(axis)
+    if own is not None and names is not None and list(own) != list(names):
+        unknown = next((name for name in names if name not in own.places), None)
+        if unknown is not None:
+            raise IndexError('the filter has no vertex %r' % (unknown,))
+        return [place for place, name in enumerate(names) if (own.places[name] in stored) is inside]
+    if length != matrix.shape[axis]:
+        raise IndexError('a filter of %d values for %d %ss' % (length, matrix.shape[axis], WHAT[axis]))
+    return [place for place in range(length) if (place in stored) is inside]
+
+
+def gather(matrix: 'Matrix', places: List[int], axis: int) -> 'Matrix':
+    """The matrix of ones that gathers some rows (from the left) or columns (from the right). Its other side has the names of what is
+    gathered, or none where one is gathered twice."""
     count, many = matrix.shape[axis], len(places)
     names = matrix.notes.names(axis)
-    kept = None if names is None else Nodes(names[place] for place in places)
+    chosen = None if names is None or len(set(places)) < many else Nodes(names[place] for place in places)
     if axis == 0:
         made = matrix.session.from_coo(range(many), places, 1, many, count)
-        made.notes = NOTHING._replace(rows=kept, columns=names)
+        made.notes = NOTHING._replace(rows=chosen, columns=names)
     else:
         made = matrix.session.from_coo(places, range(many), 1, count, many)
-        made.notes = NOTHING._replace(rows=names, columns=kept)
+        made.notes = NOTHING._replace(rows=names, columns=chosen)
     return made
-
-
-class Signs(Held):
-    """Signs that Python knows and the protocol doesn't: each says what to write."""
-
-    def _no(self, sign: str, instead: str) -> NoReturn:
-        raise TypeError('a matrix has no %s: write %s' % (sign, instead))
-
-    def __matmul__(self, other: Any) -> NoReturn:
-        self._no('@', 'A.mxm(B), or A.mxm(B, "min_plus") over another semiring')
-
-    def __add__(self, other: Any) -> NoReturn:
-        self._no('+', 'A.ewise_add(B), or A.apply("plus", right=3) for a number')
-
-    def __sub__(self, other: Any) -> NoReturn:
-        self._no('-', 'A.ewise_add(B.apply("ainv")), A.ewise_add(B, "minus") where both have the same entries, or A.apply("minus", '
-                 'right=3)')
-
-    def __mul__(self, other: Any) -> NoReturn:
-        self._no('*', 'A.ewise_mult(B) entry by entry, A.mxm(B) for the product, or A.apply("times", right=3) for a number')
-
-    def __floordiv__(self, other: Any) -> NoReturn:
-        self._no('//', 'A.ewise_mult(B, "floordiv"), or A.apply("floordiv", right=3)')
-
-    def __truediv__(self, other: Any) -> NoReturn:
-        self._no('/', 'A.ewise_mult(B, "cdiv"), or A.apply("cdiv", right=3): values are whole numbers')
-
-    def __and__(self, other: Any) -> NoReturn:
-        self._no('&', 'A.ewise_mult(B, "land")')
-
-    def __or__(self, other: Any) -> NoReturn:
-        self._no('|', 'A.ewise_add(B, "lor")')
-
-    def __lt__(self, other: Any) -> NoReturn:
-        self._no('<', 'A.select("<", 3), or A.ewise_mult(B, "lt")')
-
-    def __le__(self, other: Any) -> NoReturn:
-        self._no('<=', 'A.select("<=", 3), or A.ewise_mult(B, "le")')
-
-    def __gt__(self, other: Any) -> NoReturn:
-        self._no('>', 'A.select(">", 3), or A.ewise_mult(B, "gt")')
-
-    def __ge__(self, other: Any) -> NoReturn:
-        self._no('>=', 'A.select(">=", 3), or A.ewise_mult(B, "ge")')
-
-    __radd__, __rmul__, __rmatmul__ = __add__, __mul__, __matmul__
-
-    def __len__(self) -> int:
-        self._no('len()', 'A.nrows, A.ncols, or A.nvals for the number of entries')
-
-    def __bool__(self) -> bool:
-        return True                                # not by its length; a matrix is there, whatever it holds
-
-    def __iter__(self) -> Any:
-        self._no('iteration', 'for row, column, value in A.to_triples()')
-
-    def __array__(self, *_: Any, **__: Any) -> Any:
-        self._no('array of its own', 'A.to_dense(), A.to_coo() or A.to_scipy_sparse()')
-
-    def __setitem__(self, at: Tuple[Any, Any], value: Any) -> NoReturn:
-        self._no('assignment, since nothing changes one', 'B = A.update(C, mask=C.S)')

@@ -12,10 +12,11 @@ from . import metadata, oversized_jobs, units
 from ._client.protocol import FORMS
 from .display import html
 from .errors import TooLarge, refusal
-from .indexing import Signs, picked
+from .indexing import picked
 from .io import coo, matrix_text
-from .mask import Mask, as_mask
+from .mask import Mask, as_mask, structure
 from .operators import Op, Operator, READY, Semiring, binary, find, find_semiring, indexunary, unary
+from .signs import Signs
 
 if TYPE_CHECKING:
     from ._client.handles import Handle
@@ -273,13 +274,13 @@ class Matrix(Signs):
         """The entries outside a mask, whatever the values: 5 jobs and 3 runs, 1 run more where this matrix or the mask's waits, 1
         job and 1 run more for `A.V`. Ones for the entries here and zeros for the mask's; their union by `zero` is 1 only where
         this matrix is alone; a copy under those. Of ~A.S or ~A.V it is a copy under A.S or A.V, 1 job."""
-        where = as_mask(mask)
+        where = as_mask(mask, warns=False)
         if where is None:
             raise TypeError('expected a mask')
         if where.complement:
             return self.dup(mask=~where, name=name)
         _check_mask(where, self.shape)
-        other = structure(where)
+        other: Matrix = structure(where)
         if self.waits or other.waits:
             self.session.run()
         here, there = self.apply(unary.one), other.apply(unary.zero)
@@ -322,12 +323,6 @@ class Matrix(Signs):
         """The canonical Matrix Market text: coordinate integer general, entries by ascending row and column. Runs the queue where
         this matrix waits, as all else does that tells what it holds."""
         return self.session.backend.read(self)
-
-
-def structure(mask: Mask) -> Matrix:
-    """A matrix whose structure is this mask's, whether it is complemented or not."""
-    matrix: Matrix = mask.matrix
-    return matrix.select(indexunary.nonzero) if mask.value else matrix
 
 
 class _Job(NamedTuple):

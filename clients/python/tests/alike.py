@@ -11,7 +11,7 @@ from spmat import algorithms, blocks
 from spmat.blocks import unsupported
 
 THREE = 'ABK'                                      # square matrices of random values; K is a mask
-MASKS = {'none': lambda M: None, 'S': lambda M: M.S, 'V': lambda M: M.V, '~S': lambda M: ~M.S, '~V': lambda M: ~M.V, 'itself': lambda M: M}
+MASKS = {'none': lambda M: None, 'S': lambda M: M.S, 'V': lambda M: M.V, '~S': lambda M: ~M.S, '~V': lambda M: ~M.V}
 MINUS = spmat.asm('binary', 'mov64 r0, r1\nsub64 r0, r2\nexit\n', 'less')
 GREATER = spmat.asm('unary', 'mov64 r0, r1\nadd64 r0, 1\nexit\n', 'greater')
 WRONG = spmat.asm('unary', 'ldx64 r0, r1, 0\nexit\n', 'wrong')
@@ -117,7 +117,7 @@ METHODS = {
     'vxm': [lambda g, mask: g.R.vxm(g.G, 'min_plus'), lambda g, mask: g.R.vxm(g.G, mask=g.R.V), lambda g, mask: g.A.vxm(g.G)],
     'wait': [lambda g, mask: g.A.apply('abs').wait()],
     'waits': [lambda g, mask: [g.G.nvals and g.G.waits]],
-    'without': [lambda g, mask: g.G.without(mask or g.K), lambda g, mask: g.G.without(g.G.select('triu', 1)), lambda g, mask: g.A.without(None)],
+    'without': [lambda g, mask: g.G.without(g.K if mask is None else mask), lambda g, mask: g.G.without(g.G.select('triu', 1)), lambda g, mask: g.A.without(None)],
     '__getitem__': [lambda g, mask: [g.A[1, 2], g.A[1, :], g.A[:, 3], g.A[[2, 0], :], g.A[0:3, 1::2]], lambda g, mask: g.G[_first(g.G.nodes), :],
                     lambda g, mask: g.A['nobody', 0]],
 }

@@ -60,7 +60,7 @@ FORMS = {
     'reduce': lambda A, B, K, mask: A.reduce_rowwise(HASTY, mask=mask),
     'fold of columns': lambda A, B, K, mask: A.reduce_columnwise(HASTY, mask=mask),
 }
-MASKS = {'none': lambda M: None, 'S': lambda M: M.S, '~V': lambda M: ~M.V, 'V': lambda M: M.V, '~S': lambda M: ~M.S, 'itself': lambda M: M}
+MASKS = {'none': lambda M: None, 'S': lambda M: M.S, '~V': lambda M: ~M.V, 'V': lambda M: M.V, '~S': lambda M: ~M.S}
 FEW = ('none', 'S', '~V')                          # masks for all cases; the others for the first
 
 

@@ -193,10 +193,10 @@ class Dask(unittest.TestCase):
             X = GRAPH.matrix(s)
             Y = X.apply('identity')
             before = self.uploads(s)
-            X.mxm(X, mask=X).nvals
+            X.mxm(X, mask=X.S).nvals
             self.assertEqual(self.uploads(s) - before, WORKERS)
-            X.mxm(X, 'min_plus', mask=X).nvals
-            X.mxm(Y, mask=X).nvals                                     # made anew, and of the same content
+            X.mxm(X, 'min_plus', mask=X.S).nvals
+            X.mxm(Y, mask=X.S).nvals                                     # made anew, and of the same content
             self.assertEqual(self.uploads(s) - before, WORKERS)
 
     def uploads(self, sessions):

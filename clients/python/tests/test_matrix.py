@@ -198,7 +198,7 @@ class Jobs(Matrices):
             for kind, call in (
                     (spmat.DimensionMismatch, lambda: A.ewise_add(flat)), (spmat.DimensionMismatch, lambda: A.ewise_mult(flat)),
                     (spmat.DimensionMismatch, lambda: flat.T.mxm(flat.T)), (spmat.DimensionMismatch, lambda: A.mxv(A)),
-                    (spmat.DimensionMismatch, lambda: A.vxm(A)), (spmat.DimensionMismatch, lambda: A.apply('abs', mask=flat)),
+                    (spmat.DimensionMismatch, lambda: A.vxm(A)), (spmat.DimensionMismatch, lambda: A.apply('abs', mask=flat.S)),
                     (spmat.DimensionMismatch, lambda: A.mxm(A, mask=~flat.S)),
                     (spmat.DimensionMismatch, lambda: A.without(flat)),
                     (spmat.DimensionMismatch, lambda: A.update(A, 'plus', flat.V)),
@@ -230,7 +230,7 @@ class Masks(Matrices):
         A, M = self.A, self.s.from_triples([(0, 0, 0), (0, 2, 1), (1, 0, 3)], 3, 3)
         inside, valued = {(0, 0), (0, 2)}, {(0, 2)}
         for mask, keep, jobs, runs in (
-                (M, lambda p: p in inside, 1, 0), (M.S, lambda p: p in inside, 1, 0), (M.V, lambda p: p in valued, 2, 1),
+                (M.S, lambda p: p in inside, 1, 0), (M.V, lambda p: p in valued, 2, 1),
                 (~M.S, lambda p: p not in inside, 6, 4), (~M.V, lambda p: p not in valued, 7, 4),
                 (~~M.S, lambda p: p in inside, 1, 0)):
             want = {p: -x for p, x in A_MAP.items() if keep(p)}
@@ -240,7 +240,7 @@ class Masks(Matrices):
             self.assertEqual(call({'mask': M.V}).to_dict(), {(0, 2): -3})
             self.assertEqual(call({'mask': ~M.S}).to_dict(), {p: x for p, x in A_MAP.items() if p not in inside})
         column = self.s.from_triples([(1, 0, 4)], 3, 1)
-        self.assertEqual(A.reduce_rowwise(mask=column).to_dict(), {(1, 0): 0})
+        self.assertEqual(A.reduce_rowwise(mask=column.S).to_dict(), {(1, 0): 0})
         self.assertEqual(A.reduce_columnwise(mask=~column.T.S).to_dict(), {(0, 0): 12, (0, 2): -1})
 
     def test_without(self):
@@ -260,10 +260,10 @@ class Made(Matrices):
         union = {**B_MAP, **A_MAP, (0, 0): 7, (1, 1): 4, (2, 2): 8}
         for how, want, jobs, runs in (
                 ({}, B_MAP, 1, 0), ({'accum': 'plus'}, union, 1, 0),
-                ({'mask': M}, {**outside, (0, 0): 2, (1, 2): 1}, 7, 4),
-                ({'mask': M, 'replace': True}, {(0, 0): 2, (1, 2): 1}, 1, 0),
-                ({'mask': M, 'accum': 'plus'}, {**outside, (0, 0): 7, (1, 2): 1, (2, 0): 7}, 8, 4),
-                ({'mask': M, 'accum': 'plus', 'replace': True}, {(0, 0): 7, (1, 2): 1, (2, 0): 7}, 2, 1),
+                ({'mask': M.S}, {**outside, (0, 0): 2, (1, 2): 1}, 7, 4),
+                ({'mask': M.S, 'replace': True}, {(0, 0): 2, (1, 2): 1}, 1, 0),
+                ({'mask': M.S, 'accum': 'plus'}, {**outside, (0, 0): 7, (1, 2): 1, (2, 0): 7}, 8, 4),
+                ({'mask': M.S, 'accum': 'plus', 'replace': True}, {(0, 0): 7, (1, 2): 1, (2, 0): 7}, 2, 1),
                 ({'mask': ~M.S}, {(0, 0): 5, (2, 0): 7, (1, 1): 4, (2, 2): 6}, 7, 4),
                 ({'mask': M.V}, {**outside, (0, 0): 2}, 8, 5),
                 ({'mask': M.V, 'accum': 'plus'}, {**outside, (0, 0): 7, (2, 0): 7}, 9, 5),

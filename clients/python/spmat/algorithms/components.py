@@ -154,7 +154,7 @@ class Neighbours(Generic[M]):
     def _pulled(self, labels: M, some: Numbers) -> List[Vector]:
         """The least and the greatest label among the neighbours of some vertices."""
         mask = self.columns.put(Vector(some, ones_like(some)))
-        return _alike(self.columns, [self.graph.mxv(labels, ring, mask=mask) for ring in ('min_second', 'max_second')])
+        return _alike(self.columns, [self.graph.mxv(labels, ring, mask=mask.S) for ring in ('min_second', 'max_second')])
 
     @staticmethod
     def _join(found_labels: List[Vector], labels: Labels) -> bool:

@@ -100,7 +100,7 @@ class Rows(Lines[M]):
         return self.graph.session.full(1, self.count, value)
 
     def step(self, front: M, ring: Semiring, mask: Optional[M] = None) -> M:
-        return front.mxm(self.graph, ring, mask=mask)
+        return front.mxm(self.graph, ring, mask=None if mask is None else mask.S)
 
     def number(self, vector: M, more: int = 0) -> M:
         return vector.apply('colindex', right=more)
@@ -123,7 +123,8 @@ class Columns(Lines[M]):
         return self.graph.session.full(self.count, 1, value)
 
     def step(self, front: M, ring: Semiring, mask: Optional[M] = None) -> M:
-        return self.transpose.mxv(front, Semiring(ring.add, SWAPPED.get(ring.mul, ring.mul)), mask=mask)
+        return self.transpose.mxv(front, Semiring(ring.add, SWAPPED.get(ring.mul, ring.mul)),
+                                  mask=None if mask is None else mask.S)
 
     def number(self, vector: M, more: int = 0) -> M:
         return vector.apply('rowindex', right=more)

@@ -96,7 +96,7 @@ def parents_on(graph: GraphMatrix, told: Tally, fronts: Fronts, depth: Optional[
 
     def step(s: State) -> Any:
         came = s.front.mxm(G, 'min_first')
-        new = came.ewise_add(s.near, 'zero', mask=came).select('nonzero')
+        new = came.ewise_add(s.near, 'zero', mask=came.S).select('nonzero')
         front = new.apply('colindex', right=1)
         return {'front': front, 'near': front.ewise_add(s.front, 'any'), 'new': new}
     loop = Loop(step, state, ['new'])
@@ -131,7 +131,7 @@ def lengths_on(graph: GraphMatrix, known: Tally, some: Waiting, heaviest: int, p
     def pushed(now: Matrix) -> Matrix:
         waiting = now.select(WAITS)
         above = waiting.ewise_mult(waiting.reduce_rowwise('min').mxm(waiting, 'any_first'), 'minus')
-        active = waiting.apply('identity', mask=above.select('valuele', 2 * heaviest))
+        active = waiting.apply('identity', mask=above.select('valuele', 2 * heaviest).S)
         return now.ewise_add(active.mxm(twice, 'min_plus').ewise_add(active.apply(PUSHED), 'min'), 'min')
 
     def step(s: State) -> Any:
@@ -140,8 +140,8 @@ def lengths_on(graph: GraphMatrix, known: Tally, some: Waiting, heaviest: int, p
             now = pushed(now)
         least = now.select(WAITS).reduce_rowwise('min').ewise_add(beyond, 'min')
         above = now.ewise_mult(least.mxm(now, 'any_first'), 'minus')
-        return {'lengths': now.apply('identity', mask=above.select('valuege', -2 * heaviest - 1)),
-                'final': now.apply('identity', mask=above.select('valuelt', -2 * heaviest - 1))}
+        return {'lengths': now.apply('identity', mask=above.select('valuege', -2 * heaviest - 1).S),
+                'final': now.apply('identity', mask=above.select('valuelt', -2 * heaviest - 1).S)}
     loop = Loop(step, {'lengths': _doubled(W, known, some)}, ['final'])
 
     def heard(first: int, rounds: List[Round]) -> None:

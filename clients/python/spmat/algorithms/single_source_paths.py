@@ -122,7 +122,7 @@ class Lengths(Generic[M]):
         while front.nvals and small < BACK:
             told.round(self.longest, lines, lambda now=front: now)  # type: ignore[misc]
             reached = lines.step(front, SHORTEST)
-            front = reached.ewise_add(known, LESS, mask=reached).select('valuene', NOT_LESS)
+            front = reached.ewise_add(known, LESS, mask=reached.S).select('valuene', NOT_LESS)
             if self.bounds.ascending and self.bounds.cutoff is not None:
                 front = front.select('valuele', self.bounds.cutoff)
             known = known.ewise_add(front, 'second')

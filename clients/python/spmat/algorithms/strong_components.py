@@ -159,10 +159,10 @@ def _pulled(G: Matrix, middle: Place, parts: Parts) -> Optional[Numbers]:
     for _ in range(PULLS):
         if unseen is None:
             came = G.mxv(front, 'any_pair')
-            front = came.ewise_add(seen, 'zero', mask=came).select('nonzero')
+            front = came.ewise_add(seen, 'zero', mask=came.S).select('nonzero')
             seen = seen.ewise_add(front, 'first')
         else:
-            front = G.mxv(front, 'any_pair', mask=unseen)
+            front = G.mxv(front, 'any_pair', mask=unseen.S)
             unseen = _without(unseen, front)
         if not front.nvals:
             at = (seen if unseen is None else unseen).to_coo(arrays=parts.numpy is not None)[0]

@@ -8,7 +8,7 @@ from __future__ import annotations
 from typing import TYPE_CHECKING, Callable, Optional
 
 from .. import oversized_jobs
-from ..mask import Mask
+from ..mask import Mask, structure
 from ..operators import binary, indexunary, unary
 
 if TYPE_CHECKING:
@@ -25,7 +25,7 @@ def is_single(method: str, where: Optional[Mask]) -> bool:
 
 def of_structure(where: Mask) -> Mask:
     """A mask, made one of its matrix' structure."""
-    return Mask(where.matrix.select(indexunary.nonzero), False, where.complement) if where.value else where
+    return Mask(structure(where), False, where.complement)
 
 
 def under(call: Call, where: Mask, name: Optional[str]) -> 'BlockMatrix':

@@ -10,10 +10,11 @@ from .. import metadata, units
 from .._client.protocol import FORMS
 from ..aliases import alias, is_same
 from ..errors import SpmatError, refusal
-from ..indexing import Signs, picked
+from ..indexing import picked
 from ..mask import Mask, as_mask
 from ..matrix import Number, Ring, applied, of_form
 from ..operators import Op, Semiring, binary, find_semiring, indexunary
+from ..signs import Signs
 from . import composite_methods, frontier, html, matrix_products, repartition, row_partition, unsupported, worker_tasks
 from .row_partition import Cut
 from .shared_budget import Work
@@ -185,7 +186,7 @@ class BlockMatrix(Signs):
 
     def without(self, mask: Union['BlockMatrix', Mask], *, name: Optional[str] = None) -> 'BlockMatrix':
         """The entries outside a mask; see `Matrix.without`."""
-        where = self._mask(mask, self.shape)
+        where = self._mask(as_mask(mask, warns=False), self.shape)
         if where is None:
             raise TypeError('expected a mask')
         return self.dup(mask=~where, name=name)
@@ -194,11 +195,10 @@ class BlockMatrix(Signs):
                name: Optional[str] = None) -> 'BlockMatrix':
         """What the GraphBLAS writes C<M, accum> = other; see `Matrix.update`."""
         self.check_shape('union', other, self.shape)
-        op = None if accum is None else of_form('union', accum)
-        where = as_mask(mask)
+        op, where = None if accum is None else of_form('union', accum), as_mask(mask)
         told = metadata.of_update(self.notes, other.notes, op) if where is None else metadata.of_update(
             self.notes, other.notes, op, where.matrix.notes, value=where.value, complement=where.complement, replace=replace)
-        made = self.job('update', [other], [op], told=metadata.NOTHING, mask=mask, name=name, replace=replace)
+        made = self.job('update', [other], [op], told=metadata.NOTHING, mask=where, name=name, replace=replace)
         made.notes = told
         return made
 
@@ -224,7 +224,7 @@ class BlockMatrix(Signs):
         futures = self.sessions.batch([
             Work(k, self.cut.label(k), worker_tasks.job, (method, [matrix.futures[k] for matrix in there], held[k], list(args), options))
             for k in range(self.cut.blocks)])
-        holds = [future for matrix in (*there, *([where.matrix] if where else [])) for future in matrix.holds]
+        holds = [future for matrix in (*there, *([where.matrix] if where is not None else [])) for future in matrix.holds]
         made = BlockMatrix(self.sessions, futures, self.cut, width, name, holds).of_job(FORM_OF[method])
         made.notes = noted(told, where)
         return made

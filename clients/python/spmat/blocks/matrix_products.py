@@ -57,7 +57,7 @@ def by_blocks(a: 'BlockMatrix', b: 'BlockMatrix', way: Way, name: Optional[str])
 
 def _made(a: 'BlockMatrix', b: 'BlockMatrix', futures: List[Any], where: Optional[Mask], name: Optional[str],
           more: Iterable[Any]) -> 'BlockMatrix':
-    holds = [*a.holds, *(where.matrix.holds if where else ()), *more]
+    holds = [*a.holds, *(where.matrix.holds if where is not None else ()), *more]
     return a.in_sessions(a.sessions, futures, a.cut, b.ncols, name, holds).of_job('product')
 
 

@@ -4,10 +4,11 @@ from __future__ import annotations
 import math
 import numbers
 import operator
-from typing import Any, Callable, Dict, Iterable, List, Optional, Sequence, Tuple
+from typing import Any, Callable, Dict, Iterable, List, NamedTuple, Optional, Sequence, Tuple
 
 from ..errors import Refused, refusal
 from ..limits import MOST_SIDE
+from .arrays import columns_of_frame, is_frame, is_gap, is_many, plain_column
 from .matrix_text import FEW, Triples, find_numpy, is_array
 
 LEAST, MOST = -1 << 63, (1 << 63) - 1
@@ -18,10 +19,12 @@ def checked(rows: Any, columns: Any, values: Any, nrows: Optional[int] = None, n
     """Triples of whole numbers within 64 bits, indices within the sizes. Sizes that aren't given are the least that fit. `values`
     may be one number for all. TypeError for what is no number, ValueError for lengths that differ, values that aren't whole, and
     what is out of range; the place is counted from 0."""
+    rows, columns = plain_column(rows, 'row'), plain_column(columns, 'column')
+    values = plain_column(values, 'value') if is_many(values) else values
     if is_array(rows) or is_array(columns) or is_array(values):
         return _checked_arrays(rows, columns, values, nrows, ncols)
     rows, columns = whole_list(rows, 'row'), whole_list(columns, 'column')
-    values = whole_list(values, 'value') if _is_many(values) else [whole(values, 'value')] * len(rows)
+    values = whole_list(values, 'value') if is_many(values) else [whole(values, 'value')] * len(rows)
     _same_length(rows, columns, values)
     nrows = side(nrows, max(0, max(rows, default=-1) + 1), 'nrows')
     ncols = side(ncols, max(0, max(columns, default=-1) + 1), 'ncols')
@@ -42,6 +45,8 @@ def _outside(what: str, number: int, least: int, most: int, at: int) -> ValueErr
 def columns_of(triples: Any) -> Tuple[Any, Any, Any]:
     """The rows, columns and values of (row, column, value) or (row, column), whose value is 1; or of an array of numpy with these as
     its columns."""
+    if is_frame(triples):
+        return columns_of_frame(triples)
     if is_array(triples) and triples.shape[1:] in ((2,), (3,)):
         return triples[:, 0], triples[:, 1], triples[:, 2] if triples.shape[1] == 3 else 1
     many = list(triples)
@@ -94,7 +99,17 @@ def whole_list(many: Iterable[Any], what: str) -> List[int]:
     try:
         return list(map(operator.index, many))
     except TypeError:
-        return [whole(number, what) for number in many]
+        return [_whole_at(number, what, at) for at, number in enumerate(many)]
+
+
+def _whole_at(number: Any, what: str, at: int) -> int:
+    """A number as an int; errors name its place."""
+    if is_gap(number):
+        raise ValueError('a %s is missing: it is %s (entry %d)' % (what, 'nan' if isinstance(number, float) else repr(number), at))
+    try:
+        return whole(number, what)
+    except (TypeError, ValueError) as fault:
+        raise type(fault)('%s (entry %d)' % (fault, at)) from None
 
 
 def side(given: Optional[int], least: int, what: str) -> int:
@@ -107,10 +122,6 @@ def side(given: Optional[int], least: int, what: str) -> int:
     return size
 
 
-def _is_many(values: Any) -> bool:
-    return hasattr(values, '__iter__') and not isinstance(values, (str, bytes))
-
-
 def _same_length(rows: Sequence[Any], columns: Sequence[Any], values: Sequence[Any]) -> None:
     if not len(rows) == len(columns) == len(values):
         raise ValueError('%d rows, %d columns and %d values' % (len(rows), len(columns), len(values)))
@@ -119,7 +130,7 @@ def _same_length(rows: Sequence[Any], columns: Sequence[Any], values: Sequence[A
 def _checked_arrays(rows: Any, columns: Any, values: Any, nrows: Optional[int], ncols: Optional[int]) -> Triples:
     import numpy
     rows, columns = whole_array(rows, 'row'), whole_array(columns, 'column')
-    values = whole_array(values, 'value') if _is_many(values) else numpy.full(len(rows), word(values, 'value'), numpy.int64)
+    values = whole_array(values, 'value') if is_many(values) else numpy.full(len(rows), word(values, 'value'), numpy.int64)
     _same_length(rows, columns, values)
     nrows = side(nrows, max(0, int(rows.max()) + 1) if len(rows) else 0, 'nrows')
     ncols = side(ncols, max(0, int(columns.max()) + 1) if len(columns) else 0, 'ncols')
@@ -142,7 +153,7 @@ def whole_array(many: Any, what: str) -> Any:
     if array.ndim != 1:
         raise ValueError('expected one dimension of %ss, got %d' % (what, array.ndim))
     if array.dtype.kind == 'O' or not len(array):
-        return numpy.array([word(number, what) for number in array.tolist()], numpy.int64)
+        return numpy.array([word(_whole_at(number, what, at), what) for at, number in enumerate(array.tolist())], numpy.int64)
     if array.dtype.kind not in 'biuf':
         raise TypeError('%ss are whole numbers, not %s' % (what, array.dtype))
     wrong = None
@@ -153,27 +164,72 @@ def whole_array(many: Any, what: str) -> Any:
         wrong = array > numpy.uint64(MOST)
     if wrong is not None and wrong.any():
         at = int(wrong.argmax())
+        if array[at] != array[at]:
+            raise ValueError('a %s is missing: it is nan (entry %d)' % (what, at))
         raise ValueError('a %s is a whole number of 64 bits, not %s (entry %d)%s' % (what, array[at], at, _mend(what)))
     return array.astype(numpy.int64, copy=False)
 
 
-def from_dense(rows: Any, missing: Any = None) -> Triples:
-    """The triples of a table: a list of rows, or an array of two dimensions. A list of numbers, or an array of one dimension, is a
-    column. Cells that are `missing` (None: no cell) have no entry."""
-    if is_array(rows):
-        import numpy
-        table = rows.reshape(-1, 1) if rows.ndim == 1 else rows
-        if table.ndim != 2:
-            raise ValueError('expected one or two dimensions, got %d' % table.ndim)
-        at = numpy.nonzero(numpy.ones(table.shape, bool) if missing is None else table != missing)
-        return checked(at[0], at[1], table[at], *table.shape)
-    table = [list(row) if _is_many(row) else [row] for row in rows]
-    ncols = len(table[0]) if table else 0
-    if any(len(row) != ncols for row in table):
-        raise ValueError('rows of %s cells' % ' and '.join(sorted({str(len(row)) for row in table})))
-    kept = [(i, j, cell) for i, row in enumerate(table) for j, cell in enumerate(row) if missing is None or cell != missing]
-    rows, columns, cells = zip(*kept) if kept else ((), (), ())
-    return checked(rows, columns, cells, len(table), ncols)
+class Cells(NamedTuple):
+    """The cells of a table that are entries: rows, columns and values, and the table's sizes."""
+    rows: Any
+    columns: Any
+    values: Any
+    nrows: int
+    ncols: int
+
+
+def from_dense(cells: Any, missing: Any = None) -> Cells:
+    """The cells of a table, an array of two dimensions or a list of lists, but for those that are `missing` (None: no cell), and masked
+    ones. ValueError with its row and column for a cell that holds no value."""
+    if is_array(cells) and cells.dtype.kind != 'O':
+        return _from_array(cells, missing)
+    ncols = cells.shape[1] if is_array(cells) else len(cells[0]) if cells else 0
+    rows = _unmasked(cells) if is_array(cells) else cells
+    if any(len(row) != ncols for row in rows):
+        raise ValueError('rows of %s cells' % ' and '.join(sorted({str(len(row)) for row in rows})))
+    chosen = [(i, j, cell) for i, row in enumerate(rows) for j, cell in enumerate(row)
+              if cell is not MASKED and not _is_missing(cell, missing)]
+    for i, j, cell in chosen:
+        if is_gap(cell):
+            raise _gap(i, j, cell)
+    at, columns, values = zip(*chosen) if chosen else ((), (), ())
+    return Cells(at, columns, values, len(rows), ncols)
+
+
+MASKED = object()                                  # what stands in a cell that an array masks
+
+
+def _unmasked(table: Any) -> List[List[Any]]:
+    """The rows of an array of objects."""
+    import numpy
+    hidden: Any = numpy.ma.getmaskarray(table)                         # type: ignore[no-untyped-call]
+    return [[MASKED if out else cell for cell, out in zip(row, gone)] for row, gone in zip(numpy.asarray(table).tolist(), hidden)]
+
+
+def _is_missing(cell: Any, missing: Any) -> bool:
+    """Whether a cell is what stands for no entry. NaN stands for all that is missing."""
+    return missing is not None and (is_gap(cell) if is_gap(missing) else not is_gap(cell) and bool(cell == missing))
+
+
+def _gap(i: int, j: int, cell: Any) -> ValueError:
+    return ValueError('the cell at row %d, column %d is missing (%s): fill it, or missing=float("nan") leaves such cells out'
+                      % (i, j, 'nan' if isinstance(cell, float) else repr(cell)))
+
+
+def _from_array(table: Any, missing: Any) -> Cells:
+    import numpy
+    hidden: Any = numpy.ma.getmaskarray(table)                         # type: ignore[no-untyped-call]
+    values, chosen = numpy.asarray(table), ~hidden
+    gaps = numpy.isnan(values) if values.dtype.kind == 'f' else numpy.zeros(values.shape, bool)
+    if missing is not None:
+        chosen &= ~gaps if is_gap(missing) else gaps | (values != missing)
+    i, j = numpy.nonzero(chosen)
+    wrong = gaps[i, j]
+    if wrong.any():
+        at = int(wrong.argmax())
+        raise _gap(int(i[at]), int(j[at]), float('nan'))
+    return Cells(i, j, values[i, j], *values.shape)
 
 
 def indices(n: int) -> Any:
@@ -197,6 +253,8 @@ def from_scipy(matrix: Any) -> Tuple[Any, Any, Any, Tuple[int, int]]:
     if len(matrix.shape) != 2:
         raise ValueError('expected two dimensions, got %d' % len(matrix.shape))
     coo = matrix.tocoo(copy=True)
+    if coo.data.dtype.kind in 'iu' and coo.data.dtype.itemsize < 8:
+        coo.data = coo.data.astype('int64')        # so that sums of short numbers don't wrap
     coo.sum_duplicates()
     return coo.row, coo.col, coo.data, coo.shape
 

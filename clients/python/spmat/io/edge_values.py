@@ -7,6 +7,7 @@ import re
 from typing import Any, Callable, List, NoReturn, Optional, Sequence, Tuple
 
 from ..errors import ReadError
+from .arrays import is_gap
 from .coo import LEAST, MOST
 from .matrix_text import is_array
 
@@ -90,6 +91,8 @@ def scaled(values: Any, scale: Optional[float], what: str = 'value') -> Tuple[An
 
 def scaled_one(value: Any, scale: Optional[decimal.Decimal], rounding: Rounding, what: str) -> int:
     """A number as a whole one: multiplied by a scale, and rounded; see `scaled`."""
+    if is_gap(value):
+        raise ValueError('%s is missing: it is %r' % (what, value))
     if not isinstance(value, (numbers.Real, decimal.Decimal)) and not hasattr(value, '__index__'):
         raise TypeError('a %s is a number, not %r' % (what, value))
     exact = decimal.Decimal(str(float(value) if isinstance(value, numbers.Real) and not hasattr(value, '__index__') else value))

@@ -199,6 +199,9 @@ class Held(Written):
         name, value) of another matrix; numbers where there are no names, and values as `by_node` has them. Of many entries the session finds those from a threshold on, by some
         50 small jobs, and these come to the client; all come where the budget has too little left. In pandas `nlargest`."""
         few: Any = self
+        k = coo.whole(k, 'number of entries')
+        if k < 0:
+            raise ValueError('top(k) gives the k greatest entries: k is 0 or more, not %d; A.apply("ainv").top(%d) has the least' % (k, -k))
         try:
             few = top_k.greatest(few, k)
         except BudgetExceeded:
@@ -215,10 +218,11 @@ class Held(Written):
             raise refusal('J5', detail='expected %s, got %dx%d' % (wanted, *self.shape))
         return self.nrows if self.ncols == 1 else self.ncols
 
-    def to_dense(self, fill: Any = 0, dtype: Any = None) -> Any:
-        """An array of numpy of this shape, `fill` where there is no entry: int64, the stored whole numbers, or with `to_dense(float)`
-        float64, what these stand for. In python-graphblas the same name."""
+    def to_dense(self, fill: Any = 0, dtype: Any = None, *, fill_value: Any = None) -> Any:
+        """An array of numpy of this shape, `fill` (also called `fill_value`) where there is no entry: int64, the stored whole numbers, or
+        with `to_dense(float)` float64, what these stand for. In python-graphblas the same name."""
         import numpy
+        fill = fill if fill_value is None else fill_value
         if dtype is None and (isinstance(fill, (type, str)) or hasattr(fill, 'itemsize') and not hasattr(fill, '__float__')):
             fill, dtype = 0, fill
         kind = numpy.float64 if are_decimals(dtype) else numpy.int64

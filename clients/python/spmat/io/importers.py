@@ -6,7 +6,7 @@ from typing import Any, Dict, Generic, Iterable, Optional, Sequence, TypeVar
 
 from .. import units
 from ..operators import Op
-from . import archive, column_names, coo, matrix_market, networkx_adjacency, pandas
+from . import archive, arrays, column_names, coo, matrix_market, networkx_adjacency, pandas
 from .comment_lines import Comments
 from .detect_format import check_format, from_edges
 from .edge_values import Rounding, scaled
@@ -41,7 +41,7 @@ class Sources(abc.ABC, Generic[Made]):
 
         With `symmetric` each entry (i, j) stands at (j, i), too, and the matrix is square: an undirected graph of which each edge is
         given once, in either direction. It is loaded in less time. In python-graphblas `Matrix.from_coo`."""
-        whole, rounding = scaled(values, scale)
+        whole, rounding = scaled(arrays.plain_column(values, 'value') if arrays.is_many(values) else values, scale)
         unit = units.of_read(scale, dup_op)
         triples = coo.checked(rows, columns, whole, nrows, ncols)
         if (square or symmetric) and nrows is None and ncols is None:
@@ -60,10 +60,18 @@ class Sources(abc.ABC, Generic[Made]):
         See `from_coo`; `from_edgelist` takes names."""
         return self.from_coo(*coo.columns_of(triples), nrows, ncols, square=square, scale=scale, dup_op=dup_op, name=name)
 
-    def from_dense(self, rows: Any, missing: Optional[int] = None, *, name: Optional[str] = None) -> Made:
-        """A matrix from a table: a list of rows, or an array of numpy; of one dimension it is a column. Each cell is an entry,
-        but for those that are `missing`. In python-graphblas `Matrix.from_dense`."""
-        return self._from(coo.from_dense(rows, missing), name=name)
+    def from_dense(self, rows: Any, missing: Any = None, *, missing_value: Any = None, scale: Optional[float] = None,
+                   name: Optional[str] = None) -> Made:
+        """A matrix from a table: a list of rows, an array of numpy, or a table or column of pandas, whose labels are the names of the
+        rows and columns unless they are positions; of one dimension it is a column. Each cell is an entry, but for those that are
+        `missing` (also called `missing_value`; NaN stands for NaN, None and NA) and for masked ones. `scale` is as for `from_coo`.
+        ValueError names a cell that holds no value. In python-graphblas `Matrix.from_dense`."""
+        table = arrays.table_of(rows)
+        cells = coo.from_dense(table.cells, missing if missing is not None else missing_value)
+        made = self.from_coo(*cells, scale=scale, name=name)
+        if table.rows is not None or table.columns is not None:
+            made.notes = made.notes._replace(rows=table.rows, columns=table.columns)
+        return made
 
     def from_scipy_sparse(self, matrix: Any, *, scale: Optional[float] = None, name: Optional[str] = None) -> Made:
         """A matrix from one of scipy.sparse, of any format; entries of one position are added up, as scipy has it. ValueError for
@@ -93,6 +101,7 @@ class Sources(abc.ABC, Generic[Made]):
         An edge leads one way; with `directed=False` both. With `bipartite` rows and columns are two kinds, each with its names. An edge
         that is given twice is a ValueError where it has values, unless `dup_op` folds them; without values, or with `values=False`, it
         counts once, or with `dup_op="plus"` as often as it is given. `scale` is as for `from_coo`. In networkx and python-graphblas `from_edgelist`."""
+        edges = arrays.edges_of_frame(edges) if arrays.is_frame(edges) else edges
         return self._graph(from_edges(edges, How(directed, nodelist, bool(bipartite), dup_op is not None), values, scale), scale, dup_op, name)
 
     def from_pandas_edgelist(self, frame: Any, source: Any = 'source', target: Any = 'target', edge_attr: Any = None, *,

@@ -12,6 +12,7 @@ import os
 from dataclasses import dataclass, field
 from typing import Any, Callable, Dict, Iterator, List, Optional, Tuple, Union, overload
 
+from . import other_names
 from .assembly import without_labels
 
 KINDS = ('unary', 'binary', 'index')
@@ -200,6 +201,7 @@ class Ready:
         return os.path.join(_FOLDER, self._kind, name + '.asm')
 
     def __getitem__(self, name: str) -> Operator:
+        name = self._meant(name)
         if name not in self._known:
             if not name.isidentifier() or not os.path.isfile(self._file(name)):
                 raise KeyError(name)
@@ -215,8 +217,15 @@ class Ready:
                 pass
         raise AttributeError('no ready %s operator %r' % (self.__dict__.get('_kind'), name))
 
+    def _meant(self, name: str) -> str:
+        """The name of the ready operator that another name stands for, else the name itself."""
+        return name if name in self._known else other_names.ALIASES[self._kind].get(name, name)
+
     def __contains__(self, name: object) -> bool:
-        return isinstance(name, str) and (name in self._known or (name.isidentifier() and os.path.isfile(self._file(name))))
+        if not isinstance(name, str):
+            return False
+        name = self._meant(name)
+        return name in self._known or (name.isidentifier() and os.path.isfile(self._file(name)))
 
     def ready(self) -> List[str]:
         """The names of the ready operators, without those that were registered."""
@@ -280,6 +289,9 @@ def find(kind: str, op: Op) -> Operator:
     if not isinstance(op, str):
         if not callable(op):
             raise TypeError('expected an operator, its name or a function, got %r' % (op,))
+        if other_names.is_ufunc(op):
+            named = other_names.ready_of(kind, op)
+            return READY[named.kind][named.name]
         return READY[kind](op)
     name = _SIGNS.get(op, op) if kind == 'index' else op
     if name not in READY[kind]:
@@ -293,6 +305,9 @@ def _instead(kind: str, name: str) -> str:
     if others:
         bound = ': bind an operand by right= or left=' if kind == 'unary' and 'binary' in others else ''
         return ', but %s one is%s' % (' and '.join(('an ' if other == 'index' else 'a ') + other for other in others), bound)
+    words = other_names.words_for(name)
+    if words is not None:
+        return ': ' + words
     near = difflib.get_close_matches(name, READY[kind], 3)
     return '; near it: ' + ', '.join(near) if near else ''
 
@@ -308,4 +323,7 @@ def find_semiring(op: Union[str, Semiring, Tuple[Op, Op]]) -> Semiring:
     try:
         return semiring[op]
     except KeyError:
-        raise ValueError('no semiring is called %r: expected two ready binary names, joined by _' % op) from None
+        wrong = next((name for name in op.split('_', 1) if name not in binary), '')
+        words = _instead('binary', wrong) if '_' in op and wrong else ''
+        raise ValueError('no semiring is called %r: expected two ready binary names, joined by _%s' % (
+            op, '; %r is none%s' % (wrong, words) if words else '')) from None
