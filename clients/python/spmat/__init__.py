@@ -16,7 +16,7 @@ from typing import TYPE_CHECKING, Any, Dict, List
 if TYPE_CHECKING:
     from . import algorithms, draw
     from ._client.pending_jobs import Budget, JobResult
-    from .errors import (BudgetExceeded, Busy, Closed, CompileError, DimensionMismatch, DomainMismatch, MaskWarning, NoThread, NotMade,
+    from .errors import (BudgetExceeded, BudgetWarning, Busy, Closed, CompileError, DimensionMismatch, DomainMismatch, MaskWarning, NoThread, NotMade,
                          NotSettled, OperatorRefused, OutOfMemory, ReadError, Refused, ResultLost, SpmatError, TextRefused,
                          ThreadUnavailable, TooLarge, UnitsDiffer)
     from .loops import Loop, empty, loop, steady
@@ -27,7 +27,7 @@ if TYPE_CHECKING:
     from .operators.clang import c
     from .operators.compiler.symbolic_operands import cdiv, cmod, rsh, udiv, ult, umod, where
     from .operators.explanation import code_of, explain
-    from .pricing.upper_bounds import price
+    from .pricing.call_price import price
     from .session import Session
 
 
@@ -38,7 +38,7 @@ def _version() -> str:
 
 
 __version__ = _version()
-__all__ = ['Budget', 'BudgetExceeded', 'Busy', 'Closed', 'CompileError', 'DimensionMismatch', 'DomainMismatch', 'JobResult', 'Loop',
+__all__ = ['Budget', 'BudgetExceeded', 'BudgetWarning', 'Busy', 'Closed', 'CompileError', 'DimensionMismatch', 'DomainMismatch', 'JobResult', 'Loop',
            'Mask', 'MaskWarning', 'Matrix', 'NoThread', 'NotMade', 'NotSettled', 'Operator', 'OperatorRefused', 'OutOfMemory', 'ReadError',
            'Refused', 'ResultLost', 'Semiring', 'Session', 'SpmatError', 'TextRefused', 'ThreadUnavailable', 'TooLarge', 'UnitsDiffer', 'algorithms',
            'asm', 'binary', 'bipartite', 'c', 'cdiv', 'cmod', 'code', 'code_of', 'draw', 'empty', 'explain', 'fixpoint', 'indexunary',
@@ -48,7 +48,7 @@ __all__ = ['Budget', 'BudgetExceeded', 'Busy', 'Closed', 'CompileError', 'Dimens
 # that makes a session doesn't wait for pictures.
 _PLACES: Dict[str, str] = {name: module for module, names in {
     'operators.clang': 'c',
-    'errors': 'BudgetExceeded Busy Closed CompileError DimensionMismatch DomainMismatch MaskWarning NoThread NotMade NotSettled OperatorRefused '
+    'errors': 'BudgetExceeded BudgetWarning Busy Closed CompileError DimensionMismatch DomainMismatch MaskWarning NoThread NotMade NotSettled OperatorRefused '
               'OutOfMemory ReadError Refused ResultLost SpmatError TextRefused ThreadUnavailable TooLarge UnitsDiffer',
     '_client.pending_jobs': 'Budget JobResult',
     'loops': 'Loop empty loop steady',
@@ -57,7 +57,7 @@ _PLACES: Dict[str, str] = {name: module for module, names in {
     'operators': 'Operator Semiring asm binary code indexunary select semiring unary',
     'operators.compiler.symbolic_operands': 'cdiv cmod rsh udiv ult umod where',
     'operators.explanation': 'code_of explain',
-    'pricing.upper_bounds': 'price',
+    'pricing.call_price': 'price',
     'loops.fixpoint': 'fixpoint',
     'session': 'Session'}.items() for name in names.split()}
 

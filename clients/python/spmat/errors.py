@@ -224,6 +224,10 @@ class DomainMismatch(Refused, TypeError):
     """An operator of another kind than the job takes (J4). In python-graphblas the same name."""
 
 
+class BudgetWarning(UserWarning):
+    """A call may take more steps than are left, so that it may be refused amid its work. It is told before its first job."""
+
+
 class _Spent(Refused):
     def __init__(self, rule: str, numbers: Sequence[int] = (), command: str = '', line: str = '', detail: str = '') -> None:
         spent = '%s steps were spent' % format(numbers[0], ',') if numbers else ''

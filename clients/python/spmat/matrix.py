@@ -243,9 +243,9 @@ class Matrix(Signs):
         which are those of this matrix as it is asked for."""
         owner: Optional['Handle'] = self.handle.transposed() if self.handle.transposed is not None else None
         if owner is None:
-            from .pricing import lower_bounds, upper_bounds  # which want matrices
-            if upper_bounds.stays_here():
-                return lower_bounds.turned(self)
+            from .pricing import foreseen          # which wants matrices
+            if foreseen.asked() is not None:
+                return foreseen.turn(self)
             owner = self.session.from_text(matrix_text.swapped(self.to_text())).handle
             owner.transposed, self.handle.transposed = weakref.ref(self.handle), weakref.ref(owner)
         made = Matrix(self.session, owner, (self.ncols, self.nrows))

@@ -20,7 +20,7 @@ from .limits import MOST_STEPS
 from .matrix import Matrix
 from .metadata import NOTHING
 from .operators import Operator, diagnostics, find
-from .pricing import upper_bounds
+from .pricing import foreseen
 
 if TYPE_CHECKING:
     import ssl
@@ -116,7 +116,7 @@ class Session(Sources[Matrix]):
     def from_text(self, text: Union[bytes, str], name: Optional[str] = None) -> Matrix:
         """A matrix from a Matrix Market text that the server reads as it is: coordinate, integer or pattern, general or symmetric.
         TextRefused names the line; `mmread` reads other texts too."""
-        upper_bounds.check_read()
+        foreseen.check_read()
         text = text.encode() if isinstance(text, str) else bytes(text)
         if len(text) > limits.MOST_TEXT:
             raise refusal('S7', detail='the text has %d bytes' % len(text))
@@ -142,7 +142,7 @@ class Session(Sources[Matrix]):
 
     def _of_triples(self, triples: Triples, symmetric: bool, name: Optional[str]) -> Matrix:
         try:
-            return upper_bounds.stood(self, triples[3:], len(triples.rows)) or self.from_text(matrix_text.write(triples, ones=True, symmetric=symmetric), name)
+            return foreseen.stood(self, triples[3:], len(triples.rows)) or self.from_text(matrix_text.write(triples, ones=True, symmetric=symmetric), name)
         except TextRefused as refused:
             if refused.rule != 'M8' or refused.at is None:
                 raise
@@ -196,19 +196,19 @@ class Session(Sources[Matrix]):
         nrows, ncols = coo.side(nrows, 0, 'nrows'), coo.side(ncols, 0, 'ncols')
         if nrows * ncols > limits.MOST_SIDE:
             raise refusal('M4', detail='%d entries' % (nrows * ncols))
-        return upper_bounds.stood(self, (nrows, ncols), nrows * ncols) or self._from(coo.full(nrows, ncols, value), name=name)
+        return foreseen.stood(self, (nrows, ncols), nrows * ncols) or self._from(coo.full(nrows, ncols, value), name=name)
 
     def identity(self, n: int, value: int = 1, *, name: Optional[str] = None) -> Matrix:
         """A square matrix with one value on its diagonal."""
         at = coo.indices(coo.side(n, 0, 'n'))
-        return upper_bounds.stood(self, (n, n), n) or self._from(coo.checked(at, at, value, n, n), name=name)
+        return foreseen.stood(self, (n, n), n) or self._from(coo.checked(at, at, value, n, n), name=name)
 
     def ones(self, ncols: int) -> Matrix:
         """A row of ones, which folds columns. The session keeps those of the last few lengths, but for very long ones, and gives another
         matrix of them each time."""
         with self.backend.turn():
             row = self._ones.pop(ncols, None) or self.full(1, ncols)
-            if ncols <= LONG and not isinstance(row, upper_bounds.Stand):
+            if ncols <= LONG and not isinstance(row, foreseen.Stand):
                 self._ones[ncols] = row
             while len(self._ones) > KEPT_ONES:
                 del self._ones[next(iter(self._ones))]
@@ -250,7 +250,8 @@ class Session(Sources[Matrix]):
     def run(self) -> Run:
         """Runs the jobs that wait. Matrix methods do it where they need a result. Where the run is refused (OutOfMemory,
         NoThread) the queue is empty all the same, and each result of it raises NotMade from then on."""
-        upper_bounds.check_read()
+        if foreseen.asked() is not None:
+            return Run()                           # of what is foreseen nothing is queued
         backend, queue = self.backend, self.backend.queue
         with backend.turn():
             self.connection.settle()

@@ -9,7 +9,7 @@ import graphs
 import support
 import spmat
 from spmat import algorithms
-from spmat.pricing import lower_bounds
+from spmat.pricing import call_price, foreseen, job_bounds
 
 # Calls of algorithms; of any other that of `alike`.
 OWN = {
@@ -52,7 +52,7 @@ def ended(call, G):
 
 def unguarded(call, graph, steps, known):
     """What a call comes to on so many steps where nobody looks at the budget beforehand."""
-    with spmat.Session(steps=steps) as session, mock.patch('spmat.pricing.lower_bounds._check_budget'):
+    with spmat.Session(steps=steps) as session, mock.patch('spmat.pricing.budget_check._check_budget'):
         G = graph.matrix(session)
         G.kept.update(known)
         return ended(call, G)
@@ -71,7 +71,7 @@ class Needs(unittest.TestCase):
             G = graph.matrix(session)
             G.kept.update(known)
             commands = session.connection.commands
-            needed = lower_bounds.needed_by(lambda: call(G))
+            needed = call_price.needed_by(lambda: call(G))
             if needed:
                 self.refused(G, name, needed)
             self.assertEqual((session.connection.commands, session.jobs, G.kept), (commands, 0, known))
@@ -122,7 +122,7 @@ class Enough(unittest.TestCase):
             with self.subTest(call=name):
                 with spmat.Session() as session:
                     G = TRIANGLES.matrix(session)
-                    needed = lower_bounds.needed_by(lambda: call(G))
+                    needed = call_price.needed_by(lambda: call(G))
                     end, spent = ended(call, G), session.budget().spent
                 with spmat.Session(steps=spent) as session:
                     again, jobs = ended(call, TRIANGLES.matrix(session)), session.jobs
@@ -145,22 +145,22 @@ class Counted(support.InSession):
         for kind in ('unary', 'binary', 'indexunary'):
             ready = getattr(spmat, kind)
             for name in ready:
-                size = lower_bounds.size_of(ready[name])
+                size = job_bounds.size_of(ready[name])
                 self.assertEqual(size.length, self.s.backend.length_of(ready[name]), name)
                 self.assertLessEqual(size.shortest, size.length)
         code = spmat.code('unary', 'bf10000000000000' '1500010000000000' '0700000001000000' '9500000000000000')
         for op in (spmat.asm('unary', 'wide r0, 5\njeq64 r1, 7, 2\nadd64 r0, 1\nadd64 r0, 2\nexit\n'), code):
-            size = lower_bounds.size_of(op)
+            size = job_bounds.size_of(op)
             self.assertEqual((size.length, size.shortest), (self.s.backend.length_of(op), 3))
         A = self.s.from_coo([0, 0], [0, 1], [0, 5])
         self.assertEqual(A.apply(code).wait().steps, 3 + 4)
-        with self.assertRaises(spmat.pricing.upper_bounds.Unforeseen):
-            lower_bounds.size_of(spmat.asm('unary', 'mov64 r0, r1\nja 7\nexit\n'))
+        with self.assertRaises(foreseen.Unforeseen):
+            job_bounds.size_of(spmat.asm('unary', 'mov64 r0, r1\nja 7\nexit\n'))
 
     def steps_of(self, call):
         """What a call needs for certain, and the price and the steps of its last job."""
         self.s.run()
-        needed = lower_bounds.needed_by(call)
+        needed = call_price.needed_by(call)
         made = call().wait()
         return needed, made.price, made.steps
 
@@ -192,9 +192,9 @@ class Counted(support.InSession):
         needed, price, _ = self.steps_of(lambda: ring.mxm(ring, 'plus_pair', mask=ring.S))
         self.assertEqual(needed, price)
         G = KARATE.matrix(self.s)
-        self.assertEqual(lower_bounds.needed_by(lambda: G.mxm(G)), 0)
+        self.assertEqual(call_price.needed_by(lambda: G.mxm(G)), 0)
         turned = G.T
-        self.assertGreater(lower_bounds.needed_by(lambda: G.mxm(turned)), 0)
+        self.assertGreater(call_price.needed_by(lambda: G.mxm(turned)), 0)
         spmat.price(lambda: G.mxm(G))
         needed, price, _ = self.steps_of(lambda: G.mxm(G))
         self.assertEqual(needed, price)
@@ -202,7 +202,7 @@ class Counted(support.InSession):
     def test_large_products(self):
         """A product that is made by parts needs no more than the largest of them is priced at."""
         column, row = self.s.full(5000, 1), self.s.full(1, 5000)
-        needed = lower_bounds.needed_by(lambda: column.mxm(row, 'plus_times', parts=True))
+        needed = call_price.needed_by(lambda: column.mxm(row, 'plus_times', parts=True))
         self.assertEqual(needed, (1 << 23) * sum(self.s.backend.length_of(op) for op in (spmat.binary.plus, spmat.binary.times)))
 
 
@@ -246,8 +246,8 @@ class Chains(support.InSession):
         exact = 0
         for seed in range(200):
             matrices = self.matrices(random.Random(seed))
-            sure = lower_bounds.Certain()
-            with spmat.pricing.upper_bounds.asking(sure):
+            sure = call_price.Price(sends=False).inside()
+            with foreseen.asking(sure):
                 stands = self.chain(matrices, seed)
             spent = needed = 0
             for stand, made in zip(stands, self.chain(matrices, seed)):
@@ -255,22 +255,22 @@ class Chains(support.InSession):
                 self.assertGreaterEqual(stand.handle.most, made.nvals, seed)
                 needed, spent = max(needed, spent + made.price), spent + made.steps
             self.assertLessEqual(sure.needed, needed, seed)
-            self.assertLessEqual(sure.steps, spent, seed)
+            self.assertLessEqual(sure.least, spent, seed)
             exact += sure.needed == needed
         self.assertGreater(exact, 10)
 
     def test_granted(self):
         """What only a result tells is taken for true where a graph of another kind would be refused, and nowhere else."""
-        G, sure = self.s.full(2, 2), lower_bounds.Certain()
+        G, sure = self.s.full(2, 2), call_price.Price(sends=False).inside()
 
         def refuse():
-            raise spmat.pricing.upper_bounds.Unforeseen()
-        with spmat.pricing.upper_bounds.asking(sure):
-            with self.assertRaises(spmat.pricing.upper_bounds.Unforeseen):
+            raise foreseen.Unforeseen()
+        with foreseen.asking(sure):
+            with self.assertRaises(foreseen.Unforeseen):
                 sure.fact(G, 'both ways', refuse)
-            with spmat.pricing.upper_bounds.granted({'both ways': True}):
+            with foreseen.granted({'both ways': True}):
                 self.assertIs(sure.fact(G, 'both ways', refuse), True)
-                with self.assertRaises(spmat.pricing.upper_bounds.Unforeseen):
+                with self.assertRaises(foreseen.Unforeseen):
                     sure.fact(G, 'loops', refuse)
             self.assertIs(sure.fact(G, 'both ways', refuse), True)
             self.assertEqual(G.kept, {})
@@ -278,7 +278,7 @@ class Chains(support.InSession):
     def test_diagonals(self):
         """A selection off the diagonal leaves all but as many entries as there are rows."""
         G = self.s.full(4, 4)
-        self.assertEqual(lower_bounds.needed_by(lambda: G.select('offdiag').apply('one')), 16 * lower_bounds.size_of(spmat.indexunary.offdiag).shortest + 12 * 2)
+        self.assertEqual(call_price.needed_by(lambda: G.select('offdiag').apply('one')), 16 * job_bounds.size_of(spmat.indexunary.offdiag).shortest + 12 * 2)
 
 
 class Sessions(unittest.TestCase):
@@ -310,7 +310,7 @@ class Sessions(unittest.TestCase):
 
     def test_ample(self):
         """Where the budget has much left nobody looks; nor where an argument can be read but once."""
-        with spmat.Session() as session, mock.patch('spmat.pricing.lower_bounds.needed_by', side_effect=AssertionError):
+        with spmat.Session() as session, mock.patch('spmat.pricing.budget_check._check_budget', side_effect=AssertionError):
             algorithms.degrees(KARATE.matrix(session)).wait()
         with spmat.Session(steps=100000) as session:
             G = KARATE.matrix(session)

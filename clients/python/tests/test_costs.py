@@ -34,17 +34,13 @@ class Costs(unittest.TestCase):
             result.wait()
         return self.session.runs - before
 
-    def bounded(self, graph, kind, checked=False):
-        """The algorithms that say the most that they take of `runs` or `steps`, each with a call of it on a graph that it is for, which may
-        have been checked already."""
+    def bounded(self, graph):
+        """The algorithms that say the most runs that they take, each with a call of it on a graph that it is for."""
         lower = graphs.directed(graph.name, graph.count, {(i, j) for i, j in graph.edges if i < j})
         for name, one in sorted(ALGORITHMS.items()):
-            if getattr(one, kind):
+            if one.runs:
                 own = lower if name in WITHOUT_CYCLES else graph
                 G = own.matrix(self.session)
-                if checked:
-                    cached_properties.check_undirected(G, True)
-                    cached_properties.extremes(G)
                 given = {'source': 0, 'k': 3, 'GT': G, 'WT': G}
                 named = {what: given[what] for what in one.parameters if what in given and own is graph}
                 told = []
@@ -54,19 +50,19 @@ class Costs(unittest.TestCase):
 
     def size(self, graph, told):
         """What a bound is reckoned from."""
-        return Size(graph.count, len(graph.edges), sum(graphs.triangles(graph.near())) // 3, len(told))
+        return Size(graph.count, len(told))
 
     def test_runs(self):
         """Each algorithm takes no more runs than it says, and up to 4 for checks, which are made once. A number that doesn't depend on the
         graph stands in the docstring."""
         seen = set()
-        for one, graph, told, call in self.bounded(self.graph, 'runs'):
+        for one, graph, told, call in self.bounded(self.graph):
             for checks in (4, 0):
                 told.clear()
                 took = self.runs(call)
                 self.assertLessEqual(took, one.runs(self.size(graph, told)) + checks, one.function.__name__)
-            if one.runs(Size(1, 1, 1, 1)) == one.runs(Size(9, 99, 9, 9)):
-                self.assertIn('Runs: %d' % one.runs(Size(1, 1, 1, 1)), one.function.__doc__)
+            if one.runs(Size(1, 1)) == one.runs(Size(9, 9)):
+                self.assertIn('Runs: %d' % one.runs(Size(1, 1)), one.function.__doc__)
             seen.add(one.function.__name__)
         self.assertLessEqual({'degrees', 'bfs_levels', 'k_truss', 'longest_paths'}, seen)
 
@@ -86,19 +82,13 @@ class Costs(unittest.TestCase):
             result.wait()
         return self.session.budget().spent - before
 
-    def test_steps(self):
-        """What the functions say that they take at most, on each graph; no bound is twenty times too high on the largest."""
+    def test_checks(self):
+        """What is found out of a graph is paid once."""
         for graph in graphs.UNDIRECTED[2:]:
             G, (n, m) = graph.matrix(self.session), (graph.count, len(graph.edges))
             self.assertLessEqual(self.spent(cached_properties.check_undirected, G, True), 18 * m + 5 * n)
             self.assertEqual(self.spent(cached_properties.check_undirected, G, True), 0)
             self.assertLessEqual(self.spent(cached_properties.extremes, G), 8 * m + 4 * n)
-            for one, own, told, call in self.bounded(graph, 'steps', checked=True):
-                took = self.spent(call)
-                most = one.steps(self.size(own, told))
-                self.assertLessEqual(took, most, (graph.name, one.function.__name__))
-                if graph.name == 'skewed':
-                    self.assertGreater(20 * took, most, one.function.__name__)
 
     @support.needs('numpy')
     def test_no_more_steps_than_by_columns(self):

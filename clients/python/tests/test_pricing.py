@@ -48,9 +48,8 @@ class Prices(graphs.OnGraphs):
         G = graphs.UNDIRECTED[3].matrix(self.s)
         priced = spmat.price(lambda: algorithms.bfs_levels(G, 0))
         self.assertFalse(priced.complete)
-        self.assertIn('what follows depends on it', repr(priced))
-        self.assertGreater(priced.steps, 0)
-        self.assertNotIn('follows', repr(spmat.price(lambda: G.apply('one'))))
+        self.assertGreater(priced.most, priced.least)
+        self.assertEqual(repr(spmat.price(lambda: G.apply('one'))), '<Price: at least 312, at most 312 steps in 1 job>')
         self.assertEqual(spmat.price(lambda: G.apply('one')).jobs, [('apply', 2 * G.nvals)])
         with self.assertRaises(ZeroDivisionError):
             spmat.price(lambda: 1 // 0)

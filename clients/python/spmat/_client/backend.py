@@ -14,7 +14,7 @@ from ..io.matrix_text import Triples
 from ..limits import MOST_OPERATOR, QUEUE
 from ..matrix import Matrix
 from ..operators import Operator, diagnostics
-from ..pricing import upper_bounds
+from ..pricing import budget_check, foreseen
 from .commands import Command
 from .connection import Connection, Turn
 from .deferred_upload import Kept
@@ -92,7 +92,7 @@ class Backend:
         """The canonical text of a matrix. Runs the queue where it waits."""
         with self.turn():
             self.check_usable(matrix.handle)
-            upper_bounds.check_read()
+            foreseen.check_read()
             if matrix.handle.waits:
                 self.queue.run_later()
             try:
@@ -107,6 +107,7 @@ class Backend:
         """Raises Closed where the session has ended, and NotMade where the run of a matrix was refused."""
         self.connection.check_open()
         handle.check_readable()
+        foreseen.check_made(handle)
 
     # -- operators
 
@@ -160,7 +161,7 @@ class Backend:
                     raise ValueError('a matrix of another session')
                 if matrix.handle.lost is not None:
                     matrix.handle.check_made()
-            asked = upper_bounds.asked()
+            asked = foreseen.asked()
             if asked is not None:
                 return asked.foresee(self.session, form, ops, operands, mask, shape)
             sent = [self._operators.get(op) or self._uploaded(op) for op in ops]
@@ -186,7 +187,7 @@ class Backend:
                 self.sweep()                       # so that a loop of jobs uses the names of what nobody holds again
             return job
         try:
-            with upper_bounds.told():
+            with budget_check.naming_algorithm():
                 self.queue.add_now(job, line)
         except BaseException:
             if job.is_wanted:

@@ -14,7 +14,7 @@ What a graph has to be is looked at where it is first asked, by a job or two, an
 # by their own names again, so that type checkers take them for exported
 # pylint: disable=useless-import-alias
 
-from ..pricing.lower_bounds import guarded
+from ..pricing.budget_check import guarded
 from .all_pairs_lengths import all_pairs as all_pairs, path_lengths as path_lengths, transitive_closure as transitive_closure
 from .betweenness_centrality import betweenness as betweenness
 from .bfs import bfs_levels as bfs_levels, bfs_parents as bfs_parents

@@ -8,6 +8,7 @@ from ..errors import refusal
 from ..limits import MOST_SIDE
 from ..matrix import Matrix
 from ..operators import Operator, Semiring, asm, binary
+from . import step_bounds
 from .cached_properties import extremes
 from .protocols import M, Vertices
 from .registry import algorithm
@@ -91,7 +92,8 @@ def _check_room(W: Matrix) -> None:
         raise refusal('J7', detail='%d pairs of vertices have a path: path_lengths takes some sources at a time' % pairs)
 
 
-@algorithm('lengths of shortest paths between all', values=True, lengths=True)
+@algorithm('lengths of shortest paths between all', values=True, lengths=True,
+           steps=step_bounds.all_pairs, shape=step_bounds.square)
 def all_pairs(W: Matrix, progress: Progress = None) -> Matrix:
     """The length of the shortest path from each vertex (the row) to each (the column); no entry where no path leads. An entry's
     value is the length of its edge, and may be negative.
@@ -151,7 +153,8 @@ def _check_cycles(lengths: Matrix) -> None:
         raise ValueError(CYCLE)
 
 
-@algorithm('lengths of shortest paths from some vertices', 'sources', values=True, lengths=True)
+@algorithm('lengths of shortest paths from some vertices', 'sources', values=True, lengths=True,
+           steps=step_bounds.path_lengths, shape=step_bounds.rows_of_sources)
 def path_lengths(W: Matrix, sources: Vertices, progress: Progress = None) -> Matrix:
     """The length of the shortest path from each of some vertices, a row for each in their order, to each vertex (the column); no
     entry where no path leads. Sources and the vertices that they reach make up to 16,777,216 entries; lengths along a path stay
@@ -180,7 +183,8 @@ def lengths_from(start: M, reach: Tuple[M, int], progress: Progress = None) -> M
     return _spread(start, start, near, BY_LENGTH, progress, start.ncols // edges + 2).apply('arsh', right=1)
 
 
-@algorithm('which vertices reach which', plot='spy')
+@algorithm('which vertices reach which', plot='spy',
+           steps=step_bounds.transitive_closure, shape=step_bounds.square)
 def transitive_closure(G: Matrix, progress: Progress = None) -> Matrix:
     """An entry 1 from each vertex (the row) to each (the column) that a path of at least one edge leads to.
 

@@ -4,6 +4,7 @@ from __future__ import annotations
 from typing import Any, Callable, Generic, List, NamedTuple, Optional, Tuple
 
 from ..operators import Semiring, asm, binary
+from . import step_bounds
 from .all_pairs_lengths import lengths_from, reach_of
 from .cached_properties import extremes, is_both_ways, is_transpose, transpose_of
 from .frontier import Tally, read
@@ -63,7 +64,8 @@ class Tight(Generic[M]):
 @algorithm('shortest paths through each vertex', 'sources', 'weighted', scale=SCALE, ranked=True,
            says='How many shortest paths between two other vertices go through each vertex: for each two vertices '
                 'the share of their shortest paths. Of an undirected graph each two vertices count once. With '
-                '--source only paths from these count. With --weighted values of edges are lengths, 1 or more.')
+                '--source only paths from these count. With --weighted values of edges are lengths, 1 or more.',
+           steps=step_bounds.betweenness)
 def betweenness(G: M, sources: Optional[Vertices] = None, tolerance: float = 1e-3, scale: int = SCALE,
                 progress: Progress = None, *, weighted: bool = False) -> M:
     """How many shortest paths between two other vertices go through each vertex, as a column in units of 1/scale (2^-20): for each two

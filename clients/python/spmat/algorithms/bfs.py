@@ -6,7 +6,7 @@ from typing import Generic, List, NamedTuple, Optional, Tuple
 
 from ..io import matrix_text
 from ..operators import Semiring, asm, binary
-from . import server_side_search
+from . import server_side_search, step_bounds
 from .cached_properties import is_both_ways, transpose_of
 from .frontier import Columns, FEW, Fronts, Lines, Rows, Tally, Vector, is_shared, ones_like
 from .protocols import M, Numbers, Place, Vertex, Vertices
@@ -159,7 +159,7 @@ def _fresh(told: Tally, got: Vector) -> Vector:
 
 
 @algorithm('edges from a vertex to each other one', 'source', plot='levels',
-           runs=lambda g: 3 * (g.rounds + 1), steps=lambda g: 4 * g.entries + 4 * g.vertices * (g.rounds + 1))
+           runs=lambda g: 3 * (g.rounds + 1), steps=step_bounds.bfs_levels)
 def bfs_levels(G: M, source: Vertices, GT: Optional[M] = None, progress: Progress = None, *, depth: Optional[int] = None,
                target: Optional[Vertex] = None, check: bool = True) -> M:
     """How many edges lead from the source to each vertex, as a column: 0 at the source; no entry where no path leads. Of several
@@ -185,7 +185,7 @@ def bfs_levels(G: M, source: Vertices, GT: Optional[M] = None, progress: Progres
 
 
 @algorithm('the tree of a breadth-first search', 'source', are_vertices=True,
-           runs=lambda g: 4 * (g.rounds + 1), steps=lambda g: 6 * g.entries + 7 * g.vertices * (g.rounds + 1))
+           runs=lambda g: 4 * (g.rounds + 1), steps=step_bounds.bfs_parents)
 def bfs_parents(G: M, source: Vertices, GT: Optional[M] = None, progress: Progress = None, *, depth: Optional[int] = None,
                 target: Optional[Vertex] = None, check: bool = True) -> M:
     """From which vertex a breadth-first search comes to each one, as a column: of several the least; at a source itself; no entry

@@ -6,6 +6,7 @@ from typing import Optional
 from ..aliases import is_same
 from ..matrix import Matrix
 from ..operators import asm
+from . import step_bounds
 from .bfs import Search, find_levels
 from .cached_properties import transpose_of
 from .components import connected_components
@@ -16,7 +17,7 @@ from .utils import Progress, beside, column, mark_rows, name_of, nothing, order,
 IS_ODD = asm('unary', 'mov64 r0, r1\nand64 r0, 1\nexit\n', 'is_odd')
 
 
-@algorithm('two sides without an edge inside one')
+@algorithm('two sides without an edge inside one', steps=step_bounds.bipartite_sides)
 def bipartite_sides(G: Matrix, GT: Optional[Matrix] = None, progress: Progress = None, *, check: bool = True) -> Matrix:
     """A side, 0 or 1, for each vertex, as a column: each edge leads from one side to the other. The least vertex of each component
     is on side 0.

@@ -8,7 +8,7 @@ from ..aliases import alias, is_same
 from ..io.exporters import Held
 from ..metadata import NOTHING, turned
 from ..operators import asm
-from ..pricing import upper_bounds
+from ..pricing import foreseen
 from .protocols import GraphMatrix, M
 
 # Of an entry (i, j) a number that is that of (j, i) with the other sign. The thunk is an odd number drawn at random. The entries of a
@@ -47,7 +47,7 @@ UNDIRECTED = 'algorithms.undirected(G) is the graph without directions, weights 
 def found(graph: GraphMatrix, name: str, find: Callable[[], Any]) -> Any:
     """A fact of a graph's entries: as it was found before, or as it is found now. Of a matrix another one each time, without names."""
     if name not in graph.kept:
-        asked = upper_bounds.asked()
+        asked = foreseen.asked()
         if asked is not None:
             return asked.fact(graph, name, find)
         graph.kept[name] = find()
@@ -84,7 +84,7 @@ def check_undirected(graph: GraphMatrix, check: bool, loops: bool = False) -> No
     """A ValueError where an edge leads one way alone, or, unless they are allowed, from a vertex to itself."""
     if not check:
         return
-    with upper_bounds.granted({'both ways': True, 'loops': False}):
+    with foreseen.granted({'both ways': True, 'loops': False}):
         if not is_both_ways(graph):
             raise ValueError('expected an undirected graph, but an edge leads one way alone: ' + UNDIRECTED)
         if not loops and has_loops(graph):

@@ -9,6 +9,7 @@ from ..io.coo import whole
 from ..io.matrix_text import find_numpy, is_array
 from ..matrix import Matrix
 from ..operators import Semiring, binary
+from . import step_bounds
 from .bfs import flow_lines
 from .cached_properties import extremes
 from .distance_measures import distance_counts
@@ -128,7 +129,7 @@ def _check(scale: int, rounds: int) -> None:
 
 @algorithm('how near each vertex is to those that reach it', scale=ONE, ranked=True,
            says='How near each vertex is to those that reach it: of r of n vertices, at distances that add up to d, '
-                '(r - 1)/d times (r - 1)/(n - 1).')
+                '(r - 1)/d times (r - 1)/(n - 1).', steps=step_bounds.closeness)
 def closeness(G: Matrix, GT: Optional[Matrix] = None, scale: int = ONE, progress: Progress = None, *, check: bool = True) -> 'Centrality[Matrix]':
     """How near each vertex is to those that reach it, in units of 1/scale (2^-40): of r of n vertices that reach it (itself too), at
     distances that add up to d, (r - 1)/d times (r - 1)/(n - 1), which is 0 where none does. `error` is what rounding takes: one unit.
@@ -192,7 +193,7 @@ def _iterated(step: Callable[[Numbers], Numbers], start: Numbers, tolerance: flo
 
 @algorithm('eigenvector centrality', 'tolerance', 'weighted', scale=ONE, ranked=True,
            says='Numbers of which each is in proportion to the sum of those of the vertices that lead to it, whose '
-                'squares add up to 1.')
+                'squares add up to 1.', steps=step_bounds.eigenvector)
 def eigenvector(G: M, GT: Optional[M] = None, tolerance: float = 1e-6, scale: int = ONE, rounds: int = ROUNDS, progress: Progress = None, *,
                 weighted: bool = False, check: bool = True) -> 'Centrality[M]':
     """The eigenvector centrality of each vertex, in units of 1/scale (2^-40): numbers of which each is in proportion to the sum of those of
@@ -229,7 +230,7 @@ def _dot(first: Numbers, second: Numbers) -> float:
 
 @algorithm('Katz centrality', 'alpha', 'weighted', scale=ONE, ranked=True,
            says='Numbers of which each is 1 and alpha times the sum of those of the vertices that lead to it, '
-                'divided so that the squares add up to 1.')
+                'divided so that the squares add up to 1.', steps=step_bounds.katz)
 def katz(G: M, alpha: float = 0.1, beta: float = 1.0, GT: Optional[M] = None, tolerance: float = 1e-9, scale: int = ONE,
          rounds: int = ROUNDS, progress: Progress = None, *, weighted: bool = False, normalized: bool = True, check: bool = True) -> 'Centrality[M]':
     """The Katz centrality of each vertex, in units of 1/scale (2^-40): beta, and alpha times the sum of the numbers of the vertices that
@@ -292,7 +293,7 @@ def _farthest(first: Numbers, second: Numbers) -> int:
 
 @algorithm('hubs and authorities', 'authorities', 'weighted', scale=ONE, ranked=True,
            says='An authority\'s number is in proportion to those of the hubs that lead to it, a hub\'s to those of '
-                'the authorities that it leads to.')
+                'the authorities that it leads to.', steps=step_bounds.hits)
 def hits(G: M, GT: Optional[M] = None, tolerance: float = 1e-8, scale: int = ONE, rounds: int = ROUNDS, progress: Progress = None, *,
          weighted: bool = False, check: bool = True) -> Tuple['Centrality[M]', 'Centrality[M]']:
     """Hubs and authorities (HITS), in units of 1/scale (2^-40): an authority's number is in proportion to those of the hubs that lead to it,

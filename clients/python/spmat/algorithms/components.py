@@ -7,6 +7,7 @@ from typing import Any, Generic, Iterator, List, Optional, Tuple
 from ..aliases import is_same
 from ..io import matrix_text
 from ..operators import Semiring, binary
+from . import step_bounds
 from .cached_properties import check_undirected, found, is_both_ways, transpose_of
 from .frontier import Columns, FEW, Lines, Rows, Vector, column_of, ones_like, values_of
 from .protocols import M, Numbers
@@ -171,7 +172,8 @@ def _alike(lines: Lines[M], made: List[M]) -> List[Vector]:
 
 
 @algorithm("the least vertex of each one's component", are_vertices=True,
-           runs=lambda g: 2 * g.rounds + 3 + (g.vertices >= LARGE), steps=lambda g: 10 * g.entries + 2 * g.vertices + 20 * g.entries * g.rounds)
+           runs=lambda g: 2 * g.rounds + 3 + (g.vertices >= LARGE),
+           steps=step_bounds.connected_components)
 def connected_components(G: M, GT: Optional[M] = None, progress: Progress = None, *, check: bool = True) -> M:
     """The least vertex of each one's component, as a column; edges lead both ways (of a directed graph: the weak components).
 

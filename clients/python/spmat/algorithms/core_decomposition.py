@@ -9,6 +9,7 @@ from ..io.matrix_text import Triples
 from ..loops import Loop, State, empty
 from ..loops.pipelined_rounds import Round
 from ..operators import Semiring, binary
+from . import step_bounds
 from .bfs import Unseen, fronts_of, is_large
 from .cached_properties import check_undirected
 from .frontier import Columns, Tally, Vector, ones_like, zeros_like
@@ -92,7 +93,7 @@ class Peeling(Generic[M]):
 
 
 @algorithm('vertices with k neighbours or more', 'k', wanted=WITHOUT_LOOPS, ranked=True,
-           runs=lambda g: 3 * g.rounds + 3, steps=lambda g: 10 * g.entries + 4 * g.vertices * g.rounds)
+           runs=lambda g: 3 * g.rounds + 3, steps=step_bounds.k_core)
 def k_core(G: M, k: int, progress: Progress = None, *, check: bool = True) -> M:
     """The vertices of the largest part of an undirected graph without loops in which each has at least k neighbours, as a column;
     the value is the number of them. With k = 0 these are all vertices.
@@ -119,7 +120,7 @@ def k_core(G: M, k: int, progress: Progress = None, *, check: bool = True) -> M:
 
 
 @algorithm('the greatest k of a core with each vertex', wanted=WITHOUT_LOOPS, ranked=True,
-           runs=lambda g: 3 * g.rounds + 3, steps=lambda g: 10 * g.entries + 4 * g.vertices * g.rounds)
+           runs=lambda g: 3 * g.rounds + 3, steps=step_bounds.core_numbers)
 def core_numbers(G: M, progress: Progress = None, *, check: bool = True) -> M:
     """The greatest k for each vertex of an undirected graph without loops with which it is in the k-core, as a column; 0 for a vertex
     without neighbours.

@@ -10,6 +10,7 @@ from typing import Callable, List, NamedTuple, Optional
 from ..limits import MOST_SIDE
 from ..matrix import Matrix
 from ..operators import Semiring, asm, binary
+from . import step_bounds
 from .bfs import Search, find_levels
 from .cached_properties import transpose_of
 from .protocols import Place
@@ -79,7 +80,8 @@ def _searches(G: Matrix, GT: Matrix, visit: Visit, progress: Progress) -> None:
 
 
 @algorithm('how many vertices are how far from each', fields=('node', 'distance', 'vertices'),
-           says='How many vertices are how far from each: vertex, number of edges, number of vertices.')
+           says='How many vertices are how far from each: vertex, number of edges, number of vertices.',
+           steps=step_bounds.distance_counts)
 def distance_counts(G: Matrix, GT: Optional[Matrix] = None, progress: Progress = None, *, check: bool = True) -> List[Matrix]:
     """How many vertices are how far: column k - 1 has at each vertex the number of those from which the shortest path to it has k
     edges; no entry where there are none. For those that it leads to hand in the transpose first, and G behind it.
@@ -106,7 +108,8 @@ def distance_counts(G: Matrix, GT: Optional[Matrix] = None, progress: Progress =
     return [beside(G, many) for many in found]
 
 
-@algorithm('edges from each vertex to the farthest one', ranked=True)
+@algorithm('edges from each vertex to the farthest one', ranked=True,
+           steps=step_bounds.eccentricity)
 def eccentricity(G: Matrix, GT: Optional[Matrix] = None, progress: Progress = None, *, check: bool = True) -> Matrix:
     """The number of edges of the longest of the shortest paths that begin at each vertex, as a column; no entry where none does.
     A vertex that doesn't reach all others has the greatest distance to one that it reaches (networkx refuses such graphs).
@@ -123,7 +126,7 @@ def eccentricity(G: Matrix, GT: Optional[Matrix] = None, progress: Progress = No
     return beside(G, found[0])
 
 
-@algorithm('edges between the two that are farthest apart')
+@algorithm('edges between the two that are farthest apart', steps=step_bounds.diameter)
 def diameter(G: Matrix, GT: Optional[Matrix] = None, searches: Optional[int] = None, progress: Progress = None, *,
              check: bool = True) -> Bounds:
     """The number of edges of the longest of all shortest paths, as bounds: without `searches` exact, by `eccentricity`, else what

@@ -22,7 +22,7 @@ from ..io.matrix_text import Triples
 from ..loops.vector_products import Push
 from ..matrix import Matrix
 from ..operators import Semiring, binary
-from ..pricing.upper_bounds import asked
+from ..pricing.foreseen import asked
 from .cached_properties import found
 from .protocols import GraphMatrix, M, Numbers
 

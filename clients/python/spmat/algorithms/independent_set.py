@@ -2,6 +2,7 @@
 from __future__ import annotations
 
 from ..operators import Semiring, binary
+from . import step_bounds
 from .bfs import lines_of
 from .cached_properties import check_undirected
 from .frontier import Columns, Lines, Vector, ones_like
@@ -15,7 +16,7 @@ GREATEST = Semiring(binary.max, binary.first)
 
 
 @algorithm('vertices of which no two are neighbours', 'seed', wanted=BOTH_WAYS,
-           runs=lambda g: 7 * g.rounds + 3, steps=lambda g: (10 * g.entries + 16 * g.vertices) * g.rounds + 5 * g.entries + 2 * g.vertices)
+           runs=lambda g: 7 * g.rounds + 3, steps=step_bounds.maximal_independent_set)
 def maximal_independent_set(G: M, seed: int = 0, progress: Progress = None, *, check: bool = True) -> M:
     """Vertices of which no two are neighbours, and to which no other can be added, as a column of ones. The graph is undirected;
     loops don't count. The seed decides which of the sets it is.

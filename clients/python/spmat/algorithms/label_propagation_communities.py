@@ -4,6 +4,7 @@ from __future__ import annotations
 from ..io.coo import whole
 from ..io.matrix_text import Triples, find_numpy
 from ..operators import asm
+from . import step_bounds
 from .cached_properties import check_undirected
 from .frontier import Columns, FEW, Vector
 from .protocols import M, Numbers
@@ -13,7 +14,8 @@ from .utils import Progress, beside, order, product, tell
 ROUNDS = 10
 
 
-@algorithm('communities, by a vertex of each', 'rounds', are_vertices=True, wanted=BOTH_WAYS)
+@algorithm('communities, by a vertex of each', 'rounds', are_vertices=True, wanted=BOTH_WAYS,
+           steps=step_bounds.label_propagation)
 def label_propagation(G: M, rounds: int = ROUNDS, progress: Progress = None, *, check: bool = True) -> M:
     """The community of each vertex of an undirected graph, as a column of labels; a label is a vertex. Each vertex begins with itself
     as its label, and in each round all take the label that most of their neighbours have, of several the least. It ends when no label

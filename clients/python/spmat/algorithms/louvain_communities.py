@@ -6,6 +6,7 @@ from fractions import Fraction
 from typing import Any, Dict, Generic, List, NamedTuple, Tuple
 
 from ..io.matrix_text import Triples
+from . import step_bounds
 from .cached_properties import check_undirected, extremes, has_loops, is_both_ways
 from .frontier import column_of
 from .protocols import M
@@ -16,6 +17,7 @@ BATCHES = 4                                        # parts of the vertices that 
 LEAST = 1e-7                                       # what a level has to gain
 ENOUGH = 1e-3                                      # .. and a sweep, for that another one follows
 SWEEPS = 20                                        # of one level, at most
+LEVELS = 16                                        # at most: each has fewer vertices, and few are wanted
 MOST_WEIGHT = 1 << 53                              # of all edges: weights are compared as floats
 
 
@@ -70,7 +72,8 @@ def _numbered(labels: List[int]) -> Tuple[List[int], int]:
     return [places.setdefault(label, len(places)) for label in labels], len(places)
 
 
-@algorithm('how many more edges lie within communities than by chance', command=False)
+@algorithm('how many more edges lie within communities than by chance', command=False,
+           steps=step_bounds.modularity)
 def modularity(G: M, labels: M, resolution: float = 1.0, *, weighted: bool = False) -> float:
     """The modularity of communities: the share of edges that lie inside one, less the share that would if edges were drawn at random
     between vertices of the same degrees, times the resolution. `labels` is a column with any number for each vertex' community.
@@ -166,7 +169,8 @@ def _settled(level: _Level, graph: Any) -> Tuple[List[int], int, float]:
 
 @algorithm('communities of great modularity, by a vertex of each', 'resolution', 'seed', 'weighted', are_vertices=True,
            wanted=BOTH_WAYS,
-           says='Communities by Louvain\'s method; their modularity is told on standard error.')
+           says='Communities by Louvain\'s method; their modularity is told on standard error.',
+           steps=step_bounds.louvain)
 def louvain(G: M, resolution: float = 1.0, seed: int = 0, progress: Progress = None, *, weighted: bool = False,
             check: bool = True) -> 'Communities[M]':
     """Communities of an undirected graph whose modularity is great, by Louvain's method, with that modularity. A greater resolution gives
@@ -187,7 +191,7 @@ def louvain(G: M, resolution: float = 1.0, seed: int = 0, progress: Progress = N
         raise ValueError('weights are 0 or more, and add up to less than 2^53: here they are %d to %d' % (least, most))
     graph, chance = _doubled(G, weighted), random.Random(seed)
     labels, found, number = list(range(count)), _modularity(graph, resolution), 0
-    while True:
+    while number < LEVELS:
         level = _level(graph, chance, resolution)
         numbers, many, gained = _settled(level, graph)
         number += 1

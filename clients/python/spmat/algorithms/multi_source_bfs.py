@@ -7,6 +7,7 @@ from ..errors import TooLarge
 from ..loops import Loop, State, empty
 from ..loops.pipelined_rounds import Round
 from ..operators import Semiring, binary
+from . import step_bounds
 from .cached_properties import is_both_ways
 from .protocols import M, Place, Vertices
 from .registry import algorithm
@@ -98,7 +99,8 @@ class Hops(Generic[M]):
 
 @algorithm('the vertices within k edges of some', 'k', 'sources',
            says='Which vertices lie within k edges of each source (of all vertices without --source): source, '
-                'vertex, number of edges; 0 at the source itself.')
+                'vertex, number of edges; 0 at the source itself.',
+           steps=step_bounds.k_hop, shape=step_bounds.rows_of_sources)
 def k_hop(G: M, k: int, sources: Optional[Vertices] = None, progress: Progress = None) -> M:
     """Which vertices lie within k edges of each source: a row for each source in their order (of all vertices without `sources`), whose
     entries are the numbers of edges; 0 at the source.

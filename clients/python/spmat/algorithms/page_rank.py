@@ -6,7 +6,8 @@ from typing import Any, Generic, Mapping, NamedTuple, Optional, Tuple
 
 from ..io import matrix_text
 from ..operators import Semiring, asm, binary
-from ..pricing.upper_bounds import asked
+from ..pricing.foreseen import asked
+from . import step_bounds
 from .bfs import flow_lines
 from .cached_properties import extremes, found, is_both_ways
 from .frontier import Columns, FEW, Lines, Vector, column_of
@@ -228,7 +229,7 @@ def kept_tolerance(count: int, weight: int, point: Point, tolerance: float, scal
 
 
 @algorithm('the PageRank of each vertex', 'damping', 'tolerance', scale=ONE, ranked=True,
-           runs=lambda g: 3 * g.rounds + 8, steps=lambda g: (5 * g.entries + 20 * g.vertices) * g.rounds + 5 * g.entries)
+           runs=lambda g: 3 * g.rounds + 8, steps=step_bounds.pagerank)
 def pagerank(G: M, GT: Optional[M] = None, damping: float = 0.85, tolerance: float = 1e-6, scale: Optional[int] = None,
              progress: Progress = None, *, weighted: bool = False, personalization: Optional[Weights] = None,
              dangling: Optional[Weights] = None, check: bool = True) -> M:

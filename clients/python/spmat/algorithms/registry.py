@@ -5,7 +5,11 @@ from __future__ import annotations
 import enum
 import inspect
 import re
-from typing import Any, Callable, Dict, Iterator, List, NamedTuple, Optional, Sequence, Tuple, TypeVar
+from typing import Any, Callable, Dict, Iterator, List, NamedTuple, Optional, Sequence, Tuple, TypeVar, Union
+
+from ..pricing.call_price import Bound
+from ..pricing.call_sizes import CallSizes
+from ..pricing.foreseen import Unread, stand
 
 F = TypeVar('F', bound=Callable[..., Any])
 
@@ -21,24 +25,24 @@ BOTH_WAYS, WITHOUT_LOOPS = Wanted.BOTH_WAYS, Wanted.WITHOUT_LOOPS
 
 
 class Size(NamedTuple):
-    """What the cost of a call grows with: a graph's vertices, its entries (an undirected edge has two) and triangles, and the rounds, or levels,
-    that `progress` was told."""
+    """What the runs of a call grow with: a graph's vertices, and the rounds, or levels, that `progress` was told."""
     vertices: int
-    entries: int
-    triangles: int
     rounds: int
 
 
-Bound = Callable[[Size], int]
-"""The most that a call takes, without the checks that are made once for a graph."""
+Runs = Callable[[Size], int]
+"""The most runs of a call, without the checks that are made once for a graph."""
+Steps = Callable[[CallSizes], Union[int, Bound, None]]
+"""The most steps of a call, with the checks; None where no bound is known."""
 
 
 class Algorithm(NamedTuple):
     """An algorithm: its function, and what it gives in a few words. Then what the command line has to know: the options beside those of
     every graph, what a value is counted in (1 where it is a whole number), whether a value is a vertex, what draws the result, which graphs
     it is for, whether their values count, whether the greatest values can be asked for alone, the fields of a row of a list, whether what it
-    gives is in the unit of the values where these count, and what the command says of itself where that isn't what the function says. `runs` and `steps` are what its docstring says of its cost, for tests: on
-    a graph whose rounds are few, and whose products aren't made by parts."""
+    gives is in the unit of the values where these count, and what the command says of itself where that isn't what the function says. `runs`
+    is what its docstring says of its runs, for tests: on a graph whose rounds are few, and whose products aren't made by parts. `steps` are
+    the most that a call takes, which `spmat.price` tells. `shape` is that of a result which is a matrix, but no column."""
     function: Callable[..., Any]
     gives: str
     options: Sequence[str]
@@ -52,8 +56,9 @@ class Algorithm(NamedTuple):
     lengths: bool = False
     says: str = ''
     command: bool = True
-    runs: Optional[Bound] = None
-    steps: Optional[Bound] = None
+    runs: Optional[Runs] = None
+    steps: Optional[Steps] = None
+    shape: Optional[Callable[[CallSizes], Tuple[int, int]]] = None
 
     @property
     def parameters(self) -> List[str]:
@@ -67,10 +72,21 @@ class Algorithm(NamedTuple):
         return found.group(1) if found else ''
 
 
+    def stand(self, sizes: CallSizes) -> Any:
+        """What stands for the result of a call, which isn't made."""
+        if self.shape is None and self.function.__annotations__.get('return') not in ('M', 'Matrix'):
+            return Unread()
+        shape = (sizes.vertices, 1) if self.shape is None else self.shape(sizes)
+        made = stand(sizes.graph.session, shape, 0, shape[0] * shape[1])
+        if shape[0] == sizes.vertices:
+            made.nodes = sizes.graph.nodes
+        return made
+
+
 ALGORITHMS: Dict[str, Algorithm] = {}
 
 
-def algorithm(gives: str, *options: str, runs: Optional[Bound] = None, steps: Optional[Bound] = None, **more: Any) -> Callable[[F], F]:
+def algorithm(gives: str, *options: str, runs: Optional[Runs] = None, steps: Optional[Steps] = None, **more: Any) -> Callable[[F], F]:
     """Puts a function on the list; see `Algorithm` for what may be said of it."""
     def register(function: F) -> F:
         ALGORITHMS[function.__name__] = Algorithm(function, gives, options, runs=runs, steps=steps, **more)

@@ -9,6 +9,7 @@ from ..io.coo import whole
 from ..io.matrix_text import Triples
 from ..operators import Operator, Semiring, asm, binary
 from ..units import Unit, to_decimals
+from . import step_bounds
 from .bfs import LEAST, NONE, Search, find_levels, lines_of, run_search
 from .cached_properties import extremes, transpose_of
 from .frontier import Columns, FEW, Lines, Tally, Vector
@@ -169,7 +170,7 @@ def _tight(graph: M, lengths: Vector) -> M:
 
 @algorithm('the vertices of a shortest path', 'source', 'target', 'weighted', plot='route', fields=('node', 'length'), lengths=True,
            says='The vertices of a shortest path from one vertex to another, in order, with how far along it each '
-                'is.')
+                'is.', steps=step_bounds.shortest_path)
 def shortest_path(G: M, source: Vertex, target: Vertex, GT: Optional[M] = None, progress: Progress = None, *, weighted: bool = False,
                   check: bool = True) -> Path:
     """A shortest path from one vertex to another: its vertices in order, with their `lengths` along it. Its length is the number of its
@@ -201,7 +202,7 @@ def shortest_path(G: M, source: Vertex, target: Vertex, GT: Optional[M] = None, 
 
 @algorithm('a shortest path to each vertex, as a tree', 'source', 'weighted', fields=('node', 'length', 'predecessor'), lengths=True,
            says='A shortest path to each vertex that is reached: vertex, length, and the vertex before it; that is '
-                'the source itself there.')
+                'the source itself there.', steps=step_bounds.shortest_paths)
 def shortest_paths(G: M, source: Vertex, GT: Optional[M] = None, progress: Progress = None, *, weighted: bool = False,
                    cutoff: Optional[int] = None, check: bool = True) -> 'PathTree[M]':
     """A shortest path from one vertex to each that it reaches, as a tree: `.path(target)` is one of them, `.lengths` and `.predecessors`
@@ -218,7 +219,8 @@ def shortest_paths(G: M, source: Vertex, GT: Optional[M] = None, progress: Progr
 
 
 @algorithm('whether a path leads from one vertex to another', 'source', 'target', fields=('has_path',),
-           says='Prints yes where a path leads from one vertex to another, else no.')
+           says='Prints yes where a path leads from one vertex to another, else no.',
+           steps=step_bounds.has_path)
 def has_path(G: M, source: Vertex, target: Vertex, GT: Optional[M] = None, *, check: bool = True) -> bool:
     """Whether a path leads from one vertex to another. It costs what `bfs_levels` costs up to the target. networkx: `has_path`. Raises
     ValueError where one of them is no vertex."""
@@ -271,7 +273,8 @@ class Spurs(Generic[M]):
 
 @algorithm('the k shortest paths', 'source', 'target', 'k', 'weighted', fields=('path', 'node', 'length'), lengths=True,
            says='The k shortest paths that pass no vertex twice, a line for each vertex: the number of its path, '
-                'from 1, the vertex, and how far along the path it is.')
+                'from 1, the vertex, and how far along the path it is.',
+           steps=step_bounds.k_shortest_paths)
 def k_shortest_paths(G: M, source: Vertex, target: Vertex, k: int, GT: Optional[M] = None, *, weighted: bool = False,
                      check: bool = True) -> List[Path]:
     """The k shortest paths from one vertex to another that pass no vertex twice, the shortest first; fewer where there are fewer. Lengths

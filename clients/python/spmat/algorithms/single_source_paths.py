@@ -5,7 +5,7 @@ from typing import Callable, Generic, List, NamedTuple, Optional, Tuple, cast
 
 from ..io import matrix_text
 from ..operators import Semiring, asm, binary
-from . import server_side_search
+from . import server_side_search, step_bounds
 from .bfs import fronts_of, joined
 from .cached_properties import extremes
 from .frontier import Lines, Tally, Vector
@@ -270,7 +270,7 @@ def find_lengths(W: M, source: Place, WT: Optional[M], query: Query) -> M:
 
 
 @algorithm('lengths of shortest paths from a vertex', 'source', values=True, lengths=True,
-           runs=lambda g: 9 * g.rounds + 4, steps=lambda g: (7 * g.entries + 20 * g.vertices) * g.rounds)
+           runs=lambda g: 9 * g.rounds + 4, steps=step_bounds.sssp)
 def sssp(W: M, source: Vertex, WT: Optional[M] = None, progress: Progress = None, *, cutoff: Optional[int] = None,
          target: Optional[Vertex] = None, check: bool = True) -> M:
     """The length of the shortest path from the source to each vertex, as a column: 0 at the source; no entry where no path leads.

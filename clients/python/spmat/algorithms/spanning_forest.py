@@ -7,6 +7,7 @@ from ..io import matrix_text
 from ..io.matrix_text import Triples
 from ..metadata import of_copy
 from ..operators import asm
+from . import step_bounds
 from .cached_properties import check_undirected, extremes, found, is_transpose
 from .frontier import FEW, zeros_like
 from .protocols import GraphMatrix, M, Numbers
@@ -54,7 +55,8 @@ def _encoded(W: M, code: Code) -> M:
 @algorithm('the lightest edges that join what is joined', wanted=BOTH_WAYS, values=True, lengths=True,
            says='The edges of a minimum spanning forest of an undirected graph, each once, with their weights, which '
                 'may be negative. Of edges of one weight the one with the lesser vertices is taken. Loops don\'t '
-                'count. --both-ways takes each edge of a list both ways.')
+                'count. --both-ways takes each edge of a list both ways.',
+           steps=step_bounds.minimum_spanning_forest, shape=step_bounds.square)
 def minimum_spanning_forest(W: M, progress: Progress = None, *, check: bool = True) -> M:
     """The edges of a minimum spanning forest of an undirected graph, both ways, with their weights, which may be negative. Of edges of
     one weight the one with the lesser vertices is taken. Loops don't count.

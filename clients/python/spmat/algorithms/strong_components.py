@@ -6,6 +6,7 @@ from typing import Dict, List, Optional, Tuple
 from ..io import matrix_text
 from ..io.matrix_text import Triples
 from ..matrix import Matrix
+from . import step_bounds
 from .bfs import Search, find_levels
 from .cached_properties import found, transpose_of
 from .frontier import FEW, column_of, zeros_like
@@ -78,7 +79,8 @@ class Parts:
         return Triples(at, at, values, self.count, self.count)
 
 
-@algorithm("the least vertex of each one's strong component", are_vertices=True)
+@algorithm("the least vertex of each one's strong component", are_vertices=True,
+           steps=step_bounds.strongly_connected_components)
 def strongly_connected_components(G: Matrix, GT: Optional[Matrix] = None, progress: Progress = None, *,
                                   check: bool = True) -> Matrix:
     """The least vertex of each one's strongly connected component, as a column: two vertices are in one where a path leads from

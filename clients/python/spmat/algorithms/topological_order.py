@@ -8,6 +8,7 @@ from ..loops import Loop, State, empty
 from ..loops.pipelined_rounds import Round
 from ..matrix import Matrix
 from ..operators import Semiring, asm, binary
+from . import step_bounds
 from .bfs import NONE
 from .cached_properties import extremes
 from .frontier import Tally
@@ -99,7 +100,8 @@ def levelled(G: Matrix, progress: Progress = None) -> Levels:
     return levels
 
 
-@algorithm('levels of a graph without cycles', runs=lambda g: 6 * min(4 * g.rounds + 12, g.rounds + 128) + 5)
+@algorithm('levels of a graph without cycles', runs=lambda g: 6 * min(4 * g.rounds + 12, g.rounds + 128) + 5,
+           steps=step_bounds.topological_levels)
 def topological_levels(G: Matrix, progress: Progress = None) -> Matrix:
     """The number of edges of the longest path that ends at each vertex of a directed graph without cycles, as a column: an edge
     leads from a lower level to a higher one, so vertices by ascending levels are in a topological order.
@@ -120,7 +122,8 @@ def topological_levels(G: Matrix, progress: Progress = None) -> Matrix:
 
 
 @algorithm('lengths of longest paths in a graph without cycles', values=True, lengths=True, ranked=True,
-           runs=lambda g: 8 * min(4 * g.rounds + 12, g.rounds + 128) + 9)
+           runs=lambda g: 8 * min(4 * g.rounds + 12, g.rounds + 128) + 9,
+           steps=step_bounds.longest_paths)
 def longest_paths(W: Matrix, progress: Progress = None, *, check: bool = True) -> Matrix:
     """The length of the longest path that ends at each vertex of a directed graph without cycles, as a column. An entry's value is the
     length of its edge; a path may begin anywhere, so no length is below 0.

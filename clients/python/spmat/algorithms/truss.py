@@ -7,6 +7,7 @@ from ..errors import TooLarge
 from ..io.coo import whole
 from ..loops import Loop, State, Until
 from ..loops.pipelined_rounds import Round
+from . import step_bounds
 from .cached_properties import check_undirected
 from .protocols import M
 from .registry import WITHOUT_LOOPS, algorithm
@@ -16,7 +17,7 @@ ANEW = 4                                           # where a quarter of the edge
 
 
 @algorithm('edges that stand in k - 2 triangles or more', 'k', plot='spy', wanted=WITHOUT_LOOPS,
-           runs=lambda g: 8 * g.rounds + 3, steps=lambda g: 30 * g.triangles + (30 * g.triangles + 10 * g.entries) * g.rounds)
+           runs=lambda g: 8 * g.rounds + 3, steps=step_bounds.k_truss, shape=step_bounds.square)
 def k_truss(G: M, k: int, progress: Progress = None, *, check: bool = True) -> M:
     """The edges of the largest part of an undirected graph without loops in which each edge stands in at least k - 2 triangles; the
     value of an edge is the number of them. With k = 2 these are all edges, and 0 stands at one in no triangle.

@@ -7,7 +7,8 @@ from ..errors import NotSettled
 from ..io.matrix_text import Triples
 from ..metadata import Nodes
 from ..operators import asm
-from ..pricing.upper_bounds import asked
+from ..pricing.foreseen import asked
+from . import step_bounds
 from .cached_properties import found
 from .protocols import GraphMatrix, M, Numbers, Place, Ring, Vertex, Vertices
 from .registry import algorithm
@@ -183,7 +184,7 @@ def settle(step: Callable[[M], M], start: M, most: Optional[int] = None) -> M:
 
 
 @algorithm('the graph without directions, weights and loops', command=False,
-           runs=lambda g: 3, steps=lambda g: 16 * g.entries)
+           runs=lambda g: 3, steps=step_bounds.undirected, shape=step_bounds.square)
 def undirected(graph: M, GT: Optional[M] = None) -> M:
     """The graph without its directions, weights and loops: an entry 1 at (i, j) and (j, i) for each edge between two vertices.
 

@@ -17,7 +17,7 @@ from ..errors import BudgetExceeded, SpmatError
 from ..io import coo
 from ..limits import MOST_STEPS, MOST_WORKERS
 from ..operators import Op, Operator, diagnostics, find
-from ..pricing import upper_bounds
+from ..pricing import budget_check
 from . import unsupported, worker_tasks
 from .dask_direct_calls import Call
 from .errors import AtBlock, VersionMismatch, in_all, named
@@ -232,7 +232,7 @@ class Sessions(Inputs):
     def _check(self, price: int) -> None:
         """BudgetExceeded where jobs of this price together are above what is left, with what the algorithm wanted that asks for them."""
         try:
-            with upper_bounds.told():
+            with budget_check.naming_algorithm():
                 self.ledger.check(price)
         except BudgetExceeded as fault:
             fault.block, fault.spent_in_all = '', self.ledger.budget.spent  # type: ignore[attr-defined]

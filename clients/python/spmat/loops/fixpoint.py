@@ -1,13 +1,13 @@
 """A step that is made until it changes nothing."""
 from __future__ import annotations
 
-from typing import Any, Callable, Optional, TypeVar
+from typing import Any, Callable, Dict, Optional, TypeVar
 
 from ..algorithms.protocols import GraphMatrix
 from ..algorithms.utils import Progress, repeated, tell
 from ..errors import NotSettled
-from ..pricing.upper_bounds import asked
-from . import Loop, NotAlike, NotTraced, State, Until
+from ..pricing.foreseen import asked
+from . import Loop, NotAlike, NotTraced, Until
 
 M = TypeVar('M', bound=GraphMatrix)
 
@@ -21,6 +21,10 @@ def fixpoint(matrix: M, step: Callable[[M], M], most: Optional[int] = None, prog
     what it asks for; a step that looks at entries, or asks for other jobs in another round, is called for each round. Runs: those of the step,
     and 3 a round, of which 2 where the number of entries stays as it was. Raises NotSettled, a RuntimeError, where it goes on after
     `most` rounds. GraphBLAS: the loop around `GrB_mxm` that ends where nothing changes."""
+    asker = asked()
+    if asker is not None:
+        state = asker.repeat(lambda _, now: {'now': _compared(step, now['now'])['now']}, {'now': matrix}, most, 1 if most is None else min(1, most))
+        return state['now']  # type: ignore[no-any-return]
     loop = _traced(matrix, step)
     if loop is None:
         return repeated(matrix, step, lambda before, now: now.isequal(before), progress, most)
@@ -38,13 +42,16 @@ def fixpoint(matrix: M, step: Callable[[M], M], most: Optional[int] = None, prog
 SAME = Until(('now', 'both', 'differ'), lambda counts, before: counts['both'] == counts['now'] == before['now'] and not counts['differ'])
 
 
+def _compared(step: Callable[[M], M], before: M) -> Dict[str, M]:
+    """What a step makes, and where that differs from what was before."""
+    now = step(before)
+    both = now.ewise_mult(before, 'ne')
+    return {'now': now, 'both': both, 'differ': both.select('nonzero')}
+
+
 def _traced(matrix: M, step: Callable[[M], M]) -> Optional[Loop]:
     """The loop of a step; None where it can't be traced."""
-    def compared(state: State) -> Any:
-        now = step(state.now)
-        both = now.ewise_mult(state.now, 'ne')
-        return {'now': now, 'both': both, 'differ': both.select('nonzero')}
     try:
-        return Loop(compared, {'now': matrix}) if matrix.in_one_place and asked() is None else None
+        return Loop(lambda state: _compared(step, state.now), {'now': matrix}) if matrix.in_one_place else None
     except (NotTraced, NotAlike):
         return None

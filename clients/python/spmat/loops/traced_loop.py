@@ -10,11 +10,11 @@ each refusal comes in the round, and leaves the state, that it would have withou
 from __future__ import annotations
 
 import time
-from typing import TYPE_CHECKING, Any, Callable, Dict, List, Mapping, NamedTuple, Optional, Sequence, Tuple, Union
+from typing import TYPE_CHECKING, Any, Callable, Dict, List, Mapping, NamedTuple, Optional, Sequence, Tuple, Union, cast
 
 from ..errors import NotSettled, Refused
 from ..io.coo import whole
-from ..pricing.upper_bounds import Unforeseen, asked
+from ..pricing.foreseen import Asked, Unread, asked
 from .pipelined_rounds import Counts, Round, Trips
 from .round_results import Body, Shown
 from .tracing import Made, State, TracedMatrix, of_two, results, trace
@@ -96,6 +96,10 @@ class Loop:
     @property
     def state(self) -> State:
         """The matrices behind the last round. Where an end was met amid a trip, the trip's rounds up to it are made again for this."""
+        asker = asked()
+        if asker is not None:
+            self._foresee(asker, 0, 0)
+            return State(asker.loops[id(self)][1])
         self._catch_up()
         if self._trips is None:
             return State(self._state)
@@ -116,7 +120,8 @@ class Loop:
         if not self.rounds(end, most, _tells(each, progress, 0)):
             raise NotSettled('did not converge after %d rounds: most= allows more, and advance() makes rounds without an end; the state is that '
                              'behind them' % most)
-        return self.number - begun
+        made: Any = self.number - begun if asked() is None else Unread()
+        return cast(int, made)
 
     def advance(self, rounds: int = 1, each: Optional[Each] = None, progress: 'Progress' = None) -> None:
         """Makes so many rounds, none in vain. `each` and `progress` are as in `run`."""
@@ -126,9 +131,10 @@ class Loop:
 
     def rounds(self, end: Optional[Until], most: int, heard: Callable[[int, List[Round]], Any]) -> bool:
         """Makes rounds until an end is met, or so many; whether it was met. `heard(first, rounds)` is told of all rounds of a trip."""
-        if asked() is not None and most > 0:
-            results(self._step, self._state, 1)    # whose jobs are foreseen; what follows depends on what they come to
-            raise Unforeseen()
+        asker = asked()
+        if asker is not None:
+            self._foresee(asker, most, most if end is None else min(1, most))
+            return True
         goal, size = self.number + most, FIRST if end is None or end.rests else 1
         before = self._counts()
         while self.number < goal:
@@ -149,6 +155,19 @@ class Loop:
         return False
 
     # -- rounds
+
+    def _foresee(self, asker: Asked, most: int, least: int) -> None:
+        """Tells who asks what so many rounds would ask for, or fewer but so many at the least. The loop stays where it is."""
+        number = self.number
+
+        def made(round_: int, now: State) -> State:
+            got = results(self._step, now, number + round_)
+            return State((name, got[name]) for name in now)
+        if id(self) not in asker.loops:
+            again = 0 if self._end is None or self._trips is None else self._end - self._trips.place.number
+            begun = State(self._state) if self._trips is None else self._trips.matrices()
+            asker.loops[id(self)] = self, asker.repeat(made, begun, again, again)
+        asker.loops[id(self)] = self, asker.repeat(made, asker.loops[id(self)][1], most, least)
 
     def _by_trip(self, end: Optional[Until], size: int, goal: int) -> Optional[List[Round]]:
         """The rounds of the trip that was sent first. None where they are to be made by the step itself."""
@@ -216,6 +235,8 @@ class Loop:
 
     def _catch_up(self) -> None:
         """Makes the rounds again that came before an end amid a trip."""
+        if asked() is not None:
+            return
         end, self._end = self._end, None
         if end is not None:
             assert self._trips is not None

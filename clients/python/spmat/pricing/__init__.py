@@ -1,1 +1,1 @@
-"""What a call costs: `upper_bounds` tells the most before any work is done, `lower_bounds` what is charged for certain."""
+"""What a call costs at the least and at the most, told before it does any work, and what is said where a budget is too small for it."""
