@@ -38,6 +38,9 @@ class Matrix(Signs):
     a result's entries, their number, or a mask other than A.S are asked for. Every `mask=` takes A.S, A.V, ~A.S, ~A.V or a matrix
     (its structure); those but A.S cost more jobs, as `S`, `V` and `without` say. Operators are Operators, ready names, or functions.
 
+    A stored whole number x stands for x / `unit`, 1 unless the matrix was read with `scale=`; results have units. UnitsDiffer where two that
+    differ meet: `rescale` gives one matrix the other's. docs/files.md says more.
+
     Refusals are raised where the method is called: DimensionMismatch (J5, J9), DomainMismatch (J4), OperatorRefused,
     BudgetExceeded, TooLarge (J7, J8), OutOfMemory. Wrong shapes and kinds are found here, before anything is sent."""
 
@@ -121,28 +124,35 @@ class Matrix(Signs):
               name: Optional[str] = None) -> 'Matrix':
         """Each entry's answer: f(x) of a unary operator; f(x, right) or f(left, x) of a binary one; of an index operator f(x,
         row, column, right), where `right` is 0 unless given. A bound binary operator is sent as an index operator of one (right)
-        or two (left) more instructions, once for all numbers. In the GraphBLAS GrB_apply."""
+        or two (left) more instructions, once for all numbers. In the GraphBLAS GrB_apply.
+
+        Where this matrix has a unit, `right=0.25` is a number that meets its values, and is stored as they are; for times and division it is
+        a whole factor. An operator of your own gets stored whole numbers, also for `right`, and its result has a unit of 1: set it, as in
+        `B.unit = 100`, where you know another. ValueError where the unit can't hold the number."""
         sent = applied(op, right, left, self.unit)
         told = metadata.of_applied(self.notes, sent.op, sent.even, sent.unit)
         return self._job(_Job('apply', [sent.op], [self], self.shape, told, sent.thunk), mask, name)
 
     def select(self, op: Op, thunk: Number = 0, *, mask: MaskLike = None, name: Optional[str] = None) -> 'Matrix':
         """The entries for which an index operator's answer isn't 0, with their values. Its name may be a sign: `A.select(">=",
-        3)` is `A.select("valuege", 3)`. In the GraphBLAS GrB_select."""
+        3)` is `A.select("valuege", 3)`. A value to compare with is a number, also where this matrix has a unit, `A.select(">=", 1.5)`;
+        ValueError where the unit can't hold it. An operator of your own gets stored whole numbers. In the GraphBLAS GrB_select."""
         found = of_form('select', op)
         thunk = units.of_selected(found, thunk, self.unit)
         told = metadata.of_selected(self.notes, found, thunk)
         return self._job(_Job('select', [found], [self], self.shape, told, thunk), mask, name)
 
     def ewise_add(self, other: 'Matrix', op: Op = 'plus', *, mask: MaskLike = None, name: Optional[str] = None) -> 'Matrix':
-        """op(x, y) where both have an entry, else a copy of the one that has. In the GraphBLAS GrB_eWiseAdd; here `union`."""
+        """op(x, y) where both have an entry, else a copy of the one that has. UnitsDiffer where units differ, or the operator's result has
+        another one than the copies; that of an operator of your own has a unit of 1. In the GraphBLAS GrB_eWiseAdd; here `union`."""
         self._check_shape('union', other, self.shape)
         found = of_form('union', op)
         told = metadata.of_union(self.notes, other.notes, found)
         return self._job(_Job('union', [found], [self, other], self.shape, told), mask, name)
 
     def ewise_mult(self, other: 'Matrix', op: Op = 'times', *, mask: MaskLike = None, name: Optional[str] = None) -> 'Matrix':
-        """op(x, y) where both have an entry. In the GraphBLAS GrB_eWiseMult; here `both`."""
+        """op(x, y) where both have an entry. Times multiplies units, others want one, and the result of an operator of your own has a unit
+        of 1. In the GraphBLAS GrB_eWiseMult; here `both`."""
         self._check_shape('both', other, self.shape)
         found = of_form('both', op)
         told = metadata.of_both(self.notes, other.notes, found)
@@ -213,7 +223,7 @@ class Matrix(Signs):
             raise refusal('J5', command=form, detail='%dx%d and %dx%d' % (*self.shape, *other.shape))
 
     def __getitem__(self, at: Any) -> Union['Matrix', Optional[int]]:
-        """`G[i, j]`: the value of an entry, None where there is none. `G[i, :]` a row, `G[:, j]` a column, `G[rows, columns]` with
+        """`G[i, j]`: the value of an entry, what it stands for where there is a unit, None where there is none. `G[i, :]` a row, `G[:, j]` a column, `G[rows, columns]` with
         lists or slices a part. Rows and columns are named as `index` has it, or counted from 0. 1 job for the rows and 1 for the
         columns that are chosen, and 1 run where both are; a value comes with 1 run more. In the GraphBLAS GrB_extract."""
         return picked(self, at)

@@ -15,7 +15,7 @@ import support
 import spmat
 from spmat import UnitsDiffer, algorithms, binary, blocks
 
-UNITS = (1, 100, 1000, Fraction(1, 2), 3)
+UNITS = ((1, 1), (1, 100), (100, 1), (100, 100), (100, 1000), (1000, 100), (3, 3), (Fraction(1, 2), Fraction(1, 2)), (Fraction(1, 2), 1000), (3, 100))
 LEAST, MOST = -2 ** 63, 2 ** 63 - 1
 # What ready operators come to in numbers: those of values of one unit, which the result has, too; those of one unit that answer a question;
 # and those whose values may have any units.
@@ -143,7 +143,6 @@ class Acts(Case):
             self.assertEqual(made_.unit, 1, made_)
         self.assertEqual(A.mxm(A).to_edgelist(), [('A', 'C', 0.625)])
         self.assertEqual((A['A', 'B'], A['A', 'C'], A.reduce_scalar(), A.reduce_scalar('min'), A.reduce_scalar(raw=True)), (1.25, None, 1.75, 0.5, 175))
-        self.assertIs(A.T.T, A)
 
     def test_transposes_follow_a_unit_that_is_set(self):
         for sessions in (self.s, blocks.Sessions(2)):
@@ -189,10 +188,9 @@ class Table(Case):
 
     def pairs(self):
         chance = random.Random(7)
-        for first in UNITS:
-            for second in UNITS:
-                x, y = entries_of(chance, 5), entries_of(chance, 6)
-                yield first, second, x, y, made(self.s, x, first), made(self.s, y, second)
+        for first, second in UNITS:
+            x, y = entries_of(chance, 5), entries_of(chance, 6)
+            yield first, second, x, y, made(self.s, x, first), made(self.s, y, second)
 
     def test_all_operators_are_here(self):
         known = {binary[name] for name in (*EXACT, *DIVIDE, *ON_BITS)}
@@ -401,10 +399,9 @@ class OutAndIn(Case):
         with self.assertRaisesRegex(TypeError, 'raw=True .* scale='):
             column.to_csv(raw=True, scale=10)
 
+    @support.needs('networkx')
     def test_networkx(self):
-        networkx = support.has('networkx') and __import__('networkx')
-        if not networkx:
-            self.skipTest('no module networkx')
+        import networkx
         graph = networkx.DiGraph()
         graph.add_weighted_edges_from(self.edges)
         G = self.s.from_networkx(graph, scale=1000)

@@ -35,7 +35,7 @@ class Sources(abc.ABC, Generic[Made]):
                  dup_op: DupOp = None, name: Optional[str] = None) -> Made:
         """A matrix from rows and columns (from 0) and values, or one value for all: lists, or arrays of numpy. Sizes that aren't
         given are the least that fit, with `square` the least for both. Values are whole numbers of 64 bits, else a ValueError; with
-        `scale` they are multiplied by it and rounded to the nearest, and `notes.source` says what that did. Where
+        `scale` they are multiplied by it and rounded to the nearest, it is the matrix' `unit`, and `notes.source` says what that did. Where
         a position repeats it is a TextRefused (M8), or with `dup_op` its values are folded by that binary operator in their order;
         this takes 1 job and 1 run where any repeats.
 
