@@ -76,7 +76,8 @@ def has_loops(graph: GraphMatrix) -> bool:
 
 def extremes(graph: GraphMatrix) -> Tuple[int, int]:
     """The least and the greatest value, 0 where there is none. 4 jobs (8 steps an edge and 4 a vertex)."""
-    known: Tuple[int, int] = found(graph, 'extremes', lambda: (graph.reduce_scalar('min') or 0, graph.reduce_scalar('max') or 0))
+    known: Tuple[int, int] = found(graph, 'extremes', lambda: (
+        graph.reduce_scalar('min', raw=True) or 0, graph.reduce_scalar('max', raw=True) or 0))
     return known
 
 
