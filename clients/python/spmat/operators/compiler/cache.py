@@ -1,21 +1,32 @@
 """Code that was made of a function, kept as long as the function is there and says the same.
 
-A function's code, defaults, closure and the globals that it names decide what it is as an operator. Where all of these are known, and
-are as they were, its code is made once; where one can't be known (an object with attributes), it is made anew at each use.
+A function's code, defaults, attributes, closure and what it names decide what it is as an operator: globals, what is named in modules and
+submodules, attributes of classes. Where all of these are known, and are as they were, its code is made once. Where one can't be known (an
+object with attributes, a name that is looked up by text, an import inside, a clock), it is made anew at each use.
 """
 from __future__ import annotations
 
+import builtins
+import dis
 import functools
+import math
+import operator
 import threading
 import types
 import weakref
 from typing import Any, Callable, Dict, List, Optional, Set, Tuple
 
+from .. import Operator
 from .compile_function import Made, made
 
 Function = Callable[..., Any]
-PLAIN = (int, str, bytes, float, complex, type(None))
+PLAIN = (int, bool, str, bytes, float, complex, type(None))
 MOST_ITEMS = 1024                                  # of a table: a larger one is not looked at at each use
+# builtin functions of these modules give the same of the same arguments; those of others may tell the time
+PURE = frozenset((builtins.__name__, math.__name__, operator.__name__, '_operator'))
+# .. but these reach what no name shows
+DYNAMIC = frozenset(('eval', 'exec', 'globals', 'locals', 'vars', 'getattr', 'dir', '__import__', 'open', 'input', 'id', 'hash'))
+HEAP_TYPE = 1 << 9                                 # Py_TPFLAGS_HEAPTYPE: a class whose attributes can be set
 
 _kept: 'weakref.WeakKeyDictionary[Function, Dict[str, Tuple[Any, Made]]]' = weakref.WeakKeyDictionary()
 _lock = threading.Lock()
@@ -43,21 +54,46 @@ def code_of(kind: str, function: Function, name: Optional[str] = None, check: bo
 
 def _seen(value: Any, met: Set[int]) -> Any:
     """What decides what a function does, as something that can be compared; of what it names too. Raises _Unknown."""
-    if isinstance(value, PLAIN):
-        return type(value), value
+    kind = type(value)                             # a subclass may have attributes that change, and items of its own
+    if kind in PLAIN:
+        return kind, value
     if isinstance(value, types.FunctionType):
         return _function(value, met)
-    if isinstance(value, functools.partial):
+    if kind is functools.partial and not vars(value):
         return [_seen(each, met) for each in (value.func, value.args, value.keywords)]
-    if isinstance(value, (tuple, list)) and len(value) <= MOST_ITEMS:
-        return type(value), [_seen(each, met) for each in value]
-    if isinstance(value, dict) and len(value) <= MOST_ITEMS:
+    if kind in (tuple, list) and len(value) <= MOST_ITEMS:
+        return kind, [_seen(each, met) for each in value]
+    if kind is dict and len(value) <= MOST_ITEMS:
         return [(_seen(key, met), _seen(each, met)) for key, each in value.items()]
-    if isinstance(value, (type, types.BuiltinFunctionType)) and isinstance(getattr(value, '__self__', None), (types.ModuleType, type(None))):
+    if kind is types.BuiltinFunctionType and value.__module__ in PURE and value.__name__ not in DYNAMIC:
         return value
-    again = getattr(value, 'function', None)       # of an operator from a function
-    if isinstance(again, types.FunctionType):
+    if isinstance(value, type):
+        return _class(value, met)
+    again = getattr(value, 'function', None) if isinstance(value, Operator) else None
+    if isinstance(again, types.FunctionType):      # of an operator from a function, which is a part of this one
         return _function(again, met)
+    raise _Unknown
+
+
+def _class(kind: type, met: Set[int]) -> Any:
+    """A class, with the attributes that it and those above it have now."""
+    if not kind.__flags__ & HEAP_TYPE or id(kind) in met:
+        return kind
+    met.add(id(kind))
+    own = [(name, _attribute(each, met)) for name, each in vars(kind).items() if not isinstance(each, types.GetSetDescriptorType)]
+    return [kind, type(kind) is type or _unknown(), own, [_class(above, met) for above in kind.__bases__]]
+
+
+def _attribute(value: Any, met: Set[int]) -> Any:
+    """An attribute of a class: of a method or a property its functions."""
+    if isinstance(value, (staticmethod, classmethod)):
+        return type(value), _seen(value.__func__, met)
+    if isinstance(value, property):
+        return [_seen(each, met) for each in (value.fget, value.fset, value.fdel)]
+    return _seen(value, met)
+
+
+def _unknown() -> Any:
     raise _Unknown
 
 
@@ -65,7 +101,10 @@ def _function(function: types.FunctionType, met: Set[int]) -> Any:
     if id(function) in met:
         return None
     met.add(id(function))
-    parts: List[Any] = [function.__code__, _seen(function.__defaults__, met), _seen(function.__kwdefaults__, met)]
+    if _imports(function.__code__):
+        raise _Unknown
+    parts: List[Any] = [function.__code__, _seen(function.__defaults__, met), _seen(function.__kwdefaults__, met),
+                        _seen(vars(function), met)]
     for cell in function.__closure__ or ():
         try:
             parts.append(_seen(cell.cell_contents, met))
@@ -75,6 +114,13 @@ def _function(function: types.FunctionType, met: Set[int]) -> Any:
     return parts
 
 
+@functools.lru_cache(maxsize=4096)
+def _imports(code: types.CodeType) -> bool:
+    """Whether code imports a module, of which nothing is known then."""
+    return any(each.opname == 'IMPORT_NAME' for each in dis.get_instructions(code)) or any(
+        _imports(each) for each in code.co_consts if isinstance(each, types.CodeType))
+
+
 def _names(code: types.CodeType) -> List[str]:
     """The names that code refers to, and the code inside it."""
     inner = [name for each in code.co_consts if isinstance(each, types.CodeType) for name in _names(each)]
@@ -82,11 +128,19 @@ def _names(code: types.CodeType) -> List[str]:
 
 
 def _named(function: types.FunctionType, name: str, met: Set[int]) -> Any:
-    """A global of this name; of a module what is named beside it."""
-    found = function.__globals__.get(name, met)
-    if found is met:                               # a builtin, or the name of an attribute
+    """A global of this name, or a builtin; of a module what is named beside it."""
+    found = function.__globals__.get(name, vars(builtins).get(name, met))
+    if found is met:                               # the name of an attribute
         return None
     if isinstance(found, types.ModuleType):
-        beside = [found.__dict__[each] for each in _names(function.__code__) if each in found.__dict__]
-        return [found.__name__, *(_seen(each, met) for each in beside if not isinstance(each, types.ModuleType))]
+        return _module(found, _names(function.__code__), met)
     return _seen(found, met)
+
+
+def _module(module: types.ModuleType, names: List[str], met: Set[int]) -> Any:
+    """What a module, and its modules, have under the names that code refers to."""
+    if id(module) in met:
+        return module.__name__
+    met.add(id(module))
+    beside = [vars(module)[each] for each in names if each in vars(module)]
+    return [module.__name__, *(_module(each, names, met) if isinstance(each, types.ModuleType) else _seen(each, met) for each in beside)]

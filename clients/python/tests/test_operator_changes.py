@@ -1,0 +1,155 @@
+"""An operator from a function follows what the function reaches: whatever changes between two uses changes the operator."""
+import builtins
+import dataclasses
+import enum
+import functools
+import sys
+import types
+import unittest
+
+import support
+
+TOLL = 5
+
+
+class Settings:
+    toll = 5
+
+
+class Child(Settings):
+    pass
+
+
+class Meta(type):
+    value = 5
+
+    @property
+    def toll(cls):
+        return Meta.value
+
+
+class WithMeta(metaclass=Meta):
+    pass
+
+
+class Methods:
+    base = 5
+
+    @staticmethod
+    def fixed():
+        return Methods.base
+
+    @classmethod
+    def own(cls):
+        return cls.base
+
+    @property
+    def shown(self):
+        return Methods.base
+
+
+@dataclasses.dataclass
+class Record:
+    toll: int = 5
+
+
+class Level(enum.IntEnum):
+    LOW = 5
+
+
+class Row(list):
+    pass
+
+
+def attributed(x):
+    return x + attributed.toll
+
+
+def importing(x):
+    import spmat_toll_of_a_test
+    return x + spmat_toll_of_a_test.toll
+
+
+def helper():
+    return Settings.toll
+
+
+class Changes(support.InSession):
+    def setUp(self):
+        super().setUp()
+        self.A = self.session.from_triples([(0, 0, 1)], 1, 1)
+
+    def follows(self, function, change):
+        """5 is added, and once it is changed 100."""
+        self.assertEqual(self.A.apply(function).to_list(), [6])
+        self.assertEqual(self.A.apply(function).to_list(), [6])
+        change()
+        self.assertEqual(self.A.apply(function).to_list(), [101])
+
+    def test_attributes_of_classes(self):
+        table = {'c': Settings}
+        for function, where, name in [(lambda x: x + Settings.toll, Settings, 'toll'), (lambda x: x + table['c'].toll, Settings, 'toll'),
+                                      (lambda x: x + helper(), Settings, 'toll'), (lambda x: x + Record.toll, Record, 'toll'),
+                                      (lambda x: x + WithMeta.toll, Meta, 'value'), (lambda x: x + Methods.fixed(), Methods, 'base'),
+                                      (lambda x: x + Methods.own(), Methods, 'base'), (lambda x: x + Methods().shown, Methods, 'base')]:
+            with self.subTest(where=where):
+                self.follows(function, functools.partial(setattr, where, name, 100))
+                setattr(where, name, 5)
+
+    def test_attributes_of_classes_above(self):
+        self.addCleanup(setattr, Settings, 'toll', 5)
+        self.follows(lambda x: x + Child.toll, lambda: setattr(Settings, 'toll', 100))
+
+    def test_methods_that_are_replaced(self):
+        self.addCleanup(setattr, Methods, 'fixed', Methods.__dict__['fixed'])
+        self.follows(lambda x: x + Methods.fixed(), lambda: setattr(Methods, 'fixed', staticmethod(lambda: 100)))
+
+    def test_modules(self):
+        module = types.ModuleType('outer')
+        module.inner = types.ModuleType('inner')
+        module.inner.toll = 5
+        self.follows(lambda x: x + module.inner.toll, lambda: setattr(module.inner, 'toll', 100))
+
+    def test_an_import_inside(self):
+        module = sys.modules['spmat_toll_of_a_test'] = types.ModuleType('spmat_toll_of_a_test')
+        self.addCleanup(sys.modules.pop, 'spmat_toll_of_a_test')
+        module.toll = 5
+        self.follows(importing, lambda: setattr(module, 'toll', 100))
+
+    def test_attributes_of_functions(self):
+        attributed.toll = 5
+        self.follows(attributed, lambda: setattr(attributed, 'toll', 100))
+
+    def test_names_by_text(self):
+        self.addCleanup(globals().__setitem__, 'TOLL', 5)
+        self.follows(lambda x: x + globals()['TOLL'], lambda: globals().__setitem__('TOLL', 100))
+        globals()['TOLL'] = 5
+        self.follows(lambda x: x + eval('TOLL'), lambda: globals().__setitem__('TOLL', 100))
+        self.addCleanup(setattr, Settings, 'toll', 5)
+        self.follows(lambda x: x + getattr(Settings, 'toll'), lambda: setattr(Settings, 'toll', 100))
+
+    def test_subclasses_and_objects(self):
+        row = Row([1])
+        row.toll = 5
+        self.follows(lambda x: x + row.toll, lambda: setattr(row, 'toll', 100))
+        one = types.SimpleNamespace(toll=5, function=attributed)
+        self.follows(lambda x: x + one.toll, lambda: setattr(one, 'toll', 100))
+
+    def test_builtins(self):
+        builtins.spmat_toll = 5
+        self.addCleanup(delattr, builtins, 'spmat_toll')
+        self.follows(lambda x: x + spmat_toll, lambda: setattr(builtins, 'spmat_toll', 100))  # noqa: F821
+
+    def test_what_stays_is_compiled_once(self):
+        from unittest import mock
+        from spmat.operators.compiler import cache
+        pure = functools.partial(lambda y, x: max(x, y) + Settings.toll + Level.LOW * 0, 5)
+        for function, times in ((lambda x: x + Settings.toll + abs(x), 1), (lambda x: max(x, 3) % 7, 1), (pure, 3)):
+            with mock.patch.object(cache, 'made', wraps=cache.made) as made:
+                for _ in range(3):
+                    self.A.apply(function)
+            self.assertEqual(made.call_count, times)
+
+
+if __name__ == '__main__':
+    unittest.main()
