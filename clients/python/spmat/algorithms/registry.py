@@ -66,6 +66,16 @@ class Algorithm(NamedTuple):
         return list(inspect.signature(self.function).parameters)
 
     @property
+    def flags(self) -> List[str]:
+        """The options of its command: those that it names, and `weighted` wherever the function takes it."""
+        more = [name for name in ('weighted',) if name in self.parameters and name not in self.options]
+        return [*self.options, *more]
+
+    def uses_values(self, weighted: bool) -> bool:
+        """Whether the values of edges count."""
+        return self.values or weighted
+
+    @property
     def elsewhere(self) -> str:
         """Its name in LAGraph, empty where it has none there."""
         found = re.search(r'LAGraph:\s+`(\w+)`', inspect.getdoc(self.function) or '')

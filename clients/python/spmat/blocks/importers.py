@@ -108,7 +108,7 @@ class Inputs(Sources[BlockMatrix]):
         """The matrix of a file, or of a folder of lists or parquet, by the workers where they see it."""
         layout = request.layout
         asked = parallel_edgelist.Asked(request.directed is not False, request.bipartite, dup_op, name, layout.scale)
-        made = None if dup_op is not None or request.format not in (None, 'mtx') else parallel_read.read_matrix_market(
+        made = None if dup_op is not None or request.directed is False or request.format not in (None, 'mtx') else parallel_read.read_matrix_market(
             self, path, matrix_market.Values(layout.values, layout.scale), None, name)
         if made is None and request.format in (None, 'edges', 'csv', 'tsv', 'parquet'):
             made = parallel_edgelist.of_file(self, path, request, asked)

@@ -6,6 +6,7 @@ import argparse
 import functools
 import inspect
 import re
+import sys
 import textwrap
 from typing import Any, Callable, Iterable
 
@@ -13,7 +14,7 @@ from .. import draw as pictures, units
 from ..algorithms.registry import Algorithm
 from ..matrix import Matrix
 from . import graph_options, output
-from .algorithm_table import COMMANDS, Command, OPTIONS
+from .algorithm_table import COMMANDS, Command, K_HELP, OPTIONS
 from .grammar import add_command
 from .session_options import add_session_options, open_session
 
@@ -30,8 +31,10 @@ def add_commands(commands: Any) -> None:
         algorithm = called.algorithm
         command = add_command(commands, name, algorithm.gives, description=description(algorithm), epilog=epilog(algorithm))
         graph_options.add_graph_options(command)
-        for option in algorithm.options:
+        for option in algorithm.flags:
             grammar = dict(OPTIONS[option])
+            if option == 'k':
+                grammar['help'] = K_HELP[algorithm.function.__name__]
             command.add_argument(grammar.pop('flag'), **grammar)
         graph_options.add_output_options(command, algorithm.ranked)
         if algorithm.plot:
@@ -73,8 +76,9 @@ def run(command: Command, options: argparse.Namespace) -> int:
     if getattr(options, 'plot', None):
         pictures.check(options.plot)
     graph_options.check_output(options)
+    check_values(algorithm, options)
     with graph_options.progress_of(options) as progress, open_session(options, progress) as session:
-        graph = graph_options.read_graph(session, options, graph_options.Needs(algorithm.wanted, algorithm.values or getattr(options, 'weighted', False)))
+        graph = graph_options.read_graph(session, options, graph_options.Needs(algorithm.wanted, algorithm.uses_values(getattr(options, 'weighted', False))))
         result = command.call(graph, options, progress)
         if isinstance(result, Matrix):
             is_column = result.ncols == 1 and result.column_nodes is None
@@ -85,6 +89,21 @@ def run(command: Command, options: argparse.Namespace) -> int:
         lines = lines_of(algorithm, result, options)
     graph_options.write(options, lines)
     return 0
+
+
+def check_values(algorithm: Algorithm, options: argparse.Namespace) -> None:
+    """Ends the command where values count and the words leave them out. Says on standard error where values are asked for and don't count."""
+    weighted = getattr(options, 'weighted', False)
+    asked = graph_options.values_asked(options)
+    if options.pattern and (asked or weighted):
+        options.parser.error('%s wants values of edges, and --pattern reads none' % (asked or '--weighted'))
+    if algorithm.uses_values(weighted):
+        if options.undirected and not options.pattern:
+            options.parser.error('%s, which --undirected drops: --both-ways keeps them, and --pattern takes each edge as 1' % (
+                '--weighted counts values of edges' if weighted else '%s counts values of edges' % options.command))
+    elif asked and not options.quiet:
+        print('%s: values of edges are read, and %s does not use them%s' % (
+            asked, options.command, ': --weighted does' if 'weighted' in algorithm.flags else ''), file=sys.stderr)
 
 
 def lines_of(algorithm: Algorithm, result: Any, options: argparse.Namespace) -> Iterable[str]:

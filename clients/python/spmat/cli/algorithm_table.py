@@ -144,7 +144,7 @@ def communities(graph: Matrix, options: argparse.Namespace, progress: Optional[P
 
 def ranks(graph: Matrix, options: argparse.Namespace, progress: Optional[Progress]) -> Matrix:
     """`pagerank`, in the unit that is printed."""
-    return algorithms.pagerank(graph, transposed(graph, options), options.damping, options.tolerance, ONE, progress)
+    return algorithms.pagerank(graph, transposed(graph, options), options.damping, options.tolerance, ONE, progress, weighted=options.weighted)
 
 
 def forest(graph: Matrix, _: argparse.Namespace, progress: Optional[Progress]) -> Matrix:
@@ -169,7 +169,7 @@ def called(algorithm: Algorithm, graph: Matrix, options: argparse.Namespace, pro
     """What an algorithm gives, called with the options that are named as its arguments are."""
     _, *names = algorithm.parameters
     given = {name: ARGUMENTS[name](graph, options) for name in names if name in ARGUMENTS}
-    given.update((name, getattr(options, name)) for name in names if name in algorithm.options and name not in given)
+    given.update((name, getattr(options, name)) for name in names if name in algorithm.flags and name not in given)
     if 'progress' in names:
         given['progress'] = progress
     found = getattr(algorithms, algorithm.function.__name__)(graph, **given)
@@ -211,6 +211,9 @@ def at_least(least: int, words: str) -> Callable[[str], int]:
     return number
 
 
+# what --k means to each command
+K_HELP = {'k_core': 'each vertex has at least K neighbours in the core', 'k_truss': 'each edge is in at least K - 2 triangles of the truss',
+          'k_hop': 'vertices that lie at most K edges away', 'k_shortest_paths': 'how many paths, at most'}
 SOURCE = 'by its name in the file; those of a Matrix Market file count from 1'
 OPTIONS: Dict[str, Dict[str, Any]] = {
     'source': dict(flag='--source', metavar='V', help='the vertex to begin with, %s (default: the first)' % SOURCE),
@@ -218,7 +221,7 @@ OPTIONS: Dict[str, Dict[str, Any]] = {
     'target': dict(flag='--target', metavar='V', required=True, help='the vertex to end with, named as that of --source'),
     'weighted': dict(flag='--weighted', action='store_true', help='values of edges count (default: each edge counts as 1)'),
     'pair': dict(flag='--pair', nargs=2, action='append', required=True, metavar=('V', 'W'), help='two vertices; may stand several times'),
-    'k': dict(flag='--k', type=at_least(0, 'k is 0 or more'), required=True, metavar='K', help='how dense, how far, or how many'),
+    'k': dict(flag='--k', type=at_least(0, 'k is 0 or more'), required=True, metavar='K'),
     'damping': dict(flag='--damping', type=between(0, 1, 'a damping lies between 0 and 1'), default=0.85, metavar='D',
                     help='the share that follows edges (default: 0.85)'),
     'tolerance': dict(flag='--tolerance', type=between(0, 2, 'a tolerance lies between 0 and 2'), default=1e-6, metavar='T',

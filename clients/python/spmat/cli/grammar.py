@@ -4,17 +4,35 @@ from __future__ import annotations
 import argparse
 import difflib
 import re
-from typing import Any, List, NoReturn
+from typing import Any, List, NoReturn, Optional
 
 from .exit_status import PROGRAM, Status
 
 SERVERS = ('run', 'serve')                         # words of the program spmat
+GIVEN = '_given'                                   # which options of one value stood in the words
+
+
+class Once(argparse.Action):
+    """Stores the value of an option that may be given once: of two the second would hide the first."""
+
+    def __call__(self, parser: argparse.ArgumentParser, namespace: argparse.Namespace, values: Any,
+                 option_string: Optional[str] = None) -> None:
+        given = vars(namespace).setdefault(GIVEN, set())
+        if option_string is not None and self.dest in given:
+            parser.error('argument %s: given twice' % '/'.join(self.option_strings))
+        given.add(self.dest)
+        setattr(namespace, self.dest, values)
 
 
 class Parser(argparse.ArgumentParser):
     """A grammar of words. What is wrong with them is told in one line; a word that is the server's as such."""
 
     summary = ''
+
+    def __init__(self, *words: Any, **settings: Any) -> None:
+        super().__init__(*words, **settings)
+        for action in (None, 'store'):
+            self.register('action', action, Once)
 
     def error(self, message: str) -> NoReturn:
         found = re.match(r"argument COMMAND: invalid choice: '([^']*)'", message)

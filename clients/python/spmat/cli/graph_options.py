@@ -31,23 +31,34 @@ def add_graph_options(command: argparse.ArgumentParser) -> None:
     command.add_argument('graph', metavar='GRAPH', help='a file in Matrix Market format, an edge list, CSV, TSV or DIMACS (also %s), or - '
                          'for standard input' % ', '.join(matrix_market.ENDINGS))
     command.add_argument('--undirected', action='store_true', help='take the graph without directions, weights and loops')
-    command.add_argument('--both-ways', action='store_true', help='each edge leads both ways, with its value, of two the lesser')
-    command.add_argument('--bipartite', action='store_true', default=None, help='sources and targets (rows and columns) are two kinds of vertices')
-    command.add_argument('--one-kind', dest='bipartite', action='store_false', help='.. are one kind, also where the header names two')
+    command.add_argument('--both-ways', action='store_true',
+                         help='each edge leads both ways, with its value; of two the lesser counts, or what --dup-op makes of them')
+    kinds = command.add_mutually_exclusive_group()
+    kinds.add_argument('--bipartite', action='store_true', default=None, help='sources and targets (rows and columns) are two kinds of vertices')
+    kinds.add_argument('--one-kind', dest='bipartite', action='store_false', help='.. are one kind, also where the header names two')
     group = command.add_argument_group('how the file is read')
     group.add_argument('--format', choices=FORMATS, help='what it is (default: by what stands in it)')
     group.add_argument('--delimiter', type=character, metavar='C', help='what parts the fields of a list (default: tab, comma, semicolon or blanks)')
-    group.add_argument('--header', action='store_true', default=None, help='the first line of a list names its columns')
-    group.add_argument('--no-header', dest='header', action='store_false', help='.. is an edge (default: by what stands there)')
+    first = group.add_mutually_exclusive_group()
+    first.add_argument('--header', action='store_true', default=None, help='the first line of a list names its columns')
+    first.add_argument('--no-header', dest='header', action='store_false', help='.. is an edge (default: by what stands there)')
     group.add_argument('--columns', metavar='FROM,TO[,VALUE]', help='which columns of a list are read: by name, or from 0')
-    group.add_argument('--comments', action='append', metavar='TEXT', help='what begins a comment in any line of a list; may stand several times '
-                       '(default: lines above the first row that begin with # or %%)')
-    group.add_argument('--no-comments', dest='comments', action='store_const', const=[], help='no line is a comment')
+    comments = group.add_mutually_exclusive_group()
+    comments.add_argument('--comments', action='append', metavar='TEXT', help='what begins a comment in any line of a list; may stand several '
+                          'times (default: lines above the first row that begin with # or %%)')
+    comments.add_argument('--no-comments', dest='comments', action='store_const', const=[], help='no line is a comment')
     group.add_argument('--missing', choices=('raise', 'skip', 'keep'), default='raise', help='lines with a missing name or value are refused or '
                        'left out; keep: nan is a name as any other (default: raise)')
     group.add_argument('--pattern', action='store_true', help='read no values: each edge has 1')
     group.add_argument('--scale', type=float, metavar='N', help='multiply values by N and round them to whole numbers')
     group.add_argument('--dup-op', metavar='OP', help='joins the values of an edge that repeats: plus, max, first, ..')
+
+
+def values_asked(options: argparse.Namespace) -> str:
+    """The option that asks for the values of edges; nothing where none does."""
+    if options.scale is not None:
+        return '--scale'
+    return '--columns' if options.columns is not None and options.columns.count(',') > 1 else ''
 
 
 def character(word: str) -> str:
@@ -133,11 +144,12 @@ def read_graph(session: Session, options: argparse.Namespace, needs: Needs) -> M
     name_vertices(graph, 1 if format_of(text) == 'mtx' else 0)
     if options.bipartite and not needs.rectangular:
         graph = bipartite(graph)
-    if options.undirected and not options.bipartite:
+    if options.undirected and graph.nrows == graph.ncols:
         graph = named_as(undirected(graph), graph)
     elif graph.nrows == graph.ncols and options.both_ways:
-        graph = named_as(graph.ewise_add(graph.T, 'min'), graph)
-        graph.notes = graph.notes._replace(directed=False)
+        if options.dup_op is None:                 # else reading made it so
+            graph = named_as(graph.ewise_add(graph.T, 'min'), graph)
+            graph.notes = graph.notes._replace(directed=False)
         check_kind(graph, needs.kind, True)
     elif graph.nrows == graph.ncols:
         check_kind(graph, needs.kind, graph.directed is False)
@@ -155,7 +167,8 @@ def request_of(options: argparse.Namespace, text: bytes, needs: Needs) -> Reques
     two = options.bipartite if format_of(text) not in ('mtx', 'dimacs', 'graphml', 'gexf', 'gml') else False
     layout = Layout(options.delimiter, options.header, columns, values, options.scale, two, True if options.comments is None else options.comments,
                     None if options.missing == 'keep' else options.missing)
-    return Request(options.format, layout)
+    directed = False if options.both_ways and options.dup_op is not None else None
+    return Request(options.format, layout, directed)
 
 
 def name_vertices(graph: Matrix, first: int) -> None:

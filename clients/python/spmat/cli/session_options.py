@@ -21,8 +21,8 @@ TLS = ('tls', 'cacert', 'cert', 'key')
 def add_session_options(command: argparse.ArgumentParser) -> None:
     """Where the work is done, and within which budget."""
     group = command.add_argument_group('session')
-    group.add_argument('--workers', type=workers, default=1, metavar='N', help='threads, 1 to %d (default: 1)' % MOST_WORKERS)
-    group.add_argument('--steps', type=steps, default=MOST_STEPS, metavar='N', help='the budget, 0 to 2^62, also 1e9 (default: 2^62)')
+    group.add_argument('--workers', type=workers, metavar='N', help='threads, 1 to %d (default: 1)' % MOST_WORKERS)
+    group.add_argument('--steps', type=steps, metavar='N', help='the budget, 0 to 2^62, also 1e9 (default: 2^62)')
     group.add_argument('--program', metavar='PATH', help='the program (default: the variable SPMAT, then `spmat` on the PATH)')
     group.add_argument('--quiet', action='store_true', help='no progress, also on a terminal, and no word on which columns were read')
     group = command.add_argument_group('a server in place of a process of its own')
@@ -76,6 +76,9 @@ def check_session(options: argparse.Namespace) -> None:
         options.parser.error('%s is for --connect' % named[0])
     if named and options.connect.is_file():
         options.parser.error('%s is for a host and a port, and --connect names a socket file' % named[0])
+    own = ['--' + name for name in ('workers', 'steps', 'program') if getattr(options, name) is not None]
+    if own and options.connect is not None:
+        options.parser.error('%s is for a process of its own, and --connect names a server, which has its own' % own[0])
     if options.key and not options.cert:
         options.parser.error('--key wants its certificate: --cert FILE')
 
@@ -114,7 +117,8 @@ def open_session(options: argparse.Namespace, progress: Optional[Progress] = Non
     check_session(options)
     try:
         if options.connect is None:
-            return Session(options.steps, options.workers, options.program, progress)
+            steps_given = MOST_STEPS if options.steps is None else options.steps
+            return Session(steps_given, options.workers or 1, options.program, progress)
         where = options.connect
         return Session.connect(where.host, where.port, progress=progress, tls=tls_of(options))
     except OSError as fault:

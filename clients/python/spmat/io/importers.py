@@ -5,6 +5,7 @@ import abc
 from typing import Any, Dict, Generic, Iterable, Optional, Sequence, TypeVar
 
 from .. import units
+from ..errors import ReadError
 from ..operators import Op
 from . import archive, arrays, column_names, coo, matrix_market, networkx_adjacency, pandas
 from .comment_lines import Comments
@@ -174,8 +175,21 @@ class Sources(abc.ABC, Generic[Made]):
     def _read(self, path: Any, request: Request, dup_op: DupOp, name: Optional[str]) -> Made:
         file, text = name_of(path), matrix_market.load(path)
         if check_format(file, text, request.format) == 'mtx':
-            return self._market(file, text, request, dup_op, name)
+            made = self._market(file, text, request, dup_op, name)
+            return self._both_ways_of(file, made, dup_op, name) if request.directed is False and made.directed is not False else made
         return self._graph(read(file, text, request, dup_op is not None, self._tell), request.layout.scale, dup_op, name)
+
+    def _both_ways_of(self, file: str, matrix: Made, dup_op: DupOp, name: Optional[str]) -> Made:
+        """A matrix whose entries lead both ways, though its file is `general`. ReadError where an edge has two values and nothing folds them."""
+        if matrix.nrows != matrix.ncols:
+            raise ReadError(file, None, 'directed=False is of a square matrix, and this one is %dx%d' % matrix.shape)
+        lower = matrix_market.lowered(Triples(*matrix.to_coo(), *matrix.shape), 'symmetric')
+        try:
+            made = self._both_ways(self._folded(lower, dup_op), name)
+        except ValueError as fault:
+            raise ReadError(file, None, 'an edge stands both ways (%s): dup_op= folds its two values' % fault) from None
+        made.notes = matrix.notes._replace(directed=False)
+        return made
 
     def _tell(self, what: str, done: int, of: int) -> None:
         """Tells of long work, where somebody listens."""
