@@ -13,6 +13,7 @@ from .matrix_text import line_at
 
 FORMATS = ('mtx', 'edges', 'csv', 'tsv', 'dimacs', 'graphml', 'gexf', 'gml', 'parquet')
 PARTED = {'csv': ',', 'tsv': '\t'}
+OF_LISTS = ('edges', 'csv', 'tsv', 'parquet')     # which have columns
 
 
 Progress = Callable[[str, int, int], object]
@@ -58,6 +59,16 @@ def check_format(file: str, text: bytes, format: Optional[str]) -> str:
     if other is not None:
         raise ReadError(file, None, other)
     return found if format is None else format
+
+
+def check_layout(file: str, format: str, request: Request) -> None:
+    """ReadError where a caller says how a list is written, of a file that is none: the words would do nothing."""
+    given = {name: getattr(request.layout, name) for name in ('delimiter', 'header', 'columns', 'nodetype')}
+    if format == 'mtx':
+        given['nodelist'] = request.nodelist
+    named = [name for name, value in given.items() if value is not None]
+    if named:
+        raise ReadError(file, None, '%s= is for a list of edges, and this is a file of the format %s' % (named[0], format))
 
 
 def not_market(file: str, text: bytes) -> ReadError:

@@ -9,7 +9,7 @@ from ..errors import ReadError
 from ..operators import Op
 from . import archive, arrays, column_names, coo, matrix_market, networkx_adjacency, pandas
 from .comment_lines import Comments
-from .detect_format import check_format, from_edges
+from .detect_format import OF_LISTS, check_format, check_layout, from_edges
 from .edge_values import Rounding, scaled
 from .edgelist_header import Column
 from .exporters import Held
@@ -174,7 +174,10 @@ class Sources(abc.ABC, Generic[Made]):
 
     def _read(self, path: Any, request: Request, dup_op: DupOp, name: Optional[str]) -> Made:
         file, text = name_of(path), matrix_market.load(path)
-        if check_format(file, text, request.format) == 'mtx':
+        format = check_format(file, text, request.format)
+        if format not in OF_LISTS:
+            check_layout(file, format, request)
+        if format == 'mtx':
             made = self._market(file, text, request, dup_op, name)
             return self._both_ways_of(file, made, dup_op, name) if request.directed is False and made.directed is not False else made
         return self._graph(read(file, text, request, dup_op is not None, self._tell), request.layout.scale, dup_op, name)
