@@ -2,6 +2,7 @@
 import html.parser
 import threading
 import time
+import re
 import unittest
 from unittest import mock
 
@@ -22,11 +23,12 @@ class Parser(html.parser.HTMLParser):
 
     def handle_starttag(self, tag, attributes):
         self.tags.append(tag)
-        if tag != 'rect':
-            self.open.append(tag)
+        self.open.append(tag)
 
     def handle_startendtag(self, tag, attributes):
-        self.tags.append(tag)
+        """Of a path each cell of the raster that it fills."""
+        widths = [int(width) for width in re.findall(r'M\d+ \d+h(\d+)v1h-\1z', dict(attributes)['d'])]
+        self.tags += ['cell'] * sum(widths)
 
     def handle_endtag(self, tag):
         assert self.open.pop() == tag, tag
@@ -45,13 +47,13 @@ class Html(support.InSession):
         words, tags = self.seen(G)
         self.assertIn('Matrix  2 × 2, 2 entries, directed, named', words)
         self.assertIn('a<b', words)
-        self.assertEqual((tags.count('rect'), tags.count('td')), (2, 4))
+        self.assertEqual((tags.count('cell'), tags.count('td')), (2, 4))
         wide = self.s.from_coo([0, 99], [5, 299], [-1, 2], 100, 300)
         words, tags = self.seen(wide)
         self.assertIn('100 × 300, 2 entries', words)
-        self.assertEqual(tags.count('rect'), 2)
+        self.assertEqual(tags.count('cell'), 2)
         self.assertIn('-1', words)
-        self.assertEqual(self.seen(self.s.from_coo([], [], [], 0, 0))[1].count('rect'), 0)
+        self.assertEqual(self.seen(self.s.from_coo([], [], [], 0, 0))[1].count('cell'), 0)
 
     def test_what_waits_is_run(self):
         """It shows its values; at a prompt it says what runs it."""
@@ -62,7 +64,12 @@ class Html(support.InSession):
         self.assertEqual(self.s.runs, before)
         words, tags = self.seen(waiting)
         self.assertIn('3 × 3, 9 entries', words)
-        self.assertEqual((words.split().count('-7'), tags.count('rect'), self.s.runs), (9, 9, before + 1))
+        self.assertEqual((words.split().count('-7'), tags.count('cell'), self.s.runs), (9, 9, before + 1))
+
+    def test_size_in_a_notebook(self):
+        """A notebook keeps every byte."""
+        A = self.s.from_coo([k % 997 for k in range(4000)], [k % 991 for k in range(4000)], 1, 1000, 1000, dup_op='plus')
+        self.assertLess(len(A._repr_html_()), 35_000)
 
     def test_masks(self):
         """The corner has a mark where a result may have an entry."""
@@ -71,7 +78,7 @@ class Html(support.InSession):
                                   (~A.V, 'has no entry, or 0', 4)):
             words, tags = self.seen(mask)
             self.assertIn('Mask  2 × 3, where %s %s' % (A.name, said), words)
-            self.assertEqual((words.split().count('1') - 2, tags.count('rect')), (marks, 0 if mask.complement else 3), words)       # a row and a column are 1
+            self.assertEqual((words.split().count('1') - 2, tags.count('cell')), (marks, 0 if mask.complement else 3), words)       # a row and a column are 1
 
     def test_semirings(self):
         words, tags = self.seen(spmat.semiring.min_plus)
@@ -98,11 +105,11 @@ class Html(support.InSession):
         self.assertEqual(few, many)
         self.assertEqual(sum(few.raster.values()), 91)
         with mock.patch.object(shown, 'FEW', 10), spmat.Session(steps=0) as poor:
-            self.assertEqual(self.seen(A)[1].count('rect'), len(few.raster))
+            self.assertEqual(self.seen(A)[1].count('cell'), len(few.raster))
             words, tags = self.seen(poor.full(9, 9))
             self.assertIn('81 entries', words)
             self.assertIn('S8', words)
-            self.assertNotIn('rect', tags)
+            self.assertNotIn('cell', tags)
 
     def test_jobs_of_large_ones(self):
         """Three jobs in two runs, and of the corner's entries alone a call each."""
@@ -122,14 +129,14 @@ class Html(support.InSession):
             self.assertIn('BlockMatrix  3 × 3, 3 entries, 3 blocks, directed, named', words)
             self.assertIn('a<b', words)
             self.assertIn('rows entries 0 0 to 0 1 1 none 0 2 1 to 2 2 ', words)
-            self.assertEqual(tags.count('rect'), 3)
+            self.assertEqual(tags.count('cell'), 3)
             self.assertEqual(s.budget().spent, 0)
             wide = s.from_triples([(i, 7 * i % 90, i) for i in range(90)] + [(89, 3, 4)], 90, 90)
             near = self.seen(wide)[0]
             with mock.patch.object(shown, 'FEW', 10):
                 words, tags = self.seen(wide)
                 self.assertIn('91 entries', words)
-                self.assertNotIn('rect', tags)
+                self.assertNotIn('cell', tags)
                 self.assertEqual(words.split('rows entries')[1], near.split('rows entries')[1])
             self.assertEqual([told.spent > 0 for told in s.budgets().values()], [True, False, False])
 

@@ -8,7 +8,7 @@ from __future__ import annotations
 
 import html
 import math
-from typing import TYPE_CHECKING, Any, Dict, List, Mapping, NamedTuple, Optional, Sequence, Tuple
+from typing import TYPE_CHECKING, Any, Dict, Iterator, List, Mapping, NamedTuple, Optional, Sequence, Tuple
 
 from ..errors import SpmatError
 from ..units import to_text
@@ -23,6 +23,7 @@ if TYPE_CHECKING:
     from ..operators.explanation import Listing
 
 CORNER, CELLS, SIDE = 8, 48, 144                   # rows and columns of the corner, cells of the raster, pixels of its side
+SHADES = 8                                         # of cells of the raster
 FEW = 50_000
 CELL = 'text-align:right;padding:1px 6px;border:1px solid #ddd'
 HEAD = 'text-align:right;padding:1px 6px;color:#5a6672;font-weight:normal;border:1px solid #ddd'
@@ -173,10 +174,27 @@ def raster(shape: Tuple[int, int], counts: Cells) -> str:
     rows, columns = (max(1, min(CELLS, side)) for side in shape)
     size = SIDE / max(rows, columns)
     most = math.log(max(counts.values(), default=1) + 1)
-    squares = ''.join('<rect x="%.2f" y="%.2f" width="%.2f" height="%.2f" fill-opacity="%.2f"/>' % (
-        j * size, i * size, size, size, .3 + .7 * math.log(count + 1) / most) for (i, j), count in sorted(counts.items()))
-    return ('<svg width="%d" height="%d" style="border:1px solid #ddd;background:#fff" role="img" aria-label="where the entries are">'
-            '<g fill="#1f4e79">%s</g></svg>' % (math.ceil(columns * size), math.ceil(rows * size), squares))
+    shades: Dict[int, List[str]] = {}              # a path for each shade, since a notebook keeps every byte of this
+    for (i, j), shade, width in _runs({at: math.ceil(SHADES * math.log(count + 1) / most) for at, count in counts.items()}):
+        shades.setdefault(shade, []).append('M%d %dh%dv1h-%dz' % (j, i, width, width))
+    paths = ''.join('<path fill-opacity="%.2f" d="%s"/>' % (.3 + .7 * shade / SHADES, ''.join(parts)) for shade, parts in sorted(shades.items()))
+    return ('<svg width="%d" height="%d" viewBox="0 0 %d %d" preserveAspectRatio="none" style="border:1px solid #ddd;background:#fff" role="img" '
+            'aria-label="where the entries are"><g fill="#1f4e79" shape-rendering="crispEdges">%s</g></svg>'
+            % (math.ceil(columns * size), math.ceil(rows * size), columns, rows, paths))
+
+
+def _runs(shades: Mapping[Tuple[int, int], int]) -> Iterator[Tuple[Tuple[int, int], int, int]]:
+    """Cells beside one another in a row that have one shade: the first, the shade, and how many they are."""
+    start, shade, width = (-1, -1), 0, 0
+    for (i, j), next_shade in sorted(shades.items()):
+        if width and (i, j) == (start[0], start[1] + width) and next_shade == shade:
+            width += 1
+            continue
+        if width:
+            yield start, shade, width
+        start, shade, width = (i, j), next_shade, 1
+    if width:
+        yield start, shade, width
 
 
 def operator(op: 'Operator') -> str:
@@ -190,7 +208,7 @@ def operator(op: 'Operator') -> str:
 
 def code(text: str) -> str:
     """Lines of a program."""
-    return '<pre style="margin:4px 0;text-align:left">%s</pre>' % text_of(text.strip('\n'))
+    return '<pre style="margin:4px 0;text-align:left;white-space:pre-wrap;overflow-wrap:anywhere">%s</pre>' % text_of(text.strip('\n'))
 
 
 def listing(shown: 'Listing') -> str:

@@ -68,7 +68,7 @@ def check_layout(file: str, format: str, request: Request) -> None:
         given['nodelist'] = request.nodelist
     named = [name for name, value in given.items() if value is not None]
     if named:
-        raise ReadError(file, None, '%s= is for a list of edges, and this is a file of the format %s' % (named[0], format))
+        raise ReadError(file, None, named[0] + '= is for a list of edges, and this is a file of the format ' + format)
 
 
 def not_market(file: str, text: bytes) -> ReadError:
