@@ -10,19 +10,19 @@ class Subject(NamedTuple):
 
 SESSION = (
     Subject('Open, run, close', ('connect', 'run', 'runs', 'jobs', 'budget', 'close')),
-    Subject('Build a matrix', ('from_edgelist', 'from_coo', 'from_triples', 'from_dense', 'from_text', 'full', 'ones', 'identity', 'adopt')),
+    Subject('Build a matrix', ('from_edgelist', 'from_coo', 'from_triples', 'from_dense', 'from_csr', 'from_csc', 'from_dicts', 'from_text', 'full', 'ones', 'identity', 'adopt')),
     Subject('Convert from other libraries', ('from_networkx', 'from_pandas_edgelist', 'from_scipy_sparse')),
     Subject('Read and save files', ('read_graph', 'read_edgelist', 'mmread', 'save', 'load')),
     Subject('Look at an operator', ('check', 'dis', 'types')),
 )
 MATRIX = (
-    Subject('Shape, names and state', ('shape', 'nvals', 'nodes', 'row_nodes', 'column_nodes', 'directed', 'index', 'price', 'steps', 'wait', 'waits')),
-    Subject('Apply and select', ('apply', 'select', '__getitem__')),
-    Subject('Element-wise operations', ('ewise_add', 'ewise_mult', 'isequal')),
-    Subject('Products', ('mxm', 'mxv', 'vxm')),
+    Subject('Shape, names and state', ('shape', 'nvals', 'dtype', 'nodes', 'row_nodes', 'column_nodes', 'directed', 'index', 'price', 'steps', 'wait', 'waits')),
+    Subject('Apply and select', ('apply', 'select', '__getitem__', 'get', 'assign')),
+    Subject('Element-wise operations', ('ewise_add', 'ewise_mult', 'ewise_union', 'isequal', 'isclose')),
+    Subject('Products', ('mxm', 'mxv', 'vxm', 'power', 'kronecker')),
     Subject('Reductions', ('reduce_rowwise', 'reduce_columnwise', 'reduce_scalar')),
-    Subject('Transpose, masks, copies', ('T', 'S', 'V', 'without', 'diag', 'dup', 'update')),
-    Subject('Results as Python values', ('to_list', 'to_dict', 'to_triples', 'to_coo', 'to_edgelist', 'by_node', 'top')),
+    Subject('Transpose, masks, copies', ('T', 'S', 'V', 'without', 'diag', 'dup', 'update', 'split', 'resize', 'reshape')),
+    Subject('Results as Python values', ('to_list', 'to_dict', 'to_triples', 'to_coo', 'to_dicts', 'to_csr', 'to_csc', 'to_edgelist', 'by_node', 'top')),
     Subject('Convert to other libraries', ('to_dense', 'to_scipy_sparse', 'to_networkx', 'to_pandas', 'to_pandas_edgelist')),
     Subject('Write files', ('to_text', 'mmwrite', 'write_edgelist', 'to_csv', 'to_parquet')),
 )
@@ -30,7 +30,7 @@ OPERATORS = (
     Subject('Make operators', ('asm', 'c', 'code', 'semiring')),
     Subject('Inside functions that become operators', ('where', 'udiv', 'umod', 'cdiv', 'cmod', 'rsh', 'ult')),
     Subject('See operators and prices', ('explain', 'code_of', 'price')),
-    Subject('Loops and graphs', ('fixpoint', 'loop', 'steady', 'empty', 'bipartite')),
+    Subject('Loops and graphs', ('fixpoint', 'loop', 'steady', 'empty', 'bipartite', 'concat')),
 )
 # The modules of spmat.algorithms under their subjects: an algorithm is shown where its module is.
 ALGORITHM_MODULES = {

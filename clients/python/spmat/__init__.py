@@ -29,6 +29,7 @@ if TYPE_CHECKING:
     from .operators.explanation import code_of, explain
     from .pricing.call_price import price
     from .session import Session
+    from .tiles import concat
 
 
 def _version() -> str:
@@ -41,7 +42,7 @@ __version__ = _version()
 __all__ = ['Budget', 'BudgetExceeded', 'BudgetWarning', 'Busy', 'Closed', 'CompileError', 'DimensionMismatch', 'DomainMismatch', 'JobResult', 'Loop',
            'Mask', 'MaskWarning', 'Matrix', 'NoThread', 'NotMade', 'NotSettled', 'Operator', 'OperatorRefused', 'OutOfMemory', 'ReadError',
            'Refused', 'ResultLost', 'Semiring', 'Session', 'SpmatError', 'TextRefused', 'ThreadUnavailable', 'TooLarge', 'UnitsDiffer', 'algorithms',
-           'asm', 'binary', 'bipartite', 'c', 'cdiv', 'cmod', 'code', 'code_of', 'draw', 'empty', 'explain', 'fixpoint', 'indexunary',
+           'asm', 'binary', 'bipartite', 'c', 'cdiv', 'cmod', 'code', 'code_of', 'concat', 'draw', 'empty', 'explain', 'fixpoint', 'indexunary',
            'loop', 'price', 'rsh', 'select', 'semiring', 'steady', 'udiv', 'ult', 'umod', 'unary', 'where']
 
 # Each name is imported when it is first asked for: networkx imports this package to ask for its backend's names, and a program
@@ -59,7 +60,8 @@ _PLACES: Dict[str, str] = {name: module for module, names in {
     'operators.explanation': 'code_of explain',
     'pricing.call_price': 'price',
     'loops.fixpoint': 'fixpoint',
-    'session': 'Session'}.items() for name in names.split()}
+    'session': 'Session',
+    'tiles': 'concat'}.items() for name in names.split()}
 
 
 def __getattr__(name: str) -> Any:

@@ -6,17 +6,17 @@ from __future__ import annotations
 import weakref
 from decimal import Decimal
 from fractions import Fraction
-from typing import TYPE_CHECKING, Any, Dict, NamedTuple, Optional, Sequence, Tuple, Union
+from typing import TYPE_CHECKING, Any, Dict, NamedTuple, Optional, Sequence, Tuple, Union, cast
 
-from . import metadata, oversized_jobs, units
+from . import aggregators, metadata, oversized_jobs, units
 from ._client.protocol import FORMS
+from .composites import Composites
 from .display import html
 from .errors import TooLarge, refusal
 from .indexing import picked
 from .io import coo, matrix_text
 from .mask import Mask, as_mask, structure
 from .operators import Op, Operator, READY, Semiring, binary, find, find_semiring, indexunary, unary
-from .signs import Signs
 
 if TYPE_CHECKING:
     from ._client.handles import Handle
@@ -27,7 +27,7 @@ Ring = Union[str, Semiring, Tuple[Op, Op]]
 MaskLike = Union['Matrix', Mask, None]
 
 
-class Matrix(Signs):
+class Matrix(Composites):
     """A matrix that the session holds, or the result of a job that waits. Sessions make them; nothing changes one.
 
     `nrows`, `ncols`, `shape`; `name`, and the names of its vertices, `nodes`, which results carry on; of a job's result `price`, the
@@ -161,12 +161,15 @@ class Matrix(Signs):
     def mxm(self, other: 'Matrix', op: Ring = 'plus_times', *, mask: MaskLike = None, parts: bool = False,
             name: Optional[str] = None) -> 'Matrix':
         """The product over a semiring: at (i, j) the terms mul(A(i, k), B(k, j)) for k stored in both, folded by add with
-        ascending k. Any two binary operators: by name "min_plus", of one's own a pair (add, mul) or `semiring(add, mul)`. In the
-        GraphBLAS GrB_mxm; here `product`.
+        ascending k. Any two binary operators: by name "min_plus", of one's own a pair (add, mul) or `semiring(add, mul)`. By name also
+        "any_secondi", whose terms are positions: "firsti", "firstj", "secondi" and "secondj" of A(i, k) and B(k, j), from 1 with a "1"
+        behind; 1 job and 1 run more. In the GraphBLAS GrB_mxm; here `product`.
 
         Of more than 16,777,216 multiplications (in the rows of which the mask stores something), or a price above 2^32 steps, it is
         TooLarge; with `parts=True` it is then made by halves of this matrix's rows, their halves, and so on, 2 jobs and 2 runs more for
         each halving."""
+        if aggregators.is_positional(op):
+            return aggregators.positional_product(self, other, op, mask, name, parts=parts)
         self._check_shape('product', other, (self.ncols, None))
         ring = find_semiring(op)
         ops = [of_form('product', ring.add), of_form('product', ring.mul)]
@@ -191,8 +194,14 @@ class Matrix(Signs):
         return self.mxm(matrix, op, mask=mask, name=name)
 
     def reduce_rowwise(self, op: Op = 'plus', *, mask: MaskLike = None, name: Optional[str] = None) -> 'Matrix':
-        """A column: the fold of each row that isn't empty, from its first column to its last. In the GraphBLAS GrB_reduce by
-        rows."""
+        """A column: the fold of each row that isn't empty, from its first column to its last. In the GraphBLAS GrB_reduce by rows.
+
+        It takes python-graphblas' aggregators, too: "sum", "prod", "last", "any_value"; with 1 to 3 jobs more "count", "count_nonzero",
+        "count_zero", "exists", "all", "first_index", "last_index", "sum_of_squares", "peak_to_peak"; with 4 more, and a value a row that the
+        client sends, "argmin" and "argmax", the first column with the least or greatest value; with 2 more "mean", in millionths that the
+        client makes of sums and counts."""
+        if aggregators.is_aggregator(op):
+            return aggregators.aggregated(self, cast(str, op), 1, mask, name)
         found = of_form('reduce', op)
         told = metadata.of_rows(self.notes, found)
         return self._job(_Job('reduce', [found], [self], (self.nrows, 1), told), mask, name)
@@ -233,14 +242,20 @@ class Matrix(Signs):
     def reduce_columnwise(self, op: Op = 'plus', *, mask: MaskLike = None, name: Optional[str] = None) -> 'Matrix':
         """A row: the fold of each column that isn't empty, from its first row to its last, for every operator. 1 job and no run:
         a product of a row of ones with this matrix, by `second`. The session keeps the ones; it uploads them at the first use of
-        a length."""
+        a length. It takes the aggregators that
+        `reduce_rowwise` takes, of which "argmin" gives rows."""
+        if aggregators.is_aggregator(op):
+            return aggregators.aggregated(self, cast(str, op), 0, mask, name)
         ring = Semiring(of_form('product', op), binary.second)
         return self.session.ones(self.nrows).mxm(self, ring, mask=mask, name=name)
 
     def reduce_scalar(self, op: Op = 'plus', *, raw: bool = False) -> Any:
         """The fold of all entries as a number, or None where there are none: the folds of the rows, folded, so the operator has
         to be associative. It is an int, or where the fold has a unit a float, what it stands for; `raw=True` gives the stored whole
-        number. At most 2 jobs and 2 runs (1 and 1 of a row or a column), and one number comes back."""
+        number. At most 2 jobs and 2 runs (1 and 1 of a row or a column), and one number comes back. Of the aggregators of
+        `reduce_rowwise` it takes those that aren't positions; "mean" is a float."""
+        if aggregators.is_aggregator(op):
+            return aggregators.aggregate_all(self, cast(str, op), raw)
         rows = self if self.ncols == 1 else self.reduce_rowwise(op)
         made = rows if rows.nrows == 1 else rows.reduce_columnwise(op)
         values = made.to_coo(arrays=False)[2]
@@ -260,17 +275,6 @@ class Matrix(Signs):
             owner.transposed, self.handle.transposed = weakref.ref(self.handle), weakref.ref(owner)
         made = Matrix(self.session, owner, (self.ncols, self.nrows))
         made.notes = metadata.turned(self.notes)
-        return made
-
-    def diag(self) -> 'Matrix':
-        """Of a column or a row the square matrix with its entries on the diagonal, by the client like `T`. Of any other matrix
-        the column of the entries on its diagonal: 2 jobs, 1 run. In python-graphblas `Vector.diag`, `Matrix.diag`."""
-        if 1 not in self.shape:
-            return self.select(indexunary.diag).reduce_rowwise(binary.first)
-        rows, columns, values = self.to_coo()
-        at, count = (rows, self.nrows) if self.ncols == 1 else (columns, self.ncols)
-        made = self.session.from_coo(at, at, values, count, count)
-        made.notes = metadata.on_diagonal(self.notes)
         return made
 
     def dup(self, *, mask: MaskLike = None, name: Optional[str] = None) -> 'Matrix':
@@ -300,8 +304,8 @@ class Matrix(Signs):
     def update(self, other: 'Matrix', accum: Optional[Op] = None, mask: MaskLike = None, replace: bool = False, *,
                name: Optional[str] = None) -> 'Matrix':
         """A new matrix, what the GraphBLAS writes C<M, accum> = other: under the mask `other`, or with `accum` the union of both
-        by it; outside the mask this matrix, or nothing where `replace` is set. In python-graphblas `C(mask, accum, replace) <<
-        other`. Without a mask 1 job, no run. With one 7 jobs and 4 runs, with `replace` 1 and none (5 and 3 for a complement);
+        by it; outside the mask this matrix, or nothing where `replace` is set. So `C.update(A.mxm(B), "plus")` is python-graphblas'
+        `C(accum) << A.mxm(B)`, and `C.update(B, mask=M.S)` its `C(M.S) << B`; `assign` sets a part. Without a mask 1 job, no run. With one 7 jobs and 4 runs, with `replace` 1 and none (5 and 3 for a complement);
         `accum` is 1 job more, A.V 1 and 1; and where an operand or the mask waits, 1 run."""
         self._check_shape('union', other, self.shape)
         where = as_mask(mask)

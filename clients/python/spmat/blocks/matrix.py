@@ -4,17 +4,17 @@ from __future__ import annotations
 # a mask may be turned, and a file may be a path
 # pylint: disable=invalid-unary-operand-type,inconsistent-return-statements,abstract-method
 
-from typing import TYPE_CHECKING, Any, Dict, Iterable, List, Optional, Sequence, Tuple, Type, Union
+from typing import TYPE_CHECKING, Any, Dict, Iterable, List, Optional, Sequence, Tuple, Type, Union, cast
 
-from .. import metadata, units
+from .. import aggregators, metadata, units
 from .._client.protocol import FORMS
+from ..composites import Composites
 from ..aliases import alias, is_same
 from ..errors import SpmatError, refusal
 from ..indexing import picked
 from ..mask import Mask, as_mask
 from ..matrix import Number, Ring, applied, of_form
 from ..operators import Op, Semiring, binary, find_semiring, indexunary
-from ..signs import Signs
 from . import composite_methods, frontier, html, matrix_products, repartition, row_partition, unsupported, worker_tasks
 from .row_partition import Cut
 from .shared_budget import Work
@@ -31,7 +31,7 @@ FORM_OF = {**{form.method: name for name, form in FORMS.items()}, 'dup': 'apply'
 MaskLike = Union['BlockMatrix', Mask, None]
 
 
-class BlockMatrix(Signs):
+class BlockMatrix(Composites):
     """A matrix in row blocks, each in one of several sessions. A `Sessions` makes them; nothing changes one.
 
     A block is a matrix of the whole's shape that has the entries of its own rows alone. So a job is the same command at each block,
@@ -175,7 +175,9 @@ class BlockMatrix(Signs):
         return self.job('ewise_mult', [other], [found], told=told, mask=mask, name=name)
 
     def reduce_rowwise(self, op: Op = 'plus', *, mask: MaskLike = None, name: Optional[str] = None) -> 'BlockMatrix':
-        """A column: the fold of each row that isn't empty. In the GraphBLAS GrB_reduce by rows."""
+        """A column: the fold of each row that isn't empty; see `Matrix.reduce_rowwise`, also for aggregators."""
+        if aggregators.is_aggregator(op):
+            return aggregators.aggregated(self, cast(str, op), 1, mask, name)
         found = of_form('reduce', op)
         told = metadata.of_rows(self.notes, found)
         return self.job('reduce_rowwise', [], [found], 1, told=told, mask=mask, name=name)
@@ -289,6 +291,8 @@ class BlockMatrix(Signs):
         It waits until the blocks are made, so that TooLarge is raised here: each block may make 16,777,216 multiplications (with
         `associative`, of each block of `other`). By `Threads` it doesn't wait where `other` is a column, whose product isn't too
         large; by Dask it does, so that the caller holds what a lost block is made of again."""
+        if aggregators.is_positional(op):
+            return aggregators.positional_product(self, other, op, mask, name, parts=parts, associative=associative)
         self.check_shape('product', other, (self.ncols, None))
         ring = find_semiring(op)
         for part in (ring.add, ring.mul):
@@ -319,12 +323,16 @@ class BlockMatrix(Signs):
                           name: Optional[str] = None) -> 'BlockMatrix':
         """A row: the fold of each column that isn't empty; see `Matrix.reduce_columnwise`. It is a product of a row of ones with this
         matrix, so `associative` is as for `mxm`: without it the whole goes to the one session that has the row."""
+        if aggregators.is_aggregator(op):
+            return aggregators.aggregated(self, cast(str, op), 0, mask, name)
         ones = self.sessions.full(1, self.nrows)
         return ones.mxm(self, (of_form('product', op), binary.second), mask=mask, associative=associative, name=name)
 
     def reduce_scalar(self, op: Op = 'plus', *, raw: bool = False) -> Any:
         """The fold of all entries as a number, or None where there are none; the operator has to be associative. Each session
         folds its own rows, and a number a block goes on. `raw` is as for `Matrix.reduce_scalar`."""
+        if aggregators.is_aggregator(op):
+            return aggregators.aggregate_all(self, cast(str, op), raw)
         found = of_form('reduce', op)
         unit = self.unit if self.shape == (1, 1) else units.of_fold(found, self.unit)
         value = matrix_products.fold_all(self, found)[0]
@@ -344,17 +352,6 @@ class BlockMatrix(Signs):
             self.kept['turned'] = repartition.transposed(self)
         kept: 'BlockMatrix' = self.kept['turned']
         return alias(kept, metadata.turned(self.notes))
-
-    def diag(self) -> 'BlockMatrix':
-        """Of a matrix the column of the entries on its diagonal, as `Matrix.diag`; of a column or a row the square matrix with these
-        on its diagonal, by the client."""
-        if 1 not in self.shape:
-            return self.select(indexunary.diag).reduce_rowwise(binary.first)
-        rows, columns, values = self.to_coo()
-        at, count = (rows, self.nrows) if self.ncols == 1 else (columns, self.ncols)
-        made = self.sessions.from_coo(at, at, values, count, count)
-        made.notes = metadata.on_diagonal(self.notes)
-        return made
 
     # -- where it is cut, and what it holds
 

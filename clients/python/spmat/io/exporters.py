@@ -9,7 +9,7 @@ from .. import top_k
 from ..errors import BudgetExceeded, refusal
 from ..metadata import NOTHING, Nodes, Notes, check_names
 from ..units import Unit, are_decimals, as_unit, rescaled, to_decimal, to_decimals
-from . import coo, matrix_text
+from . import compressed, coo, matrix_text
 from .file_writers import Written
 
 if TYPE_CHECKING:
@@ -27,6 +27,7 @@ class Held(Written):
     nrows: int
     ncols: int
     notes: Notes = NOTHING
+    dtype = 'INT64'                                # the type of all values, by python-graphblas' name
     is_named = True                                # whether its name may be one that a caller gave
 
     # -- what it is
@@ -161,9 +162,24 @@ class Held(Written):
         return list(zip(*self._stored(False)))
 
     def to_dict(self) -> Dict[Tuple[int, int], int]:
-        """{(row, column): value}; values are the stored whole numbers. In python-graphblas `to_dicts`."""
+        """{(row, column): value}; values are the stored whole numbers. `to_dicts` has a dict for each row."""
         rows, columns, values = self._stored(False)
         return dict(zip(zip(rows, columns), values))
+
+    def to_dicts(self, order: str = 'rowwise') -> Dict[int, Dict[int, int]]:
+        """{row: {column: value}}, with `order="columnwise"` {column: {row: value}}, of the stored whole numbers; nothing of a row without
+        entries. In python-graphblas the same name."""
+        return compressed.to_dicts(self.to_coo(arrays=False), order)
+
+    def to_csr(self) -> Tuple[Any, Any, Any]:
+        """Compressed rows: for each row where its entries begin, and at last how many there are; then their columns and their stored values.
+        Arrays of numpy where it is there, else lists. In python-graphblas the same name."""
+        return compressed.to_compressed(self.to_coo(), self.nrows)
+
+    def to_csc(self) -> Tuple[Any, Any, Any]:
+        """Compressed columns: for each column where its entries begin, and at last how many there are; then their rows and their stored
+        values. In python-graphblas the same name."""
+        return compressed.to_compressed(compressed.by_columns(self.to_coo()), self.ncols)
 
     def to_list(self, missing: Any = None, dtype: Any = None) -> List[Any]:
         """The values of a column or a row, `missing` where there is no entry: the stored whole numbers, with `dtype=float` what these

@@ -7,7 +7,7 @@ from typing import Any, Dict, Generic, Iterable, Optional, Sequence, TypeVar
 from .. import units
 from ..errors import ReadError
 from ..operators import Op
-from . import archive, arrays, column_names, coo, matrix_market, networkx_adjacency, pandas
+from . import archive, arrays, column_names, compressed, coo, matrix_market, networkx_adjacency, pandas
 from .comment_lines import Comments
 from .detect_format import OF_LISTS, check_format, check_layout, from_edges
 from .edge_values import Rounding, scaled
@@ -73,6 +73,26 @@ class Sources(abc.ABC, Generic[Made]):
         if table.rows is not None or table.columns is not None:
             made.notes = made.notes._replace(rows=table.rows, columns=table.columns)
         return made
+
+    def from_csr(self, indptr: Any, columns: Any, values: Any = 1, nrows: Optional[int] = None, ncols: Optional[int] = None, *,
+                 scale: Optional[float] = None, dup_op: DupOp = None, name: Optional[str] = None) -> Made:
+        """A matrix from compressed rows: for each row where its entries begin, and at last how many there are; then their columns, and their
+        values or one for all. Sizes, `scale` and `dup_op` are as for `from_coo`. ValueError where the beginnings descend, or don't end at the
+        number of entries. In python-graphblas `Matrix.from_csr`."""
+        rows = compressed.expand(arrays.plain_column(indptr, 'beginning'), arrays.plain_column(columns, 'column'), 'row')
+        return self.from_coo(rows, columns, values, compressed.side_of(indptr, nrows, 'row'), ncols, scale=scale, dup_op=dup_op, name=name)
+
+    def from_csc(self, indptr: Any, rows: Any, values: Any = 1, nrows: Optional[int] = None, ncols: Optional[int] = None, *,
+                 scale: Optional[float] = None, dup_op: DupOp = None, name: Optional[str] = None) -> Made:
+        """The same from compressed columns. In python-graphblas `Matrix.from_csc`."""
+        columns = compressed.expand(arrays.plain_column(indptr, 'beginning'), arrays.plain_column(rows, 'row'), 'column')
+        return self.from_coo(rows, columns, values, nrows, compressed.side_of(indptr, ncols, 'column'), scale=scale, dup_op=dup_op, name=name)
+
+    def from_dicts(self, nested: Any, nrows: Optional[int] = None, ncols: Optional[int] = None, *, order: str = 'rowwise',
+                   scale: Optional[float] = None, name: Optional[str] = None) -> Made:
+        """A matrix from {row: {column: value}}, with `order="columnwise"` from {column: {row: value}}. Rows and columns are numbers from 0;
+        `from_edgelist` takes names. Sizes and `scale` are as for `from_coo`. In python-graphblas `Matrix.from_dicts`."""
+        return self.from_coo(*compressed.from_dicts(nested, order), nrows, ncols, scale=scale, name=name)
 
     def from_scipy_sparse(self, matrix: Any, *, scale: Optional[float] = None, name: Optional[str] = None) -> Made:
         """A matrix from one of scipy.sparse, of any format; entries of one position are added up, as scipy has it. ValueError for

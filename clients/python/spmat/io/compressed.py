@@ -1,0 +1,85 @@
+"""Entries by compressed rows or columns, and as a dict for each row or column."""
+from __future__ import annotations
+
+from typing import Any, Dict, List, Optional, Tuple
+
+from .coo import whole_list
+from .matrix_text import is_array
+
+Columns = Tuple[Any, Any, Any]
+ORDERS = {'rowwise': True, 'columnwise': False}
+
+
+def to_compressed(entries: Columns, count: int) -> Columns:
+    """Where the entries of each row begin, and at last how many there are; their columns and values. Rows ascend."""
+    rows, columns, values = entries
+    if is_array(rows):
+        import numpy
+        return numpy.searchsorted(rows, numpy.arange(count + 1)), columns, values
+    beginnings = [0] * (count + 1)
+    for row in rows:
+        beginnings[row + 1] += 1
+    for row in range(count):
+        beginnings[row + 1] += beginnings[row]
+    return beginnings, columns, values
+
+
+def by_columns(entries: Columns) -> Columns:
+    """Entries by ascending column, and each column's by ascending row: columns, rows, values."""
+    rows, columns, values = entries
+    if is_array(rows):
+        import numpy
+        order = numpy.argsort(columns, kind='stable')
+        return columns[order], rows[order], values[order]
+    ordered = sorted(range(len(rows)), key=columns.__getitem__)
+    return [columns[at] for at in ordered], [rows[at] for at in ordered], [values[at] for at in ordered]
+
+
+def expand(indptr: Any, others: Any, what: str) -> List[int]:
+    """The row (or column) of each entry, of where the rows begin."""
+    beginnings = whole_list(indptr, 'beginning')
+    if not beginnings or beginnings[0] != 0 or beginnings[-1] != len(others):
+        raise ValueError('the beginnings of the %ss go from 0 to the number of entries, %d, and not %s' % (
+            what, len(others), 'from %d to %d' % (beginnings[0], beginnings[-1]) if beginnings else 'over none'))
+    out: List[int] = []
+    for at, (first, end) in enumerate(zip(beginnings, beginnings[1:])):
+        if end < first:
+            raise ValueError('the beginnings of the %ss ascend, and %d comes after %d (entry %d)' % (what, end, first, at + 1))
+        out += [at] * (end - first)
+    return out
+
+
+def side_of(indptr: Any, given: Optional[int], what: str) -> int:
+    """The number of rows (or columns) that have beginnings. ValueError where another one is given."""
+    count = len(indptr) - 1
+    if given is not None and given != count:
+        raise ValueError('%d %ss are given, and the beginnings are of %d' % (given, what, count))
+    return count
+
+
+def to_dicts(entries: Columns, order: str) -> Dict[int, Dict[int, int]]:
+    """A dict of the entries of each row, or column, that has some."""
+    rows, columns, values = entries if _is_rowwise(order) else by_columns(entries)
+    out: Dict[int, Dict[int, int]] = {}
+    for row, column, value in zip(rows, columns, values):
+        out.setdefault(row, {})[column] = value
+    return out
+
+
+def from_dicts(nested: Any, order: str) -> Columns:
+    """Rows, columns and values of a dict for each row, or column. TypeError for what is no such dict, and for names."""
+    if not isinstance(nested, dict) or not all(isinstance(inner, dict) for inner in nested.values()):
+        raise TypeError('expected {row: {column: value}}, got %s' % (
+            'a dict of other things' if isinstance(nested, dict) else type(nested).__name__))
+    triples = [(row, column, value) for row, inner in nested.items() for column, value in inner.items()]
+    if any(not hasattr(end, '__index__') for row, column, _ in triples for end in (row, column)):
+        raise TypeError('rows and columns are numbers from 0: s.from_edgelist((a, b, x) for a, inner in nested.items() for b, x in '
+                        'inner.items()) takes names')
+    rows, columns, values = zip(*triples) if triples else ((), (), ())
+    return (rows, columns, values) if _is_rowwise(order) else (columns, rows, values)
+
+
+def _is_rowwise(order: str) -> bool:
+    if order not in ORDERS:
+        raise ValueError('order is "rowwise" or "columnwise", not %r' % (order,))
+    return ORDERS[order]
