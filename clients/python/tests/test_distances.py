@@ -67,6 +67,32 @@ class Distances(support.InSession):
                         algorithms.diameter(G, GT, searches)
         self.each(look)
 
+    def test_diameter_of_long_paths_takes_few_searches(self):
+        side, chance = 24, random.Random(2)
+        at = {(i, j): i * side + j for i in range(side) for j in range(side)}
+        pairs = [(at[i, j], at[k, m]) for i, j in at for k, m in ((i + 1, j), (i, j + 1)) if (k, m) in at]
+        cuts = chance.sample([pair for pair in pairs if pair[0] % side and pair[0] >= side], 60)
+        grid = graphs.undirected('grid', side * side, [pair for pair in pairs if pair not in cuts])
+        exact = max(max(graphs.levels(grid.near(), i).values()) for i in range(grid.count))
+        one_way = graphs.directed('one way', side * side, {*grid.edges, (0, side * side - 1), (5, 300)})
+        for graph in (grid, one_way):
+            G, told = graph.matrix(self.session), []
+            G.nodes = chance.sample(range(side * side), side * side)
+            found = max(max(graphs.levels(graph.near(), i).values()) for i in range(graph.count)) if graph is one_way else exact
+            self.assertEqual(algorithms.diameter(G, progress=lambda *now: told.append(now)), (found, found))
+            searches = [number for word, number, of in told if word == 'search' and of == 0]
+            self.assertEqual(searches, list(range(1, len(searches) + 1)))
+            self.assertLess(len(searches), 16)
+            self.assertLessEqual(len([now for now in told if now[0] == 'batch']), 2)
+
+    def test_diameter_names_a_vertex_that_is_not_reached(self):
+        G = self.session.from_edgelist([('a', 'b'), ('b', 'a'), ('c', 'a')])
+        for searches in (None, 1):
+            with self.assertRaisesRegex(ValueError, "there is no diameter, as no path leads from '[ab]' to 'c'"):
+                algorithms.diameter(G, searches=searches)
+            with self.assertRaisesRegex(ValueError, "there is no diameter, as no path leads to '[ab]' from 'c'"):
+                algorithms.diameter(G.T, searches=searches)
+
     def test_path_lengths(self):
         def look(graph, far, G, _):
             near = graph.near()

@@ -5,22 +5,27 @@ edge at once, so that all searches together cost what n / 64 of them would.
 """
 from __future__ import annotations
 
-from typing import Callable, List, NamedTuple, Optional
+import itertools
+from typing import Callable, Dict, List, NamedTuple, Optional, Tuple
 
 from ..limits import MOST_SIDE
+from ..loops import Loop, State, empty
+from ..loops.pipelined_rounds import Round
 from ..matrix import Matrix
 from ..operators import Semiring, asm, binary
 from . import step_bounds
 from .bfs import Search, find_levels
-from .cached_properties import transpose_of
+from .cached_properties import is_both_ways, transpose_of
 from .protocols import Place
 from .registry import algorithm
-from .utils import Progress, beside, column, nothing, order, rows_of, tell
+from .triangle_counts import degrees
+from .utils import Progress, beside, column, name_of, nothing, order, rows_of, tell
 
 WORD = 64
 MOST_WORDS = 32                 # words at a vertex: more make the matrices larger, and nothing faster
+PATIENCE = 6                    # pairs of searches that may leave three quarters of the vertices, before all of these are searched from
 NEW = asm('binary', 'mov64 r0, r2\nxor64 r0, -1\nand64 r0, r1\nexit\n', 'new_bits')
-MOVED = Semiring(binary.bor, binary.second)
+MOVED, PUSHED = Semiring(binary.bor, binary.second), Semiring(binary.bor, binary.first)
 BITS = asm('unary', '''\
 mov64 r2, r1
 rsh64 r2, 1
@@ -58,6 +63,11 @@ def _words(count: int, entries: int) -> int:
     return max(1, min(-(-count // WORD), MOST_SIDE // max(1, entries), MOST_WORDS))
 
 
+def _bits(many: int) -> List[int]:
+    """The bit of each of so many searches, in the words that they share."""
+    return [1 << k % WORD if k % WORD < WORD - 1 else -1 << WORD - 1 for k in range(many)]
+
+
 def _searches(G: Matrix, GT: Matrix, visit: Visit, progress: Progress) -> None:
     """Searches from all vertices along the edges of G, a batch at a time. `visit(level, fresh)` gets a matrix of words: those
     searches that come to a vertex (the row) with so many edges, and not with fewer."""
@@ -65,8 +75,7 @@ def _searches(G: Matrix, GT: Matrix, visit: Visit, progress: Progress) -> None:
     batch = words * WORD
     for first in range(0, count, batch):
         at = list(range(first, min(first + batch, count)))
-        bits = [1 << k % WORD if k % WORD < WORD - 1 else -1 << WORD - 1 for k in range(len(at))]
-        front = G.session.from_coo(at, [k // WORD for k in range(len(at))], bits, count, words)
+        front = G.session.from_coo(at, [k // WORD for k in range(len(at))], _bits(len(at)), count, words)
         seen, level = G.session.full(count, words, 0).ewise_add(front, 'bor'), 0
         while True:
             moved = GT.mxm(front, MOVED)
@@ -77,6 +86,28 @@ def _searches(G: Matrix, GT: Matrix, visit: Visit, progress: Progress) -> None:
             seen = seen.ewise_add(front, 'bor')
             visit(level, front)
         tell(progress, 'batch', first // batch + 1, -(-count // batch))
+
+
+def _farthest(G: Matrix, GT: Matrix, sources: List[Place]) -> int:
+    """How many edges lead to the vertex that is the farthest from any of some. The searches from these push along the edges, a word a row, in a
+    loop that stays at the server. Where each edge leads both ways, what the last two levels found is all that an edge may lead back to."""
+    many, both_ways, levels = len(sources), GT is G or is_both_ways(G), [0]
+    start = G.session.from_coo([k // WORD for k in range(many)], list(map(int, sources)), _bits(many), -(-many // WORD), G.nrows)
+
+    def step(s: State) -> Dict[str, Matrix]:
+        moved = s.front.mxm(G, PUSHED)
+        new = moved.ewise_add(s.near, NEW, mask=moved).select('nonzero')
+        return {'front': new, 'near': new.ewise_add(s.front if both_ways else s.near, 'bor')}
+
+    def heard(_: int, rounds: List[Round]) -> None:
+        levels[0] += sum(1 for one in rounds if one.counts['front'])
+    if G.in_one_place:
+        Loop(step, {'front': start, 'near': start}).rounds(empty('front'), G.nrows + 1, heard)
+        return levels[0]
+    state = State({'front': start, 'near': start})
+    while state.front.nvals:
+        state, levels[0] = State(step(state)), levels[0] + 1
+    return levels[0] - 1
 
 
 @algorithm('how many vertices are how far from each', fields=('node', 'distance', 'vertices'),
@@ -129,47 +160,77 @@ def eccentricity(G: Matrix, GT: Optional[Matrix] = None, progress: Progress = No
 @algorithm('edges between the two that are farthest apart', steps=step_bounds.diameter)
 def diameter(G: Matrix, GT: Optional[Matrix] = None, searches: Optional[int] = None, progress: Progress = None, *,
              check: bool = True) -> Bounds:
-    """The number of edges of the longest of all shortest paths, as bounds: without `searches` exact, by `eccentricity`, else what
-    so many pairs of searches tell (one each way), which is exact where both bounds are one.
+    """The number of edges of the longest of all shortest paths, as bounds: exact without `searches`, else what so many pairs of searches
+    tell (one each way), which is exact where both bounds are one.
 
     Each vertex whose distances are known bounds those of all others; the next search is from the vertex that may have the greatest,
-    then from the one that may have the least (Takes and Kosters). `GT` is as for `distance_counts`. Runs: for each pair of searches
-    those of two `bfs_levels`, and 12. networkx: `diameter`. Raises ValueError for a graph without vertices, and where some vertex
-    doesn't reach all others.
+    then from the one that may have the least (Takes and Kosters). Without `searches` that goes on while it pays. Those vertices that could
+    still have a greater distance are then searched from in batches, as for `eccentricity`: on graphs of long paths few are left, on random
+    ones most. `GT` is as for `distance_counts`. `progress('search', k, searches)` is called after each pair, with 0 for no number, and
+    `progress('batch', k, n)` after each batch.
+
+    Runs: for each pair of searches those of two `bfs_levels`, and 14; 4 a level of a batch. networkx: `diameter`. igraph: `diameter`.
+    Raises ValueError for a graph without vertices, and where some vertex doesn't reach all others.
     """
-    count = order(G, GT)
-    if count == 0:
+    if order(G, GT) == 0:
         raise ValueError('the graph has no vertex')
-    GT = transpose_of(G, GT, check)
-    if searches is None:
-        _check_reach(G, GT, count)
-        exact = eccentricity(G, GT, progress, check=False).reduce_scalar('max') or 0
-        return Bounds(exact, exact)
-    least, most, greatest = column(G, 0), column(G, count - 1), 0
-    start = _at(G.reduce_rowwise('plus') if G.nvals else least, 'max')
-    for number in range(max(1, searches)):
+    bounds = Eccentricities(G, transpose_of(G, GT, check))
+    last, least_left = 0, G.nrows + 1
+    for number in itertools.count(1):
+        left = bounds.narrow()
+        tell(progress, 'search', number, searches or 0)
+        if not left or number == searches:
+            break
+        if 4 * left < 3 * least_left:
+            last, least_left = number, left
+        if searches is None and (left <= WORD or number - last >= PATIENCE):
+            bounds.search_left(progress)
+            break
+    return Bounds(bounds.greatest, bounds.greatest if searches is None or not left else bounds.most.reduce_scalar('max') or 0)
+
+
+class Eccentricities:
+    """What is known of the greatest distance from each vertex: at the `least`, and at the `most`; and the `greatest` that was found."""
+
+    def __init__(self, G: Matrix, GT: Matrix) -> None:
+        self._graph, self._transpose = G, GT
+        self.least, self.most, self.greatest = column(G, 0), column(G, G.nrows - 1), 0
+        self._next, self._searched = _at(degrees(G), 'max') if G.nvals else Place(0), []  # type: Place, List[Place]
+
+    def narrow(self) -> int:
+        """Narrows all bounds by the distances from one vertex and to it. How many vertices could have a greater one than was found.
+        ValueError where some vertex isn't reached, or doesn't reach it."""
+        G, GT, start = self._graph, self._transpose, self._next
         there = find_levels(G, Search([start]), GT)
         back = there if GT is G else find_levels(GT, Search([start]), G)
-        if there.nvals < count or back.nvals < count:
-            raise ValueError('a vertex does not reach all others: there is no diameter')
+        for found, words in ((there, 'from %r to %r'), (back, 'to %r from %r')):
+            if found.nvals < G.nrows:
+                other = min(set(range(G.nrows)).difference(found.to_coo(arrays=False)[0]))
+                raise ValueError('a vertex does not reach all others: there is no diameter, as no path leads %s'
+                                 % (words % (name_of(G, start), name_of(G, Place(other)))))
         far, came = there.reduce_scalar('max') or 0, back.reduce_scalar('max') or 0
-        greatest = max(greatest, far, came)
+        self.greatest = max(self.greatest, far, came)
         # a path to any vertex may go by the start; and the farthest one of it is no nearer than the triangle allows
-        most = most.ewise_mult(back.apply('plus', right=far), 'min')
-        least = least.ewise_mult(there.apply('rminus', right=far), 'max').ewise_mult(back, 'max') if GT is G else least
-        bound = most.reduce_scalar('max') or 0
-        tell(progress, 'search', number + 1, searches)
-        if bound <= greatest:
-            return Bounds(greatest, greatest)
-        start = _at(most, 'max') if number % 2 == 0 else _at(least, 'min')
-    return Bounds(greatest, bound)
+        self.most = self.most.ewise_mult(back.apply('plus', right=far), 'min')
+        self.least = self.least.ewise_mult(there.apply('rminus', right=far), 'max').ewise_mult(back, 'max')
+        self._searched.append(start)
+        left = self.most.select('valuegt', self.greatest).nvals
+        if left:
+            self._next = _at(self.least, 'min') if len(self._searched) % 2 == 0 else _at(self.most, 'max')
+            self._next = _at(self.most, 'max') if self._next in self._searched else self._next
+        return left
 
-
-def _check_reach(G: Matrix, GT: Matrix, count: int) -> None:
-    """Raises ValueError where some vertex doesn't reach all others."""
-    first = Search([Place(0)])
-    if find_levels(G, first, GT).nvals < count or (GT is not G and find_levels(GT, first, G).nvals < count):
-        raise ValueError('a vertex does not reach all others: there is no diameter')
+    def search_left(self, progress: Progress) -> None:
+        """Searches from all vertices that could have a greater distance than was found, those first that could have the greatest."""
+        rows, _, values = self.most.select('valuegt', self.greatest).to_coo(arrays=False)
+        left: List[Tuple[int, int]] = sorted(zip(rows, values), key=lambda entry: -int(entry[1]))
+        size = _words(len(left), self._graph.nvals) * WORD
+        batches = -(-len(left) // size)
+        for number in range(batches):
+            batch = left[number * size:(number + 1) * size]
+            if batch[0][1] > self.greatest:
+                self.greatest = max(self.greatest, _farthest(self._graph, self._transpose, [Place(row) for row, _ in batch]))
+            tell(progress, 'batch', number + 1, batches)
 
 
 def _at(values: Matrix, extreme: str) -> Place:
