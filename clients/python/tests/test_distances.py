@@ -1,4 +1,5 @@
 """Lengths and distances between many vertices, beside plain Python: what is refused before it begins, and what rounds take."""
+import random
 import unittest
 from unittest import mock
 

@@ -8,6 +8,7 @@ from __future__ import annotations
 import itertools
 from typing import Callable, Dict, List, NamedTuple, Optional, Tuple
 
+from ..aliases import is_same
 from ..limits import MOST_SIDE
 from ..loops import Loop, State, empty
 from ..loops.pipelined_rounds import Round
@@ -88,15 +89,15 @@ def _searches(G: Matrix, GT: Matrix, visit: Visit, progress: Progress) -> None:
         tell(progress, 'batch', first // batch + 1, -(-count // batch))
 
 
-def _farthest(G: Matrix, GT: Matrix, sources: List[Place]) -> int:
+def _farthest(G: Matrix, sources: List[Place]) -> int:
     """How many edges lead to the vertex that is the farthest from any of some. The searches from these push along the edges, a word a row, in a
     loop that stays at the server. Where each edge leads both ways, what the last two levels found is all that an edge may lead back to."""
-    many, both_ways, levels = len(sources), GT is G or is_both_ways(G), [0]
+    many, both_ways, levels = len(sources), is_both_ways(G), [0]
     start = G.session.from_coo([k // WORD for k in range(many)], list(map(int, sources)), _bits(many), -(-many // WORD), G.nrows)
 
     def step(s: State) -> Dict[str, Matrix]:
         moved = s.front.mxm(G, PUSHED)
-        new = moved.ewise_add(s.near, NEW, mask=moved).select('nonzero')
+        new = moved.ewise_add(s.near, NEW, mask=moved.S).select('nonzero')
         return {'front': new, 'near': new.ewise_add(s.front if both_ways else s.near, 'bor')}
 
     def heard(_: int, rounds: List[Round]) -> None:
@@ -183,7 +184,7 @@ def diameter(G: Matrix, GT: Optional[Matrix] = None, searches: Optional[int] = N
             break
         if 4 * left < 3 * least_left:
             last, least_left = number, left
-        if searches is None and (left <= WORD or number - last >= PATIENCE):
+        if searches is None and (left <= WORD or number - last >= PATIENCE or number == step_bounds.MOST_PAIRS):
             bounds.search_left(progress)
             break
     return Bounds(bounds.greatest, bounds.greatest if searches is None or not left else bounds.most.reduce_scalar('max') or 0)
@@ -202,7 +203,7 @@ class Eccentricities:
         ValueError where some vertex isn't reached, or doesn't reach it."""
         G, GT, start = self._graph, self._transpose, self._next
         there = find_levels(G, Search([start]), GT)
-        back = there if GT is G else find_levels(GT, Search([start]), G)
+        back = there if is_same(GT, G) else find_levels(GT, Search([start]), G)
         for found, words in ((there, 'from %r to %r'), (back, 'to %r from %r')):
             if found.nvals < G.nrows:
                 other = min(set(range(G.nrows)).difference(found.to_coo(arrays=False)[0]))
@@ -229,7 +230,7 @@ class Eccentricities:
         for number in range(batches):
             batch = left[number * size:(number + 1) * size]
             if batch[0][1] > self.greatest:
-                self.greatest = max(self.greatest, _farthest(self._graph, self._transpose, [Place(row) for row, _ in batch]))
+                self.greatest = max(self.greatest, _farthest(self._graph, [Place(row) for row, _ in batch]))
             tell(progress, 'batch', number + 1, batches)
 
 

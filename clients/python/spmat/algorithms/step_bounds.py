@@ -13,6 +13,7 @@ from ..pricing.call_price import Bound
 from ..pricing.call_sizes import CallSizes, rounds_to
 
 LONG = 32                                          # levels behind which a search on an ample budget is a loop at the server
+MOST_PAIRS = 32                                    # of searches that narrow the bounds of a diameter
 
 
 def square(g: CallSizes) -> Tuple[int, int]:
@@ -240,11 +241,11 @@ def eccentricity(g: CallSizes) -> int:
 
 
 def diameter(g: CallSizes) -> int:
-    """Without `searches` that of `eccentricity` and two searches, else two searches each time."""
-    many, search = g.given['searches'], _whole_search(g)
-    if many is None:
-        return g.check_transpose(makes=True) + 2 * search + _distances(g, 10) + 10 * g.vertices
-    return g.check_transpose(makes=True) + 5 * g.entries + 20 * g.vertices + max(1, int(many)) * (2 * search + 60 * g.vertices)
+    """Two searches each time. Without `searches` also what is left then, at the most all that `eccentricity` looks at."""
+    many = g.given['searches']
+    pairs = MOST_PAIRS if many is None else max(1, int(many))
+    steps = g.check_transpose(makes=True) + 5 * g.entries + 20 * g.vertices + pairs * (2 * _whole_search(g) + 80 * g.vertices)
+    return steps if many is not None else steps + g.check_both_ways + _distances(g, 10) + 20 * g.vertices
 
 
 def k_hop(g: CallSizes) -> int:
