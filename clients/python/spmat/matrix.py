@@ -176,7 +176,7 @@ class Matrix(Composites):
         told = metadata.of_product(self.notes, other.notes, ring, self.handle is other.handle)
 
         def job(rows: 'Matrix') -> 'Matrix':
-            return self._queued(_Job('product', ops, [rows, other], (self.nrows, other.ncols), told), mask, name)
+            return self._queued(_Job('product', ops, [rows, other], (self.nrows, other.ncols), told, parts=parts), mask, name)
         if parts:
             return oversized_jobs.in_parts(self, job)
         return self._job(_Job('product', ops, [self, other], (self.nrows, other.ncols), told), mask, name)
@@ -221,7 +221,7 @@ class Matrix(Composites):
             _check_mask(where, job.shape)
         cut = structure(where) if where is not None and not where.complement else None
         inner = None if where is not None and where.complement else name
-        made = self.session.backend.submit(job.form, job.ops, job.operands, job.shape, job.thunk, cut, inner)
+        made = self.session.backend.submit(job.form, job.ops, job.operands, job.shape, job.thunk, cut, inner, job.parts)
         made.notes = job.told if cut is None else metadata.masked(job.told, cut.notes)
         return made.without(~where, name=name) if where is not None and where.complement else made
 
@@ -340,13 +340,14 @@ class Matrix(Composites):
 
 
 class _Job(NamedTuple):
-    """A job of one of the protocol's forms, and what is known of its result."""
+    """A job of one of the protocol's forms, what is known of its result, and whether it is to be made by parts where it is too large."""
     form: str
     ops: Sequence[Operator]
     operands: Sequence[Matrix]
     shape: Tuple[int, int]
     told: metadata.Notes
     thunk: Optional[int] = None
+    parts: bool = False
 
 
 class Applied(NamedTuple):

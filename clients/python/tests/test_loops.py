@@ -150,8 +150,6 @@ class Rounds(support.InSession):
                 (lambda s: {'front': s.front.T}, TypeError, 'traced, not run: front has no entries yet'),
                 (lambda s: {'front': s.front.apply('plus', right=s.front.reduce_scalar())}, TypeError, 'reduce_rowwise'),
                 (lambda s: {'front': s.front.session.full(1, 70)}, TypeError, '`full` of the session is to be called before the loop'),
-                (lambda s, k: {'front': s.front.apply('plus', right=k * k)}, ValueError, 'is a \\* round \\+ b, and here it is 1, 4 and 25'),
-                (lambda s, k: {'front': s.front.apply('abs' if k == 1 else 'ainv')}, ValueError, 'the same jobs in each round'),
                 (lambda s: {'front': s.front.mxm(G.apply('one'), 'any_first')}, ValueError, 'to be made before the loop'),
                 (lambda s: s.front, TypeError, 'returns its new matrices by name, such as {"front": front}, not TracedMatrix'),
                 (lambda s: {'front': 3}, TypeError, "what a step returns as 'front' is no matrix, but int"),

@@ -144,7 +144,7 @@ class Backend:
     # -- jobs
 
     def submit(self, form: str, ops: Sequence[Operator], operands: Sequence[Matrix], shape: Tuple[int, int],
-               thunk: Optional[int] = None, mask: Optional[Matrix] = None, name: Optional[str] = None) -> Matrix:
+               thunk: Optional[int] = None, mask: Optional[Matrix] = None, name: Optional[str] = None, parts: bool = False) -> Matrix:
         """Queues a job of one of the protocol's forms with a structural mask; the matrix methods use it. A job takes the versions
         that its names have when it is submitted, so an operand or mask that waits makes the queue run first. So does a full
         queue, and a budget that is too small while jobs wait: then what they don't take comes back, and the job is sent once
@@ -157,7 +157,7 @@ class Backend:
             for matrix in needed:
                 if matrix.session is not self.session:
                     if matrix.is_traced:           # a step of a loop asks
-                        return matrix.session.backend.submit(form, ops, operands, shape, thunk, mask, name)
+                        return matrix.session.backend.submit(form, ops, operands, shape, thunk, mask, name, parts)
                     raise ValueError('a matrix of another session')
                 if matrix.handle.lost is not None:
                     matrix.handle.check_made()

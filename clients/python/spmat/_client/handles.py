@@ -2,6 +2,7 @@
 from __future__ import annotations
 
 import collections
+import itertools
 import os
 import re
 import weakref
@@ -11,6 +12,7 @@ from ..errors import NotMade
 from ..io import matrix_text
 from ..limits import MOST_SIDE
 
+serial = itertools.count()
 SMALL = 65_536                                     # a dead matrix of more rows and entries than this is overwritten
 _NAME = re.compile('[A-Za-z0-9_]{1,32}')
 POISONED = 'SPMAT_POISON_NAMES'                    # the variable by which tests have names poisoned that are given back
@@ -41,6 +43,7 @@ class Handle:
         self.lost: Optional[BaseException] = None
         self.transposed: Optional['weakref.ref[Handle]'] = None     # the owner of its transpose, while that is held
         self.kept: Dict[str, Any] = {}             # what algorithms found out about its entries
+        self.serial = next(serial)                 # which of two is older
         self._matrices: List['weakref.ref[Any]'] = []
 
     def take_name(self, names: 'Names', wished: Optional[str] = None) -> None:

@@ -180,7 +180,7 @@ def _on_the_loop(peeling: Peeling[M], k: int, cores: Tally) -> None:
         fallen, alive = gap.select('valuele', 0), gap.select('valuegt', 0)
         lost = fallen.mxm(graph, 'plus_pair', mask=alive.S)
         return {'gap': alive.ewise_add(lost, 'minus'), 'level': s.level.ewise_add(rise, 'plus'), 'fallen': fallen}
-    loop = Loop(step, start, ['fallen', 'level'])
+    loop = Loop(step, start, ['fallen', 'level'], alike=True)
 
     def heard(first: int, rounds: List[Round]) -> None:
         fallen, levels = loop.shown['fallen'].drain(values=False), loop.shown['level'].drain(rounds=False).values

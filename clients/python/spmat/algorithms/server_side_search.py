@@ -79,7 +79,7 @@ def search_on(graph: GraphMatrix, told: Tally, fronts: Fronts, depth: Optional[i
     def step(s: State, k: int) -> Any:
         new = s.front.mxm(G, ANY_NEXT).ewise_add(s.near, 'zero').select('valueeq', level + k)
         return {'front': new, 'near': new.ewise_add(s.front, 'any')}
-    loop = Loop(step, state, ['front'])
+    loop = Loop(step, state, ['front'], alike=True)
 
     def heard(first: int, rounds: List[Round]) -> None:
         new = loop.shown['front'].drain(values=False)
@@ -99,7 +99,7 @@ def parents_on(graph: GraphMatrix, told: Tally, fronts: Fronts, depth: Optional[
         new = came.ewise_add(s.near, 'zero', mask=came.S).select('nonzero')
         front = new.apply('colindex', right=1)
         return {'front': front, 'near': front.ewise_add(s.front, 'any'), 'new': new}
-    loop = Loop(step, state, ['new'])
+    loop = Loop(step, state, ['new'], alike=True)
 
     def heard(first: int, rounds: List[Round]) -> None:
         new = loop.shown['new'].drain()
@@ -142,7 +142,7 @@ def lengths_on(graph: GraphMatrix, known: Tally, some: Waiting, heaviest: int, p
         above = now.ewise_mult(least.mxm(now, 'any_first'), 'minus')
         return {'lengths': now.apply('identity', mask=above.select('valuege', -2 * heaviest - 1).S),
                 'final': now.apply('identity', mask=above.select('valuelt', -2 * heaviest - 1).S)}
-    loop = Loop(step, {'lengths': _doubled(W, known, some)}, ['final'])
+    loop = Loop(step, {'lengths': _doubled(W, known, some)}, ['final'], alike=True)
 
     def heard(first: int, rounds: List[Round]) -> None:
         new = loop.shown['final'].drain()

@@ -95,7 +95,7 @@ def levelled(G: Matrix, progress: Progress = None) -> Levels:
         front, _, waiting = order_.taken(s)
         return {'front': front, 'waiting': waiting}
     if levels.count:
-        loop = Loop(step, order_.begin(), ['front'])
+        loop = Loop(step, order_.begin(), ['front'], alike=True)
         loop.rounds(empty('front'), G.nrows + 1, lambda first, rounds: levels.hear(loop, 'front', first, rounds))
     return levels
 
@@ -153,7 +153,7 @@ def longest_paths(W: Matrix, progress: Progress = None, *, check: bool = True) -
         levels.hear(loop, 'lengths', first, rounds)
     if levels.count:
         lengths = order_.front.apply('zero')
-        loop = Loop(step, {**order_.begin(), 'lengths': lengths, 'best': lengths.select('nonzero')}, ['lengths'])
+        loop = Loop(step, {**order_.begin(), 'lengths': lengths, 'best': lengths.select('nonzero')}, ['lengths'], alike=True)
         loop.rounds(empty('front'), count + 1, heard)
     if levels.count < count:
         raise CycleError(_cycle(W, levels.found()))

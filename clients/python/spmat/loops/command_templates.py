@@ -16,6 +16,7 @@ if TYPE_CHECKING:
     from .._client.handles import Names
     from ..session import Session
 
+MOST_TEMPLATES = 512                               # which are kept at a time
 QUEUED, RAN, LINE = 4, 4, 5                        # words of the replies to a job and to a run, and of each line of that
 Source = Union[Matrix, Handle]
 """A matrix of the session, or the owner of what a round made, of which nobody has a matrix yet."""
@@ -40,30 +41,35 @@ class Counted(NamedTuple):
 
 
 class Template(NamedTuple):
-    """The commands of a round under certain names: text with places for numbers, which are slope * round + start; how many words are
-    replied, where counts stand among them, which results are shown, in order; the state behind it, of which a text is what had this name
-    before it; and the jobs that are left behind it."""
+    """The commands of a round under certain names: text with places for numbers; how many words are replied, where counts stand among them,
+    which results are shown, in order; the state behind it: owners of what jobs make, names of what was the state's before, and None for what the
+    step has from outside; and the jobs that are left behind it."""
     pieces: List[bytes]
-    numbers: List[Tuple[int, int]]
     words: int
     counts: List[Counted]
     shows: List[Tuple[int, Tuple[str, ...]]]
     commands: int
-    after: Dict[str, Union[Source, str]]
+    after: Dict[str, Union[Handle, str, None]]
     pending: Tuple[Pending, ...]
 
-    def text(self, number: int) -> bytes:
-        """The commands of round `number`."""
-        if not self.numbers:
-            return self.pieces[0]
+    def text(self, numbers: Sequence[int]) -> bytes:
+        """The commands of a round with these numbers."""
         out = [self.pieces[0]]
-        for (slope, start), piece in zip(self.numbers, self.pieces[1:]):
-            out += [b'%d' % (slope * number + start), piece]
+        for number, piece in zip(numbers, self.pieces[1:]):
+            out += [b'%d' % number, piece]
         return b''.join(out)
 
-    def state(self, before: Sources) -> Sources:
-        """The state behind a round, of that before it."""
-        return {name: before[source] if isinstance(source, str) else source for name, source in self.after.items()}
+    def state(self, before: Sources, outside: Dict[str, Matrix]) -> Sources:
+        """The state behind a round, of that before it, and of what the step has from outside."""
+        return {name: outside[name] if source is None else before[source] if isinstance(source, str) else source
+                for name, source in self.after.items()}
+
+
+class Begin(NamedTuple):
+    """What a round begins with: the state, names that it mustn't write, and jobs that are queued."""
+    state: Sources
+    held: FrozenSet[str]
+    pending: Tuple[Pending, ...]
 
 
 class OwnNames:
@@ -100,109 +106,93 @@ def keys_of(sources: Sources) -> Tuple[str, ...]:
 
 
 class Renderer:
-    """A traced step as text."""
+    """Rounds as text."""
 
-    def __init__(self, session: 'Session', traced: Traced, show: Sequence[str]) -> None:
-        self.traced = traced
-        self._ops = [[session.backend.upload(op).name.encode() for op in job.ops] for job in traced.jobs]
-        self._templates: Dict[Tuple[Tuple[str, ...], FrozenSet[str], Tuple[Pending, ...]], Template] = {}
-        self._labels: Dict[Value, List[str]] = {}
-        for name, value in traced.out.items():
-            if isinstance(value, Made):
-                self._labels.setdefault(value, []).append(name)
-        self._shown = {traced.out[name] for name in show if isinstance(traced.out[name], Made)}
-        self.constants = _constants(traced)
-        size = max((job.shape[0] + job.most.entries for job in traced.jobs), default=0)
+    def __init__(self, session: 'Session', show: Sequence[str], size: int) -> None:
+        self._session, self._show = session, show
+        self._templates: Dict[Tuple[Traced, Tuple[str, ...], FrozenSet[str], Tuple[Pending, ...]], Template] = {}
         self.names = OwnNames(session.backend.names, size)
 
-    def template(self, state: Sources, held: FrozenSet[str], pending: Tuple[Pending, ...]) -> Template:
-        """The commands of a round; `held` are names that it mustn't write."""
-        key = (keys_of(state), held, pending)
+    def template(self, traced: Traced, begin: Begin) -> Template:
+        """The commands of a round."""
+        key = (traced, keys_of(begin.state), begin.held, begin.pending)
         if key not in self._templates:
-            self._templates[key] = _Writing(self, state, held, pending).made()
+            if len(self._templates) >= MOST_TEMPLATES:
+                self._templates.clear()
+            ops = [[self._session.backend.upload(op).name.encode() for op in job.ops] for job in traced.jobs]
+            self._templates[key] = _Writing(self.names, traced, ops, Results(traced, self._show), begin).made()
         return self._templates[key]
-
-    def labels(self, job: int) -> Tuple[str, ...]:
-        """The results that a job makes."""
-        return tuple(self._labels.get(Made(job), ()))
 
     def hand_over(self, owner: Handle) -> None:
         """An owner that a matrix has from now on: no round writes its name any more."""
         self.names.hand_over(owner)
         self._templates.clear()
 
+
+class Results:
+    """The results of a round: which of them each job makes, and which jobs are shown."""
+
+    def __init__(self, traced: Traced, show: Sequence[str]) -> None:
+        self._labels: Dict[Value, List[str]] = {}
+        for name, value in traced.out.items():
+            if isinstance(value, Made):
+                self._labels.setdefault(value, []).append(name)
+        self._shown = {traced.out[name] for name in show if isinstance(traced.out[name], Made)}
+
+    def labels(self, job: int) -> Tuple[str, ...]:
+        """The results that a job makes."""
+        return tuple(self._labels.get(Made(job), ()))
+
     def is_shown(self, job: int) -> bool:
         """Whether a job's result is shown."""
         return Made(job) in self._shown
 
-    def ops(self, job: int) -> List[bytes]:
-        """The names of a job's operators."""
-        return self._ops[job]
-
-
-def _constants(traced: Traced) -> List[Matrix]:
-    """The matrices of the session that a step uses."""
-    found: Dict[int, Matrix] = {}
-    for job in traced.jobs:
-        for value in [*job.operands, job.mask]:
-            if isinstance(value, Matrix):
-                found[id(value)] = value
-    found.update((id(value), value) for value in traced.out.values() if isinstance(value, Matrix))
-    return list(found.values())
-
 
 class _Writing:
-    """The text of one round as it is written."""
+    """The text of one round as it is written. `ops` are the operators' names of each job."""
 
-    def __init__(self, renderer: Renderer, state: Sources, held: FrozenSet[str], pending: Tuple[Pending, ...]) -> None:
-        self._renderer, self._state = renderer, state
-        self._pending = list(pending)
-        self._taken = {*keys_of(state), *held, *(job.name for job in pending)}
+    def __init__(self, names: OwnNames, traced: Traced, ops: List[List[bytes]], results: Results, begin: Begin) -> None:
+        self._names, self._traced, self._ops, self._results, self._state = names, traced, ops, results, begin.state
+        self._pending = list(begin.pending)
+        self._taken = {*keys_of(begin.state), *begin.held, *(job.name for job in begin.pending)}
         self._text: List[bytes] = []
         self._pieces: List[bytes] = []
-        self._numbers: List[Tuple[int, int]] = []
         self._made: Dict[int, Handle] = {}
         self._words = self._commands = 0
         self._counts: List[Counted] = []
         self._shows: List[Tuple[int, Tuple[str, ...]]] = []
 
     def made(self) -> Template:
-        renderer = self._renderer
-        for number, job in enumerate(renderer.traced.jobs):
+        for number, job in enumerate(self._traced.jobs):
             self._job(number, job)
         self._pieces.append(b''.join(self._text))
-        after = {name: self._after(renderer.traced.out[name]) for name in self._state}
+        after = {name: self._after(self._traced.out[name]) for name in self._state}
         left = tuple(job._replace(back=job.back + 1) for job in self._pending)
-        return Template(self._pieces, self._numbers, self._words, self._counts, self._shows, self._commands, after, left)
+        return Template(self._pieces, self._words, self._counts, self._shows, self._commands, after, left)
 
-    def _after(self, value: Value) -> Union[Source, str]:
-        return value if isinstance(value, Matrix) else value.name if isinstance(value, Given) else self._made[value.job]
+    def _after(self, value: Value) -> Union[Handle, str, None]:
+        return None if isinstance(value, Matrix) else value.name if isinstance(value, Given) else self._made[value.job]
 
     def _key(self, value: Value) -> str:
         """The server's name of a value."""
-        after = self._after(value)
-        return key_of(self._state[after] if isinstance(after, str) else after)
+        return key_of(value if isinstance(value, Matrix) else self._state[value.name] if isinstance(value, Given) else self._made[value.job])
 
     def _job(self, number: int, job: TracedJob) -> None:
-        renderer = self._renderer
         operands = list(map(self._key, job.operands))
         mask = None if job.mask is None else self._key(job.mask)
         waiting = {one.name for one in self._pending}
         if len(waiting) >= QUEUE or mask in waiting or not waiting.isdisjoint(operands):
             self._run()
-        owner = self._made[number] = renderer.names.free(self._taken)
+        owner = self._made[number] = self._names.free(self._taken)
         self._taken.add(owner.key)
-        line = b' '.join([job.form.encode(), owner.key.encode(), *renderer.ops(number), *(key.encode() for key in operands)])
-        if job.thunk is not None and job.thunk[0] == 0:
-            line += b' %d' % job.thunk[1]
-        elif job.thunk is not None:
+        line = b' '.join([job.form.encode(), owner.key.encode(), *self._ops[number], *(key.encode() for key in operands)])
+        if job.is_numbered:
             self._pieces.append(b''.join(self._text) + line + b' ')
-            self._numbers.append(job.thunk)
             self._text, line = [], b''
         self._text.append(line + (b' mask ' + mask.encode() if mask is not None else b'') + b'\n')
         self._words += QUEUED
         self._commands += 1
-        self._pending.append(Pending(owner.key, renderer.labels(number), 0, renderer.is_shown(number)))
+        self._pending.append(Pending(owner.key, self._results.labels(number), 0, self._results.is_shown(number)))
 
     def _run(self) -> None:
         text, words, counts, shows = run_of(self._pending, self._words)

@@ -1,14 +1,17 @@
 """A step that is made until it changes nothing."""
 from __future__ import annotations
 
-from typing import Any, Callable, Dict, Optional, TypeVar
+from typing import Any, Callable, Dict, Optional, Sequence, TypeVar
 
 from ..algorithms.protocols import GraphMatrix
 from ..algorithms.utils import Progress, repeated, tell
 from ..errors import NotSettled
+from ..io.coo import whole
 from ..pricing.foreseen import asked
 from . import Loop, NotAlike, NotTraced, Until
 
+NOT_SETTLED = ('it still changes after %d rounds: most= allows more, such as most=10**6. By default a fixpoint has one round more than there are rows '
+               'or columns, which lengths of paths need at most; they fall for ever along a cycle of negative length')
 M = TypeVar('M', bound=GraphMatrix)
 
 
@@ -17,26 +20,57 @@ def fixpoint(matrix: M, step: Callable[[M], M], most: Optional[int] = None, prog
 
         lengths = spmat.fixpoint(start, lambda d: d.ewise_add(d.mxm(W, 'min_plus'), 'min'))
 
-    `progress('round', k, most or 0)` is called after each round. It is a `spmat.loop`, so the step is called a few times beforehand to see
-    what it asks for; a step that looks at entries, or asks for other jobs in another round, is called for each round. Runs: those of the step,
-    and 3 a round, of which 2 where the number of entries stays as it was. Raises NotSettled, a RuntimeError, where it goes on after
-    `most` rounds. GraphBLAS: the loop around `GrB_mxm` that ends where nothing changes."""
+    Parameters
+    ----------
+    matrix : Matrix or BlockMatrix
+        What the first round works on.
+    step : callable
+        Makes a matrix of the same shape. It is called once for each round, ahead of it, as that of `spmat.loop`. One that looks at entries,
+        or makes matrices itself, is called with the matrix of each round.
+    most : int, optional
+        The most rounds. By default one more than the matrix has rows or columns, which is enough for lengths of paths.
+    progress : callable, optional
+        `progress('round', k, most or 0)` is called after each round.
+
+    Returns
+    -------
+    Matrix or BlockMatrix
+        What `step` leaves as it is.
+
+    Raises
+    ------
+    NotSettled
+        Where it still changes after so many rounds: it is a RuntimeError.
+
+    Notes
+    -----
+    Runs: those of the step, and 3 a round, of which 2 where the number of entries stays as it was. GraphBLAS: the loop around `GrB_mxm` that
+    ends where nothing changes."""
+    limit = max(matrix.shape) + 1 if most is None else whole(most, 'number of rounds')
     asker = asked()
     if asker is not None:
-        state = asker.repeat(lambda _, now: {'now': _compared(step, now['now'])['now']}, {'now': matrix}, most, 1 if most is None else min(1, most))
+        state = asker.repeat(lambda _, now: {'now': _compared(step, now['now'])['now']}, {'now': matrix}, limit, min(1, limit))
         return state['now']  # type: ignore[no-any-return]
-    loop = _traced(matrix, step)
-    if loop is None:
-        return repeated(matrix, step, lambda before, now: now.isequal(before), progress, most)
-    limit = 1 << 62 if most is None else most
+    made, number = matrix, 0
 
-    def heard(first: int, rounds: Any) -> None:
-        for number in range(first, first + len(rounds)):
-            tell(progress, 'round', number, most or 0)
-    if not loop.rounds(SAME, limit, heard):
-        raise NotSettled('did not converge after %d rounds' % limit)
-    made: M = loop.state.now
-    return made
+    def heard(first: int, rounds: Sequence[Any]) -> None:
+        for one in range(first, first + len(rounds)):
+            tell(progress, 'round', one, most or 0)
+    loop = _traced(matrix, step)
+    try:
+        if loop is not None:
+            if loop.rounds(SAME, limit, heard):
+                answer: M = loop.state.now
+                return answer
+            raise NotSettled(NOT_SETTLED % limit)
+    except (NotTraced, NotAlike):                  # in a later round: what is left is made by the step
+        assert loop is not None
+        made, number = loop.state.now, loop.number
+    try:
+        return repeated(made, step, lambda before, now: now.isequal(before), lambda word, k, of: tell(progress, word, number + k, most or 0),
+                        limit - number)
+    except NotSettled:
+        raise NotSettled(NOT_SETTLED % limit) from None
 
 
 SAME = Until(('now', 'both', 'differ'), lambda counts, before: counts['both'] == counts['now'] == before['now'] and not counts['differ'])

@@ -6,16 +6,19 @@ state is there as it was.
 from __future__ import annotations
 
 import collections
-from typing import TYPE_CHECKING, Deque, Dict, FrozenSet, List, NamedTuple, Optional, Sequence, Set, Tuple
+from typing import TYPE_CHECKING, Deque, Dict, FrozenSet, List, Mapping, NamedTuple, Optional, Sequence, Set, Tuple
 
+from .. import oversized_jobs
 from .._client.commands import CommandBatch
 from .._client.handles import Handle
 from .._client.pending_jobs import AMPLE
-from ..limits import MOST_PRICE, MOST_SIDE
+from ..errors import TooLarge
 from ..matrix import Matrix
-from .command_templates import Counted, Pending, Renderer, Sources, Template, keys_of, run_of
+from ..metadata import Notes
+from .command_templates import Begin, Counted, Pending, Renderer, Sources, Template, keys_of, run_of
+from .followed_rounds import Rounds
 from .round_results import Body
-from .tracing import Given, State, Traced
+from .tracing import Asked, Given, Made, State, TracedJob, Value
 from .vector_products import flush
 
 if TYPE_CHECKING:
@@ -29,9 +32,10 @@ Counts = Dict[str, int]
 
 
 class Place(NamedTuple):
-    """How far a loop is: rounds that were made, the state, and numbers of entries."""
+    """How far a loop is: rounds that were made, the state, what is known of it beside, and numbers of entries of all results."""
     number: int
     state: Sources
+    notes: Dict[str, Notes]
     counts: Counts
 
 
@@ -41,16 +45,24 @@ class Round(NamedTuple):
     bodies: Dict[str, Body]
 
 
+class Written(NamedTuple):
+    """Some rounds as text: their templates, the state behind them, where counts stand of what the last run makes, and what that shows."""
+    text: List[bytes]
+    templates: List[Template]
+    state: Sources
+    ends: Sequence[Counted]
+    shown: Sequence[Tuple[int, Tuple[str, ...]]]
+    commands: int
+
+
 class Trip(CommandBatch):
     """Rounds that are sent together."""
 
-    def __init__(self, start: Place, templates: List[Template], ends: Sequence[Counted], ends_shown: Sequence[Tuple[int, Tuple[str, ...]]],
-                 text: bytes, commands: int) -> None:
-        super().__init__(text, commands)
-        self.start, self.templates, self.ends, self.ends_shown = start, templates, ends, ends_shown
-        self.state = start.state
-        for template in templates:
-            self.state = template.state(self.state)
+    def __init__(self, start: Place, asked: List[Asked], written: Written) -> None:
+        super().__init__(b''.join(written.text), written.commands)
+        self.start, self.asked, self.templates = start, asked, written.templates
+        self.ends, self.ends_shown, self.state = written.ends, written.shown, written.state
+        self.steps = sum(one.traced.steps for one in asked)
 
     @property
     def number(self) -> int:
@@ -104,76 +116,77 @@ def _parted(data: bytes) -> Tuple[bytes, List[Body]]:
 class Trips:
     """A loop's rounds by trips. `place` is what is known; `under_way` are trips that follow it, each on the one before."""
 
-    def __init__(self, session: 'Session', traced: Traced, state: State, show: Sequence[str]) -> None:
-        self.session = session
-        self.renderer = Renderer(session, traced, show)
-        for matrix in [*state.values(), *self.renderer.constants]:
+    def __init__(self, session: 'Session', rounds: Rounds, state: State, show: Sequence[str]) -> None:
+        self.session, self.rounds = session, rounds
+        size = max((job.shape[0] + job.most.entries for job in rounds.first.traced.jobs), default=0)
+        self.renderer = Renderer(session, show, size)
+        for matrix in state.values():
             matrix.wait()
             assert matrix.handle.key                     # what the client has is sent by this
-        self._given = {name: value.name for name, value in traced.out.items() if isinstance(value, Given)}
-        self._fixed = {name: value.nvals for name, value in traced.out.items() if isinstance(value, Matrix)}
-        self.shapes = {name: matrix.shape for name, matrix in state.items()}
         self.place = place_of(state, 0)
         self.under_way: Deque[Trip] = collections.deque()
         self._vain: List[Trip] = []                # behind the end, whose replies nobody wants
-        self.is_sure = all(job.most.terms <= MOST_SIDE and job.most.steps <= MOST_PRICE for job in traced.jobs)
-        self.steps = sum(min(job.most.steps, MOST_PRICE) for job in traced.jobs)       # of a round, at most
         self.trips = 0
 
     # -- sending
-
-    def restart(self, state: State, number: int) -> None:
-        """Goes on from other matrices."""
-        self.place = place_of(state, number)
 
     @property
     def next(self) -> int:
         """The last round that was sent."""
         return self.under_way[-1].number if self.under_way else self.place.number
 
-    def bearable(self, rounds: int) -> int:
-        """How many of so many rounds may go in one trip now, so that nothing in it can be refused for want of steps; 0 where that can't
-        be said of one."""
+    def bearable(self, most: int) -> List[Asked]:
+        """The next rounds, at most so many, that may go in one trip now, so that nothing in it can be refused for want of steps; none where that
+        can't be said of one. Raises what the step ends in where it is called for the next round that is made."""
         queue = self.session.backend.queue
         left = queue.left - (AMPLE if queue.shared else 0)
-        sure = left // max(1, SPARE * self.steps) if left > 0 else 0
-        return min(rounds, sure, MOST_ROUNDS if self.is_sure else MOST_UNSURE)
+        if not self.under_way:
+            self.rounds.check(self.place.number + 1)
+        found: List[Asked] = []
+        steps, is_sure = 0, True
+        while len(found) < min(most, MOST_ROUNDS):
+            asked = self.rounds.ask(self.next + len(found) + 1)
+            if asked is None:
+                break
+            steps, is_sure = steps + asked.traced.steps, is_sure and asked.traced.is_sure
+            if SPARE * max(1, steps) > left or (len(found) >= MOST_UNSURE and not is_sure):
+                break
+            found.append(asked)
+        return found
 
-    def post(self, rounds: int) -> int:
-        """Sends so many rounds, or fewer where their text is long; how many."""
+    def post(self, asked: List[Asked]) -> None:
+        """Sends rounds, or fewer where their text is long."""
         session = self.session
         with session.backend.turn():
             flush(session)
-            trip = self._trip(rounds)
-            if len(trip.text) > MOST_BYTES and len(trip.templates) > 1:
-                trip = self._trip(max(1, len(trip.templates) * MOST_BYTES // len(trip.text)))
+            trip = self._trip(asked)
+            if len(trip.text) > MOST_BYTES and len(asked) > 1:
+                trip = self._trip(asked[:max(1, len(asked) * MOST_BYTES // len(trip.text))])
             session.connection.post(trip)
             session.backend.queue.runs += trip.text.count(b'run\n')
-            session.backend.jobs += len(trip.templates) * len(self.renderer.traced.jobs)
+            session.backend.jobs += sum(len(one.traced.jobs) for one in trip.asked)
             self.under_way.append(trip)
-            session.backend.queue.left -= self.steps * len(trip.templates)
+            session.backend.queue.left -= trip.steps
             self.trips += 1
-            return len(trip.templates)
 
-    def _trip(self, rounds: int) -> Trip:
+    def _trip(self, asked: List[Asked]) -> Trip:
         last = self.under_way[-1] if self.under_way else None
-        start = self.place if last is None else Place(last.number, last.state, {})
+        start = self.place if last is None else Place(last.number, last.state, {}, {})
         held: Set[str] = {*keys_of(self.place.state), *keys_of(start.state)}
         for trip in self.under_way:
             held.update(keys_of(trip.state))
-        return self._written(start, rounds, frozenset(held))
+        return Trip(start, asked, self._written(start.state, asked, frozenset(held)))
 
-    def _written(self, start: Place, rounds: int, held: FrozenSet[str]) -> Trip:
-        """The commands of so many rounds; at their end all is run."""
+    def _written(self, state: Sources, asked: List[Asked], held: FrozenSet[str]) -> Written:
+        """The commands of rounds; at their end all is run."""
         templates: List[Template] = []
         text, commands = [], 0
-        state = start.state
         pending: Tuple[Pending, ...] = ()
-        for at in range(rounds):
-            template = self.renderer.template(state, held, pending)
+        for one in asked:
+            template = self.renderer.template(one.traced, Begin(state, held, pending))
             templates.append(template)
-            text.append(template.text(start.number + at + 1))
-            state, pending = template.state(state), template.pending
+            text.append(template.text(one.numbers))
+            state, pending = template.state(state, one.outside), template.pending
             commands += template.commands
         ends, shown = [], []  # type: List[Counted], List[Tuple[int, Tuple[str, ...]]]
         if pending:
@@ -181,7 +194,7 @@ class Trips:
             text.append(more)
             commands += 1 + len(shown)
         text.append(b'budget\n')
-        return Trip(start, templates, ends, shown, b''.join(text), commands + 1)
+        return Written(text, templates, state, ends, shown, commands + 1)
 
     # -- what comes back
 
@@ -201,27 +214,25 @@ class Trips:
             self.stop()
             self.settle()
             return None
-        before = self._counts_before(trip)
-        for one in rounds:
-            one.counts.update(self._fixed)
-            one.counts.update((name, before[value]) for name, value in self._given.items() if value in before)
+        before = trip.start.counts or self.place.counts
+        for one, asked in zip(rounds, trip.asked):
+            one.counts.update((name, matrix.nvals) for name, matrix in asked.outside.items())
+            one.counts.update((name, before[value.name]) for name, value in asked.traced.out.items() if isinstance(value, Given))
             before = one.counts
         return rounds
 
-    def _counts_before(self, trip: Trip) -> Counts:
-        return trip.start.counts or self.place.counts
-
     def _left(self, replies: bytes) -> None:
         """What the budget has for sure, as the end of a trip says."""
-        others = sum(len(trip.templates) for trip in self.under_way) - (len(self.under_way[0].templates) if self.under_way else 0)
+        others = sum(trip.steps for trip in list(self.under_way)[1:])
         left, reserved = map(int, replies.rsplit(None, 3)[-3:-1])
         self.session.backend.queue.note_budget(left, reserved)
-        self.session.backend.queue.left -= others * self.steps
+        self.session.backend.queue.left -= others
 
     def accept(self, rounds: List[Round]) -> None:
         """The first trip under way is what the loop goes on from."""
         trip = self.under_way.popleft()
-        self.place = Place(trip.number, trip.state, rounds[-1].counts)
+        notes = {name: trip.asked[-1].notes[name] for name in trip.state}
+        self._go_on(Place(trip.number, trip.state, notes, rounds[-1].counts))
 
     def stop(self) -> None:
         """Forgets what is under way: the loop is where its first trip began."""
@@ -233,6 +244,38 @@ class Trips:
         if self._vain:
             last, self._vain = self._vain[-1], []
             self._left(self.session.connection.collect(last))
+
+    def _go_on(self, place: Place) -> None:
+        self.place = place
+        self.rounds.made(place.number)
+
+    def resume(self) -> None:
+        """Goes on from the state, of which the caller may have named vertices."""
+        if not self.under_way:
+            self.rounds.resume(self.place.number, {name: source.notes if isinstance(source, Matrix) else self.place.notes[name]
+                                                   for name, source in self.place.state.items()})
+
+    # -- rounds that are made one by one
+
+    def make_one(self) -> Dict[str, Matrix]:
+        """The results of the next round, of which each job is handed in by itself, as the step asked for it. A refusal leaves the state."""
+        number, state = self.place.number + 1, self.matrices()
+        self.rounds.check(number)
+        asked = self.rounds.ask(number)
+        if asked is None:
+            self.rounds.check(number)
+        assert asked is not None
+        got = replayed(self.session, asked, state)
+        for matrix in got.values():
+            matrix.wait()
+        return got
+
+    def accept_one(self, got: Mapping[str, Matrix]) -> None:
+        """These results are what the loop goes on from."""
+        state = State((name, got[name]) for name in self.place.state)
+        self._go_on(place_of(state, self.place.number + 1)._replace(counts={name: matrix.nvals for name, matrix in got.items()}))
+
+    # -- the state
 
     def matrices(self) -> State:
         """The state, as matrices that have their names from now on. What the caller has, of the state or outside of the step, is itself."""
@@ -250,13 +293,43 @@ class Trips:
         else:
             self.renderer.hand_over(owner)
             owner.nvals = owner.most = place.counts[name]
-            owner.note_size(self.shapes[name][0], owner.nvals)
-            made = Matrix(self.session, owner, self.shapes[name], name)
-            made.notes = self.renderer.traced.notes[name]
+            shape = self.rounds.shapes[name]
+            owner.note_size(shape[0], owner.nvals)
+            made = Matrix(self.session, owner, shape, name)
+            made.notes = place.notes[name]
         place.state.update((other, made) for other, source in place.state.items() if source is owner)
         return made
 
 
 def place_of(state: State, number: int) -> Place:
     """A place of matrices."""
-    return Place(number, dict(state), {name: matrix.nvals for name, matrix in state.items()})
+    return Place(number, dict(state), {name: matrix.notes for name, matrix in state.items()}, {name: matrix.nvals for name, matrix in state.items()})
+
+
+def replayed(session: 'Session', asked: Asked, state: State) -> Dict[str, Matrix]:
+    """The results of a round whose jobs are handed in one by one."""
+    made: List[Matrix] = []
+    numbers = iter(asked.numbers)
+
+    def matrix_of(value: Value) -> Matrix:
+        found: Matrix = value if isinstance(value, Matrix) else state[value.name] if isinstance(value, Given) else made[value.job]
+        return found
+    for job in asked.traced.jobs:
+        operands, mask = list(map(matrix_of, job.operands)), None if job.mask is None else matrix_of(job.mask)
+        made.append(handed_in(session, job, operands, mask, next(numbers) if job.is_numbered else None))
+    got: Dict[str, Matrix] = {}
+    for name, value in asked.traced.out.items():
+        got[name] = asked.outside[name] if name in asked.outside else matrix_of(value)
+        if isinstance(value, Made):
+            got[name].name, got[name].notes = name, asked.notes[name]
+    return got
+
+
+def handed_in(session: 'Session', job: TracedJob, operands: List[Matrix], mask: Optional[Matrix], thunk: Optional[int]) -> Matrix:
+    """A job of a round, by parts where the step asks for it so. Where it is too large, the refusal says how large it is."""
+    def submitted(first: Matrix) -> Matrix:
+        return session.backend.submit(job.form, job.ops, [first, *operands[1:]], job.shape, thunk, mask)
+    try:
+        return oversized_jobs.in_parts(operands[0], submitted) if job.is_by_parts else submitted(operands[0])
+    except TooLarge as fault:
+        raise oversized_jobs.explained(fault, job.form, job.ops, operands, mask) from None

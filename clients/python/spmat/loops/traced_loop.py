@@ -1,23 +1,24 @@
 """Loops whose rounds stay at the server.
 
-A step makes of named matrices, the state, the next ones. It is traced once, and replayed: many rounds go in one trip, and two trips are under
-way at a time, so a round costs what its jobs do, and not the client's work and a trip for each. What ends the loop is seen from the numbers
-of entries that the server tells of each result anyway.
+A step makes of named matrices, the state, the next ones. It is called ahead of the rounds, and says which jobs they are: many rounds go in one
+trip, and two trips are under way at a time, so that neither side waits for the other. What ends the loop is seen from the numbers of entries
+that the server tells of each result anyway.
 
-Where a trip can't be borne or something in it is refused, the loop goes on round by round from where the trip began, by the step itself: so
-each refusal comes in the round, and leaves the state, that it would have without trips.
+Where a trip can't be borne or something in it is refused, the loop goes on round by round from where the trip began: so each refusal comes in
+the round, and leaves the state, that it would have without trips.
 """
 from __future__ import annotations
 
 import time
-from typing import TYPE_CHECKING, Any, Callable, Dict, List, Mapping, NamedTuple, Optional, Sequence, Tuple, Union, cast
+from typing import TYPE_CHECKING, Any, Callable, Dict, List, Mapping, NamedTuple, Optional, Sequence, Set, Tuple, Union, cast
 
 from ..errors import NotSettled, Refused
 from ..io.coo import whole
 from ..pricing.foreseen import Asked, Unread, asked
+from .followed_rounds import Rounds
 from .pipelined_rounds import Counts, Round, Trips
 from .round_results import Body, Shown
-from .tracing import Made, State, TracedMatrix, of_two, results, trace
+from .tracing import State, TracedMatrix, of_two, results
 
 if TYPE_CHECKING:
     from ..algorithms.utils import Progress
@@ -29,7 +30,7 @@ Each = Callable[[int, Counts], Any]
 
 class Until(NamedTuple):
     """An end: the results that it looks at, whether it is met by their numbers of entries in a round and in the one before, and whether
-    rounds behind it cost next to nothing."""
+    rounds behind it cost next to nothing, should they work on these results."""
     names: Tuple[str, ...]
     met: Callable[[Counts, Counts], bool]
     rests: bool = False
@@ -59,25 +60,23 @@ class Loop:
     """A step that is made again and again: `spmat.loop` makes one. `number` rounds are made; `state` has the matrices behind them, by name
     (`loop.state.front`, or `loop.state["front"]`); `shown` the entries of what is shown, for all rounds (`loop.shown["front"].places`)."""
 
-    def __init__(self, step: Callable[..., Mapping[str, Any]], state: Mapping[str, Any], show: Sequence[str] = ()) -> None:
+    def __init__(self, step: Callable[..., Mapping[str, Any]], state: Mapping[str, Any], show: Sequence[str] = (), alike: bool = False) -> None:
         self._step, begun = of_two(step), _checked(state)
         self._state, self._made = begun, 0         # where no trips are
+        self._last: Counts = {}                    # of all results of the last round, where no trips are
         self._end: Optional[int] = None            # rounds that are made, where fewer are known by their names
         self._careful = False                      # something was refused
         self.shown: Dict[str, Shown] = {}
         self._show = [show] if isinstance(show, str) else list(show)
+        self._results: Optional[Set[str]] = None   # of the step, as far as it was called
         self._trips: Optional[Trips] = None
         first = next(iter(begun.values()))
         if asked() is None and all(matrix.in_one_place for matrix in begun.values()):
-            traced = trace(first.session, self._step, begun)
-            for name in self._show:
-                value = traced.out.get(name)
-                if not isinstance(value, Made):
-                    raise ValueError('show= names %r, which no job of the step makes: it has %s' % (name, ', '.join(traced.out)))
-                self.shown[name] = Shown(traced.jobs[value.job].shape)
-            self._results = set(traced.out)
-            self._trips = Trips(first.session, traced, begun, self._show)
-            if self._trips.bearable(1) == 0:
+            rounds = Rounds(first.session, self._step, begun, self._show, alike)
+            self.shown.update((name, Shown(shape)) for name, shape in rounds.shown.items())
+            self._results = set(rounds.first.traced.out)
+            self._trips = Trips(first.session, rounds, begun, self._show)
+            if not self._trips.bearable(1):
                 first.session.budget()             # which may have more than is known
 
     def __repr__(self) -> str:
@@ -135,13 +134,14 @@ class Loop:
         if asker is not None:
             self._foresee(asker, most, most if end is None else min(1, most))
             return True
-        goal, size = self.number + most, FIRST if end is None or end.rests else 1
+        rests = end is None or self._rests(end)
+        goal, size = self.number + most, FIRST if rests else 1
         before = self._counts()
         while self.number < goal:
             begun, first = time.monotonic(), self.number + 1
-            rounds = self._by_trip(end, size, goal)
+            rounds = self._by_trip(rests, size, goal)
             by_trip = rounds is not None
-            rounds = self._by_step() if rounds is None else rounds
+            rounds = self._by_itself(end) if rounds is None else rounds
             met = _first_met(end, before, rounds)
             before = rounds[-1].counts
             kept = rounds if met is None else rounds[:met + 1]
@@ -151,7 +151,7 @@ class Loop:
             heard(first, kept)
             if met is not None:
                 return True
-            size = self._next_size(size, end, time.monotonic() - begun)
+            size = self._next_size(size, rests, time.monotonic() - begun)
         return False
 
     # -- rounds
@@ -169,17 +169,20 @@ class Loop:
             asker.loops[id(self)] = self, asker.repeat(made, begun, again, again)
         asker.loops[id(self)] = self, asker.repeat(made, asker.loops[id(self)][1], most, least)
 
-    def _by_trip(self, end: Optional[Until], size: int, goal: int) -> Optional[List[Round]]:
-        """The rounds of the trip that was sent first. None where they are to be made by the step itself."""
+    def _rests(self, end: Until) -> bool:
+        """Whether rounds behind an end cost next to nothing: the next ones work on what is empty then."""
+        return end.rests and self._trips is not None and self._trips.rounds.first.traced.used.issuperset(end.names)
+
+    def _by_trip(self, rests: bool, size: int, goal: int) -> Optional[List[Round]]:
+        """The rounds of the trip that was sent first. None where they are to be made one by one."""
         trips = self._trips
         if trips is None or self._careful:
             return None
-        depth = 2 if end is None or end.rests else 1
-        while len(trips.under_way) < depth and trips.next < goal:
-            rounds = trips.bearable(min(size, goal - trips.next))
-            if rounds == 0:
+        while len(trips.under_way) < (2 if rests else 1) and trips.next < goal:
+            asked = trips.bearable(min(size, goal - trips.next))
+            if not asked:
                 break
-            trips.post(rounds)
+            trips.post(asked)
         if not trips.under_way:
             return None
         rounds_made = trips.take()
@@ -197,14 +200,11 @@ class Loop:
         if end is not None:
             trips.stop()
 
-    def _by_step(self) -> List[Round]:
-        """One round by the step itself."""
+    def _by_itself(self, end: Optional[Until]) -> List[Round]:
+        """One round that is made by itself, where there are no trips by the step."""
         trips, number = self._trips, self.number + 1
-        now = self._state if trips is None else trips.matrices()
         try:
-            got = results(self._step, now, number)
-            for matrix in got.values():
-                matrix.wait()
+            got = self._by_step(end) if trips is None else trips.make_one()
             bodies = {name: _body(got[name]) for name in self._show}
         except Refused as fault:
             fault.round = number
@@ -212,15 +212,23 @@ class Loop:
         made = Round({name: matrix.nvals for name, matrix in got.items()}, bodies)
         for name in self._show:
             self.shown.setdefault(name, Shown(got[name].shape))
-        state = State((name, got[name]) for name in now)
         if trips is None:
-            self._state, self._made, self._results = state, number, set(got)
+            self._state, self._made, self._last = State((name, got[name]) for name in self._state), number, made.counts
         else:
-            trips.restart(state, number)
+            trips.accept_one(got)
         return [made]
 
-    def _next_size(self, size: int, end: Optional[Until], took: float) -> int:
-        if end is None or end.rests:
+    def _by_step(self, end: Optional[Until]) -> Dict[str, Any]:
+        """The results of the next round, by the step."""
+        got = results(self._step, self._state, self.number + 1)
+        self._results = set(got)
+        self._check_names(end.names if end is not None else ())
+        for matrix in got.values():
+            matrix.wait()
+        return got
+
+    def _next_size(self, size: int, rests: bool, took: float) -> int:
+        if rests:
             return 2 * size if 2 * took < LONG else size
         return 2 * size if 2 * took < QUICK else size if took < QUICK else max(1, size // 2)
 
@@ -231,7 +239,10 @@ class Loop:
                 self.shown[name].add(number, one.counts[name], one.bodies[name])
 
     def _counts(self) -> Counts:
-        return {name: matrix.nvals for name, matrix in self._state.items()} if self._trips is None else self._trips.place.counts
+        """The numbers of entries of all results of the last round; before there was one, of the state."""
+        if self._trips is not None:
+            return self._trips.place.counts
+        return self._last or {name: matrix.nvals for name, matrix in self._state.items()}
 
     def _catch_up(self) -> None:
         """Makes the rounds again that came before an end amid a trip."""
@@ -249,14 +260,16 @@ class Loop:
     def _resumed(self) -> int:
         """The number of rounds that are made, whose state is there to go on from."""
         self._catch_up()
+        if self._trips is not None and asked() is None:
+            self._trips.resume()
         return self.number
 
     def _default(self) -> int:
-        shapes = [matrix.shape for matrix in self._state.values()] if self._trips is None else list(self._trips.shapes.values())
+        shapes = [matrix.shape for matrix in self._state.values()] if self._trips is None else list(self._trips.rounds.shapes.values())
         return int(max(max(shape) for shape in shapes)) + 1
 
     def _check_names(self, names: Sequence[str]) -> None:
-        if self._trips is not None:
+        if self._results is not None:
             for name in names:
                 if name not in self._results:
                     raise ValueError('until= looks at %r, which no step returns: it has %s' % (name, ', '.join(sorted(self._results))))

@@ -8,10 +8,12 @@ from __future__ import annotations
 import inspect
 from typing import TYPE_CHECKING, Any, Callable, Dict, List, Mapping, NamedTuple, NoReturn, Optional, Sequence, Tuple, Union, cast
 
+from .._client import handles
 from .._client.handles import Handle
 from .._client.pending_jobs import Most, most_of
+from ..aliases import alias
 from ..errors import UnitsDiffer
-from ..limits import MOST_SIDE
+from ..limits import MOST_PRICE, MOST_SIDE
 from ..matrix import Matrix
 from ..metadata import Notes
 from ..operators import Operator
@@ -19,11 +21,12 @@ from ..operators import Operator
 if TYPE_CHECKING:
     from ..session import Session
 
-ROUNDS = (1, 2, 5)                                 # whose jobs are compared
 NO_ENTRIES = ('a step of a loop is traced, not run: %s has no entries yet. In a step reduce_rowwise() gives a number as a 1x1 matrix; '
               'show=, each= and until= tell what a round came to')
-ALIKE = ('a step has to ask for the same jobs in each round, and only a number of a job may differ: matrices that do not depend on the '
-         'state are to be made before the loop')
+OUTSIDE = ('a step makes a matrix that does not depend on the state in each round: such matrices are to be made before the loop, so that '
+           'each round takes the same one')
+OTHER_ROUND = ('a step works on a matrix of another session, of another loop, or of an earlier round: what a later round is to have goes '
+               'into the state')
 
 
 class State(Dict[str, Any]):
@@ -41,7 +44,8 @@ class NotTraced(TypeError):
 
 
 class NotAlike(ValueError):
-    """A step asks for other jobs in another round."""
+    """A step isn't one of its rounds alone: it makes matrices itself in each, takes some of an earlier round, or asks for other jobs where it
+    is called again for the same round."""
 
 
 Step = Callable[[State, int], Mapping[str, Any]]
@@ -61,20 +65,38 @@ Value = Union[Given, Made, Matrix]
 
 
 class TracedJob(NamedTuple):
-    """A job of the step. A thunk is slope * round + start."""
+    """A job of the step. `is_numbered` says whether it takes a number, which each round has its own of; `is_by_parts` whether it is a product
+    that is made by parts where it is too large."""
     form: str
     ops: Tuple[Operator, ...]
     operands: Tuple[Value, ...]
     mask: Optional[Value]
-    thunk: Optional[Tuple[int, int]]
+    is_numbered: bool
+    is_by_parts: bool
     shape: Tuple[int, int]
     most: Most
 
 
-class Traced(NamedTuple):
-    """A step: its jobs, which values its results are, and what is known of these beside their entries."""
-    jobs: List[TracedJob]
-    out: Dict[str, Value]
+class Traced:
+    """What some rounds ask for, of which only the numbers differ: jobs, and which values their results are."""
+
+    def __init__(self, jobs: List[TracedJob], out: Dict[str, Value]) -> None:
+        self.jobs, self.out = jobs, out
+        self.steps = sum(min(job.most.steps, MOST_PRICE) for job in jobs)      # at most
+        self.is_sure = all(job.most.terms <= MOST_SIDE and job.most.steps <= MOST_PRICE for job in jobs)
+        values = [value for job in jobs for value in (*job.operands, job.mask)]
+        self.used = {value.name for value in values if isinstance(value, Given)}
+        self.constants = [value for value in (*values, *out.values()) if isinstance(value, Matrix)]
+        self.is_known = False                      # whether it was looked at
+
+
+class Asked(NamedTuple):
+    """A round: what it asks for, the numbers of those jobs that take one, in order, the results that are matrices from outside, and what is
+    known beside of what it begins with, and of its results."""
+    traced: Traced
+    numbers: Tuple[int, ...]
+    outside: Dict[str, Matrix]
+    given: Dict[str, Notes]
     notes: Dict[str, Notes]
 
 
@@ -83,8 +105,9 @@ class TracedMatrix(Matrix):
 
     is_traced = True
 
-    def __init__(self, tracer: 'Tracer', shape: Tuple[int, int], most: int, label: str) -> None:
+    def __init__(self, tracer: 'Tracer', shape: Tuple[int, int], most: int, label: str, stands_for: Union[Given, Made]) -> None:
         super().__init__(cast('Session', tracer), Handle(None, None, min(most, MOST_SIDE)), shape, label)
+        self.stands_for = stands_for
 
     def _none(self) -> NoReturn:
         raise NotTraced(NO_ENTRIES % self.name)
@@ -115,45 +138,74 @@ class TracedMatrix(Matrix):
     new = wait
 
 
-class _Asked(NamedTuple):
-    """A job as it was asked for."""
-    form: str
-    ops: Tuple[Operator, ...]
-    operands: Tuple[Matrix, ...]
-    mask: Optional[Matrix]
-    thunk: Optional[int]
-    made: Matrix
-    most: Most
+class Jobs:
+    """The jobs that rounds ask for, as a tree: those that begin alike share a branch. So a round that is like an earlier one costs a look at
+    each job."""
+
+    def __init__(self, job: Optional[TracedJob] = None) -> None:
+        self.job = job
+        self.following: Dict[Any, Jobs] = {}
+        self.ends: Dict[Any, Traced] = {}
 
 
 class Tracer:
-    """What traced matrices take for their session, and for what submits its jobs."""
+    """What the matrices of one round of a traced step take for their session, and for what submits its jobs. `ones` are rows of ones that
+    earlier rounds asked for; of a later round no matrix may be new that is none of the state's."""
 
-    def __init__(self, session: 'Session') -> None:
+    def __init__(self, session: 'Session', begun: Jobs, ones: Dict[int, Matrix], is_later: bool) -> None:
         self.session = session
         self.backend = self
         self.connection = session.connection
-        self.asked: List[_Asked] = []
+        self.at, self.jobs, self.numbers = begun, [], []     # type: Jobs, List[TracedJob], List[int]
+        self._ones = ones
+        self._last = next(handles.serial) if is_later else None
 
     def submit(self, form: str, ops: Sequence[Operator], operands: Sequence[Matrix], shape: Tuple[int, int],
-               thunk: Optional[int] = None, mask: Optional[Matrix] = None, name: Optional[str] = None) -> Matrix:
+               thunk: Optional[int] = None, mask: Optional[Matrix] = None, name: Optional[str] = None, parts: bool = False) -> Matrix:
         """Notes a job."""
-        for matrix in [*operands, *([mask] if mask is not None else [])]:
-            if cast(Any, matrix.session) not in (self, self.session):
-                raise ValueError('a matrix of another session, or of another loop')
-            matrix.handle.check_made()
-        length = sum(self.session.backend.length_of(op) for op in ops)
-        most = most_of(form, length, operands, mask, shape)
-        made = TracedMatrix(self, shape, most.entries, name or 'the result of %s' % form)
-        self.asked.append(_Asked(form, tuple(ops), tuple(operands), mask, thunk, made, most))
-        return made
+        values = tuple([self.value(matrix) for matrix in operands])
+        under = None if mask is None else self.value(mask)
+        key = (form, tuple(ops), tuple(map(_key, values)), _key(under), thunk is None, parts)
+        found = self.at.following.get(key)
+        if found is None:
+            length = sum(self.session.backend.length_of(op) for op in ops)
+            most = most_of(form, length, operands, mask, shape)
+            found = self.at.following[key] = Jobs(TracedJob(form, tuple(ops), values, under, thunk is not None, parts, shape, most))
+        job = found.job
+        assert job is not None
+        self.at = found
+        self.jobs.append(job)
+        if thunk is not None:
+            self.numbers.append(thunk)
+        return TracedMatrix(self, shape, job.most.entries, name or 'the result of ' + form, Made(len(self.jobs) - 1))
+
+    def value(self, matrix: Matrix) -> Value:
+        """What a matrix is in this round. ValueError where it is none of it, nor of the session."""
+        if matrix.session is cast('Session', self):
+            return cast(TracedMatrix, matrix).stands_for
+        if matrix.session is not self.session:
+            raise NotAlike(OTHER_ROUND)
+        matrix.handle.check_made()
+        if self._last is not None and matrix.handle.serial > self._last:
+            raise NotAlike(OUTSIDE)
+        return matrix
+
+    def ended(self, out: Dict[str, Value]) -> Traced:
+        """The jobs that were asked for, of which these are the results."""
+        key = tuple((name, _key(value)) for name, value in out.items())
+        if key not in self.at.ends:
+            self.at.ends[key] = Traced(self.jobs, out)
+        return self.at.ends[key]
 
     def run(self) -> None:
         """Runs stand where a job wants a result: that is seen when the step is written down."""
 
     def ones(self, ncols: int) -> Matrix:
-        """A row of ones, of the session."""
-        return self.session.ones(ncols)
+        """A row of ones, of the session: all rounds have one of a length."""
+        if ncols not in self._ones:
+            self._ones[ncols] = self.session.ones(ncols)
+            self._last = None if self._last is None else next(handles.serial)
+        return alias(self._ones[ncols], self._ones[ncols].notes)
 
     def length_of(self, op: Operator) -> int:
         """The number of an operator's instructions, as the session has it."""
@@ -193,54 +245,6 @@ def results(step: Step, state: State, number: int) -> Dict[str, Any]:
     return out
 
 
-def trace(session: 'Session', step: Step, state: State) -> Traced:
-    """The jobs of a step. ValueError where it asks for others in another round, or for a number that isn't a * round + b."""
-    rounds: List[Traced] = []
-    notes = {name: matrix.notes for name, matrix in state.items()}
-    for number in ROUNDS:
-        rounds.append(_asked(session, step, state, notes, number))
-        notes = rounds[-1].notes
-    first = rounds[0]
-    if any(_plain(one) != _plain(first) for one in rounds[1:]):
-        raise NotAlike(ALIKE)
-    jobs = []
-    for number, job in enumerate(first.jobs):
-        thunks = [one.jobs[number].thunk for one in rounds]
-        jobs.append(job._replace(thunk=_line([thunk[1] for thunk in thunks if thunk is not None])))
-    return Traced(jobs, first.out, notes)
-
-
-def _line(values: List[int]) -> Optional[Tuple[int, int]]:
-    """A number as slope * round + start, from its values in three rounds."""
-    if not values:
-        return None
-    slope = values[1] - values[0]
-    start = values[0] - slope * ROUNDS[0]
-    if values[2] != slope * ROUNDS[2] + start:
-        raise NotAlike('a number of a step is a * round + b, and here it is %d, %d and %d in the rounds 1, 2 and 5' % tuple(values))
-    return slope, start
-
-
-def _plain(traced: Traced) -> Any:
-    """What has to be alike in all rounds."""
-    def key(value: Optional[Value]) -> Any:
-        return id(value) if isinstance(value, Matrix) else (type(value).__name__, value)
-    jobs = [(job.form, job.ops, tuple(map(key, job.operands)), key(job.mask), job.thunk is None) for job in traced.jobs]
-    return jobs, {name: key(value) for name, value in traced.out.items()}
-
-
-def _asked(session: 'Session', step: Step, state: State, notes: Dict[str, Notes], number: int) -> Traced:
-    """What a step asks for in one round; thunks are (0, number)."""
-    tracer = Tracer(session)
-    given = State((name, TracedMatrix(tracer, matrix.shape, matrix.nrows * matrix.ncols, name)) for name, matrix in state.items())
-    for name, matrix in given.items():
-        matrix.notes = notes[name]
-    got = results(step, given, number)
-    values: Dict[int, Value] = {id(matrix): Given(name) for name, matrix in given.items()}
-    values.update((id(job.made), Made(at)) for at, job in enumerate(tracer.asked))
-
-    def value(matrix: Matrix) -> Value:
-        return values.get(id(matrix), matrix)
-    jobs = [TracedJob(job.form, job.ops, tuple(map(value, job.operands)), None if job.mask is None else value(job.mask),
-                      None if job.thunk is None else (0, job.thunk), job.made.shape, job.most) for job in tracer.asked]
-    return Traced(jobs, {name: value(matrix) for name, matrix in got.items()}, {name: matrix.notes for name, matrix in got.items()})
+def _key(value: Optional[Value]) -> Any:
+    """What tells values apart: matrices of one owner are one."""
+    return id(value.handle) if isinstance(value, Matrix) else value
