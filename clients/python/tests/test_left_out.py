@@ -89,6 +89,49 @@ class Missing(Case):
         G = self.read('a,b,1.5\nb,c,NA\nc,d,.25\n', missing='skip', scale=100)
         self.assertIn('values times 100, all whole then; 1 row without a value left out', G.notes.source)
 
+    def test_lists_of_edges(self):
+        edges = [('a', 'b', 3), ('a', None, 3), ('b', 'c', None), (float('nan'), 'd', 4), ('c', 'd', {'weight': float('nan')}), ('nan', 'c', 5)]
+        with blocks.Sessions(2) as many:
+            for s in (self.s, many):
+                self.assertIn('edge 1: a name is missing: missing="skip" leaves the edge out', self.said(s.from_edgelist, edges))
+                self.assertIn('edge 2: the value is missing', self.said(s.from_edgelist, [edges[0], edges[5], edges[2]]))
+                G = s.from_edgelist(edges, missing='skip')
+                self.assertEqual((G.to_edgelist(), G.notes.source), ([('a', 'b', 3), ('nan', 'c', 5)], '2 rows without a name left out; 2 rows without a value left out'))
+                self.assertEqual(s.from_edgelist([('a', None)], missing=None).nodes, ['a', None])
+                self.assertIn('edge 3: the edge between', self.said(s.from_edgelist, [('a', 'b', 1), (None, 'b', 1), ('c', 'a', 1), ('a', 'b', 2)], missing='skip'))
+                self.assertEqual(s.from_edgelist([('a', 'b', .5), ('b', 'c', None)], missing='skip', scale=10).nvals, 1)
+
+    @support.needs('pandas', 'numpy')
+    def test_tables(self):
+        import pandas
+        frame = pandas.DataFrame({'source': ['a', 'b', None, 'd'], 'target': ['b', 'c', 'd', 'a'], 'whole': pandas.array([1, None, 3, 4], dtype='Int64'),
+                                  'some': [.5, 2.0, 3.0, float('nan')]}, index=[10, 20, 30, 40])
+        with blocks.Sessions(2) as many:
+            for s in (self.s, many):
+                self.assertIn('row 30: a name is missing: missing="skip" leaves the row out', self.said(s.from_pandas_edgelist, frame))
+                self.assertIn('row 20: the value is missing: missing="skip"', self.said(s.from_pandas_edgelist, frame[:2], edge_attr='whole'))
+                G = s.from_pandas_edgelist(frame, edge_attr='whole', missing='skip')
+                self.assertEqual((G.to_edgelist(), G.notes.source), ([('a', 'b', 1), ('d', 'a', 4)], '1 row without a name left out; 1 row without a value left out'))
+                G = s.from_pandas_edgelist(frame, edge_attr='some', missing='skip', scale=2)
+                self.assertEqual(G.notes.source, 'values times 2, all whole then; 1 row without a name left out; 1 row without a value left out')
+                self.assertIn('row 10: a value is a whole number, not 0.5', self.said(s.from_pandas_edgelist, frame, edge_attr='some', missing='skip'))
+
+    @support.needs('pandas', 'numpy')
+    def test_columns_of_values(self):
+        """As networkx has them: a name, a list of one, True."""
+        import pandas
+        frame = pandas.DataFrame({'source': ['a'], 'target': ['b'], 'amount': [3]})
+        read = self.s.from_pandas_edgelist
+        for edge_attr in ('amount', ['amount'], ('amount',), True):
+            self.assertEqual(read(frame, edge_attr=edge_attr).to_edgelist(), [('a', 'b', 3)])
+        wide = frame.assign(fee=[4], **{'("x",)': [1]})
+        self.assertIn("edge_attr='amount' or edge_attr='fee'", self.said(read, wide, edge_attr=True) + self.said(read, wide, edge_attr=['amount', 'fee']))
+        self.assertIn('there are none: edge_attr=None', self.said(read, frame[['source', 'target']], edge_attr=True))
+        with self.assertRaisesRegex(KeyError, "no column 'tax'"):
+            read(frame, edge_attr=['tax'])
+        tuples = pandas.DataFrame({('x', 'y'): [5], 'source': ['a'], 'target': ['b']}, columns=pandas.Index([('x', 'y'), 'source', 'target'], tupleize_cols=False))
+        self.assertEqual(read(tuples, edge_attr=('x', 'y')).to_edgelist(), [('a', 'b', 5)])
+
     @support.needs('numpy')
     def test_long_lists(self):
         """What is read in bulk without holes is read line by line with them, to the same end."""
@@ -139,6 +182,8 @@ class Kinds(Case):
                 self.assertIn('bipartite=False', self.said(s.from_pandas_edgelist, frame, 'user', 'item', 'rating'))
                 self.assertEqual(s.from_pandas_edgelist(frame, 'user', 'item', 'rating', bipartite=True).shape, (1, 2))
                 self.assertEqual(s.from_pandas_edgelist(frame, 'user', 'item', bipartite=False).shape, (2, 2))
+                self.assertIn('bipartite=False', self.said(s.from_edgelist, frame))
+                self.assertEqual(s.from_edgelist(frame, bipartite=True).shape, (1, 2))
             self.assertIn('bipartite=False', self.said(many.from_dask_dataframe, frame, 'user', 'item'))
 
 

@@ -185,7 +185,7 @@ class Lists(Case):
         weighted = '# c\na b 5\nb a 7\na b 6\n'
         said = self.said(self.read, weighted)
         self.assertEqual(said, "the text, line 4: the edge between 'a' and 'b' is there already, with the text, line 2; "
-                               'dup_op= folds them: "plus", "min", "max", "first", ..')
+                               'dup_op="plus" adds their values up, "min" or "max" keeps the least or the greatest, "first" or "second" the one that comes first or last')
         self.assertEqual(self.edges(weighted, dup_op='plus'), [('a', 'b', 11), ('b', 'a', 7)])
         self.assertIn('line 3', self.said(self.read, weighted, directed=False))
         self.assertEqual(self.edges(weighted, directed=False, dup_op='minus'), [('a', 'b', -8), ('b', 'a', -8)])

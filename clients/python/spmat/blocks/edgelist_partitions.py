@@ -43,10 +43,11 @@ class WholeFile(NamedTuple):
 
 
 class Frame(NamedTuple):
-    """A frame of pandas, or what computes one, and the columns that are read of it."""
+    """A frame of pandas, or what computes one, the columns that are read of it, and how."""
     frame: Any
     ends: Tuple[Any, Any]
     value: Any
+    layout: Layout
 
     @property
     def label(self) -> str:
@@ -73,7 +74,7 @@ def read(source: Source, bipartite: bool) -> Optional[EdgePart]:
         return None if found is None else _numbered(found.sources, found.targets, found.values, bipartite)
     if isinstance(source, Frame):
         frame = source.frame.compute() if hasattr(source.frame, 'compute') else source.frame
-        edges = pandas.edges_of(frame, source.ends, source.value, None)
+        edges = pandas.edges_of(frame, source.ends, source.value, source.layout)
     elif source.parquet:
         with open(source.path, 'rb') as file:
             edges = graphml_gml_parquet.table(source.path, file.read(), source.layout)

@@ -9,13 +9,14 @@ from typing import TYPE_CHECKING, Any, Callable, Iterable, Iterator, List, Optio
 from .. import limits, units
 from ..errors import Refused, TextRefused, refusal
 from ..io import column_names, coo, matrix_market, matrix_text
-from ..io.graph_files import Request, name_of
+from ..io.graph_files import Layout, Request, name_of
 from ..io.importers import DupOp, Sources
 from ..io.matrix_text import Triples
 from ..metadata import NOTHING
 from ..operators import Operator, find
 from . import chunked_input, duplicate_errors, parallel_edgelist, parallel_read, row_partition, worker_tasks
 from .deferred_upload import HeldVector
+from .edgelist_partitions import Frame
 from .executor import Engine, Progress
 from .matrix import BlockMatrix
 from .row_partition import Cut
@@ -115,14 +116,17 @@ class Inputs(Sources[BlockMatrix]):
         return super()._read(path, request, dup_op, name) if made is None else made
 
     def from_dask_dataframe(self, frame: Any, source: Any = 'source', target: Any = 'target', edge_attr: Any = None, *, directed: bool = True,
-                            bipartite: Optional[bool] = None, dup_op: DupOp = None, name: Optional[str] = None) -> BlockMatrix:
+                            bipartite: Optional[bool] = None, missing: Optional[str] = 'raise', unit: Optional[str] = None,
+                            date_format: Optional[str] = None, dup_op: DupOp = None, name: Optional[str] = None) -> BlockMatrix:
         """The adjacency matrix of a `dask.dataframe`, as `from_pandas_edgelist` has it of a table of pandas: each worker takes its partitions, and
         the caller's process gets the names alone. By `Dask` the partitions are computed by the same cluster. ValueError where edges with
         values repeat, unless `dup_op` folds them, and where names of some partitions are whole numbers and of others aren't."""
         question = column_names.two_kinds(str(source), str(target)) if bipartite is None else None
         if question is not None:
             raise ValueError(question)
-        return parallel_edgelist.of_frame(self, frame, (source, target), edge_attr, parallel_edgelist.Asked(directed, bool(bipartite), dup_op, name))
+        layout = Layout(missing=missing, unit=unit, date_format=date_format)
+        asked = parallel_edgelist.Asked(directed, bool(bipartite), dup_op, name)
+        return parallel_edgelist.of_frame(self, frame, Frame(None, (source, target), edge_attr, layout), asked)
 
     def _refolded(self, spool: 'chunked_input.Spooled', cut: Optional[Sequence[int]], name: Optional[str], dup_op: DupOp) -> BlockMatrix:
         """A matrix of a file's entries, whose positions may repeat: they are folded as they stand in the file, and then the other

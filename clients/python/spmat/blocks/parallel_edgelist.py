@@ -17,6 +17,7 @@ from ..io.edgelist_matrix import FOLDS
 from ..io.graph_files import Request
 from ..io.importers import DupOp
 from ..io.left_out import LeftOut
+from ..io.pandas import value_column
 from ..metadata import Nodes, Notes
 from ..operators import Operator, find
 from . import edgelist_partitions, parallel_read, row_partition, worker_tasks
@@ -54,7 +55,7 @@ def of_file(sessions: 'Inputs', path: Any, request: Request, asked: Asked) -> Op
         return of_sources(sessions, _in_folder(os.fspath(path), request), asked)
     file = parallel_read.seen(sessions, path)
     layout = request.layout
-    if file is None or request.nodelist is not None or layout.scale is not None or layout.nodetype or layout.comments not in (True, None):
+    if file is None or request.nodelist is not None or layout.scale is not None or layout.nodetype or layout.unit or layout.comments not in (True, None):
         return None
     try:
         table = _table(file.path, request)
@@ -106,13 +107,11 @@ def _is_parquet(path: str) -> bool:
         return file.read(4) == b'PAR1'
 
 
-def of_frame(sessions: 'Inputs', frame: Any, ends: Tuple[Any, Any], value: Any, asked: Asked) -> BlockMatrix:
-    """The matrix of the partitions of a frame of Dask."""
-    for column in (*ends, *(() if value is None else (value,))):
-        if column not in frame.columns:
-            raise KeyError('no column %r: there are %s' % (column, ', '.join(map(repr, frame.columns))))
+def of_frame(sessions: 'Inputs', frame: Any, read: Frame, asked: Asked) -> BlockMatrix:
+    """The matrix of the partitions of a frame of Dask, each read as one frame is."""
+    read = read._replace(value=value_column(frame.columns, read.ends, read.value))
     parts = sessions.engine.frames(list(frame.to_delayed()))
-    made = of_sources(sessions, [Frame(part, ends, value) for part in parts], asked)
+    made = of_sources(sessions, [read._replace(frame=part) for part in parts], asked)
     if made is None:
         raise ValueError('some partitions have whole numbers as names, and others have not: convert the columns to one type')
     return made

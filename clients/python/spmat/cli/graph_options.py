@@ -15,6 +15,7 @@ from ..errors import ReadError
 from ..io import matrix_market
 from ..io.compression import Loaded
 from ..io.graph_files import FORMATS, Layout, Request, format_of
+from ..io.time_values import UNITS
 from ..matrix import Matrix, bipartite
 from ..metadata import Nodes
 from ..session import Session
@@ -49,6 +50,8 @@ def add_graph_options(command: argparse.ArgumentParser) -> None:
     comments.add_argument('--no-comments', dest='comments', action='store_const', const=[], help='no line is a comment')
     group.add_argument('--missing', choices=('raise', 'skip', 'keep'), default='raise', help='lines with a missing name or value are refused or '
                        'left out; keep: nan is a name as any other (default: raise)')
+    group.add_argument('--unit', choices=tuple(UNITS), help='values are times: so many days, seconds, .. since 1970-01-01')
+    group.add_argument('--date-format', metavar='FORMAT', help='how these times are written, as %%d.%%m.%%Y (default: as ISO 8601 has it)')
     group.add_argument('--pattern', action='store_true', help='read no values: each edge has 1')
     group.add_argument('--scale', type=float, metavar='N', help='multiply values by N and round them to whole numbers')
     group.add_argument('--dup-op', metavar='OP', help='joins the values of an edge that repeats: plus, max, first, ..')
@@ -163,10 +166,10 @@ def request_of(options: argparse.Namespace, text: bytes, needs: Needs) -> Reques
     """What the options ask of a file. Values that don't count are read only where the server reads them by itself."""
     columns = None if options.columns is None else [int(word) if word.isdigit() else word for word in options.columns.split(',')]
     plain = format_of(text) == 'mtx' and matrix_market.is_plain(text)
-    values = not options.pattern and (plain or (needs.values and not options.undirected) or options.scale is not None)
+    values = not options.pattern and (plain or (needs.values and not options.undirected) or options.scale is not None or options.unit is not None)
     two = options.bipartite if format_of(text) not in ('mtx', 'dimacs', 'graphml', 'gexf', 'gml') else False
     layout = Layout(options.delimiter, options.header, columns, values, options.scale, two, True if options.comments is None else options.comments,
-                    None if options.missing == 'keep' else options.missing)
+                    None if options.missing == 'keep' else options.missing, None, options.unit, options.date_format)
     directed = False if options.both_ways and options.dup_op is not None else None
     return Request(options.format, layout, directed)
 

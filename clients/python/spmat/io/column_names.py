@@ -33,7 +33,8 @@ WEAK_VALUES = {'amount', 'amt', 'cost', 'count', 'cnt', 'counts', 'distance', 'd
                'strength', 'frequency', 'freq', 'duration', 'km', 'miles', 'meters', 'metres', 'price', 'sum', 'total', 'quantity', 'qty',
                'volume', 'similarity', 'trips', 'calls', 'passengers', 'messages', 'bytes'}
 NO_VALUES = {'', 'id', 'index', 'idx', 'key', 'edge', 'edgeid', 'edgeno', 'rowid', 'rowno', 'no', 'nr', 'unnamed0', 'label', 'type',
-             'timestamp', 'time', 'date', 'datetime', 'year', 'ts'}
+             'timestamp', 'time', 'date', 'datetime', 'year', 'ts', 'zip', 'zipcode', 'postcode', 'postalcode', 'plz', 'phone', 'lat', 'lon', 'latitude',
+             'longitude'}
 # Words that name what things are, where those of ends name what part a thing takes: two of these are two kinds of vertices.
 KINDS = {
     'account', 'actor', 'album', 'app', 'article', 'artist', 'author', 'board', 'book', 'business', 'category', 'channel', 'city', 'club', 'comment',

@@ -155,7 +155,8 @@ def whole_array(many: Any, what: str) -> Any:
     if array.dtype.kind == 'O' or not len(array):
         return numpy.array([word(_whole_at(number, what, at), what) for at, number in enumerate(array.tolist())], numpy.int64)
     if array.dtype.kind not in 'biuf':
-        raise TypeError('%ss are whole numbers, not %s' % (what, array.dtype))
+        since = ': .astype("datetime64[s]").astype("int64") makes seconds since 1970-01-01 of times' if array.dtype.kind == 'M' else ''
+        raise TypeError('%ss are whole numbers, not %s%s' % (what, array.dtype, since))
     wrong = None
     if array.dtype.kind == 'f':
         wrong = ~(numpy.abs(array) <= 2.0 ** 63) | (array == 2.0 ** 63)
@@ -166,7 +167,8 @@ def whole_array(many: Any, what: str) -> Any:
         at = int(wrong.argmax())
         if array[at] != array[at]:
             raise ValueError('a %s is missing: it is nan (entry %d)' % (what, at))
-        raise ValueError('a %s is a whole number of 64 bits, not %s (entry %d)%s' % (what, array[at], at, _mend(what)))
+        raise ValueError('a %s is a whole number of 64 bits, not %s (entry %d)%s' % (
+            what, array[at], at, _mend(what) if abs(array[at]) < MOST else ''))
     return array.astype(numpy.int64, copy=False)
 
 

@@ -1,7 +1,7 @@
 """Which format a file has, and reading it as a matrix."""
 from __future__ import annotations
 
-from typing import Any, Callable, Iterable, NamedTuple, Optional, Sequence, Tuple
+from typing import Any, Callable, Iterable, List, NamedTuple, Optional, Sequence, Tuple
 
 from ..errors import ReadError
 from ..metadata import Nodes
@@ -9,7 +9,9 @@ from . import dimacs, edgelist_text, graphml_gml_parquet, unsupported_files
 from .edge_values import scaled
 from .edgelist_header import Layout
 from .edgelist_matrix import Edges, Graph, How, graph_of
+from .left_out import SKIP, SKIPS, LeftOut, absent_from, check_missing
 from .matrix_text import line_at
+from .time_values import TAKES, Clock, clock_of, is_time
 
 FORMATS = ('mtx', 'edges', 'csv', 'tsv', 'dimacs', 'graphml', 'gexf', 'gml', 'parquet')
 PARTED = {'csv': ',', 'tsv': '\t'}
@@ -121,17 +123,46 @@ def _of_dimacs(file: str, text: bytes, layout: Layout) -> Tuple[Edges, Sequence[
     return edges, Nodes(range(1, problem.vertices + 1)), problem.directed
 
 
-def from_edges(edges: Iterable[Any], how: How, values: bool, scale: Optional[float] = None) -> Graph:
+def from_edges(edges: Iterable[Any], how: How, layout: Layout) -> Graph:
     """The matrix of (from, to), (from, to, value) or (from, to, {'weight': value}), as networkx gives and takes them."""
+    check_missing(layout.missing)
+    clock = clock_of(layout.unit, layout.date_format, layout.scale)
     many = edges.tolist() if hasattr(edges, 'tolist') else list(edges)
     lengths = {len(edge) for edge in many}
     if not lengths <= {2, 3}:
         at = next(at for at, edge in enumerate(many) if len(edge) not in (2, 3))
         raise ValueError('an edge is (from, to) or (from, to, value), not %r (edge %d)' % (many[at], at))
-    found: Any = [_value(edge) for edge in many] if 3 in lengths and values else None
-    found, rounding = (found, '') if found is None else scaled(found, scale)
-    edges = Edges([edge[0] for edge in many], [edge[1] for edge in many], found, lambda at: 'edge %d' % at, str(rounding))
-    return graph_of(edges, how)
+    columns: List[Any] = [[edge[0] for edge in many], [edge[1] for edge in many]]
+    columns += [[_value(edge) for edge in many]] if 3 in lengths and layout.values else []
+    places, left_out = _complete(columns, layout.missing)
+    columns = columns if len(places) == len(many) else [[column[at] for at in places] for column in columns]
+    values, done = _whole(columns[2], layout.scale, clock, places) if len(columns) > 2 else (None, '')
+    return graph_of(Edges(columns[0], columns[1], values, lambda at: 'edge %d' % places[at], done, left_out), how)
+
+
+def _whole(values: List[Any], scale: Optional[float], clock: Optional[Clock], places: Sequence[int]) -> Tuple[Any, str]:
+    """Values of edges as numbers, and what was done to them."""
+    if clock is not None:
+        return clock.read(values, lambda at, words: ValueError('edge %d: %s' % (places[at], words))), str(clock)
+    at = next((at for at, value in enumerate(values) if not isinstance(value, (int, float)) and is_time(value)), None)
+    if at is not None:
+        raise TypeError('edge %d: a value is a whole number, not %r: %s' % (places[at], values[at], TAKES))
+    found, rounding = scaled(values, scale)
+    return found, str(rounding)
+
+
+def _complete(columns: Sequence[List[Any]], missing: Optional[str]) -> Tuple[Sequence[int], LeftOut]:
+    """The places of the edges of which no name and no value is missing, and how many others there are. ValueError where these aren't to be
+    left out; with `missing` None names aren't looked at."""
+    absent: List[List[int]] = [[at for column in some for at in absent_from(column)] for some in (columns[:2] if missing is not None else [], columns[2:])]
+    for places, what in zip(absent, ('a name', 'the value')):
+        if places and missing != SKIP:
+            raise ValueError('edge %d: %s is missing: %s' % (min(places), what, SKIPS % 'edge'))
+    nameless, valueless = set(absent[0]), set(absent[1]) - set(absent[0])
+    left = range(len(columns[0]))
+    if not nameless and not valueless:
+        return left, LeftOut()
+    return [at for at in left if at not in nameless and at not in valueless], LeftOut(names=len(nameless), values=len(valueless))
 
 
 def _value(edge: Sequence[Any]) -> Any:

@@ -12,6 +12,7 @@ from . import column_names
 from .comment_lines import Comments
 from .edge_values import is_missing
 from .left_out import RAISE
+from .time_values import NAMES as TIMES, TAKES, is_time
 
 Column = Union[int, str]
 
@@ -19,7 +20,8 @@ Column = Union[int, str]
 class Layout(NamedTuple):
     """How a list is written. None: by what stands in it. `columns` are those of the two names, and perhaps of the value: numbers from
     0, or words of the header. `bipartite` says whether sources and targets are two kinds of vertices; None where nobody said it, which
-    is asked where the header names two. `missing` None takes nothing for missing; `nodetype` is str or int where names are to be these."""
+    is asked where the header names two. `missing` None takes nothing for missing; `nodetype` is str or int where names are to be these. Values
+    are times in `unit`, where that is given, and written in `date_format`."""
     delimiter: Optional[str] = None
     header: Optional[bool] = None
     columns: Optional[Sequence[Column]] = None
@@ -29,6 +31,8 @@ class Layout(NamedTuple):
     comments: Comments = True
     missing: Optional[str] = RAISE
     nodetype: Optional[type] = None
+    unit: Optional[str] = None
+    date_format: Optional[str] = None
 
 
 class Head(NamedTuple):
@@ -91,7 +95,7 @@ def _chosen(head: Head, layout: Layout) -> Choice:
         ends = pair.source, pair.target
     else:
         ends = _unnamed_ends(head, layout, header)
-    return Choice(header, ends, _value(head, ends, header) if layout.values else None)
+    return Choice(header, ends, _value(head, ends, header, layout) if layout.values else None)
 
 
 def _asked_for(head: Head, layout: Layout) -> Choice:
@@ -191,7 +195,9 @@ def _unnamed_ends(head: Head, layout: Layout, header: bool) -> Tuple[int, int]:
         first, second = (at for at in range(3) if at != values[0])
         return first, second
     third = [*(() if header else (head.first[2],)), *head.below(2)]
-    if width == 3 and (not header or layout.header is True) and (mostly_numbers(third) or not third):
+    are_times = layout.unit is not None and any(is_time(field, layout.date_format) for field in third)
+    has_values = not third or are_times or mostly_numbers(third)
+    if width == 3 and has_values and (not header or layout.header is True):
         return 0, 1
     guess = _likely(head) if header else (0, 1)
     why = 'none of their names is known as that of a source or a target' if header else 'no header says which have the names'
@@ -209,22 +215,30 @@ def _likely(head: Head) -> Tuple[int, int]:
 
 
 def _columns(head: Head, ends: Tuple[int, int], values: bool, header: bool = True) -> str:
-    """The argument that names these columns, and one with numbers."""
-    at = list(ends)
-    if values:
-        others = [other for other in range(len(head.first)) if other not in ends and has_numbers(head.below(other) or [head.first[other]])
-                  and column_names.plain(head.first[other]) not in column_names.NO_VALUES]
-        known = [other for other in others if column_names.plain(head.first[other]) in column_names.VALUES | column_names.WEAK_VALUES]
-        at += known[:1] or (others[-1:] if header else others[:1])
-    called = [head.first[one] if header and head.first.count(head.first[one]) == 1 else one for one in at]
-    return 'columns=(%s)' % ', '.join(map(repr, called))
+    """The argument that names these columns, and one with numbers; where several may have the values, one for each of two."""
+    others = [at for at in range(len(head.first)) if at not in ends and has_numbers(head.below(at) or [head.first[at]])
+              and column_names.plain(head.first[at]) not in column_names.NO_VALUES] if values else []
+    known = [at for at in others if column_names.plain(head.first[at]) in column_names.VALUES | column_names.WEAK_VALUES]
+    ways: List[Tuple[int, ...]] = [(*ends, at) for at in (known or others)[:2 if header else 1]] or [ends]
+    called = [head.first[one] if header and head.first.count(head.first[one]) == 1 else one for one in range(len(head.first))]
+    return ' or '.join('columns=(%s)' % ', '.join(repr(called[one]) for one in way) for way in ways)
 
 
-def _value(head: Head, ends: Tuple[int, int], header: bool) -> Optional[int]:
+def _value(head: Head, ends: Tuple[int, int], header: bool, layout: Layout) -> Optional[int]:
     """The column of the values: the one that is called so, or the only one there is. None where there is none. ReadError where
-    several may have them, or the only one has no numbers."""
+    several may have them, or the only one has no numbers. Where values are times it is the one that has them, or is called so."""
     others = [at for at in range(len(head.first)) if at not in ends]
-    if header:
+    if layout.unit is not None:
+        times = [at for at in others if any(is_time(field, layout.date_format) for field in [*([] if header else [head.first[at]]), *head.below(at)])]
+        times = times or [at for at in others if header and column_names.plain(head.first[at]) in TIMES]
+        if len(times) == 1:
+            return times[0]
+        others = times or others
+        if times:
+            called = [repr(field if header else at) for at, field in enumerate(head.first)]
+            raise head.fault('%d columns have times: %s' % (len(times), ' or '.join(
+                'columns=(%s)' % ', '.join(called[one] for one in (*ends, at)) for at in times)))
+    if header and layout.unit is None:
         for known in (column_names.VALUES, column_names.WEAK_VALUES):
             named = [at for at in others if column_names.plain(head.first[at]) in known]
             if len(named) == 1:
@@ -246,6 +260,8 @@ def _with_numbers(head: Head, at: int, header: bool) -> int:
     if fields and not any(map(is_number, fields)):
         number = head.number + (1 if header else 0)
         called = _called(head.first, at, True) if header else str(at)
+        if is_time(fields[0]):
+            raise ReadError(head.file, number, 'the column of values, %s, has times: %s, values=False reads none' % (called, TAKES), fields[0])
         comma = ' (a decimal comma is none: 1.5, not 1,5)' if re.fullmatch(r'\s*[+-]?\d+,\d+\s*', fields[0]) else ''
         raise ReadError(head.file, number, 'no number in the column of values, %s%s: values=False reads none, columns= names another column'
                         % (called, comma), fields[0])

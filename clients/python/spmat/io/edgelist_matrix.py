@@ -15,7 +15,7 @@ from .factorize import Coded, ascending, factorized
 from .left_out import LeftOut
 from .matrix_text import FEW, Triples, find_numpy, is_array
 
-FOLDS = 'dup_op= folds them: "plus", "min", "max", "first", ..'
+FOLDS = 'dup_op="plus" adds their values up, "min" or "max" keeps the least or the greatest, "first" or "second" the one that comes first or last'
 
 
 class Edges(NamedTuple):

@@ -7,7 +7,7 @@ from __future__ import annotations
 
 import itertools
 import re
-from typing import Any, Iterable, List, NamedTuple, Optional, Tuple
+from typing import Any, Iterable, List, NamedTuple, Optional, Tuple, Union
 
 from ..errors import ReadError
 from . import column_names, comment_lines, edgelist_numpy
@@ -18,6 +18,7 @@ from .edgelist_matrix import Edges
 from .left_out import NO_NAMES, SKIP, SKIPS, LeftOut, check_missing
 from .matrix_text import FEW, find_numpy, line_at
 from .quoted_fields import Quoted, Row, fields_of, rows_of
+from .time_values import TAKES, Clock, clock_of, is_time
 
 # What may part the fields. (Where commas are those of decimals, semicolons are in every line.)
 DELIMITERS = (b'\t', b';', b',', b'|')
@@ -46,7 +47,7 @@ class Table(NamedTuple):
 def read(file: str, text: bytes, layout: Layout) -> Edges:
     """The edges of a list. ReadError, a ValueError, names the file and the line of what is wrong."""
     table = laid_out(file, text, layout)
-    return (_in_bulk(table, layout.scale) if layout.nodetype is None else None) or _slowly(table, layout)
+    return (_in_bulk(table, layout.scale) if layout.nodetype is None and layout.unit is None else None) or _slowly(table, layout)
 
 
 # -- how it is written
@@ -54,6 +55,7 @@ def read(file: str, text: bytes, layout: Layout) -> Edges:
 def laid_out(file: str, text: bytes, layout: Layout) -> Table:
     """How a list is written, by what the caller says and by its first lines. ReadError where that can't be told."""
     check_missing(layout.missing)
+    clock_of(layout.unit, layout.date_format, layout.scale)
     if layout.nodetype not in (None, str, int):
         raise ValueError('nodetype is str or int, or None for whole numbers where all are; not %r' % (layout.nodetype,))
     plain, left_out = comment_lines.blanked(text, layout.comments)
@@ -164,17 +166,24 @@ def _slowly(table: Table, layout: Layout) -> Edges:
     for column in (columns.sources, columns.targets):
         _check_line_ends(column, wrong)
 
+    rounding, clock = Rounding(layout.scale), clock_of(layout.unit, layout.date_format, layout.scale)
+
     def no_value(at: int, words: str) -> ReadError:
-        return wrong(at, VALUELESS % columns.values[at] if layout.missing is not None and is_missing(columns.values[at]) else words)
-    rounding = Rounding(layout.scale)
-    whole = None if table.value is None else whole_values(columns.values, layout.scale, no_value, rounding)
+        value = columns.values[at]
+        if layout.missing is not None and is_missing(value):
+            words = VALUELESS % value
+        elif clock is None and is_time(value):
+            words = 'expected a number as the value, got %r: %s' % (value, TAKES)
+        return wrong(at, words)
+    whole = None if table.value is None else whole_values(columns.values, layout.scale, no_value, rounding) if clock is None else clock.read(
+        columns.values, no_value)
     return Edges(*_names(columns.sources, columns.targets, layout.nodetype, wrong), whole, lambda at: '%s, line %d' % (table.file, columns.numbers[at]),
-                 _told(table, rounding), left_out)
+                 _told(table, clock or rounding), left_out)
 
 
-def _told(table: Table, rounding: Rounding) -> str:
+def _told(table: Table, done: Union[Rounding, Clock]) -> str:
     """What was taken of a list, in words."""
-    return table.told if table.value is None or rounding.scale is None else '%s; %s' % (table.told, rounding)
+    return table.told if table.value is None or not str(done) else '%s; %s' % (table.told, done)
 
 
 def _said_of_name(columns: _Columns, at: int) -> str:

@@ -80,7 +80,7 @@ def table(file: str, text: bytes, layout: Layout) -> Edges:
     choice = chosen(head, layout._replace(header=True))
     ends, value = (frame.columns[choice.ends[0]], frame.columns[choice.ends[1]]), None if choice.value is None else frame.columns[choice.value]
     try:
-        edges = pandas.edges_of(frame, ends, value, layout.scale)
+        edges = pandas.edges_of(frame, ends, value, layout)
     except (TypeError, ValueError) as fault:
         raise ReadError(file, None, str(fault)) from None
     told = '%s: parquet; %s' % (file, choice.told(names).partition('; ')[2])

@@ -114,34 +114,42 @@ class Sources(abc.ABC, Generic[Made]):
         return made
 
     def from_edgelist(self, edges: Iterable[Any], *, directed: bool = True, nodelist: Optional[Sequence[Any]] = None, values: bool = True,
-                      scale: Optional[float] = None, bipartite: Optional[bool] = None, dup_op: DupOp = None, name: Optional[str] = None) -> Made:
+                      scale: Optional[float] = None, bipartite: Optional[bool] = None, missing: Optional[str] = 'raise', unit: Optional[str] = None,
+                      date_format: Optional[str] = None, dup_op: DupOp = None, name: Optional[str] = None) -> Made:
         """The adjacency matrix of edges by name: (from, to), (from, to, value), or (from, to, {'weight': value}). It is square, and its
         `nodes` are the names: whole numbers ascending, others as they first stand; just 0 to n - 1 need no names. `nodelist` gives them
         in another order, with those that have no edge; edges that leave it are left out.
 
         An edge leads one way; with `directed=False` both. With `bipartite` rows and columns are two kinds, each with its names. An edge
         that is given twice is a ValueError where it has values, unless `dup_op` folds them; without values, or with `values=False`, it
-        counts once, or with `dup_op="plus"` as often as it is given. `scale` is as for `from_coo`. In networkx and python-graphblas `from_edgelist`."""
-        edges = arrays.edges_of_frame(edges) if arrays.is_frame(edges) else edges
-        return self._graph(from_edges(edges, How(directed, nodelist, bool(bipartite), dup_op is not None), values, scale), scale, dup_op, name)
+        counts once, or with `dup_op="plus"` as often as it is given. `scale` is as for `from_coo`. In networkx and python-graphblas `from_edgelist`.
+
+        None and NaN are missing names and values: a ValueError, or with `missing="skip"` their edges are left out and counted in
+        `notes.source`; with `missing=None` None is a name as any other. Values may be times (dates of Python, numpy and pandas, or text) where
+        `unit` says what is counted since 1970-01-01 (UTC): "D", "s", "ms", "us" or "ns". Text is as ISO 8601 has it, or as `date_format`."""
+        if arrays.is_frame(edges):
+            _check_kinds(edges.columns[:2], bipartite)
+            edges = arrays.edges_of_frame(edges)
+        layout = Layout(values=values, scale=scale, missing=missing, unit=unit, date_format=date_format)
+        return self._graph(from_edges(edges, How(directed, nodelist, bool(bipartite), dup_op is not None), layout), scale, dup_op, name)
 
     def from_pandas_edgelist(self, frame: Any, source: Any = 'source', target: Any = 'target', edge_attr: Any = None, *,
                              scale: Optional[float] = None, directed: bool = True, nodelist: Optional[Sequence[Any]] = None,
-                             bipartite: Optional[bool] = None, dup_op: DupOp = None, name: Optional[str] = None) -> Made:
+                             bipartite: Optional[bool] = None, missing: Optional[str] = 'raise', unit: Optional[str] = None,
+                             date_format: Optional[str] = None, dup_op: DupOp = None, name: Optional[str] = None) -> Made:
         """The adjacency matrix of a table of pandas: the columns `source` and `target` have the names, `edge_attr` the values (None: 1
-        each), multiplied by `scale` and rounded where that is given. The rest is as `from_edgelist` has it, but that `bipartite=` has to
-        be said where the columns are called by two kinds of vertices, such as user and item. In networkx the same name."""
-        question = column_names.two_kinds(str(source), str(target)) if bipartite is None else None
-        if question is not None:
-            raise ValueError(question)
-        edges = pandas.edges_of(frame, (source, target), edge_attr, scale)
+        each; True: the one other column; a list of one column is taken too), multiplied by `scale` and rounded where that is given. The rest,
+        `missing` and `unit` among it, is as `from_edgelist` has it, but that `bipartite=` has to be said where the columns are called by two
+        kinds of vertices, such as user and item. In networkx the same name."""
+        _check_kinds((source, target), bipartite)
+        edges = pandas.edges_of(frame, (source, target), edge_attr, Layout(scale=scale, missing=missing, unit=unit, date_format=date_format))
         return self._graph(pandas.graph_of(edges, How(directed, nodelist, bool(bipartite), dup_op is not None)), scale, dup_op, name)
 
     def read_edgelist(self, path: Any, *, delimiter: Optional[str] = None, header: Optional[bool] = None,
                       columns: Optional[Sequence[Column]] = None, values: bool = True, scale: Optional[float] = None,
                       directed: bool = True, nodelist: Optional[Sequence[Any]] = None, bipartite: Optional[bool] = None,
-                      comments: Comments = True, missing: Optional[str] = 'raise', nodetype: Optional[type] = None, dup_op: DupOp = None,
-                      name: Optional[str] = None) -> Made:
+                      comments: Comments = True, missing: Optional[str] = 'raise', nodetype: Optional[type] = None, unit: Optional[str] = None,
+                      date_format: Optional[str] = None, dup_op: DupOp = None, name: Optional[str] = None) -> Made:
         """The adjacency matrix of a list of edges: a path (also .gz and .bz2), or a file opened in binary, with an edge a line: two names
         and perhaps a value, parted by commas, tabs, semicolons or blanks (CSV, TSV, edge list).
 
@@ -159,16 +167,16 @@ class Sources(abc.ABC, Generic[Made]):
         `values=False` reads no values. Values are whole numbers; with `scale` they are multiplied by it and rounded. Where the header names
         two kinds of vertices, such as user and item, `bipartite=` has to say whether they are kept apart.
 
-        Names, `directed`, `nodelist`, `bipartite` and `dup_op` are as for `from_edgelist`. ReadError, a ValueError, names the file and
+        Names, `directed`, `nodelist`, `bipartite`, `unit`, `date_format` and `dup_op` are as for `from_edgelist`. ReadError, a ValueError, names the file and
         the line. In networkx `read_edgelist`, in pandas `read_csv`."""
-        layout = Layout(delimiter, header, columns, values, scale, bipartite, comments, missing, nodetype)
+        layout = Layout(delimiter, header, columns, values, scale, bipartite, comments, missing, nodetype, unit, date_format)
         return self._read(path, Request('edges', layout, directed, nodelist), dup_op, name)
 
     def read_graph(self, path: Any, format: Optional[str] = None, *, values: bool = True, scale: Optional[float] = None,
                    directed: Optional[bool] = None, bipartite: Optional[bool] = None, dup_op: DupOp = None, name: Optional[str] = None,
                    **layout: Any) -> Made:
         """The matrix of a file of any format: 'mtx' (Matrix Market, see `mmread`), 'edges', 'csv' or 'tsv' (see `read_edgelist`, whose
-        `delimiter`, `header`, `columns`, `comments`, `missing`, `nodetype` and `nodelist` it takes), 'dimacs' (.gr, .max, .col; vertices are named from 1), 'graphml', 'gexf'
+        `delimiter`, `header`, `columns`, `comments`, `missing`, `nodetype`, `unit`, `date_format` and `nodelist` it takes), 'dimacs' (.gr, .max, .col; vertices are named from 1), 'graphml', 'gexf'
         and 'gml' by networkx, 'parquet' by pandas. Without a format the content says. `directed` None is as the file
         has it: a DIMACS graph of edges `e` is undirected, the edges of a list lead one way. `values`, `scale`, `bipartite` and `dup_op` are as for `read_edgelist`."""
         nodelist = layout.pop('nodelist', None)
@@ -241,6 +249,13 @@ class Sources(abc.ABC, Generic[Made]):
         made = self._from(triples, name=name) if notes.directed is not False else self._both_ways(triples, name)
         made.notes = notes if dup_op is None else notes._replace(weighted=True)
         return made
+
+
+def _check_kinds(ends: Sequence[Any], bipartite: Optional[bool]) -> None:
+    """ValueError where columns are called by two kinds of vertices, and nobody said what they are."""
+    question = column_names.two_kinds(*map(str, ends)) if bipartite is None and len(ends) == 2 else None
+    if question is not None:
+        raise ValueError(question)
 
 
 def _told(made: Made, rounding: Rounding, unit: units.Unit) -> Made:

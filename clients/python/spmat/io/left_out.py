@@ -1,7 +1,7 @@
 """What reading leaves out, counted: comments, and rows with a missing name or value. `notes.source` says it, so that nothing is lost in silence."""
 from __future__ import annotations
 
-from typing import NamedTuple, Optional
+from typing import Any, List, NamedTuple, Optional, Sequence
 
 RAISE, SKIP = 'raise', 'skip'
 # What pandas takes for a missing value where a column has text, in just these letters.
@@ -35,3 +35,11 @@ def check_missing(missing: Optional[str]) -> None:
     """ValueError for what says nothing of missing values."""
     if missing not in (RAISE, SKIP, None):
         raise ValueError('missing is "raise", "skip" or None, which takes nothing for missing; not %r' % (missing,))
+
+
+def absent_from(many: Sequence[Any]) -> List[int]:
+    """The places of None, NaN and what pandas and numpy have in their place."""
+    if set(map(type, many)) <= {int, str, tuple, bool}:
+        return []
+    return [at for at, one in enumerate(many) if one is None or type(one).__name__ in ('NAType', 'NaTType')
+            or ((isinstance(one, float) or hasattr(one, 'dtype')) and bool(one != one))]

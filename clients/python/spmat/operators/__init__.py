@@ -286,6 +286,8 @@ def find(kind: str, op: Op) -> Operator:
     back as it is."""
     if isinstance(op, Operator):
         return op
+    if op is sum:
+        raise ValueError('sum takes many numbers, and an operator takes two: "plus" adds them up')
     if not isinstance(op, str):
         if not callable(op):
             raise TypeError('expected an operator, its name or a function, got %r' % (op,))

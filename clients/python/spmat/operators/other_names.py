@@ -42,7 +42,10 @@ INSTEAD: Dict[str, str] = {
     'multiply': 'it is "times"', 'sub': 'it is "minus"', 'subtract': 'it is "minus"', 'neg': 'it is "ainv"', 'negative': 'it is "ainv"',
     'absolute': 'it is "abs"', 'sign': 'it is "sgn"', 'and': 'it is "land", or "band" for bits', 'or': 'it is "lor", or "bor" for bits',
     'not': 'it is "lnot", or "bnot" for bits', 'maximum': 'it is "max"', 'minimum': 'it is "min"',
-    **{name: _AGGREGATE % (name, name) for name in ('count', 'argmin', 'argmax', 'last', 'mean')},
+    **{name: _AGGREGATE % (name, name) for name in ('argmin', 'argmax')},
+    'count': _AGGREGATE % ('count', 'count') + '; dup_op="plus" counts edges that are read with values=False',
+    'last': _AGGREGATE % ('last', 'last') + '; dup_op="second" keeps the last of edges that repeat',
+    'mean': _AGGREGATE % ('mean', 'mean') + '; dup_op="plus" adds up, and of values=False it counts',
     'average': '"mean" is an aggregator: A.reduce_rowwise("mean")'}
 
 
