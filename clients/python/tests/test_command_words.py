@@ -27,7 +27,7 @@ ROADS = 'from,to,km\nann,bob,5\nbob,cid,7\ncid,ann,2\ncid,dee,4\n'
 # Where messages come from that the command line shows, and what in them looks like an argument and isn't one of a call that it makes.
 MODULES = ('io/[cdefipt]*_*.py', 'io/dimacs.py', 'io/factorize.py', 'io/pandas.py', 'io/coo.py', 'io/matrix_market.py', '_client/transport.py',
            'operators/clang.py')
-NEVER = {'source', 'target', 'mcpu', 'nodelist', 'nodetype', 'raw', 'right', 'left'}
+NEVER = {'source', 'target', 'edge_attr', 'mcpu', 'nodelist', 'nodetype', 'raw', 'right', 'left'}
 
 
 def commands():

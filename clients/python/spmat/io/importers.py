@@ -128,8 +128,9 @@ class Sources(abc.ABC, Generic[Made]):
         `notes.source`; with `missing=None` None is a name as any other. Values may be times (dates of Python, numpy and pandas, or text) where
         `unit` says what is counted since 1970-01-01 (UTC): "D", "s", "ms", "us" or "ns". Text is as ISO 8601 has it, or as `date_format`."""
         if arrays.is_frame(edges):
-            _check_kinds(edges.columns[:2], bipartite)
-            edges = arrays.edges_of_frame(edges)
+            frame: Any = edges
+            _check_kinds(frame.columns[:2], bipartite)
+            edges = arrays.edges_of_frame(frame)
         layout = Layout(values=values, scale=scale, missing=missing, unit=unit, date_format=date_format)
         return self._graph(from_edges(edges, How(directed, nodelist, bool(bipartite), dup_op is not None), layout), scale, dup_op, name)
 
