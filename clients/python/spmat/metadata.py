@@ -10,7 +10,7 @@ import numbers
 from typing import Any, Dict, FrozenSet, Iterable, List, NamedTuple, Optional, Set
 
 from . import units
-from .operators import READY, Operator, Semiring
+from .operators import READY, Operator, Semiring, binary
 from .units import Unit
 
 # Binary operators for which the order of operands doesn't matter: a product of a symmetric matrix with itself stays symmetric.
@@ -20,6 +20,8 @@ COMMUTE: FrozenSet[str] = frozenset((
 # Index operators that look at the value alone, and with a thunk of 0 these two: what they select of a symmetric matrix is one.
 BY_VALUE: FrozenSet[str] = frozenset(('nonzero', 'thunk', 'valueeq', 'valuege', 'valuegt', 'valuele', 'valuelt', 'valuene'))
 BY_DIAGONAL: FrozenSet[str] = frozenset(('diag', 'offdiag'))
+# Binary operators whose result is one of both values.
+CHOOSE: FrozenSet[str] = frozenset(('any', 'first', 'max', 'min', 'second'))
 
 
 class Nodes(List[Any]):
@@ -67,18 +69,20 @@ def check_names(names: Nodes) -> None:
 class Notes(NamedTuple):
     """The names of the rows and of the columns, where they have any; whether an entry (i, j) may stand without one of (j, i), or
     with one of another value; and whether the values are weights that the caller gave. None: not known. `source` says what was
-    taken of the file or table that the matrix was read from, and is empty for results. A stored number x stands for x / `unit`."""
+    taken of the file or table that the matrix was read from, and is empty for results. A stored number x stands for x / `unit`, or, where there are `value_names`, for the
+    vertex of that place among these."""
     rows: Optional[Nodes] = None
     columns: Optional[Nodes] = None
     directed: Optional[bool] = None
     weighted: Optional[bool] = None
     source: str = ''
     unit: Unit = 1
+    value_names: Optional[Nodes] = None
 
     def __repr__(self) -> str:
         sides = ['None' if names is None else '<%d names>' % len(names) for names in (self.rows, self.columns)]
-        return 'Notes(rows=%s, columns=%s, directed=%r, weighted=%r, source=%r, unit=%s)' % (
-            *sides, self.directed, self.weighted, self.source, self.unit)
+        return 'Notes(rows=%s, columns=%s, directed=%r, weighted=%r, source=%r, unit=%s%s)' % (
+            *sides, self.directed, self.weighted, self.source, self.unit, ', values are vertices' if self.value_names is not None else '')
 
     def names(self, axis: int) -> Optional[Nodes]:
         """The names of the rows, with an axis of 1 those of the columns."""
@@ -100,13 +104,19 @@ def _even(*both: Notes) -> Optional[bool]:
     return False if all(one.directed is False for one in both) else None
 
 
+def _chosen(op: Operator, first: Optional[Nodes], second: Optional[Nodes]) -> Optional[Nodes]:
+    """The vertices that a result's values are, each of which is one of two values that may meet: none where these mean other vertices, or
+    the operator makes numbers of them."""
+    return first if first is not None and second is not None and _is_ready(op, CHOOSE) and _same(first, second) is not None else None
+
+
 def of_applied(first: Notes, op: Operator, even: bool, unit: Unit) -> Notes:
     """What is known of the result of `apply`, whose unit is given; `even` says that the operator doesn't look at rows and columns."""
     if first is NOTHING:
         return NOTHING
     same = _is_ready(op, frozenset(('identity',)))
     return first._replace(directed=_even(first) if even else None, weighted=first.weighted if same else None, source='',
-                          unit=unit)
+                          unit=unit, value_names=first.value_names if same else None)
 
 
 def of_selected(first: Notes, op: Operator, thunk: int) -> Notes:
@@ -119,31 +129,42 @@ def of_selected(first: Notes, op: Operator, thunk: int) -> Notes:
 
 def of_union(first: Notes, second: Notes, op: Operator) -> Notes:
     """What is known of a union."""
-    return _of_pair(first, second, units.of_union(op, first.unit, second.unit))
+    return _of_pair(first, second, units.of_union(op, first.unit, second.unit), _chosen(op, first.value_names, second.value_names))
 
 
 def of_both(first: Notes, second: Notes, op: Operator) -> Notes:
     """What is known of an intersection."""
-    return _of_pair(first, second, units.of_both(op, first.unit, second.unit))
+    return _of_pair(first, second, units.of_both(op, first.unit, second.unit), _met(op, first, second))
 
 
-def _of_pair(first: Notes, second: Notes, unit: Unit) -> Notes:
+def _met(op: Operator, first: Notes, second: Notes) -> Optional[Nodes]:
+    """The vertices that the values op(x, y) are."""
+    for name, one in (('first', first), ('second', second)):
+        if _is_ready(op, frozenset((name,))):
+            return one.value_names
+    return _chosen(op, first.value_names, second.value_names)
+
+
+def _of_pair(first: Notes, second: Notes, unit: Unit, value_names: Optional[Nodes] = None) -> Notes:
     if first is NOTHING and second is NOTHING:
         return NOTHING
-    return Notes(_same(first.rows, second.rows), _same(first.columns, second.columns), _even(first, second), unit=unit)
+    return Notes(_same(first.rows, second.rows), _same(first.columns, second.columns), _even(first, second), unit=unit,
+                 value_names=value_names)
 
 
 def of_product(first: Notes, second: Notes, ring: Semiring, same: bool) -> Notes:
     """What is known of a product; `same` says that both operands are one matrix."""
     if first is NOTHING and second is NOTHING:
         return NOTHING
+    met = _met(ring.mul, first, second)
     return Notes(first.rows, second.columns, _even(first) if same and _is_ready(ring.mul, COMMUTE) else None,
-                 unit=units.of_product(ring.add, ring.mul, first.unit, second.unit))
+                 unit=units.of_product(ring.add, ring.mul, first.unit, second.unit), value_names=_chosen(ring.add, met, met))
 
 
 def of_rows(first: Notes, op: Operator) -> Notes:
     """What is known of a column that has the fold of each row."""
-    return NOTHING if first is NOTHING else Notes(first.rows, unit=units.of_fold(op, first.unit))
+    return NOTHING if first is NOTHING else Notes(first.rows, unit=units.of_fold(op, first.unit),
+                                                  value_names=_chosen(op, first.value_names, first.value_names))
 
 
 def masked(result: Notes, mask: Notes) -> Notes:
@@ -151,7 +172,7 @@ def masked(result: Notes, mask: Notes) -> Notes:
     if result is NOTHING and mask is NOTHING:
         return NOTHING
     return Notes(_same(result.rows, mask.rows) or result.rows, _same(result.columns, mask.columns) or result.columns,
-                 _even(result, mask), result.weighted, unit=result.unit)
+                 _even(result, mask), result.weighted, unit=result.unit, value_names=result.value_names)
 
 
 def of_structure(mask: Notes, value: bool) -> Notes:
@@ -190,7 +211,8 @@ def of_update(first: Notes, second: Notes, accum: Optional[Operator], mask: Opti
     if replace:
         return there
     units.check_same('update', first.unit, there.unit)
-    return _of_pair(under(of_copy(first), mask, value, not complement), there, first.unit)
+    alike = _chosen(binary.first, first.value_names, there.value_names)
+    return _of_pair(under(of_copy(first), mask, value, not complement), there, first.unit, alike)
 
 
 def turned(first: Notes) -> Notes:
@@ -211,7 +233,7 @@ def of_both_sides(first: Notes, nrows: int, ncols: int) -> Notes:
 def on_diagonal(first: Notes) -> Notes:
     """What is known of the square matrix with a column's, or a row's, entries on its diagonal."""
     names = first.rows if first.rows is not None else first.columns
-    return Notes(names, names, False, unit=first.unit)
+    return Notes(names, names, False, unit=first.unit, value_names=first.value_names)
 
 
 def _is_ready(op: Operator, names: FrozenSet[str]) -> bool:

@@ -104,6 +104,7 @@ METHODS = {
     'resize': [lambda g, mask: [g.A.resize(3, 12), g.G.resize(12, 4)]],
     'row_nodes': [lambda g, mask: g.G.row_nodes],
     'select': [lambda g, mask: g.G.select('triu', 1, mask=mask), lambda g, mask: g.G.select('>', 2, mask=mask), lambda g, mask: g.G.select('abs')],
+    'sets': [lambda g, mask: [list(map(sorted, one.sets())) for one in (g.C, g.R)], lambda g, mask: g.A.sets()],
     'shape': [lambda g, mask: [g.G.shape, g.C.shape, g.R.shape]],
     'split': [lambda g, mask: g.A.split(4, [2, g.A.ncols - 2]), lambda g, mask: g.A.split([1, 2])],
     'to_csc': [lambda g, mask: [list(map(int, many)) for many in g.G.to_csc()]],

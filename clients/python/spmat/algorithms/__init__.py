@@ -19,7 +19,8 @@ from .all_pairs_lengths import all_pairs as all_pairs, path_lengths as path_leng
 from .betweenness_centrality import betweenness as betweenness
 from .bfs import bfs_levels as bfs_levels, bfs_parents as bfs_parents
 from .bipartite import bipartite_sides as bipartite_sides
-from .centrality import Centrality as Centrality, closeness as closeness, eigenvector as eigenvector, hits as hits, katz as katz
+from .centrality import eigenvector as eigenvector, hits as hits, katz as katz
+from .closeness_centrality import closeness as closeness
 from .components import connected_components as connected_components
 from .core_decomposition import core_numbers as core_numbers, k_core as k_core
 from .distance_measures import (Bounds as Bounds, diameter as diameter, distance_counts as distance_counts,
@@ -27,13 +28,14 @@ from .distance_measures import (Bounds as Bounds, diameter as diameter, distance
 from .graph_units import keep_units
 from .independent_set import maximal_independent_set as maximal_independent_set
 from .label_propagation_communities import label_propagation as label_propagation
-from .louvain_communities import Communities as Communities, louvain as louvain, modularity as modularity
+from .louvain_communities import louvain as louvain, modularity as modularity
 from .multi_source_bfs import k_hop as k_hop
 from .neighbour_similarity import (common_neighbours as common_neighbours, jaccard as jaccard,
                                    shared_neighbours as shared_neighbours, squares as squares)
 from .page_rank import pagerank as pagerank
 from .protocols import GraphMatrix as GraphMatrix
 from .registry import ALGORITHMS, table
+from .results import Centrality as Centrality, Communities as Communities, name_values
 from .shortest_path_trees import (NoPath as NoPath, Path as Path, PathTree as PathTree, has_path as has_path,
                                   k_shortest_paths as k_shortest_paths, shortest_path as shortest_path,
                                   shortest_paths as shortest_paths)
@@ -49,8 +51,8 @@ TYPES = ('Bounds', 'Centrality', 'Communities', 'CycleError', 'GraphMatrix', 'No
 
 _NAMES = sorted([*TYPES, *ALGORITHMS], key=str.lower)
 __doc__ = '%s\n%s\n' % (__doc__, '\n'.join(table()))
-# each algorithm looks at the budget before its first job; type checkers know the imports above
-globals().update({name: guarded(keep_units(one)) for name, one in ALGORITHMS.items()}, __all__=_NAMES)
+# each algorithm looks at the budget before its first job, and says what its values mean; type checkers know the imports above
+globals().update({name: guarded(name_values(one, keep_units(one))) for name, one in ALGORITHMS.items()}, __all__=_NAMES)
 
 
 def __dir__() -> list[str]:

@@ -11,6 +11,7 @@ from .frontier import Tally, read
 from .multi_source_bfs import Batch, REACHED, find_sources
 from .protocols import M, Place, Vertices
 from .registry import algorithm
+from .results import Centrality, as_centrality
 from .utils import Progress, beside, product, tell
 
 PATHS = Semiring(binary.plus, binary.first)
@@ -67,13 +68,13 @@ class Tight(Generic[M]):
                 '--source only paths from these count. With --weighted values of edges are lengths, 1 or more.',
            steps=step_bounds.betweenness)
 def betweenness(G: M, sources: Optional[Vertices] = None, tolerance: float = 1e-3, scale: int = SCALE,
-                progress: Progress = None, *, weighted: bool = False) -> M:
+                progress: Progress = None, *, weighted: bool = False) -> Centrality:
     """How many shortest paths between two other vertices go through each vertex, as a column in units of 1/scale (2^-20): for each two
     vertices the share of their shortest paths. Of an undirected graph each two vertices count once. With `sources` only paths from these
-    count, and each direction by itself, as LAGraph has it.
+    count, and each direction by itself, as LAGraph has it. Each edge is 1 long, unless `weighted=True` has values be lengths, 1 or more.
 
-    Values of edges count with `weighted=True` alone: they are lengths, 1 or more. Shares are rounded down: each vertex' number is too
-    small by less than `tolerance` for each source, or the call is refused. `progress('source', k, n)` is called after each batch of sources.
+    Shares are rounded down: each vertex' number is too small by less than `tolerance` and one unit for each source, or the call is refused;
+    `error` says by how much at most. `progress('source', k, n)` is called after each batch of sources.
 
     Limits: paths are counted in 62 bits, and a grid of 35 by 35 has more; all shortest paths from a source may be no more than 2^k times
     the tolerance, where k is 62 less the bits of the number of vertices. Costs: a search from each source, forth and back.
@@ -94,13 +95,22 @@ def betweenness(G: M, sources: Optional[Vertices] = None, tolerance: float = 1e-
     bits = 62 - count.bit_length()
     fixed = Fixed(bits, scale, int(tolerance * 2 ** bits))
     sums, size = Tally(count, 0), max(1, MOST_AT_ONCE // max(count, edges.many if edges is not None else 1, 1))
+    paths = 0
     for first in range(0, len(at), size):
         some = at[first:first + size]
-        _add(G, some, fixed, sums, edges)
+        paths = max(paths, _add(G, some, fixed, sums, edges))
         tell(progress, 'source', first + len(some), len(at))
-    made = sums.column(G, None)
-    halved = sources is None and is_both_ways(G) and (not weighted or is_transpose(G, G, True))
-    return beside(G, made.apply('cdiv', right=2) if halved else made)
+    made, error = sums.column(G, None), _lost(len(at), count, paths, fixed)
+    if sources is None and is_both_ways(G) and (not weighted or is_transpose(G, G, True)):
+        made, error = made.apply('cdiv', right=2), error / 2 + 1 / scale
+    return as_centrality(beside(G, made), scale, error, tolerance=tolerance)
+
+
+def _lost(sources: int, count: int, paths: int, fixed: Fixed) -> float:
+    """How far from the true one a number is at most: of each source a unit of a share for each path, and one of the result; and where the one
+    is no multiple of the other, a share of the number itself, which is up to the number of pairs."""
+    whole, rest = divmod(1 << fixed.bits, fixed.scale)
+    return sources * (paths / (1 << fixed.bits) + 1 / fixed.scale) + (sources * count / whole if rest else 0)
 
 
 def _edges(G: M) -> 'Edges[M]':
@@ -112,11 +122,11 @@ def _edges(G: M) -> 'Edges[M]':
     return Edges(G)
 
 
-def _add(G: M, sources: List[Place], fixed: Fixed, sums: Tally, edges: Optional['Edges[M]']) -> None:
-    """Adds what the paths from some sources give to each vertex."""
-    levels, back = _by_edges(G, sources, fixed) if edges is None else _by_values(G, sources, fixed, edges)
+def _add(G: M, sources: List[Place], fixed: Fixed, sums: Tally, edges: Optional['Edges[M]']) -> int:
+    """Adds what the paths from some sources give to each vertex; the most shortest paths that one of these has."""
+    levels, back, paths = _by_edges(G, sources, fixed) if edges is None else _by_values(G, sources, fixed, edges)
     if len(levels) < 3:
-        return
+        return 0
     inverse = asm('unary', 'wide r0, %d\ndiv64 r0, r1\nexit\n' % (1 << fixed.bits))
     share = asm('binary', 'mov64 r0, r1\nmul64 r0, r2\nwide r3, %d\ndiv64 r0, r3\nexit\n' % max(1, (1 << fixed.bits) // fixed.scale))
     shares = levels[-1].apply(inverse)
@@ -130,25 +140,26 @@ def _add(G: M, sources: List[Place], fixed: Fixed, sums: Tally, edges: Optional[
     at, values = read(_row(through).to_text(), 1)
     for i, value in zip(at, values):
         sums.numbers[i] += int(value)
+    return paths
 
 
 Back = Callable[[M, M], M]
 """What the shares of a level's vertices add up to at those before them on shortest paths, of which the counts are given."""
 
 
-def _by_edges(G: M, sources: List[Place], fixed: Fixed) -> Tuple[List[M], 'Back[M]']:
-    """The numbers of shortest paths from some sources, level by level, and the way back."""
-    levels, _ = _counted(Batch(G, sources, PATHS), fixed, G.nvals)
+def _by_edges(G: M, sources: List[Place], fixed: Fixed) -> Tuple[List[M], 'Back[M]', int]:
+    """The numbers of shortest paths from some sources, level by level, the way back, and the most paths of one source."""
+    levels, _, paths = _counted(Batch(G, sources, PATHS), fixed, G.nvals)
     transpose = transpose_of(G, None, False)
-    return levels, lambda shares, counts: product(shares, transpose, PATHS, counts)
+    return levels, lambda shares, counts: product(shares, transpose, PATHS, counts), paths
 
 
-def _by_values(G: M, sources: List[Place], fixed: Fixed, edges: 'Edges[M]') -> Tuple[List[M], 'Back[M]']:
+def _by_values(G: M, sources: List[Place], fixed: Fixed, edges: 'Edges[M]') -> Tuple[List[M], 'Back[M]', int]:
     """The same by values. A level has all vertices with a shortest path of so many edges, and for each the number of all its shortest
     paths: what is behind a vertex doesn't depend on the level, and all of it is in the next one."""
     search = Tight(edges, sources, G.nrows)
-    levels, total = _counted(search, fixed, edges.many)
-    return [counts.ewise_mult(total, 'second') for counts in levels], search.back
+    levels, total, paths = _counted(search, fixed, edges.many)
+    return [counts.ewise_mult(total, 'second') for counts in levels], search.back, paths
 
 
 def _row(matrix: M) -> M:
@@ -157,8 +168,9 @@ def _row(matrix: M) -> M:
     return ones.mxm(matrix, ('plus', 'second'))
 
 
-def _counted(search: Any, fixed: Fixed, edges: int) -> Tuple[List[Any], Any]:
-    """The numbers of paths that a search finds, level by level and in all. ValueError where there are too many."""
+def _counted(search: Any, fixed: Fixed, edges: int) -> Tuple[List[Any], Any, int]:
+    """The numbers of paths that a search finds, level by level and in all, and the most of one source. ValueError where there are too
+    many."""
     levels: List[Any] = []
     total, greatest, count = search.front, 1, search.front.ncols
     while search.front.nvals:
@@ -175,4 +187,4 @@ def _counted(search: Any, fixed: Fixed, edges: int) -> Tuple[List[Any], Any]:
     if paths > fixed.most:
         raise ValueError('%d shortest paths from one vertex: shares would be rounded by more than the tolerance; '
                          'give a greater one' % paths)
-    return levels, total
+    return levels, total, paths

@@ -3,41 +3,30 @@ from __future__ import annotations
 
 import math
 from fractions import Fraction
-from typing import Any, Callable, Dict, Generic, List, Optional, Tuple
+from typing import Callable, Generic, List, NamedTuple, Optional, Tuple, Union
 
 from ..io.coo import whole
 from ..io.matrix_text import find_numpy, is_array
-from ..matrix import Matrix
 from ..operators import Semiring, binary
+from ..units import exact_number
 from . import step_bounds
 from .bfs import flow_lines
 from .cached_properties import extremes
-from .distance_measures import distance_counts
-from .frontier import Columns, FEW, Lines, Tally, Vector, column_of
+from .frontier import Columns, FEW, Lines, Vector, column_of, plus_times
+from .graph_units import unit_of
 from .protocols import M, Numbers
 from .registry import algorithm
+from .results import BOUND, CHANGE, Centrality, RESIDUAL, as_centrality
 from .utils import Progress, beside, order, tell
 
 ONE = 1 << 40
 BITS = 40                                          # of the greatest number of a vector, or fewer where sums leave no room
 ROUNDS = 1000
-ROOM = 16                                          # bits by which Katz' numbers may grow
+ROOM, MORE_ROOM = 16, 8                            # bits by which Katz' numbers may grow, and so many more where they do
+LEAST_BITS = 16
+MOST_DENOMINATOR = 1 << 30                         # of alpha: twice as many bits have room in a word
+FLOATS = 2.0 ** -50                                # what a few operations on floats take, as a share
 MOST_NUMBER = 1 << 60
-
-
-class Centrality(Generic[M]):
-    """A number for each vertex: `values`, a column in units of 1/`scale`, and `error`, how far off it may be, as the function says."""
-
-    def __init__(self, values: M, scale: int, error: float) -> None:
-        self.values, self.scale, self.error = values, scale, error
-
-    def __repr__(self) -> str:
-        return '<Centrality of %d vertices, in units of 1/%d, error %.2g>' % (self.values.nrows, self.scale, self.error)
-
-    def by_node(self) -> Dict[Any, float]:
-        """{vertex: number}, with names where the graph has any."""
-        names, values = self.values.nodes, self.values.to_coo(arrays=False)[2]
-        return {at if names is None else names[at]: value / self.scale for at, value in enumerate(values)}
 
 
 class _Steps(Generic[M]):
@@ -93,24 +82,34 @@ def _bits(heaviest: int, growth: int = 0) -> int:
     """How many bits a number may have so that no sum of them passes 62, where the edges of no vertex weigh more than so much. ValueError
     where these are too few."""
     bits = min(BITS, 60 - growth - heaviest.bit_length())
-    if bits < 16:
+    if bits < LEAST_BITS:
         raise ValueError('edges of one vertex that weigh %d leave no room for fixed point: divide the weights' % heaviest)
     return bits
 
 
-def _check_tolerance(tolerance: float, bits: int) -> None:
-    if tolerance * (1 << bits) < 8:
-        raise ValueError('a tolerance of %g can not be kept here: rounding takes up to %.2g; give a greater one' % (tolerance, 8 / (1 << bits)))
+def _kept(tolerance: Optional[float], usual: float, bits: int) -> float:
+    """The tolerance of a caller; without one the usual one, or where rounding takes more the least that can be kept. ValueError where that of
+    the caller can't be."""
+    least = 8 / (1 << bits)
+    if tolerance is None:
+        return max(usual, least)
+    if not tolerance >= least:
+        raise ValueError('a tolerance of %g can not be kept here: rounding takes up to %.2g; give a greater one, or none' % (tolerance, least))
+    return tolerance
 
 
-def _fixed(G: M, numbers: Numbers, scale: int, error: float) -> 'Centrality[M]':
-    """Numbers as a column in units of 1/scale."""
+def _column(G: M, numbers: Numbers, scale: int) -> M:
+    """Numbers as a column in units of 1/scale. ValueError where one is too great for that."""
+    if _most_of(numbers) * scale >= 1 << 63:
+        raise ValueError('a number of %.3g has no place in 64 bits in units of 1/%d: give a smaller scale=' % (_most_of(numbers), scale))
     if is_array(numbers):
         import numpy
-        values: Numbers = numpy.rint(numbers * scale).astype(numpy.int64)
-    else:
-        values = [round(number * scale) for number in numbers]
-    return Centrality(beside(G, column_of(G, values)), scale, error)
+        return beside(G, column_of(G, numpy.rint(numbers * scale).astype(numpy.int64)))
+    return beside(G, column_of(G, [round(number * scale) for number in numbers]))
+
+
+def _most_of(numbers: Numbers) -> float:
+    return float(numbers.max()) if is_array(numbers) and len(numbers) else float(max(numbers, default=0))
 
 
 def _divided(numbers: Numbers, by: float) -> Numbers:
@@ -125,33 +124,6 @@ def _most(numbers: Numbers) -> int:
 def _check(scale: int, rounds: int) -> None:
     if not 1 <= scale <= 1 << 52 or whole(rounds, 'number of rounds') < 1:
         raise ValueError('a scale is 1 to 2^52, and rounds are 1 or more')
-
-
-@algorithm('how near each vertex is to those that reach it', scale=ONE, ranked=True,
-           says='How near each vertex is to those that reach it: of r of n vertices, at distances that add up to d, '
-                '(r - 1)/d times (r - 1)/(n - 1).', steps=step_bounds.closeness)
-def closeness(G: Matrix, GT: Optional[Matrix] = None, scale: int = ONE, progress: Progress = None, *, check: bool = True) -> 'Centrality[Matrix]':
-    """How near each vertex is to those that reach it, in units of 1/scale (2^-40): of r of n vertices that reach it (itself too), at
-    distances that add up to d, (r - 1)/d times (r - 1)/(n - 1), which is 0 where none does. `error` is what rounding takes: one unit.
-
-    `GT` and `progress` are as for `distance_counts`, and so are costs. networkx: `closeness_centrality`. igraph: `closeness`, but for the
-    second factor. Raises ValueError for a scale that isn't 1 to 2^52, and as `distance_counts` does.
-    """
-    count = order(G, GT)
-    _check(scale, 1)
-    many, total = Tally(count, 0), Tally(count, 0)
-    columns = Columns(G, G)
-    for level, column in enumerate(distance_counts(G, GT, progress, check=check), 1):
-        at, values = columns.get(column)
-        many.put(at, _sums(many.of(at), values, 1))
-        total.put(at, _sums(total.of(at), values, level))
-    found = [r * r * scale // (d * (count - 1)) if d else 0 for r, d in zip(many.numbers, total.numbers)]
-    return Centrality(beside(G, column_of(G, found)), scale, 1 / scale)
-
-
-def _sums(first: Numbers, second: Numbers, times: int) -> Numbers:
-    """Numbers, and so many times others."""
-    return first + times * second if is_array(first) else [a + times * b for a, b in zip(first, second)]
 
 
 def _scaled(numbers: Numbers, bits: int) -> Numbers:
@@ -179,34 +151,46 @@ def _distance(now: Numbers, before: Numbers) -> float:
     return moved
 
 
-def _iterated(step: Callable[[Numbers], Numbers], start: Numbers, tolerance: float, most: Tuple[int, Progress]) -> Numbers:
-    """What a step comes to whose results change by less than the tolerance. ValueError where that takes too many rounds."""
+class _Settled(NamedTuple):
+    """Numbers that change no more, after how many rounds, and how far they moved in the last one."""
+    numbers: Numbers
+    rounds: int
+    moved: float
+
+
+def _iterated(step: Callable[[Numbers], Numbers], start: Numbers, tolerance: float, rounding: float, most: Tuple[int, Progress]) -> _Settled:
+    """What a step comes to whose results change by less than the tolerance, or by no more than rounding takes and no less than the round
+    before. ValueError where that takes too many rounds."""
     rounds, progress = most
-    now = start
+    now, last = start, math.inf
     for number in range(1, rounds + 1):
         before, now = now, step(now)
         tell(progress, 'round', number)
-        if not _most(now) or _distance(now, before) < tolerance:
-            return now
-    raise ValueError('%d rounds, and numbers still change by more than %g: give more rounds= or a greater tolerance=' % (rounds, tolerance))
+        moved = _distance(now, before) if _most(now) else 0.0
+        if moved < tolerance or last <= moved < rounding:
+            return _Settled(now, number, moved)
+        last = moved
+    raise ValueError('%d rounds, and numbers still change by %.2g, more than %g: give more rounds= or a greater tolerance='
+                     % (rounds, last, tolerance))
 
 
 @algorithm('eigenvector centrality', 'tolerance', 'weighted', scale=ONE, ranked=True,
            says='Numbers of which each is in proportion to the sum of those of the vertices that lead to it, whose '
                 'squares add up to 1.', steps=step_bounds.eigenvector)
-def eigenvector(G: M, GT: Optional[M] = None, tolerance: float = 1e-6, scale: int = ONE, rounds: int = ROUNDS, progress: Progress = None, *,
-                weighted: bool = False, check: bool = True) -> 'Centrality[M]':
-    """The eigenvector centrality of each vertex, in units of 1/scale (2^-40): numbers of which each is in proportion to the sum of those of
-    the vertices that lead to it, whose squares add up to 1. Values of edges count with `weighted=True` alone.
+def eigenvector(G: M, GT: Optional[M] = None, tolerance: Optional[float] = None, scale: int = ONE, rounds: int = ROUNDS,
+                progress: Progress = None, *, weighted: bool = False, check: bool = True) -> Centrality:
+    """The eigenvector centrality of each vertex, as a column in units of 1/scale (2^-40): numbers of which each is in proportion to the sum
+    of those of the vertices that lead to it, whose squares add up to 1. Each edge counts as 1, unless `weighted=True` has values count.
 
-    `error` is the residual: how far the vector that one more product gives, divided by the eigenvalue, is from it (2-norm). How far the
-    true one is, the graph decides as well: residual by relative distance of the next eigenvalue, where each edge leads both ways. Rounds end
-    where the numbers of two that follow differ by less than `tolerance` times the vertices in all. `GT` is as for
-    `pagerank`. `progress('round', k, 0)` is called after each round.
+    `error` is the residual, and no bound: how far the vector that one more product gives, divided by the eigenvalue, is from it (2-norm). How
+    far the true one is, the graph decides as well: residual by relative distance of the next eigenvalue, where each edge leads both ways.
+    Rounds end where the numbers of two that follow differ by less than `tolerance` times the vertices in all: 1e-6, or where weights are so
+    great that rounding takes more the least that can be kept, as the result's `tolerance` says. `GT` is as for `pagerank`.
+    `progress('round', k, 0)` is called after each round.
 
     Runs: 1 a round, and 2. Steps: up to 5 an edge, a round. Power iteration of G + 1, in whole numbers. networkx: `eigenvector_centrality`.
     igraph: `eigenvector_centrality`, whose greatest is 1. Raises ValueError where so many rounds don't do, the graph has no edge, a value is
-    below 0, and for numbers out of range.
+    below 0, a tolerance that is given can't be kept, and for numbers out of range.
     """
     count = order(G, GT)
     _check(scale, rounds)
@@ -214,12 +198,15 @@ def eigenvector(G: M, GT: Optional[M] = None, tolerance: float = 1e-6, scale: in
         raise ValueError('the graph has no edge: each number is an eigenvector of it')
     steps = _steps(G, GT, weighted, check)
     bits = _bits(_most(steps.comes(steps.all(1))))
-    _check_tolerance(tolerance, bits)
-    found = _iterated(lambda numbers: _scaled(_sums(numbers, steps.comes(numbers), 1), bits), steps.all(1 << bits), tolerance * count, (rounds, progress))
+    kept = _kept(tolerance, 1e-6, bits)
+    settled = _iterated(lambda numbers: _scaled(plus_times(numbers, steps.comes(numbers), 1), bits), steps.all(1 << bits), kept * count, 0,
+                        (rounds, progress))
+    found = settled.numbers
     norm, product = _norm(found), steps.comes(found)
     value = _dot(found, product) / norm ** 2
-    away = _sums(_divided(product, value), _divided(found, 1), -1) if value else found
-    return _fixed(G, _divided(found, norm), scale, _norm(away) / norm if value else math.inf)
+    away = plus_times(_divided(product, value), _divided(found, 1), -1) if value else found
+    return as_centrality(_column(G, _divided(found, norm), scale), scale, _norm(away) / norm if value else math.inf, RESIDUAL,
+                         tolerance=kept, rounds=settled.rounds)
 
 
 def _dot(first: Numbers, second: Numbers) -> float:
@@ -228,41 +215,80 @@ def _dot(first: Numbers, second: Numbers) -> float:
     return float(sum(x * y for x, y in zip(first, second)))
 
 
-@algorithm('Katz centrality', 'alpha', 'weighted', scale=ONE, ranked=True,
+class _Handed(NamedTuple):
+    """What Katz' numbers hand on along an edge: a fraction in whole numbers, and as a share of it how far it is from what was asked for."""
+    share: Fraction
+    drift: float
+
+
+def _handed(alpha: float, beta: float, unit: Fraction) -> _Handed:
+    """The fraction that is handed on by an edge of one unit. ValueError where it is out of range."""
+    try:
+        exact = exact_number(alpha) / unit
+    except (TypeError, ValueError):
+        exact = Fraction(0)
+    share = exact.limit_denominator(MOST_DENOMINATOR)
+    if not 0 < share < 1 << 20 or not beta > 0 or beta == math.inf:
+        raise ValueError('alpha lies between 2^-30 and 2^20, by the unit of the weights, and beta is above 0: not %r and %r' % (alpha, beta))
+    return _Handed(share, float(abs(exact / share - 1)))
+
+
+@algorithm('Katz centrality', 'alpha', 'weighted', scale=ONE, ranked=True, reads_unit=True,
            says='Numbers of which each is 1 and alpha times the sum of those of the vertices that lead to it, '
                 'divided so that the squares add up to 1.', steps=step_bounds.katz)
-def katz(G: M, alpha: float = 0.1, beta: float = 1.0, GT: Optional[M] = None, tolerance: float = 1e-9, scale: int = ONE,
-         rounds: int = ROUNDS, progress: Progress = None, *, weighted: bool = False, normalized: bool = True, check: bool = True) -> 'Centrality[M]':
-    """The Katz centrality of each vertex, in units of 1/scale (2^-40): beta, and alpha times the sum of the numbers of the vertices that
-    lead to it. With `normalized` divided so that the squares add up to 1. Values of edges count with `weighted=True` alone.
+def katz(G: M, alpha: float = 0.1, beta: float = 1.0, GT: Optional[M] = None, tolerance: Optional[float] = None, scale: int = ONE,
+         rounds: int = ROUNDS, progress: Progress = None, *, weighted: bool = False, normalized: bool = True, check: bool = True) -> Centrality:
+    """The Katz centrality of each vertex, as a column in units of 1/scale (2^-40): beta, and alpha times the sum of the numbers of the
+    vertices that lead to it. With `normalized` divided so that the squares add up to 1. Each edge counts as 1, unless `weighted=True` has
+    values count.
 
-    `error` is proved: no number is farther from the true one than that share of it, but for half a unit of the scale. Rounds end as soon as
-    it is at most `tolerance`. alpha is a fraction with a denominator of at most 1,000,000, as a number of six decimals is, and less than 1 divided by the
-    greatest eigenvalue, or the call is refused, as numbers grow on. `GT` is as for `pagerank`. `progress('round', k, 0)` is called after each round.
+    `error` is proved: no number is farther from the true one. Rounds end as soon as each is known to `tolerance` times itself: 1e-9, or where
+    sums are so great that rounding takes more the least that can be kept, as the result's `tolerance` says. alpha is less than 1 divided by
+    the greatest eigenvalue, or the call is refused, as numbers grow on. `GT` is as for `pagerank`. `progress('round', k, 0)` is called after
+    each round.
 
-    Runs: 1 a round, and 1. Steps: up to 5 an edge, a round. networkx: `katz_centrality`. Raises ValueError where alpha is too great, so many rounds
-    don't do, a value is below 0, and for numbers out of range.
+    Runs: 1 a round, and 1; some rounds again where numbers grow by more than 2^16. Steps: up to 5 an edge, a round. networkx:
+    `katz_centrality`. Raises ValueError where alpha is too great, so many rounds don't do, a value is below 0, a tolerance that is given
+    can't be kept, and for numbers out of range.
     """
     count = order(G, GT)
     _check(scale, rounds)
-    share = Fraction(alpha).limit_denominator(10 ** 6)
-    if not 0 < share < 1 << 20 or abs(float(share) - alpha) > 1e-12 or beta <= 0:
-        raise ValueError('alpha is above 0, with at most six decimals or a denominator of at most 1,000,000, and beta is above 0: not %r and %r' % (alpha, beta))
+    handed = _handed(alpha, beta, unit_of(G, GT) if weighted else Fraction(1))
     steps = _steps(G, GT, weighted, check)
-    bits = _bits(_most(steps.comes(steps.all(1))) if count else 0, ROOM)
-    numbers, unit = steps.all(1 << bits), 1 << bits
-    _check_tolerance(tolerance, bits)
-    for number in range(1, rounds + 1):
-        before, numbers = numbers, _times(steps.comes(numbers), share, unit)
-        tell(progress, 'round', number)
-        off = (_farthest(numbers, before) + 1) / unit if count else 0
-        if off < 1 and off / (1 - off) <= tolerance / (2 + tolerance if normalized else 1):
-            error = off / (1 - off)
-            return _fixed(G, _divided(before, _norm(before) if normalized else unit / beta), scale, 2 * error / (1 - error) if normalized else error)
-        if _most(numbers) >> (bits + ROOM):
+    heaviest = _most(steps.comes(steps.all(1))) if count else 0
+    room = ROOM
+    while True:
+        bits = _bits(heaviest, room)
+        kept = _kept(tolerance, 1e-9, bits)
+        settled = _spread(steps, handed, (bits, room), kept / (2 + kept if normalized else 1), (rounds, progress))
+        if isinstance(settled, _Settled):
             break
-    raise ValueError('alpha=%g is too great for this graph, or %d rounds too few: it has to be less than 1 divided by the greatest eigenvalue'
-                     % (alpha, rounds))
+        room += MORE_ROOM
+        if 60 - room - heaviest.bit_length() < LEAST_BITS:
+            raise ValueError('alpha=%g is too great for this graph: numbers grow on and on. It has to be less than 1 divided by the greatest '
+                             'eigenvalue%s, and by their growth that is near %.3g'
+                             % (alpha, ' of the weights' if weighted else '', alpha / max(1.0, settled)))
+    found = _divided(settled.numbers, _norm(settled.numbers) if normalized else (1 << bits) / beta)
+    share = 2 * settled.moved / (1 - settled.moved) if normalized else settled.moved
+    return as_centrality(_column(G, found, scale), scale, (share + FLOATS) * _most_of(found) + .5 / scale, tolerance=kept, rounds=settled.rounds)
+
+
+def _spread(steps: _Steps[M], handed: _Handed, room: Tuple[int, int], aim: float, most: Tuple[int, Progress]) -> Union[_Settled, float]:
+    """Katz' numbers, where the least is 2^bits, with how far they are from the true ones at most, as a share of each; or, where they leave the
+    room, by how much they grew in the last round. One more step takes each number nearer to the true ones, by the norm in which these are
+    one: so its change, divided by 1 less itself, bounds the distance. ValueError where rounds don't do."""
+    (bits, more), (rounds, progress) = room, most
+    unit, numbers = 1 << bits, steps.all(1 << bits)
+    for number in range(1, rounds + 1):
+        before, numbers = numbers, _times(steps.comes(numbers), handed.share, unit)
+        tell(progress, 'round', number)
+        off = (_farthest(numbers, before) + 1 + handed.drift * _most(numbers)) / unit if steps.count else 0
+        if off < 1 and off / (1 - off) <= aim:
+            return _Settled(before, number, off / (1 - off))
+        if _most(numbers) >> (bits + more):
+            return _sum(numbers) / _sum(before)
+    raise ValueError('%d rounds are too few for alpha=%g, which is near 1 divided by the greatest eigenvalue or above it: give a smaller alpha, '
+                     'a greater tolerance=, or more rounds=' % (rounds, float(handed.share)))
 
 
 def _sum(numbers: Numbers) -> float:
@@ -294,31 +320,31 @@ def _farthest(first: Numbers, second: Numbers) -> int:
 @algorithm('hubs and authorities', 'authorities', 'weighted', scale=ONE, ranked=True,
            says='An authority\'s number is in proportion to those of the hubs that lead to it, a hub\'s to those of '
                 'the authorities that it leads to.', steps=step_bounds.hits)
-def hits(G: M, GT: Optional[M] = None, tolerance: float = 1e-8, scale: int = ONE, rounds: int = ROUNDS, progress: Progress = None, *,
-         weighted: bool = False, check: bool = True) -> Tuple['Centrality[M]', 'Centrality[M]']:
-    """Hubs and authorities (HITS), in units of 1/scale (2^-40): an authority's number is in proportion to those of the hubs that lead to it,
-    and a hub's to those of the authorities that it leads to. Each kind adds up to 1. Values of edges count with `weighted=True` alone.
+def hits(G: M, GT: Optional[M] = None, tolerance: Optional[float] = None, scale: int = ONE, rounds: int = ROUNDS, progress: Progress = None, *,
+         weighted: bool = False, check: bool = True) -> Tuple[Centrality, Centrality]:
+    """Hubs and authorities (HITS), as two columns in units of 1/scale (2^-40): an authority's number is in proportion to those of the hubs
+    that lead to it, and a hub's to those of the authorities that it leads to. Each kind adds up to 1. Each edge counts as 1, unless
+    `weighted=True` has values count.
 
-    `error` is how far the numbers of hubs still moved in the last round, all together, and rounds end where that is less than `tolerance`. The
-    graph decides how far the true ones are. `GT` is as for `pagerank`. `progress('round', k, 0)` is called after each round.
+    `error` is the last change, and no bound: how far the numbers of hubs still moved in the last round, all together. Rounds end where that
+    is less than `tolerance`: 1e-8, or where weights are so great that rounding takes more the least that can be kept, as the result's
+    `tolerance` says. The graph decides how far the true ones are. `GT` is as for `pagerank`. `progress('round', k, 0)` is called after each
+    round.
 
     Runs: 2 a round, and 3. Steps: up to 10 an edge, a round. Kleinberg's algorithm, in whole numbers. networkx: `hits`. igraph: `hub_score`,
-    `authority_score`. Raises ValueError where so many rounds don't do, the graph has no edge, a value is below 0, and for numbers out of
-    range.
+    `authority_score`. Raises ValueError where so many rounds don't do, the graph has no edge, a value is below 0, a tolerance that is given
+    can't be kept, and for numbers out of range.
     """
-    order(G, GT)
+    count = order(G, GT)
     _check(scale, rounds)
     if not G.nvals:
         raise ValueError('the graph has no edge: it has neither hubs nor authorities')
-    steps, moved = _steps(G, GT, weighted, check), [math.inf]
+    steps = _steps(G, GT, weighted, check)
     bits = _bits(max(_most(steps.comes(steps.all(1))), _most(steps.leads(steps.all(1)))))
-    _check_tolerance(tolerance, bits)
-
-    def step(numbers: Numbers) -> Numbers:
-        found = _scaled(steps.leads(_scaled(steps.comes(numbers), bits)), bits)
-        moved[0] = _distance(found, numbers) if _most(found) else 0.0
-        return found
-    hubs = _iterated(step, steps.all(1 << bits), tolerance, (rounds, progress))
-    authorities = steps.comes(hubs)
-    made = [_fixed(G, _divided(kind, max(1.0, _sum(kind))), scale, moved[0]) for kind in (hubs, authorities)]
-    return made[0], made[1]
+    kept = _kept(tolerance, 1e-8, bits)
+    settled = _iterated(lambda numbers: _scaled(steps.leads(_scaled(steps.comes(numbers), bits)), bits), steps.all(1 << bits), kept,
+                        8 * count / (1 << bits) if tolerance is None else 0, (rounds, progress))
+    hubs, authorities = (as_centrality(_column(G, _divided(kind, max(1.0, _sum(kind))), scale), scale, settled.moved, CHANGE,
+                                       tolerance=max(kept, settled.moved), rounds=settled.rounds)
+                         for kind in (settled.numbers, steps.comes(settled.numbers)))
+    return hubs, authorities

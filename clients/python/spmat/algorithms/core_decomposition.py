@@ -1,20 +1,23 @@
 """Cores: parts of a graph in which each vertex has so many neighbours."""
 from __future__ import annotations
 
-from typing import Any, Dict, Generic, List, Optional
+from typing import Any, Dict, Generic, List, Optional, Set
 
 from ..io import matrix_text
 from ..io.coo import whole
 from ..io.matrix_text import Triples
 from ..loops import Loop, State, empty
 from ..loops.pipelined_rounds import Round
+from ..metadata import Nodes
 from ..operators import Semiring, binary
 from . import step_bounds
 from .bfs import Unseen, fronts_of, is_large
 from .cached_properties import check_undirected
+from .components import connected_components
 from .frontier import Columns, Tally, Vector, ones_like, zeros_like
 from .protocols import M, Numbers
 from .registry import WITHOUT_LOOPS, algorithm
+from .results import Result, as_result
 from .server_side_search import is_ample
 from .triangle_counts import degrees
 from .utils import Progress, beside, order, product, tell
@@ -92,11 +95,28 @@ class Peeling(Generic[M]):
         return out
 
 
+class Core(Result):
+    """The vertices of a core: a column with the number of neighbours that each has there. It is a matrix, but for `sets()`."""
+
+    graph: Any
+
+    def sets(self) -> List[Set[Any]]:
+        """The connected components of the core, as sets of vertices, by their names where the graph has any, the largest first. Costs: those
+        of `connected_components` of the core, and 2 runs."""
+        at = self.to_coo(arrays=False)[0]
+        part = _among(self.graph, at)
+        labels = connected_components(part, part, check=False)
+        names = self.nodes
+        labels.nodes = Nodes(at if names is None else [names[vertex] for vertex in at])
+        found: List[Set[Any]] = labels.sets()
+        return found
+
+
 @algorithm('vertices with k neighbours or more', 'k', wanted=WITHOUT_LOOPS, ranked=True,
            runs=lambda g: 3 * g.rounds + 3, steps=step_bounds.k_core)
-def k_core(G: M, k: int, progress: Progress = None, *, check: bool = True) -> M:
+def k_core(G: M, k: int, progress: Progress = None, *, check: bool = True) -> Core:
     """The vertices of the largest part of an undirected graph without loops in which each has at least k neighbours, as a column;
-    the value is the number of them. With k = 0 these are all vertices.
+    the value is the number of them, and `.sets()` has the components of that part. With k = 0 these are all vertices.
 
     `progress('round', i, 0)` is called after each round. In each those fall that have too few neighbours left, and push that along
     their edges: no other vertex is looked at.
@@ -113,10 +133,10 @@ def k_core(G: M, k: int, progress: Progress = None, *, check: bool = True) -> M:
     check_undirected(G, check)
     peeling = Peeling(G, progress)
     if k == 0:
-        return beside(G, peeling.left.column(G, None))
+        return as_result(Core, beside(G, peeling.left.column(G, None)), graph=G)
     peeling.peel(k)
     at = peeling.rest()
-    return beside(G, Columns(G, G).put(Vector(at, peeling.left.of(at))))
+    return as_result(Core, beside(G, Columns(G, G).put(Vector(at, peeling.left.of(at)))), graph=G)
 
 
 @algorithm('the greatest k of a core with each vertex', wanted=WITHOUT_LOOPS, ranked=True,

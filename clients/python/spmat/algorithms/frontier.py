@@ -197,6 +197,11 @@ def ones_like(at: Numbers) -> Numbers:
     return at * 0 + 1 if matrix_text.is_array(at) else [1] * len(at)
 
 
+def plus_times(first: Numbers, second: Numbers, times: float) -> Numbers:
+    """Numbers, and so many times others."""
+    return first + times * second if matrix_text.is_array(first) else [a + times * b for a, b in zip(first, second)]
+
+
 def column_of(like: M, values: Numbers) -> M:
     """A column with a value for each vertex of a graph."""
     if matrix_text.is_array(values):

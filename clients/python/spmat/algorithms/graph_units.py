@@ -4,10 +4,12 @@ from __future__ import annotations
 import functools
 import inspect
 import math
-from typing import Any, Callable, Dict
+from fractions import Fraction
+from typing import Any, Callable, Dict, Optional
 
 from .. import units
 from ..io.exporters import Held
+from .protocols import GraphMatrix
 from .registry import Algorithm
 
 Function = Callable[..., Any]
@@ -16,6 +18,8 @@ Function = Callable[..., Any]
 def keep_units(algorithm: Algorithm) -> Function:
     """An algorithm's function, which takes graphs of any unit. UnitsDiffer where a graph and its transpose have two, and values count."""
     function = algorithm.function
+    if algorithm.reads_unit:
+        return function
     signature = inspect.signature(function)
 
     @functools.wraps(function)
@@ -37,6 +41,13 @@ def keep_units(algorithm: Algorithm) -> Function:
         found = function(*given.args, **given.kwargs)
         return _in_unit(found, unit) if counts and algorithm.lengths else found
     return call
+
+
+def unit_of(graph: GraphMatrix, transpose: Optional[GraphMatrix]) -> Fraction:
+    """The unit of the values of a graph. UnitsDiffer where its transpose has another one."""
+    if transpose is not None:
+        units.check_same('a graph and its transpose', graph.unit, transpose.unit)
+    return Fraction(graph.unit)
 
 
 def _check_transpose(algorithm: Algorithm, given: Dict[str, Any], unit: units.Unit) -> None:

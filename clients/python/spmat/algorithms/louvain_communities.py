@@ -3,14 +3,16 @@ from __future__ import annotations
 
 import random
 from fractions import Fraction
-from typing import Any, Dict, Generic, List, NamedTuple, Tuple
+from typing import Any, Dict, List, NamedTuple, Tuple
 
 from ..io.matrix_text import Triples
 from . import step_bounds
 from .cached_properties import check_undirected, extremes, has_loops, is_both_ways
+from .community_labels import Partition, number_communities
 from .frontier import column_of
 from .protocols import M
 from .registry import BOTH_WAYS, algorithm
+from .results import Communities, as_result
 from .utils import Progress, beside, order, product, tell
 
 BATCHES = 4                                        # parts of the vertices that decide one after the other
@@ -19,28 +21,7 @@ ENOUGH = 1e-3                                      # .. and a sweep, for that an
 SWEEPS = 20                                        # of one level, at most
 LEVELS = 16                                        # at most: each has fewer vertices, and few are wanted
 MOST_WEIGHT = 1 << 53                              # of all edges: weights are compared as floats
-
-
-class Communities(Generic[M]):
-    """`labels`, a column with the community of each vertex: the least vertex of it; `modularity`, of these communities; and after how
-    many `levels` they were found."""
-
-    def __init__(self, labels: M, found: float, levels: int) -> None:
-        self.labels, self.modularity, self.levels = labels, found, levels
-
-    def __repr__(self) -> str:
-        return '<Communities: %d of modularity %.4f>' % (len(set(self._values())), self.modularity)
-
-    def _values(self) -> List[int]:
-        values: List[int] = list(self.labels.to_coo(arrays=False)[2])
-        return values
-
-    def sets(self) -> List[List[Any]]:
-        """The vertices of each community, by their names where the graph has any, the largest first."""
-        names, found = self.labels.nodes, {}  # type: Any, Dict[int, List[Any]]
-        for i, label in enumerate(self._values()):
-            found.setdefault(label, []).append(i if names is None else names[i])
-        return sorted(found.values(), key=len, reverse=True)
+MOST_SUM = 1 << 62                                 # of all edges: loops count twice
 
 
 def _doubled(graph: M, weighted: bool) -> M:
@@ -74,20 +55,22 @@ def _numbered(labels: List[int]) -> Tuple[List[int], int]:
 
 @algorithm('how many more edges lie within communities than by chance', command=False,
            steps=step_bounds.modularity)
-def modularity(G: M, labels: M, resolution: float = 1.0, *, weighted: bool = False) -> float:
+def modularity(G: M, labels: Partition, resolution: float = 1.0, *, weighted: bool = False) -> float:
     """The modularity of communities: the share of edges that lie inside one, less the share that would if edges were drawn at random
-    between vertices of the same degrees, times the resolution. `labels` is a column with any number for each vertex' community.
+    between vertices of the same degrees, times the resolution. Each edge counts as 1, unless `weighted=True` has values count.
 
-    Values of edges count with `weighted=True` alone. Loops count as networkx has them. Exact up to the last rounding.
+    `labels` are the communities: what `louvain` gives, or another column with any number for each vertex' community; a dict {vertex:
+    community}; or a list of sets, or lists, of vertices. Loops count as networkx has them. Exact up to the last rounding.
 
-    Runs: 8. Steps: up to 14 an edge. networkx: `modularity`. Raises ValueError where a vertex has no label, or values add up to nothing.
+    Runs: 12. Steps: up to 22 an edge. networkx: `modularity`. Raises ValueError where a vertex is in no community, or in two, or isn't one of
+    the graph's, and where values add up to nothing, or could pass 2^62; TypeError where communities have another form.
     """
-    count = order(G)
-    rows, _, values = labels.to_coo(arrays=False)
-    if labels.shape != (count, 1) or len(rows) != count:
-        raise ValueError('labels are a column with a community for each of %d vertices' % count)
+    order(G)
+    numbers, many = number_communities(G, labels)
+    least, most = extremes(G) if weighted else (1, 1)
+    if max(most, -least) * max(1, G.nvals) >= MOST_SUM:
+        raise ValueError('weights add up to less than 2^62: here %d are %d to %d; divide them' % (G.nvals, least, most))
     graph = _doubled(G, weighted) if is_both_ways(G) else G if weighted else G.apply('one')
-    numbers, many = _numbered([int(value) for value in values])
     return _modularity(_gathered(graph, numbers, many), resolution)
 
 
@@ -172,9 +155,10 @@ def _settled(level: _Level, graph: Any) -> Tuple[List[int], int, float]:
            says='Communities by Louvain\'s method; their modularity is told on standard error.',
            steps=step_bounds.louvain)
 def louvain(G: M, resolution: float = 1.0, seed: int = 0, progress: Progress = None, *, weighted: bool = False,
-            check: bool = True) -> 'Communities[M]':
-    """Communities of an undirected graph whose modularity is great, by Louvain's method, with that modularity. A greater resolution gives
-    smaller communities. Values of edges count with `weighted=True` alone, and are 0 or more. Loops count.
+            check: bool = True) -> Communities:
+    """Communities of an undirected graph whose modularity is great, by Louvain's method, as a column of labels with that modularity; a label
+    is the least vertex of its community, and `.sets()` has the communities. Each edge counts as 1, unless `weighted=True` has values count,
+    which are 0 or more. A greater resolution gives smaller communities. Loops count.
 
     Vertices go one after the other where the modularity gains most. The session adds up what each one's edges weigh that lead to each
     community, for a quarter of the vertices at a time, which the seed draws. What a sweep didn't gain is taken back. Then communities become
@@ -202,4 +186,4 @@ def louvain(G: M, resolution: float = 1.0, seed: int = 0, progress: Progress = N
         graph = _gathered(graph, numbers, many)
     first: Dict[int, int] = {}
     least_of = [first.setdefault(label, i) for i, label in enumerate(labels)]
-    return Communities(beside(G, column_of(G, least_of)), found, number)
+    return as_result(Communities, beside(G, column_of(G, least_of)), modularity=found, levels=number)

@@ -10,9 +10,10 @@ from ..pricing.foreseen import asked
 from . import step_bounds
 from .bfs import flow_lines
 from .cached_properties import extremes, found, is_both_ways
-from .frontier import Columns, FEW, Lines, Vector, column_of
+from .frontier import Columns, FEW, Lines, Vector, column_of, plus_times
 from .protocols import GraphMatrix, M, Numbers
 from .registry import algorithm
+from .results import Centrality, as_centrality
 from .triangle_counts import degrees
 from .utils import Progress, beside, find_place, order, tell
 
@@ -22,6 +23,7 @@ SPARE = 8                                          # bits below a unit that shar
 PARTS = 1000                                       # parts that a damping has at least
 DIGITS = (3, 4, 5, 6)                              # decimals that a damping may have
 MOST_BITS = 54
+TOLERANCE, MOST_TOLERANCE = 1e-6, .25              # the usual one; and a greater one is none
 FIRST, MOST_AHEAD = 6, 8                           # the round that is asked first, and how many rounds may go unasked
 Weights = Mapping[Any, float]
 
@@ -110,7 +112,7 @@ class Watch:
     def __init__(self, point: Point, aim: float, progress: Progress) -> None:
         self.point, self.aim, self.progress = point, aim, progress
         self.most = max(1, math.ceil(math.log(aim / 2) / math.log(point.damping)))
-        self.number, self.next = 0, min(FIRST, self.most)
+        self.number, self.next, self.distance = 0, min(FIRST, self.most), math.inf
         self.last: Optional[Tuple[int, float]] = None
 
     def tick(self) -> bool:
@@ -125,6 +127,7 @@ class Watch:
         damping = self.point.damping
         distance = min(2 * damping ** self.number, change * damping / (1 - damping))
         distance *= 1 if total > 1 - 1e-9 else 2 / total
+        self.distance = distance
         if distance <= self.aim:
             return True
         ahead = MOST_AHEAD
@@ -136,8 +139,17 @@ class Watch:
         return False
 
 
-def solve(system: System[M], given: Vector, watch: Watch) -> Tuple[Numbers, float]:
-    """The ranks where each vertex is given so much in all, and what they add up to as a share of one."""
+class Solved(NamedTuple):
+    """The ranks where each vertex is given so much in all; what they add up to as a share of one; how far they are from the true ones at
+    most, but for rounding; and after how many rounds."""
+    ranks: Numbers
+    total: float
+    distance: float
+    rounds: int
+
+
+def solve(system: System[M], given: Vector, watch: Watch) -> Solved:
+    """The ranks where each vertex is given so much in all."""
     point = system.point
     bases = _scaled(given, point.whole - point.parts, point.whole)
     base, anew = int(bases.values[0]), int(bases.values.sum()) if matrix_text.is_array(bases.values) else sum(bases.values)
@@ -150,7 +162,7 @@ def solve(system: System[M], given: Vector, watch: Watch) -> Tuple[Numbers, floa
             change = 2.0 if before is None else _change(flow, before) * point.damping / 2.0 ** (point.bits + SPARE)
             total = system.total(flow, anew)
             if watch.settled(change, total):
-                return system.ranks(flow, bases), total
+                return Solved(system.ranks(flow, bases), total, watch.distance, watch.number)
         shares = system.turn(flow, base) if column is None else system.turn_all(flow, column)
         if before is None and column is None and shares.nvals < system.out.nvals:      # some have edges, and nothing comes to them
             column = system.lines.put(bases)
@@ -212,10 +224,33 @@ def scale_for(count: int, tolerance: float) -> int:
     return 1 << max(ONE.bit_length() - 1, min(MOST_SCALE, wanted))
 
 
-def kept_tolerance(count: int, weight: int, point: Point, tolerance: float, scale: int) -> float:
-    """What rounding leaves of the tolerance. ValueError where that is less than half of it."""
-    flows = 2 * (weight / 2.0 ** SPARE + 3 * count) / 2.0 ** point.bits / (1 - point.damping)
-    result = count / (2.0 * scale)
+class Aim(NamedTuple):
+    """How far ranks may be from the true ones, all together; and how much of that rounding takes."""
+    tolerance: float
+    rounding: float
+
+    @property
+    def rest(self) -> float:
+        """What rounds may leave."""
+        return self.tolerance - self.rounding
+
+
+def rounded_flows(count: int, weight: int, point: Point) -> float:
+    """What rounding takes in rounds, of the weight of all edges."""
+    return 2 * (weight / 2.0 ** SPARE + 3 * count) / 2.0 ** point.bits / (1 - point.damping)
+
+
+def usual_tolerance(count: int, weight: int, point: Point) -> float:
+    """The tolerance where none is given: 1e-6, or the least that can be kept. ValueError where that says nothing."""
+    tolerance = max(TOLERANCE, 4.1 * rounded_flows(count, weight, point))
+    if tolerance >= MOST_TOLERANCE:
+        raise ValueError('weights that add up to %d leave ranks no digits: divide the weights' % weight)
+    return tolerance
+
+
+def kept_tolerance(count: int, weight: int, point: Point, tolerance: float, scale: int) -> Aim:
+    """A tolerance, with what rounding takes of it. ValueError where that is more than half."""
+    flows, result = rounded_flows(count, weight, point), count / (2.0 * scale)
     if flows > tolerance / 4:
         finer = '' if point.whole == 10 ** DIGITS[0] else ', or a damping of three decimals'
         raise ValueError('a tolerance of %g can not be kept: rounding takes up to %.2g, by %d vertices and weights that add up to %d, and a quarter '
@@ -225,19 +260,20 @@ def kept_tolerance(count: int, weight: int, point: Point, tolerance: float, scal
         least = math.ceil(math.log2(2 * count / tolerance))
         raise ValueError('a tolerance of %g wants ranks in smaller units: scale=2**%d, or more%s'
                          % (tolerance, least, '' if least <= 52 else ', which is above 2^52'))
-    return tolerance - flows - result
+    return Aim(tolerance, flows + result)
 
 
 @algorithm('the PageRank of each vertex', 'damping', 'tolerance', scale=ONE, ranked=True,
            runs=lambda g: 3 * g.rounds + 8, steps=step_bounds.pagerank)
-def pagerank(G: M, GT: Optional[M] = None, damping: float = 0.85, tolerance: float = 1e-6, scale: Optional[int] = None,
+def pagerank(G: M, GT: Optional[M] = None, damping: float = 0.85, tolerance: Optional[float] = None, scale: Optional[int] = None,
              progress: Progress = None, *, weighted: bool = False, personalization: Optional[Weights] = None,
-             dangling: Optional[Weights] = None, check: bool = True) -> M:
-    """The PageRank of each vertex in units of 1/scale, as a column. The ranks' distances from the true ones add up to at most
-    `tolerance`, all rounding included, or the call is refused. Without `scale` a rank of 1 is 2^40 units; with more vertices than
-    549,755 (at the usual tolerance) the least power of two above that keeps the tolerance: all ranks add up to it.
+             dangling: Optional[Weights] = None, check: bool = True) -> Centrality:
+    """The PageRank of each vertex, as a column in units of 1/scale. Each edge counts as 1, unless `weighted=True` has values count: then a
+    vertex divides its rank among its edges in proportion to them. The ranks' distances from the true ones add up to at most `tolerance`, all
+    rounding included, or the call is refused: 1e-6, or where weights are so great that rounding takes more the least that can be kept, as the
+    result's `tolerance` says. `error` bounds their sum, and so each of them. Without `scale` a rank of 1 is 2^40 units; with more vertices
+    than 549,755 (at the usual tolerance) the least power of two above that keeps the tolerance: all ranks add up to it.
 
-    Values of edges count with `weighted=True` alone: a vertex divides its rank among its edges in proportion to them.
     `personalization` has a weight for each vertex (0 where it says nothing): the share of what is given anew in each round; else all
     get the same. What a vertex without an edge that leaves it has goes to all by the weights `dangling`, or else as what is given
     anew: as in networkx.
@@ -254,26 +290,25 @@ def pagerank(G: M, GT: Optional[M] = None, damping: float = 0.85, tolerance: flo
     where values are negative (4 jobs, once), and where GT isn't the transpose (`check=False` leaves these out).
     """
     count = order(G, GT)
-    if not 0 < tolerance < 1 or not (scale is None or 1 <= scale <= 1 << MOST_SCALE):
+    if not (tolerance is None or 0 < tolerance < 1) or not (scale is None or 1 <= scale <= 1 << MOST_SCALE):
         raise ValueError('damping and tolerance lie between 0 and 1, and scale is 1 to 2^52')
-    scale = scale_for(count, tolerance) if scale is None else scale
     point = point_of(damping)
     if count == 0:
-        return Columns(G, G).put(Vector([], []))
+        return as_centrality(Columns(G, G).put(Vector([], [])), scale or ONE, 0.0, tolerance=tolerance, rounds=0)
     lines = flow_lines(G, GT, check, values=weighted)
     out = out_weights(lines, weighted)
     weight = _weight(G, out, weighted, check)
-    aim = kept_tolerance(count, weight, point, tolerance, scale)
+    wanted = usual_tolerance(count, weight, point) if tolerance is None else tolerance
+    scale = scale_for(count, wanted) if scale is None else scale
+    aim = kept_tolerance(count, weight, point, wanted, scale)
     system, unit = System(lines, out, weighted, point), 1 << point.bits
-    ranks, total = solve(system, given_by(G, personalization, unit), Watch(point, aim, progress))
-    if dangling is None or total > 1 - 1e-9:
-        return _column(G, ranks, scale)
-    others, more = solve(system, given_by(G, dangling, unit), Watch(point, aim, progress))
-    lost, again = _lost(total, point.damping), _lost(more, point.damping)
+    ranks = solve(system, given_by(G, personalization, unit), Watch(point, aim.rest, progress))
+    if dangling is None or ranks.total > 1 - 1e-9:
+        return _column(G, ranks.ranks, scale, aim.rounding + ranks.distance, wanted, ranks.rounds)
+    others = solve(system, given_by(G, dangling, unit), Watch(point, aim.rest, progress))
+    lost, again = _lost(ranks.total, point.damping), _lost(others.total, point.damping)
     share = point.damping * lost / (1 - point.damping - point.damping * again)
-    if matrix_text.is_array(ranks):
-        return _column(G, ranks + others * share, scale)
-    return _column(G, [a + b * share for a, b in zip(ranks, others)], scale)
+    return _column(G, plus_times(ranks.ranks, others.ranks, share), scale, wanted, wanted, ranks.rounds + others.rounds)
 
 
 def _lost(total: float, damping: float) -> float:
@@ -291,10 +326,12 @@ def _weight(G: M, out: M, weighted: bool, check: bool) -> int:
     return out.reduce_scalar('plus') or 0
 
 
-def _column(G: M, ranks: Numbers, scale: int) -> M:
+def _column(G: M, ranks: Numbers, scale: int, error: float, tolerance: float, rounds: int) -> Centrality:
     """Ranks that add up to one, in units of 1/scale."""
     if matrix_text.is_array(ranks):
         import numpy
-        return beside(G, column_of(G, numpy.rint(ranks * (scale / float(ranks.sum()))).astype(numpy.int64)))
-    times = scale / float(sum(ranks))
-    return beside(G, column_of(G, [round(rank * times) for rank in ranks]))
+        found: Numbers = numpy.rint(ranks * (scale / float(ranks.sum()))).astype(numpy.int64)
+    else:
+        times = scale / float(sum(ranks))
+        found = [round(rank * times) for rank in ranks]
+    return as_centrality(beside(G, column_of(G, found)), scale, error, tolerance=tolerance, rounds=rounds)

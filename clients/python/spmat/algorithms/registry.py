@@ -40,9 +40,10 @@ class Algorithm(NamedTuple):
     """An algorithm: its function, and what it gives in a few words. Then what the command line has to know: the options beside those of
     every graph, what a value is counted in (1 where it is a whole number), whether a value is a vertex, what draws the result, which graphs
     it is for, whether their values count, whether the greatest values can be asked for alone, the fields of a row of a list, whether what it
-    gives is in the unit of the values where these count, and what the command says of itself where that isn't what the function says. `runs`
-    is what its docstring says of its runs, for tests: on a graph whose rounds are few, and whose products aren't made by parts. `steps` are
-    the most that a call takes, which `spmat.price` tells. `shape` is that of a result which is a matrix, but no column."""
+    gives is in the unit of the values where these count, whether the function itself looks at that unit, and what the command says of itself
+    where that isn't what the function says. `runs` is what its docstring says of its runs, for tests: on a graph whose rounds are few, and
+    whose products aren't made by parts. `steps` are the most that a call takes, which `spmat.price` tells. `shape` is that of a result which
+    is a matrix, but no column."""
     function: Callable[..., Any]
     gives: str
     options: Sequence[str]
@@ -54,6 +55,7 @@ class Algorithm(NamedTuple):
     ranked: bool = False
     fields: Sequence[str] = ()
     lengths: bool = False
+    reads_unit: bool = False
     says: str = ''
     command: bool = True
     runs: Optional[Runs] = None
@@ -84,15 +86,21 @@ class Algorithm(NamedTuple):
 
     def stand(self, sizes: CallSizes) -> Any:
         """What stands for the result of a call, which isn't made."""
-        if self.shape is None and self.function.__annotations__.get('return') not in ('M', 'Matrix'):
+        kind = self.function.__annotations__.get('return')
+        if self.shape is None and kind not in ('M', 'Matrix', *RESULTS):
             return Unread()
         shape = (sizes.vertices, 1) if self.shape is None else self.shape(sizes)
         made = stand(sizes.graph.session, shape, 0, shape[0] * shape[1])
         if shape[0] == sizes.vertices:
             made.nodes = sizes.graph.nodes
+        for name in RESULTS.get(str(kind), ()):
+            setattr(made, name, Unread())
         return made
 
 
+# What results of these classes know beside their numbers.
+RESULTS: Dict[str, Sequence[str]] = {'Centrality': ('error', 'measure', 'tolerance', 'rounds', 'values', 'scale'),
+                                     'Communities': ('modularity', 'levels', 'labels'), 'Core': ()}
 ALGORITHMS: Dict[str, Algorithm] = {}
 
 

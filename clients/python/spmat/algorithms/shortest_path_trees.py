@@ -15,6 +15,7 @@ from .cached_properties import extremes, transpose_of
 from .frontier import Columns, FEW, Lines, Tally, Vector
 from .protocols import M, Place, Vertex
 from .registry import algorithm
+from .results import of_vertices
 from .single_source_paths import Query, find_lengths
 from .utils import Progress, beside, find_place, name_of, order, product
 
@@ -61,7 +62,7 @@ class PathTree(Generic[M]):
         self.source = name_of(graph, source)
         zeros = [0] * len(lengths.at) if not matrix_text.is_array(lengths.at) else lengths.at * 0
         self.lengths = beside(graph, graph.session.backend.keep(Triples(lengths.at, zeros, lengths.values, graph.nrows, 1)))
-        self.predecessors = beside(graph, parents.column(graph, NONE))
+        self.predecessors = of_vertices(beside(graph, parents.column(graph, NONE)))
 
     def __repr__(self) -> str:
         return '<PathTree from %r to %d vertices>' % (self.source, len(self._far))
@@ -174,7 +175,7 @@ def _tight(graph: M, lengths: Vector) -> M:
 def shortest_path(G: M, source: Vertex, target: Vertex, GT: Optional[M] = None, progress: Progress = None, *, weighted: bool = False,
                   check: bool = True) -> Path:
     """A shortest path from one vertex to another: its vertices in order, with their `lengths` along it. Its length is the number of its
-    edges, or with `weighted=True` their values added, which may be negative.
+    edges, unless `weighted=True` has their values be added, which may be negative.
 
     Of several vertices that could stand before one, the least does. The search ends as soon as the target is known.
 
@@ -206,7 +207,8 @@ def shortest_path(G: M, source: Vertex, target: Vertex, GT: Optional[M] = None, 
 def shortest_paths(G: M, source: Vertex, GT: Optional[M] = None, progress: Progress = None, *, weighted: bool = False,
                    cutoff: Optional[int] = None, check: bool = True) -> 'PathTree[M]':
     """A shortest path from one vertex to each that it reaches, as a tree: `.path(target)` is one of them, `.lengths` and `.predecessors`
-    are columns. Lengths are as for `shortest_path`; `cutoff` leaves out what is farther.
+    are columns. Lengths are as for `shortest_path`: numbers of edges,
+    unless `weighted=True` has values be added. `cutoff` leaves out what is farther.
 
     Runs: those of `bfs_levels`, or with `weighted=True` those of `sssp`, and 1; more as for `shortest_path`. Steps: theirs, and 4 an
     edge that leaves a vertex which is reached. networkx: `single_source_shortest_path`, `single_source_dijkstra`. Raises ValueError as
@@ -278,7 +280,7 @@ class Spurs(Generic[M]):
 def k_shortest_paths(G: M, source: Vertex, target: Vertex, k: int, GT: Optional[M] = None, *, weighted: bool = False,
                      check: bool = True) -> List[Path]:
     """The k shortest paths from one vertex to another that pass no vertex twice, the shortest first; fewer where there are fewer. Lengths
-    are as for `shortest_path`.
+    are as for `shortest_path`: numbers of edges, unless `weighted=True` has values be added.
 
     `GT` is the transpose. Without it it is made once, by the client; for an undirected graph hand in G itself.
 

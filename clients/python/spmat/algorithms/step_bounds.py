@@ -231,8 +231,10 @@ def distance_counts(g: CallSizes) -> int:
 
 
 def closeness(g: CallSizes) -> int:
-    """As `distance_counts`."""
-    return distance_counts(g)
+    """As `distance_counts`; with weights the lengths between all vertices, and their sums."""
+    if not g.given['weighted']:
+        return distance_counts(g)
+    return g.check_transpose(True) + _all_lengths(g, g.vertices) + 13 * g.vertices ** 2
 
 
 def eccentricity(g: CallSizes) -> int:
@@ -391,7 +393,7 @@ def minimum_spanning_forest(g: CallSizes) -> int:
 
 def pagerank(g: CallSizes) -> Bound:
     """Rounds that bring the ranks near enough: each makes the distance less by the damping."""
-    damping, tolerance = float(g.given['damping']), float(g.given['tolerance'])
+    damping, tolerance = float(g.given['damping']), float(g.given['tolerance'] or 1e-6)
     n, m, edge = g.vertices, g.entries, 6 if g.given['weighted'] else 5
     lost = g.degrees is None or g.rows < n
     aim = tolerance / 4 * ((1 - damping) / 2 if lost else 1)
@@ -420,12 +422,13 @@ def hits(g: CallSizes) -> Bound:
 
 
 def katz(g: CallSizes) -> Bound:
-    """A product for each round. Where alpha times the most edges that enter a vertex is below 1, each makes the error less by that."""
-    rounds = int(g.given['rounds'])
+    """A product for each round. Where alpha times the most edges that enter a vertex is below 1, each makes the error less by that. Else numbers
+    may grow beyond their room, and all is done again with more."""
+    rounds, tolerance = 4 * int(g.given['rounds']), float(g.given['tolerance'] or 1e-9)
     heaviest = 1 if not g.given['weighted'] else max(0, _extremes_of(g)[1])
     rate = float(g.given['alpha']) * heaviest * (max(g.degrees.entering, default=0) if g.degrees else g.vertices)
-    if 0 < rate < 1:
-        rounds = min(rounds, rounds_to(float(g.given['tolerance']) * (1 - rate) / 8, rate) + 2)
+    if 0 < rate < .99:
+        rounds = min(int(g.given['rounds']), rounds_to(tolerance * (1 - rate) / 8, rate) + 2)
     return _flow(g, 1 if rate == 0 else rounds, 1, 1)
 
 
@@ -438,7 +441,8 @@ def label_propagation(g: CallSizes) -> Bound:
 
 def modularity(g: CallSizes) -> int:
     """The graph with a vertex for each community, by two products."""
-    return g.check_both_ways + g.once('loops', 5 * g.entries) + 12 * g.entries + 20 * g.entries
+    steps = g.check_both_ways + g.once('loops', 5 * g.entries) + 12 * g.entries + 20 * g.entries
+    return steps + (g.find_extremes if g.given['weighted'] else 0)
 
 
 def louvain(g: CallSizes) -> Bound:

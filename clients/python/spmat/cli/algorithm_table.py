@@ -115,10 +115,8 @@ def path(graph: Matrix, options: argparse.Namespace, progress: Optional[Progress
 def tree(graph: Matrix, options: argparse.Namespace, progress: Optional[Progress]) -> List[Any]:
     """`shortest_paths`, a line for each vertex: its length, and the vertex before it."""
     found = algorithms.shortest_paths(graph, start(graph, options), transposed(graph, options), progress, weighted=options.weighted)
-    names, before = graph.notes.rows, found.predecessors.by_node()
-    assert names is not None
-    far = found.lengths.by_node()
-    return [(name, length, names[before[name]]) for name, length in zip(far, exact(far.values()))]
+    far, before = found.lengths.by_node(), found.predecessors.by_node()
+    return [(name, length, before[name]) for name, length in zip(far, exact(far.values()))]
 
 
 def some_paths(graph: Matrix, options: argparse.Namespace, _: Optional[Progress]) -> List[Any]:
@@ -139,7 +137,7 @@ def communities(graph: Matrix, options: argparse.Namespace, progress: Optional[P
     found = algorithms.louvain(graph, options.resolution, options.seed, progress, weighted=options.weighted)
     if not options.quiet:
         print('modularity %.6f' % found.modularity, file=sys.stderr)
-    return found.labels
+    return found
 
 
 def ranks(graph: Matrix, options: argparse.Namespace, progress: Optional[Progress]) -> Matrix:
@@ -154,7 +152,7 @@ def forest(graph: Matrix, _: argparse.Namespace, progress: Optional[Progress]) -
 
 def authorities(graph: Matrix, options: argparse.Namespace, progress: Optional[Progress]) -> Matrix:
     """`hits`: hubs, or authorities."""
-    return algorithms.hits(graph, transposed(graph, options), progress=progress, weighted=options.weighted)[options.authorities].values
+    return algorithms.hits(graph, transposed(graph, options), progress=progress, weighted=options.weighted)[options.authorities]
 
 
 # What isn't called by the options that are named as its arguments are, or whose result isn't printed as it is.
@@ -173,8 +171,6 @@ def called(algorithm: Algorithm, graph: Matrix, options: argparse.Namespace, pro
     if 'progress' in names:
         given['progress'] = progress
     found = getattr(algorithms, algorithm.function.__name__)(graph, **given)
-    if isinstance(found, algorithms.Centrality):
-        return found.values
     return found.least if isinstance(found, algorithms.Bounds) else found
 
 
@@ -224,8 +220,8 @@ OPTIONS: Dict[str, Dict[str, Any]] = {
     'k': dict(flag='--k', type=at_least(0, 'k is 0 or more'), required=True, metavar='K'),
     'damping': dict(flag='--damping', type=between(0, 1, 'a damping lies between 0 and 1'), default=0.85, metavar='D',
                     help='the share that follows edges (default: 0.85)'),
-    'tolerance': dict(flag='--tolerance', type=between(0, 2, 'a tolerance lies between 0 and 2'), default=1e-6, metavar='T',
-                      help='how far the ranks may be from the true ones (default: 1e-6)'),
+    'tolerance': dict(flag='--tolerance', type=between(0, 2, 'a tolerance lies between 0 and 2'), default=None, metavar='T',
+                      help='how far the ranks may be from the true ones (default: 1e-6, or the least that can be kept)'),
     'rounds': dict(flag='--rounds', type=at_least(1, 'rounds are 1 or more'), default=ROUNDS, metavar='N',
                    help='ends after so many rounds (default: %d)' % ROUNDS),
     'resolution': dict(flag='--resolution', type=between(0, 1000, 'a resolution lies between 0 and 1000'), default=1.0, metavar='R',

@@ -105,7 +105,7 @@ def sizes(shown: 'Held') -> str:
 def known(shown: 'Held') -> List[str]:
     """What is known of a matrix beside its entries."""
     told = ['undirected'] if shown.directed is False else ['directed'] if shown.directed else []
-    told += ['unit %s' % shown.unit] if shown.unit != 1 else []
+    told += ['unit %s' % shown.unit] if shown.unit != 1 else ['values are vertices'] if shown.notes.value_names is not None else []
     return told + (['named'] if shown.row_nodes is not None or shown.column_nodes is not None else [])
 
 
@@ -155,7 +155,8 @@ def first_cells(shown: 'Matrix') -> 'Matrix':
 
 def values_of(shown: 'Held', near: Cells) -> Dict[Tuple[int, int], str]:
     """What stored values stand for, as text."""
-    return {at: to_text(value, shown.unit) for at, value in near.items()}
+    vertices = shown.notes.value_names
+    return {at: to_text(value, shown.unit) if vertices is None else str(vertices[value]) for at, value in near.items()}
 
 
 def corner(shown: 'Held', near: Mapping[Tuple[int, int], Any]) -> str:

@@ -19,7 +19,7 @@ from .exporters import Held
 from .file_writers import replacing
 
 CONTENTS = 'matrices.json'
-VERSION = 2                                        # 1 has no units
+VERSION = 2                                        # 1 has no units, and no values that are vertices
 KINDS = (str, int, float, bool, type(None))        # of names, beside tuples of these
 
 
@@ -34,6 +34,9 @@ def save(path: Any, matrices: Mapping[str, Held]) -> None:
             'directed': matrix.notes.directed, 'weighted': matrix.notes.weighted, 'source': matrix.notes.source}
         if matrix.unit != 1:                       # a client that knows no units doesn't read the file
             contents['matrices'][name]['unit'], contents['spmat'] = str(matrix.unit), VERSION
+        if matrix.notes.value_names is not None:
+            vertices = 'rows' if matrix.notes.value_names is matrix.notes.rows else _encoded(matrix.notes.value_names, name)
+            contents['matrices'][name]['values'], contents['spmat'] = vertices, VERSION
     with replacing(os.fspath(path)) as part, zipfile.ZipFile(part, 'w', zipfile.ZIP_DEFLATED, compresslevel=1) as file:
         file.writestr(CONTENTS, json.dumps(contents, ensure_ascii=False))
         for number, matrix in enumerate(matrices.values()):
@@ -61,7 +64,8 @@ def read(path: Any) -> Iterable[Tuple[str, bytes, Notes]]:
 def _notes(about: Dict[str, Any]) -> Notes:
     rows = _decoded(about['rows'])
     columns = rows if about['columns'] == 'rows' else _decoded(about['columns'])
-    return Notes(rows, columns, about['directed'], about['weighted'], about['source'], plain(Fraction(about.get('unit', 1))))
+    vertices = rows if about.get('values') == 'rows' else _decoded(about.get('values'))
+    return Notes(rows, columns, about['directed'], about['weighted'], about['source'], plain(Fraction(about.get('unit', 1))), vertices)
 
 
 def _encoded(names: Optional[Nodes], matrix: str) -> Any:

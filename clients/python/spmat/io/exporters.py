@@ -3,12 +3,12 @@ from __future__ import annotations
 
 import difflib
 import heapq
-from typing import TYPE_CHECKING, Any, Dict, Iterable, List, Optional, Sequence, Tuple, TypeVar
+from typing import TYPE_CHECKING, Any, Dict, Iterable, List, Optional, Sequence, Set, Tuple, TypeVar
 
 from .. import top_k
 from ..errors import BudgetExceeded, refusal
 from ..metadata import NOTHING, Nodes, Notes, check_names
-from ..units import Unit, are_decimals, as_unit, rescaled, to_decimal, to_decimals
+from ..units import Unit, are_decimals, as_unit, rescaled, to_decimals
 from . import compressed, coo, matrix_text
 from .file_writers import Written
 
@@ -88,8 +88,10 @@ class Held(Written):
         self.notes = self.notes._replace(unit=as_unit(unit))
 
     def _told(self) -> str:
-        """What `repr` says of the unit, and of the file that the matrix was read from."""
-        return (', unit %s' % self.unit if self.unit != 1 else '') + ('; ' + self.notes.source if self.notes.source else '')
+        """What `repr` says of the values, and of the file that the matrix was read from."""
+        vertices = self.notes.value_names
+        values = ', values are vertices: ' + told(vertices) if vertices is not None else ', unit %s' % self.unit if self.unit != 1 else ''
+        return values + ('; ' + self.notes.source if self.notes.source else '')
 
     def rescale(self: Self, unit: Any, *, exact: bool = True) -> Self:
         """The same numbers in another unit: 1.25 of 125 stored hundredths is 1250 thousandths after `A.rescale(1000)`.
@@ -155,6 +157,8 @@ class Held(Written):
 
     def _shown(self, values: Any, raw: bool) -> Any:
         """Values as people are shown them: what they stand for, or with `raw` as they are stored."""
+        if self.notes.value_names is not None and not raw:
+            return list(map(self.notes.value_names.__getitem__, values))
         return values if raw else to_decimals(values, self.unit)
 
     def to_triples(self) -> List[Tuple[int, int, int]]:
@@ -195,12 +199,25 @@ class Held(Written):
 
     def by_node(self, *, raw: bool = False) -> Dict[Any, Any]:
         """{name: value} of a column or a row, {number: value} where it has no names; nothing of a vertex without an entry. Values are
-        what stored numbers stand for: floats where there is a unit, unless `raw` is set. DimensionMismatch for another shape. In networkx
-        results have this form."""
+        what stored numbers stand for: floats where there is a unit, and the names of vertices where values are vertices, as those of parents
+        and of components are; unless `raw` is set. DimensionMismatch for another shape. In networkx results have this form."""
         self._length('a column or a row')
         rows, columns, values = self._stored(False)
         at, names = (rows, self.notes.rows) if self.ncols == 1 else (columns, self.notes.columns)
         return dict(zip(at if names is None else map(names.__getitem__, at), self._shown(values, raw)))
+
+    def sets(self) -> List[Set[Any]]:
+        """The vertices of each group, of a column or a row whose values say which vertices belong together: those of one value are one
+        set, of their names, or of their numbers where there are none. The largest comes first, of equals that of the first vertex. Vertices
+        without an entry are in none. DimensionMismatch for another shape. In networkx functions on components and communities have this
+        form."""
+        self._length('a column or a row')
+        rows, columns, values = self.to_coo(arrays=False)
+        at, names = (rows, self.notes.rows) if self.ncols == 1 else (columns, self.notes.columns)
+        found: Dict[int, Set[Any]] = {}
+        for vertex, value in zip(at if names is None else map(names.__getitem__, at), values):
+            found.setdefault(value, set()).add(vertex)
+        return sorted(found.values(), key=len, reverse=True)
 
     def to_edgelist(self, *, raw: bool = False) -> List[Tuple[Any, Any, Any]]:
         """(row, column, value) of each entry, with names where rows and columns have them, and values as `by_node` has them. In networkx
@@ -226,7 +243,7 @@ class Held(Written):
             few.notes = self.notes
         found: Iterable[Tuple[Any, ...]] = few.by_node(raw=True).items() if 1 in self.shape else few.to_edgelist(raw=True)
         most = heapq.nlargest(k, found, key=lambda entry: int(entry[-1]))
-        return most if raw else [(*entry[:-1], to_decimal(entry[-1], self.unit)) for entry in most]
+        return [(*entry[:-1], shown) for entry, shown in zip(most, self._shown([entry[-1] for entry in most], raw))]
 
     def _length(self, wanted: str) -> int:
         """The length of a column or a row."""

@@ -18,8 +18,8 @@ SAMPLE = 200                                       # lines that are looked at be
 class Written:
     """What writes a matrix. Rows and columns have their names, or numbers from 0 where they have none.
 
-    Values are what stored numbers stand for: they are divided by the matrix' unit. `raw=True` writes stored numbers; `scale` divides these by
-    another number."""
+    Values are what stored numbers stand for: they are divided by the matrix' unit, and where they are vertices have their names. `raw=True`
+    writes stored numbers; `scale` divides these by another number."""
 
     nrows: int
     ncols: int
@@ -38,8 +38,10 @@ class Written:
     def _columns(self, scale: Optional[float], raw: bool, shown: Callable[[int, Unit], Any]) -> Tuple[List[Any], ...]:
         """Names and values, as they are shown: of a column or a row (names, values), of another matrix (sources, targets, values)."""
         rows, columns, values = self.to_coo(arrays=False)
-        unit = self._divisor(scale, raw)
-        if scale is not None:
+        unit, vertices = self._divisor(scale, raw), self._vertices(scale, raw)
+        if vertices is not None:
+            values = list(map(vertices.__getitem__, values))
+        elif scale is not None:
             values = [value / scale for value in values]
         elif unit != 1:
             values = [shown(value, unit) for value in values]
@@ -53,6 +55,10 @@ class Written:
         if raw and scale is not None:
             raise TypeError('raw=True writes the stored whole numbers, and scale= divides them: one of both')
         return scale if scale is not None else 1 if raw else self.notes.unit
+
+    def _vertices(self, scale: Optional[float], raw: bool) -> Optional[Sequence[Any]]:
+        """The names of the vertices that values are, where these are written."""
+        return None if raw or scale is not None else self.notes.value_names
 
     def _fields(self, given: Optional[Sequence[str]]) -> Sequence[str]:
         """The names of the fields. ValueError where other numbers of them are given."""
@@ -102,7 +108,9 @@ class Written:
         if not self._is_vector():
             return self.to_pandas_edgelist(scale=scale, raw=raw)
         names, values = self._columns(scale, raw, to_decimal)
-        kind = 'int64' if scale is None and (raw or self.notes.unit == 1) else 'float64'
+        kind: Any = 'int64' if scale is None and (raw or self.notes.unit == 1) else 'float64'
+        if self._vertices(scale, raw) is not None:
+            kind = None if values else object
         return pandas.Series(values, pandas.Index(names, name=NODE[0], tupleize_cols=False), kind, NODE[1])
 
     def to_pandas_edgelist(self, source: str = 'source', target: str = 'target', edge_attr: Optional[str] = 'weight', *,
@@ -113,16 +121,23 @@ class Written:
         rows, columns, values = self.to_coo(arrays=True)
         table: Dict[str, Any] = {}
         for called, names, at in ((source, self.notes.rows, rows), (target, self.notes.columns, columns)):
-            table[called] = at if names is None else pandas.Series(list(names), dtype=None if names else object).take(at).to_numpy()
+            table[called] = at if names is None else _taken(names, at)
         if edge_attr is not None:
-            unit = self._divisor(scale, raw)
-            table[edge_attr] = values / scale if scale is not None else to_decimals(values, unit)
+            unit, vertices = self._divisor(scale, raw), self._vertices(scale, raw)
+            shown = values / scale if scale is not None else to_decimals(values, unit)
+            table[edge_attr] = shown if vertices is None else _taken(vertices, values)
         return pandas.DataFrame(table)
 
     def to_parquet(self, path: Any, *, scale: Optional[float] = None, raw: bool = False) -> None:
         """Writes what `to_pandas` gives as a parquet file, by pandas with pyarrow or fastparquet. In pandas the same name."""
         table = self.to_pandas(scale=scale, raw=raw)
         (table.to_frame().reset_index() if self._is_vector() else table).to_parquet(path, index=False)
+
+
+def _taken(names: Sequence[Any], at: Any) -> Any:
+    """The names at some places, as an array of a kind that pandas chooses."""
+    import pandas
+    return pandas.Series(list(names), dtype=None if names else object).take(at).to_numpy()
 
 
 @contextlib.contextmanager
