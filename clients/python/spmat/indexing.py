@@ -28,7 +28,7 @@ class Chosen(NamedTuple):
     one: bool = False
 
 
-def picked(matrix: 'Matrix', at: Any) -> Union['Matrix', Optional[int]]:
+def picked(matrix: 'Matrix', at: Any) -> Union['Matrix', int, float, None]:
     """See `Matrix.__getitem__`."""
     if isinstance(at, Mask):
         return matrix.dup(mask=at)

@@ -4,25 +4,22 @@ from __future__ import annotations
 # pylint: disable=invalid-unary-operand-type
 
 import weakref
-from decimal import Decimal
-from fractions import Fraction
-from typing import TYPE_CHECKING, Any, Dict, NamedTuple, Optional, Sequence, Tuple, Union, cast
+from typing import TYPE_CHECKING, Any, NamedTuple, Optional, Sequence, Tuple, Union, cast
 
 from . import aggregators, metadata, oversized_jobs, units
-from ._client.protocol import FORMS
 from .composites import Composites
 from .display import html
 from .errors import TooLarge, refusal
 from .indexing import picked
-from .io import coo, matrix_text
+from .job_operators import Number, applied, of_form
+from .io import matrix_text
 from .mask import Mask, as_mask, structure
-from .operators import Op, Operator, READY, Semiring, binary, find, find_semiring, indexunary, unary
+from .operators import Op, Operator, Semiring, binary, find_semiring, indexunary, unary
 
 if TYPE_CHECKING:
     from ._client.handles import Handle
     from .session import Session
 
-Number = Union[int, float, Fraction, Decimal]
 Ring = Union[str, Semiring, Tuple[Op, Op]]
 MaskLike = Union['Matrix', Mask, None]
 
@@ -231,10 +228,11 @@ class Matrix(Composites):
         if any(want is not None and want != got for want, got in zip(shape, other.shape)):
             raise refusal('J5', command=form, detail='%dx%d and %dx%d' % (*self.shape, *other.shape))
 
-    def __getitem__(self, at: Any) -> Union['Matrix', Optional[int]]:
-        """`G[i, j]`: the value of an entry, what it stands for where there is a unit, None where there is none. `G[i, :]` a row, `G[:, j]` a column, `G[rows, columns]` with
-        lists or slices a part. Rows and columns are named as `index` has it, or counted from 0. 1 job for the rows and 1 for the
-        columns that are chosen, and 1 run where both are; a value comes with 1 run more. In the GraphBLAS GrB_extract."""
+    def __getitem__(self, at: Any) -> Union['Matrix', int, float, None]:
+        """`G[i, j]`: the value of an entry, None where there is none; where there is a unit it is a float, what the stored number stands
+        for. `G[i, :]` a row, `G[:, j]` a column, `G[rows, columns]` with lists or slices a part. Rows and columns are named as `index` has
+        it, or counted from 0. 1 job for the rows and 1 for the columns that are chosen, and 1 run where both are; a value comes with 1 run
+        more. In the GraphBLAS GrB_extract."""
         return picked(self, at)
 
     # -- what the protocol leaves out
@@ -305,8 +303,9 @@ class Matrix(Composites):
                name: Optional[str] = None) -> 'Matrix':
         """A new matrix, what the GraphBLAS writes C<M, accum> = other: under the mask `other`, or with `accum` the union of both
         by it; outside the mask this matrix, or nothing where `replace` is set. So `C.update(A.mxm(B), "plus")` is python-graphblas'
-        `C(accum) << A.mxm(B)`, and `C.update(B, mask=M.S)` its `C(M.S) << B`; `assign` sets a part. Without a mask 1 job, no run. With one 7 jobs and 4 runs, with `replace` 1 and none (5 and 3 for a complement);
-        `accum` is 1 job more, A.V 1 and 1; and where an operand or the mask waits, 1 run."""
+        `C(accum) << A.mxm(B)`, and `C.update(B, mask=M.S)` its `C(M.S) << B`; `assign` sets a part. Without a mask 1 job, no run. With one
+        7 jobs and 4 runs, with `replace` 1 and none (5 and 3 for a complement); `accum` is 1 job more, A.V 1 and 1; and where an operand
+        or the mask waits, 1 run."""
         self._check_shape('union', other, self.shape)
         where = as_mask(mask)
         if where is not None:
@@ -350,55 +349,9 @@ class _Job(NamedTuple):
     parts: bool = False
 
 
-class Applied(NamedTuple):
-    """The operator and thunk that `apply` sends, whether its answers are the same at each row and column, and their unit."""
-    op: Operator
-    thunk: Optional[int]
-    even: bool
-    unit: units.Unit
-
-
 def _check_mask(mask: Mask, shape: Tuple[int, int]) -> None:
     if mask.matrix.shape != shape:
         raise refusal('J9', detail='the result is %dx%d, the mask %dx%d' % (*shape, *mask.matrix.shape))
-
-
-def of_form(form: str, op: Op) -> Operator:
-    """An operator as a form of job takes it that takes those of one kind. DomainMismatch where it is of another."""
-    kind, = FORMS[form].kinds
-    found = find(kind, op)
-    if found.kind != kind:
-        raise refusal('J4', command=form, detail='expected %s, got %r' % (kind, found))
-    return found
-
-
-def applied(op: Op, right: Optional[Number], left: Optional[Number], unit: units.Unit) -> Applied:
-    """What `apply` sends of a matrix with this unit."""
-    if right is not None and left is not None:
-        raise TypeError('right= or left=, not both')
-    bound = right is not None or left is not None
-    kinds = ('binary', 'index') if bound else ('unary', 'index')
-    found = find(_kind_of(op, kinds, bound), op)
-    number = left if left is not None else right if right is not None else 0
-    if found.kind == 'index' and left is None:
-        sent = units.of_index(found, number, unit)
-        return Applied(found, sent.thunk, False, sent.unit)
-    if found.kind == 'binary' and bound:
-        sent = units.of_bound(found, number, left is not None, unit)
-        return Applied(found.bind_right() if right is not None else found.bind_left(), sent.thunk, True, sent.unit)
-    if found.kind == 'unary' and not bound:
-        return Applied(found, None, True, units.of_unary(found, unit))
-    how = ' with %s=' % ('right' if right is not None else 'left') if bound else ''
-    raise refusal('J4', command='apply', detail='expected a unary or index operator, or a binary one with right= or left=, '
-                  'got %r%s' % (found, how))
-
-
-def _kind_of(op: Op, kinds: Tuple[str, str], bound: bool) -> str:
-    """As which kind `apply` looks for an operator that is given by name or as a function."""
-    if callable(op) and not isinstance(op, Operator):
-        from .operators.compiler import kind_of
-        return kind_of(op, bound)
-    return kinds[1] if op not in READY[kinds[0]] and op in READY[kinds[1]] else kinds[0]
 
 
 def bipartite(B: Matrix) -> Matrix:

@@ -159,7 +159,7 @@ def of_both(op: Operator, first: Unit, second: Unit) -> Unit:
     meaning = _meaning(op)
     if meaning in (MEET, COMPARE) and first != second:
         refuse(op, first, second)
-    if meaning == MEET or meaning == FIRST:
+    if meaning in (MEET, FIRST):
         return first
     if meaning == SECOND:
         return second

@@ -88,8 +88,8 @@ class Acts(Case):
         self.assertEqual(self.cents.dup(mask=few.S).to_edgelist(), [('B', 'C', 0.5)])
         self.assertEqual(self.cents.without(few).to_edgelist(), [('A', 'B', 1.25)])
         self.assertEqual(self.cents.ewise_mult(self.cents, mask=~few.V).to_edgelist(), [('A', 'B', 1.5625)])
-        self.assertEqual(self.cents.update(self.cents.apply('plus', right=1), mask=few).to_edgelist(), [('A', 'B', 1.25), ('B', 'C', 1.5)])
-        self.assertEqual(self.cents.update(self.mills, mask=few, replace=True).to_edgelist(), [('B', 'C', 3.0)])
+        self.assertEqual(self.cents.update(self.cents.apply('plus', right=1), mask=few.S).to_edgelist(), [('A', 'B', 1.25), ('B', 'C', 1.5)])
+        self.assertEqual(self.cents.update(self.mills, mask=few.S, replace=True).to_edgelist(), [('B', 'C', 3.0)])
 
     def test_numbers_beside_a_matrix_are_numbers(self):
         A = self.cents
@@ -369,6 +369,7 @@ class OutAndIn(Case):
         self.assertEqual((column.to_list(0), column.to_list(dtype=float), column.by_node(), column.by_node(raw=True), column.top(1)),
                          ([15, 0, 20, 0], [1.5, None, 2.0, None], {0: 1.5, 2: 2.0}, {0: 15, 2: 20}, [(2, 2.0)]))
         self.assertEqual(self.s.from_coo([0], [1], 0.5, scale=10).to_edgelist(), [(0, 1, 0.5)])
+        self.assertEqual(self.s.from_dense([[0.5, 1], [0, -2.25]], 0, scale=100).to_edgelist(), [(0, 0, 0.5), (0, 1, 1.0), (1, 1, -2.25)])
         self.assertEqual(self.s.from_coo([0], [1], 7).to_list(dtype=float), [None, 7.0])
         with self.assertRaisesRegex(TypeError, 'dtype=float'):
             column.to_list(dtype='complex')
@@ -413,6 +414,31 @@ class OutAndIn(Case):
             text = io.BytesIO()
             getattr(networkx, 'write_' + format_)(graph, text)
             self.same(self.s.read_graph(io.BytesIO(text.getvalue()), scale=1000))
+
+    @support.needs('numpy', 'pandas', 'pyarrow')
+    def test_parquet(self):
+        G = self.s.from_edgelist(self.edges, scale=1000)
+        G.to_parquet(self.path)
+        self.same(self.s.read_graph(self.path, scale=1000))
+        G.to_parquet(self.path, raw=True)
+        self.assertEqual(self.s.read_graph(self.path).to_edgelist(), G.to_edgelist(raw=True))
+
+    def test_folders(self):
+        """Of a folder each file is read by a worker."""
+        folder = os.path.join(os.path.dirname(self.path), 'lists')
+        os.mkdir(folder)
+        for number in range(3):
+            with open(os.path.join(folder, '%d.csv' % number), 'w') as file:
+                file.writelines('%s,%s,%s\n' % edge for edge in self.edges[number::3])
+        with blocks.Sessions(2) as many:
+            self.same(many.read_graph(folder, scale=1000))
+            self.assertEqual(many.read_graph(folder, values=False, scale=1000).unit, 1)
+
+    @support.needs('matplotlib', 'numpy')
+    def test_pictures(self):
+        G = self.s.from_edgelist([('a', 'b', 1.25), ('b', 'c', 1500)], scale=100)
+        written = {text.get_text() for text in spmat.draw.graph(G).axes[0].texts}
+        self.assertTrue({'1.25', '1,500.0'} <= written, written)
 
     def test_dimacs(self):
         G = self.s.read_graph(io.BytesIO(b'p sp 2 1\na 1 2 1.5\n'), scale=10)

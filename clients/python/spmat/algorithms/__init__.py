@@ -8,6 +8,8 @@ holds the graph, and says in its docstring what it costs: runs and steps (what t
 Searches, cores and components keep a number for each vertex at the client, and ask the session for what leads out of the vertices that
 changed: so a round costs what these vertices' edges do. While many change at a time, the session's jobs do it all.
 
+Where the values of a graph have a unit, so have lengths of paths and spanning forests; levels, counts and shares have none.
+
 What a graph has to be is looked at where it is first asked, by a job or two, and kept with the matrix. Else a ValueError says what to do;
 `check=False` leaves it out.
 """

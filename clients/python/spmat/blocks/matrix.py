@@ -13,7 +13,8 @@ from ..aliases import alias, is_same
 from ..errors import SpmatError, refusal
 from ..indexing import picked
 from ..mask import Mask, as_mask
-from ..matrix import Number, Ring, applied, of_form
+from ..job_operators import Number, applied, of_form
+from ..matrix import Ring
 from ..operators import Op, Semiring, binary, find_semiring, indexunary
 from . import composite_methods, frontier, html, matrix_products, repartition, row_partition, unsupported, worker_tasks
 from .row_partition import Cut

@@ -229,8 +229,9 @@ class Held(Written):
 
     def top(self, k: int = 10, *, raw: bool = False) -> List[Tuple[Any, ...]]:
         """The k entries of the greatest values, the greatest first, of equals the first: (name, value) of a column or a row, (name,
-        name, value) of another matrix; numbers where there are no names, and values as `by_node` has them. Of many entries the session finds those from a threshold on, by some
-        50 small jobs, and these come to the client; all come where the budget has too little left. In pandas `nlargest`."""
+        name, value) of another matrix; numbers where there are no names, and values as `by_node` has them. Of many entries the session
+        finds those from a threshold on, by some 50 small jobs, and these come to the client; all come where the budget has too little
+        left. In pandas `nlargest`."""
         few: Any = self
         k = coo.whole(k, 'number of entries')
         if k < 0:

@@ -71,8 +71,9 @@ class Written:
                scale: Optional[float] = None, raw: bool = False) -> Optional[str]:
         """Writes a line an entry to a path, or a file open in text, or gives the text: source, target, weight; of a column or a row
         node, value. `fields` calls them otherwise, `header=False` leaves them out. `read_graph` reads the same edges again, with
-        `scale=` where the matrix has a unit: names are quoted where they need it. ValueError, before anything is written, for names that no list has, such as one with an end of line;
-        a warning for names that come back as others, such as tuples, or '1', which `nodetype=str` reads as text. In pandas `to_csv`."""
+        `scale=` where the matrix has a unit: names are quoted where they need it. ValueError, before anything is written, for names that
+        no list has, such as one with an end of line; a warning for names that come back as others, such as tuples, or '1', which
+        `nodetype=str` reads as text. In pandas `to_csv`."""
         named = self._fields(fields)
         lines = self._lines(self._columns(scale, raw, to_text), sep, named if header else None)
         if target is None:

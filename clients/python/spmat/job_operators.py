@@ -1,0 +1,59 @@
+"""Operators and the numbers beside them, as the forms of jobs take them."""
+from __future__ import annotations
+
+from decimal import Decimal
+from fractions import Fraction
+from typing import NamedTuple, Optional, Tuple, Union
+
+from . import units
+from ._client.protocol import FORMS
+from .errors import refusal
+from .operators import Op, Operator, READY, find
+
+Number = Union[int, float, Fraction, Decimal]
+
+
+class Applied(NamedTuple):
+    """The operator and thunk that `apply` sends, whether its answers are the same at each row and column, and their unit."""
+    op: Operator
+    thunk: Optional[int]
+    even: bool
+    unit: units.Unit
+
+
+def of_form(form: str, op: Op) -> Operator:
+    """An operator as a form of job takes it that takes those of one kind. DomainMismatch where it is of another."""
+    kind, = FORMS[form].kinds
+    found = find(kind, op)
+    if found.kind != kind:
+        raise refusal('J4', command=form, detail='expected %s, got %r' % (kind, found))
+    return found
+
+
+def applied(op: Op, right: Optional[Number], left: Optional[Number], unit: units.Unit) -> Applied:
+    """What `apply` sends of a matrix with this unit."""
+    if right is not None and left is not None:
+        raise TypeError('right= or left=, not both')
+    bound = right is not None or left is not None
+    kinds = ('binary', 'index') if bound else ('unary', 'index')
+    found = find(_kind_of(op, kinds, bound), op)
+    number = left if left is not None else right if right is not None else 0
+    if found.kind == 'index' and left is None:
+        sent = units.of_index(found, number, unit)
+        return Applied(found, sent.thunk, False, sent.unit)
+    if found.kind == 'binary' and bound:
+        sent = units.of_bound(found, number, left is not None, unit)
+        return Applied(found.bind_right() if right is not None else found.bind_left(), sent.thunk, True, sent.unit)
+    if found.kind == 'unary' and not bound:
+        return Applied(found, None, True, units.of_unary(found, unit))
+    how = ' with %s=' % ('right' if right is not None else 'left') if bound else ''
+    raise refusal('J4', command='apply', detail='expected a unary or index operator, or a binary one with right= or left=, '
+                  'got %r%s' % (found, how))
+
+
+def _kind_of(op: Op, kinds: Tuple[str, str], bound: bool) -> str:
+    """As which kind `apply` looks for an operator that is given by name or as a function."""
+    if callable(op) and not isinstance(op, Operator):
+        from .operators.compiler import kind_of
+        return kind_of(op, bound)
+    return kinds[1] if op not in READY[kinds[0]] and op in READY[kinds[1]] else kinds[0]
