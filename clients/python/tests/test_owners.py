@@ -1,9 +1,11 @@
 """A name at the server has one owner: no matrix changes while somebody holds it, and names that a caller gives are those of one matrix."""
 import gc
 import os
+import random
 import subprocess
 import sys
 import unittest
+from unittest import mock
 
 import support
 import spmat
@@ -201,6 +203,102 @@ class Named(unittest.TestCase):
             ones.name = 'ones'
             self.assertEqual({name: matrix.nodes for name, matrix in s.backend.names.named().items()}, {'G': ['a', 'b'], 'ones': None})
             self.assertEqual((back.nodes, len(s.ones(2).to_list())), (['x', 'y'], 2))
+
+
+class Drawn:
+    """A step of random jobs on three matrices and two from outside: its results are made, or parts of the state, or from outside."""
+
+    NAMES = 'abc'
+    OPS = ('max', 'min', 'plus', 'first', 'bxor')
+
+    def __init__(self, seed):
+        draw = random.Random(seed)
+        self.sides = draw.choice([(1, 1), (1, 4), (3, 3)])
+        self.texts = [self.entries(draw) for _ in range(5)]
+        self.rounds = [[self.source(draw) for _ in self.NAMES] for _ in range(draw.choice([1, 1, 2, 3]))]
+        self.lengths = [draw.randint(1, 6) for _ in range(4)]
+        self.looks = [draw.random() < .5 for _ in range(4)]
+        self.steps = draw.choice([None, None, draw.randint(60, 600)])
+
+    def entries(self, draw):
+        places = [(i, j) for i in range(self.sides[0]) for j in range(self.sides[1]) if draw.random() < .7]
+        return [(i, j, draw.randint(-9, 9)) for i, j in places]
+
+    def source(self, draw):
+        given = ('state', draw.choice(self.NAMES))
+        one, kind = draw.choice([('state', draw.choice(self.NAMES)), ('outside', draw.randrange(2))]), draw.random()
+        return one if kind < .4 else ('union', draw.choice(self.OPS), given, one) if kind < .7 else ('number', draw.choice(self.OPS), given)
+
+    def begin(self, session):
+        """The matrices from outside and the state."""
+        made = [session.from_triples(entries, *self.sides) for entries in self.texts]
+        return made[:2], dict(zip(self.NAMES, made[2:]))
+
+    def step(self, outside):
+        def value(x, source, k):
+            if source[0] == 'state':
+                return x[source[1]]
+            if source[0] == 'outside':
+                return outside[source[1]]
+            if source[0] == 'union':
+                return value(x, source[2], k).ewise_add(value(x, source[3], k), source[1])
+            return value(x, source[2], k).apply(source[1], right=k % 4)
+
+        def step(x, k):
+            return {name: value(x, source, k) for name, source in zip(self.NAMES, self.rounds[k % len(self.rounds)])}
+        return step
+
+
+class Aliasing(unittest.TestCase):
+    """Random loops beside rounds by hand, with names poisoned: each matrix that anybody holds stays what it was."""
+
+    def compare(self, seed):
+        drawn = Drawn(seed)
+        with mock.patch.dict(os.environ, {POISONED: '1'}):
+            poisoned = spmat.Session(**({} if drawn.steps is None else {'steps': drawn.steps}))
+        with poisoned as s, spmat.Session() as other:
+            self.assertTrue(s.backend.names.poisons)
+            outside, state = drawn.begin(s)
+            beside, now = drawn.begin(other)
+            held = [(matrix, matrix.to_dict()) for matrix in (*outside, *state.values())]
+            loop, step, number = spmat.loop(drawn.step(outside), state), drawn.step(beside), 0
+            if seed % 3 == 0:
+                state = None                       # then the loop alone holds it
+            for rounds, looks in zip(drawn.lengths, drawn.looks):
+                try:
+                    loop.advance(rounds)
+                except spmat.BudgetExceeded:
+                    pass
+                for number in range(number + 1, loop.number + 1):
+                    now = step(now, number)
+                if looks:
+                    held += [(matrix, now[name].to_dict()) for name, matrix in loop.state.items()]
+                    gc.collect()
+            held += [(matrix, now[name].to_dict()) for name, matrix in loop.state.items()]
+            del loop
+            gc.collect()
+            self.assertEqual([matrix.to_dict() for matrix, _ in held], [want for _, want in held], seed)
+            return s.backend.names._count
+
+    def test_random_loops(self):
+        counts = [self.compare(seed) for seed in range(60)]
+        self.assertGreater(max(counts), 12)        # so that names were taken and given back
+
+    def test_random_fixpoints(self):
+        for seed in range(20):
+            drawn = Drawn(1000 + seed)
+            with mock.patch.dict(os.environ, {POISONED: '1'}):
+                poisoned = spmat.Session()
+            with poisoned as s:
+                outside, state = drawn.begin(s)
+                K, X = outside[0], state['a']
+                want = K.to_dict(), X.to_dict()
+                step = (lambda x: K, lambda x: x, lambda x: x.ewise_add(K, 'max'), lambda x: K.ewise_add(x, 'min'))[seed % 4]      # pylint: disable=cell-var-from-loop
+                got = spmat.fixpoint(X, step)
+                here = got.to_dict()
+                self.assertTrue(step(got).isequal(got))
+                held = [s.full(*drawn.sides, 70 + k).apply('ainv').wait() for k in range(6)]
+                self.assertEqual((K.to_dict(), X.to_dict(), got.to_dict(), len(held)), (*want, here, 6), seed)
 
 
 class Poisoned(unittest.TestCase):

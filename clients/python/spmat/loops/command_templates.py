@@ -5,7 +5,7 @@ themselves. `run` stands only before a job that wants a result, so the last jobs
 """
 from __future__ import annotations
 
-from typing import TYPE_CHECKING, Dict, FrozenSet, List, NamedTuple, Optional, Sequence, Set, Tuple, Union
+from typing import TYPE_CHECKING, Dict, FrozenSet, List, NamedTuple, Sequence, Set, Tuple, Union
 
 from .._client.handles import Handle
 from ..limits import QUEUE

@@ -5,7 +5,7 @@ directions) is known of this round's.
 """
 from __future__ import annotations
 
-from typing import TYPE_CHECKING, Dict, List, Mapping, Optional, Sequence, Tuple
+from typing import TYPE_CHECKING, Dict, List, Mapping, NamedTuple, Optional, Sequence, Tuple
 
 from ..matrix import Matrix
 from ..metadata import Notes
@@ -19,15 +19,25 @@ CHANGED = ('the step asked for other jobs for round %d when it was called for it
            'number of the round. To go on with another step, make a loop of `loop.state` with it')
 
 
+class Alike(NamedTuple):
+    """Rounds that are alike: one of them, and the slope and the start of each number."""
+    one: Asked
+    lines: List[Tuple[int, int]]
+
+    def round(self, number: int) -> Asked:
+        """A round."""
+        return self.one._replace(numbers=tuple(slope * number + start for slope, start in self.lines))
+
+
 class Rounds:
     """The rounds of a step, as it asks for them. Of a step that is known to be `alike` in all rounds the first two are enough: the numbers of
     others are slope * round + start."""
 
     def __init__(self, session: 'Session', step: Step, state: State, show: Sequence[str], alike: bool) -> None:
-        self._session, self._step, self._alike = session, step, alike
+        self._session, self._step = session, step
         self.shapes = {name: matrix.shape for name, matrix in state.items()}
         self._known = {name: matrix.notes for name, matrix in state.items()}     # behind the last round that was asked for
-        self._jobs, self._kinds, self._ones = Jobs(), 0, {}      # type: Jobs, int, Dict[int, Matrix]
+        self._jobs, self._ones = Jobs(), {}        # type: Jobs, Dict[int, Matrix]
         self._ahead: Dict[int, Asked] = {}         # rounds that aren't made
         self._before: Dict[int, Asked] = {}        # what was asked for rounds that the step is called again for
         self._next, self._begun = 1, False
@@ -41,17 +51,14 @@ class Rounds:
             raise
         except Exception as fault:                 # pylint: disable=broad-exception-caught  # it is raised if the loop comes to that round
             self._fault = fault
-        if alike:
-            self.check(2)
-            self._second = self._ahead[2]
-            self._lines = self._lines_of(self.first, self._second)
+        self._alike = self._alike_ones() if alike else None
 
     def ask(self, number: int) -> Optional[Asked]:
         """What a round asks for; rounds are asked for in order. None where the step ends in an exception: `check` raises it."""
         if number not in self._ahead and self._fault is None:
             assert number == self._next
             try:
-                self._add(self._alike_one(number) if self._alike else self._trace(number, self._known))
+                self._add(self._alike.round(number) if self._alike is not None else self._trace(number, self._known))
             except Exception as fault:             # pylint: disable=broad-exception-caught  # as above
                 self._fault = fault
         return self._ahead.get(number)
@@ -78,7 +85,7 @@ class Rounds:
         elif first.given != known:
             self._before, self._ahead, self._next, self._known = self._ahead, {}, number + 1, known
             self._fault = None
-        elif self._begun and not self._alike:
+        elif self._begun and self._alike is None:
             self._compare(number + 1, first, self._trace(number + 1, known))
         self._begun = True
 
@@ -121,9 +128,9 @@ class Rounds:
             matrix.wait()
             assert matrix.handle.key               # what the client has is sent by this
         traced.is_known = True
-        self._kinds += 1
-        if self._kinds > MOST_KINDS:               # such as rounds that have an operator of their own each
-            self._jobs, self._kinds = Jobs(), 0
+        self._jobs.kinds += 1
+        if self._jobs.kinds > MOST_KINDS:          # such as rounds that have an operator of their own each
+            self._jobs = Jobs()
 
     @staticmethod
     def _shape_of(traced: Traced, name: str, number: int) -> Tuple[int, int]:
@@ -145,12 +152,9 @@ class Rounds:
             if here != shape:
                 raise ValueError('%s, which is shown, is %dx%d in round 1 and %dx%d in round %d' % (name, *shape, *here, number))
 
-    # -- rounds that are alike
-
-    def _lines_of(self, first: Asked, second: Asked) -> List[Tuple[int, int]]:
+    def _alike_ones(self) -> 'Alike':
+        self.check(2)
+        first, second = self.first, self._ahead[2]
         if first.traced is not second.traced:
             raise NotAlike('a step that is said to be alike in all rounds is not')
-        return [(b - a, a - (b - a)) for a, b in zip(first.numbers, second.numbers)]
-
-    def _alike_one(self, number: int) -> Asked:
-        return self._second._replace(numbers=tuple([slope * number + start for slope, start in self._lines]))
+        return Alike(second, [(b - a, a - (b - a)) for a, b in zip(first.numbers, second.numbers)])

@@ -329,14 +329,15 @@ def loop(step: Callable[..., Mapping[str, Any]], state: Mapping[str, Any], show:
         search.run(until=spmat.empty("front"))
         search.shown["front"].places, search.shown["front"].rounds     # which vertices were found, and in which round each
 
-    The step is called a few times with matrices that have no entries, to see which jobs it asks for: these are the same in each round, and
-    only a number may be a * k + b. So a step decides nothing by Python: what depends on data is select, masks, and 1x1 matrices, as
+    The step is called once for each round, in order and up to 128 rounds ahead, with matrices that have no entries: the round is what it asks
+    for. So it may make of k what it likes, and decides nothing about data by Python: that is select, masks, and 1x1 matrices, as
     reduce_rowwise makes of a row. It has all methods of a matrix but those that read entries (`nvals`, `to_coo`, `T`, `reduce_scalar`).
-    Matrices from outside the step are constants.
+    Matrices from outside the step are constants, which are made before the loop.
 
     `show` names results that are rows or columns; their entries come to the client in each round. Jobs are those that the step asks for; runs as
     few as they need. In blocks, on a budget that may not do for a trip of rounds, and where something is refused, rounds are made one
-    by one. Raises TypeError where the step asks for entries (NotTraced), and ValueError where it asks for other jobs in another round.
+    by one. Raises TypeError where the step asks for entries (NotTraced), and ValueError (NotAlike) where it makes matrices itself in each round, or
+    asks for something else where it is called again for a round, behind an end.
     A refusal is raised as without a loop, with `.round`; the state is that before this round. Ctrl-C leaves the loop as it is: `run` goes on.
     Threads take turns between trips."""
     return Loop(step, state, show)

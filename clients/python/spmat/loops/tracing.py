@@ -146,6 +146,7 @@ class Jobs:
         self.job = job
         self.following: Dict[Any, Jobs] = {}
         self.ends: Dict[Any, Traced] = {}
+        self.kinds = 0                             # of the root: how many ends there are
 
 
 class Tracer:
@@ -163,7 +164,7 @@ class Tracer:
     def submit(self, form: str, ops: Sequence[Operator], operands: Sequence[Matrix], shape: Tuple[int, int],
                thunk: Optional[int] = None, mask: Optional[Matrix] = None, name: Optional[str] = None, parts: bool = False) -> Matrix:
         """Notes a job."""
-        values = tuple([self.value(matrix) for matrix in operands])
+        values = tuple(map(self.value, operands))
         under = None if mask is None else self.value(mask)
         key = (form, tuple(ops), tuple(map(_key, values)), _key(under), thunk is None, parts)
         found = self.at.following.get(key)
