@@ -1,5 +1,6 @@
 """What goes out of a session: files that keep matrices with their names, and tables, lists and CSV that are read again."""
 import csv
+import datetime
 import io
 import json
 import os
@@ -9,6 +10,7 @@ import sys
 import tempfile
 import unittest
 import zipfile
+from unittest import mock
 
 import support
 import spmat
@@ -44,7 +46,7 @@ class Archives(InAFolder):
         G = self.s.from_edgelist(EDGES)
         B = self.s.from_edgelist([(1, 'x'), (2, 'y'), (2, 'x')], bipartite=True)
         U = self.s.from_edgelist([(0, 1), (1, 2)], directed=False)
-        T = self.s.from_edgelist([((0, 1), (1, 1)), (None, 2.5)])
+        T = self.s.from_edgelist([((0, 1), (1, 1)), (None, 2.5)], missing=None)
         waiting, empty = G.reduce_rowwise(), self.s.from_triples([], 3, 5)
         R = self.s.read_graph(io.BytesIO(b'from,to\n7,8\n8,9\n'))
         many = {'G': G, 'B': B, 'U': U, 'T': T, 'waiting': waiting, 'empty': empty, 'R': R}
@@ -82,8 +84,8 @@ class Archives(InAFolder):
     def test_a_failure_leaves_the_old_file(self):
         self.s.save(self.path, A=self.s.full(1, 1))
         odd = self.s.full(1, 1)
-        odd.nodes = [frozenset()]
-        self.assertIn("the vertex frozenset() of B can't be saved", self.said(TypeError, self.s.save, self.path, B=odd))
+        odd.nodes = [1j]
+        self.assertIn("the vertex 1j of B can't be saved", self.said(TypeError, self.s.save, self.path, B=odd))
         self.assertIn('B is no matrix, but int', self.said(TypeError, self.s.save, self.path, B=5))
         self.assertEqual(list(self.s.load(self.path)), ['A'])
         self.assertEqual(os.listdir(self.folder), ['work.spmat'])
@@ -100,6 +102,58 @@ class Archives(InAFolder):
             file.writestr('matrices.json', json.dumps({'spmat': 9}))
         self.assertIn('its version is 9', self.said(spmat.ReadError, self.s.load, self.path))
         self.assertRaises(FileNotFoundError, self.s.load, self.path + 'x')
+
+
+    def test_dates_as_names(self):
+        """Dates, times and frozensets come back as they were, also in tuples."""
+        names = [datetime.date(2024, 1, 2), datetime.datetime(2024, 1, 2, 3, 4, 5, 678), datetime.datetime(2024, 1, 2, tzinfo=datetime.timezone.utc),
+                 frozenset(), frozenset({'b', 'a', 3}), ('x', datetime.date(2024, 1, 2), frozenset({(1, 2)}))]
+        if support.has('pandas'):
+            import numpy
+            import pandas
+            names += [pandas.Timestamp('2024-05-02 03:04:05.678901234'), pandas.Timestamp('2024-07-02', tz='Europe/Berlin'), pandas.Timestamp('2024-07-03', tz='UTC'),
+                      numpy.datetime64('2024-09-02'), numpy.datetime64('2024-10-02T03:04:05.678901234')]
+        G = self.s.from_edgelist([(name, 'x', 3) for name in names])
+        self.s.save(self.path, G=G)
+        with blocks.Sessions(2) as many:
+            for s in (self.s, many):
+                got = s.load(self.path)['G'].nodes
+                self.assertEqual((got, list(map(type, got)), list(map(repr, got))), (G.nodes, list(map(type, G.nodes)), list(map(repr, G.nodes))))
+        self.assertIn('this is a file that save() wrote: s.load(path) reads it', self.said(ValueError, self.s.read_graph, self.path))
+        if support.has('pandas'):
+            with mock.patch.dict(sys.modules, {'pandas': None}):
+                self.assertIn('those of pandas, which is not installed', self.said(spmat.ReadError, self.s.load, self.path))
+
+    def test_no_folder(self):
+        """The error names the folder, and not the file that is written meanwhile."""
+        G, path = self.s.from_edgelist([('a', 'b', 3)]), os.path.join(self.folder, 'none', 'w.spmat')
+        for write in (lambda: self.s.save(path, G=G), lambda: G.to_csv(path), lambda: G.write_edgelist(path)):
+            with self.assertRaises(FileNotFoundError) as said:
+                write()
+            self.assertEqual(said.exception.filename, os.path.dirname(path))
+            self.assertNotIn('.part', str(said.exception))
+
+    def test_zip(self):
+        """One file in a zip archive is read, as pandas reads it."""
+        path = os.path.join(self.folder, 'g.zip')
+        for members in (['g.csv'], ['folder/', 'folder/g.csv', '__MACOSX/folder/._g.csv'], ['a.csv', 'b.csv'], []):
+            with zipfile.ZipFile(path, 'w', zipfile.ZIP_DEFLATED) as file:
+                for member in members:
+                    file.writestr(member, '' if member.endswith('/') else 'from,to,w\na,b,3\n')
+            if len(members) in (1, 3):
+                self.assertEqual(self.s.read_graph(path).to_edgelist(), [('a', 'b', 3)])
+                with blocks.Sessions(2) as many, open(path, 'rb') as file:
+                    self.assertEqual(many.read_graph(file).to_edgelist(), [('a', 'b', 3)])
+            elif members:
+                self.assertIn('an archive (zip) of several files', self.said(ValueError, self.s.read_graph, path))
+        with zipfile.ZipFile(path, 'w') as file:
+            file.writestr('g.mtx', support.BANNER + '2 2 1\n1 2 3\n')
+        self.assertEqual(self.s.mmread(path).to_triples(), [(0, 1, 3)])
+        with open(path, 'rb') as file:
+            whole = bytearray(file.read())
+        at = whole.index(b'1 2 3')
+        whole[at:at + 5] = b'1 2 4'
+        self.assertIn('packed by zip, and damaged', self.said(ValueError, self.s.read_graph, io.BytesIO(bytes(whole))))
 
 
 class Lists(InAFolder):

@@ -5,6 +5,8 @@ in which member its entries are, as Matrix Market text. Nothing but the standard
 """
 from __future__ import annotations
 
+import datetime
+import importlib
 import json
 import os
 import zipfile
@@ -20,12 +22,13 @@ from .file_writers import replacing
 
 CONTENTS = 'matrices.json'
 VERSION = 2                                        # 1 has no units, and no values that are vertices
-KINDS = (str, int, float, bool, type(None))        # of names, beside tuples of these
+KINDS = (str, int, float, bool, type(None))        # of names, beside dates, and tuples and frozensets of these
+TIMES = ('date', 'datetime', 'datetime64', 'Timestamp')
 
 
 def save(path: Any, matrices: Mapping[str, Held]) -> None:
-    """Writes matrices with their names; a file that is there is replaced at the end. TypeError for a name of a vertex that is no text,
-    number or tuple of these."""
+    """Writes matrices with their names; a file that is there is replaced at the end. TypeError, before anything is written, for a name of a
+    vertex that is no text, number, date, or tuple or frozenset of these."""
     contents: Dict[str, Any] = {'spmat': 1, 'matrices': {}}
     for number, (name, matrix) in enumerate(matrices.items()):
         contents['matrices'][name] = {
@@ -55,6 +58,8 @@ def read(path: Any) -> Iterable[Tuple[str, bytes, Notes]]:
                 if file.getinfo(about['entries']).file_size > MOST_TEXT:
                     raise refusal('S7', detail='%s of %s' % (called, name))
                 yield called, file.read(about['entries']), _notes(about)
+    except ImportError as fault:
+        raise ReadError(name, None, 'the names of its vertices are those of %s, which is not installed' % fault.name) from None
     except (zipfile.BadZipFile, KeyError, ValueError, AttributeError, TypeError, EOFError) as fault:
         if isinstance(fault, ReadError) or getattr(fault, 'rule', None):
             raise
@@ -78,11 +83,20 @@ def _encoded(names: Optional[Nodes], matrix: str) -> Any:
 
 
 def _encoded_name(name: Any, matrix: str) -> Any:
-    name = name.item() if hasattr(name, 'item') and hasattr(name, 'dtype') else name      # a number of numpy
     if isinstance(name, tuple):
         return [_encoded_name(part, matrix) for part in name]
+    if isinstance(name, frozenset):
+        return {'frozenset': sorted((_encoded_name(part, matrix) for part in name), key=repr)}
+    kind = type(name).__name__
+    if kind in TIMES and type(name).__module__.partition('.')[0] in ('datetime', 'numpy', 'pandas'):
+        if kind == 'datetime64':
+            return {kind: str(name), 'unit': name.dtype.str}
+        zone = getattr(getattr(name, 'tz', None), 'key', None) or getattr(getattr(name, 'tz', None), 'zone', None)
+        return {kind: name.isoformat(), **({'zone': zone} if zone else {})}
+    name = name.item() if hasattr(name, 'item') and hasattr(name, 'dtype') else name      # a number of numpy
     if type(name) not in KINDS:
-        raise TypeError('the vertex %r of %s can\'t be saved: names are text, numbers, or tuples of these' % (name, matrix))
+        raise TypeError("the vertex %r of %s can't be saved: names are text, numbers, dates, or tuples and frozensets of these; G.nodes = [str(name) "
+                        'for name in G.nodes] makes text of them' % (name, matrix))
     return name
 
 
@@ -95,7 +109,21 @@ def _decoded(names: Any) -> Optional[Nodes]:
 
 
 def _decoded_name(name: Any) -> Any:
+    if isinstance(name, dict):
+        return frozenset(map(_decoded_name, name['frozenset'])) if 'frozenset' in name else _decoded_time(name)
     return tuple(map(_decoded_name, name)) if isinstance(name, list) else name
+
+
+def _decoded_time(name: Dict[str, str]) -> Any:
+    """A date or a time of Python, numpy or pandas. ImportError where the module isn't there."""
+    if 'date' in name:
+        return datetime.date.fromisoformat(name['date'])
+    if 'datetime' in name:
+        return datetime.datetime.fromisoformat(name['datetime'])
+    if 'datetime64' in name:
+        return importlib.import_module('numpy').array([name['datetime64']], name['unit'])[0]
+    time = importlib.import_module('pandas').Timestamp(name['Timestamp'])
+    return time.tz_convert(name['zone']) if 'zone' in name else time
 
 
 def chosen(named: Mapping[str, Held], given: Mapping[str, Held]) -> Dict[str, Held]:

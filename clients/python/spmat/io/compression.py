@@ -1,4 +1,4 @@
-"""The bytes of files, also of packed ones: by gzip, bzip2 and xz, and by zstd where Python or the package zstandard has it.
+"""The bytes of files, also of packed ones: by gzip, bzip2, xz and zip (one file), and by zstd where Python or the package zstandard has it.
 
 How a file is packed is seen from its first bytes, whatever its name. What can't be read is a ReadError, a ValueError, that names the
 file; that there is no file, or that nobody may read it, is an OSError as for `open`.
@@ -12,12 +12,13 @@ import importlib
 import io
 import lzma
 import os
+import zipfile
 import zlib
 from typing import IO, Any, Callable, Iterator, NamedTuple, Optional
 
 from ..errors import ReadError
 
-ENDINGS = ('.gz', '.bz2', '.xz', '.zst')
+ENDINGS = ('.gz', '.bz2', '.xz', '.zst', '.zip')
 LONGEST_MARK = 10
 ZSTD_MODULES = ('compression.zstd', 'backports.zstd', 'zstandard')      # of Python 3.14, of PyPI, of PyPI and Debian
 UTF8_MARK = b'\xef\xbb\xbf'
@@ -40,10 +41,29 @@ def _open_zstd(file: IO[bytes]) -> IO[bytes]:
     raise ImportError('it is packed by zstd, which Python has from 3.14 on: install the package zstandard, or unpack it by `zstd -d`')
 
 
+def _open_zip(file: IO[bytes]) -> IO[bytes]:
+    """The one file of a zip archive, as pandas reads it. Any other archive is given as it is, and refused by what it is."""
+    whole = io.BytesIO(file.read())
+    try:
+        archive = zipfile.ZipFile(whole)
+    except zipfile.BadZipFile:
+        names = []
+    else:
+        names = [name for name in archive.namelist() if not name.endswith('/') and not name.startswith('__MACOSX/')]
+    if len(names) == 1 and not names[0].endswith('.npy'):
+        try:
+            return archive.open(names[0])
+        except (RuntimeError, NotImplementedError) as fault:       # a password, or a way of packing that Python has not
+            raise OSError(str(fault)) from None
+    whole.seek(0)
+    return whole
+
+
 GZIP = Packer('gzip', lambda file: gzip.open(file, 'rb'))       # type: ignore[arg-type, return-value]
 BZIP2 = Packer('bzip2', lambda file: bz2.open(file, 'rb'))
 XZ = Packer('xz', lambda file: lzma.open(file, 'rb'))
 ZSTD = Packer('zstd', _open_zstd)
+ZIP = Packer('zip', _open_zip)
 
 
 def packer_of(start: bytes) -> Optional[Packer]:
@@ -54,6 +74,8 @@ def packer_of(start: bytes) -> Optional[Packer]:
         return BZIP2
     if start[:6] == b'\xfd7zXZ\0':
         return XZ
+    if start[:4] == b'PK\x03\x04':
+        return ZIP
     return ZSTD if start[:4] == b'\x28\xb5\x2f\xfd' else None
 
 
@@ -103,7 +125,7 @@ def _faults(name: str, packer: Optional[Packer]) -> Iterator[None]:
         raise ReadError(name, None, 'it is packed by %s, and cut off: its end is missing' % (packer.name if packer else 'nothing')) from None
     except ImportError as fault:
         raise ReadError(name, None, str(fault)) from None
-    except (zlib.error, lzma.LZMAError, OSError) as fault:
+    except (zlib.error, lzma.LZMAError, zipfile.BadZipFile, OSError) as fault:
         if packer is None or (isinstance(fault, OSError) and fault.errno is not None):
             raise
         cut = 'end' in str(fault) and 'marker' in str(fault)

@@ -157,7 +157,8 @@ def _complete(columns: Sequence[List[Any]], missing: Optional[str]) -> Tuple[Seq
     absent: List[List[int]] = [[at for column in some for at in absent_from(column)] for some in (columns[:2] if missing is not None else [], columns[2:])]
     for places, what in zip(absent, ('a name', 'the value')):
         if places and missing != SKIP:
-            raise ValueError('edge %d: %s is missing: %s' % (min(places), what, SKIPS % 'edge'))
+            name = ', missing=None takes it for a name' if what == 'a name' else ''
+            raise ValueError('edge %d: %s is missing: %s%s' % (min(places), what, SKIPS % 'edge', name))
     nameless, valueless = set(absent[0]), set(absent[1]) - set(absent[0])
     left = range(len(columns[0]))
     if not nameless and not valueless:

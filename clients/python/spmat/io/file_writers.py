@@ -163,7 +163,9 @@ def replacing(path: str) -> Iterator[str]:
     try:
         yield part
         os.replace(part, path)
-    except BaseException:
+    except BaseException as fault:
         with contextlib.suppress(OSError):
             os.remove(part)
+        if isinstance(fault, OSError) and fault.filename == part:
+            fault.filename = os.path.dirname(path) or os.curdir      # the folder is what is missing, or closed
         raise

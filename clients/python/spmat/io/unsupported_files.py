@@ -56,7 +56,10 @@ def other_kind(text: bytes) -> Optional[str]:
 def _zipped(start: bytes) -> str:
     if b'xl/' in start or b'[Content_Types].xml' in start:
         return 'a spreadsheet or document of Microsoft Office: save it as CSV, or pandas.read_excel reads it'
-    return 'an archive of numpy (.npz): scipy.sparse.load_npz or numpy.load reads it' if b'.npy' in start else 'an archive (zip): unpack it'
+    if b'matrices.json' in start:
+        return 'a file that save() wrote: s.load(path) reads it'
+    return ('an archive of numpy (.npz): scipy.sparse.load_npz or numpy.load reads it' if b'.npy' in start else
+            'an archive (zip) of several files, or a damaged one: unpack it, and read one of them')
 
 
 def _is_html(start: bytes) -> bool:
