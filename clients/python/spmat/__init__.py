@@ -15,6 +15,7 @@ from typing import TYPE_CHECKING, Any, Dict, List
 
 if TYPE_CHECKING:
     from . import algorithms, draw
+    from .algorithms.temporal_paths import events
     from ._client.pending_jobs import Budget, JobResult
     from .errors import (BudgetExceeded, BudgetWarning, Busy, Closed, CompileError, DimensionMismatch, DomainMismatch, MaskWarning, NoThread, NotMade,
                          NotSettled, OperatorRefused, OutOfMemory, ReadError, Refused, ResultLost, SpmatError, TextRefused,
@@ -42,7 +43,7 @@ __version__ = _version()
 __all__ = ['Budget', 'BudgetExceeded', 'BudgetWarning', 'Busy', 'Closed', 'CompileError', 'DimensionMismatch', 'DomainMismatch', 'JobResult', 'Loop',
            'Mask', 'MaskWarning', 'Matrix', 'NoThread', 'NotMade', 'NotSettled', 'Operator', 'OperatorRefused', 'OutOfMemory', 'ReadError',
            'Refused', 'ResultLost', 'Semiring', 'Session', 'SpmatError', 'TextRefused', 'ThreadUnavailable', 'TooLarge', 'UnitsDiffer', 'algorithms',
-           'asm', 'binary', 'bipartite', 'c', 'cdiv', 'cmod', 'code', 'code_of', 'concat', 'draw', 'empty', 'explain', 'fixpoint', 'indexunary',
+           'asm', 'binary', 'bipartite', 'c', 'cdiv', 'cmod', 'code', 'code_of', 'concat', 'draw', 'empty', 'events', 'explain', 'fixpoint', 'indexunary',
            'loop', 'price', 'rsh', 'select', 'semiring', 'steady', 'udiv', 'ult', 'umod', 'unary', 'where']
 
 # Each name is imported when it is first asked for: networkx imports this package to ask for its backend's names, and a program
@@ -60,6 +61,7 @@ _PLACES: Dict[str, str] = {name: module for module, names in {
     'operators.explanation': 'code_of explain',
     'pricing.call_price': 'price',
     'loops.fixpoint': 'fixpoint',
+    'algorithms.temporal_paths': 'events',
     'session': 'Session',
     'tiles': 'concat'}.items() for name in names.split()}
 

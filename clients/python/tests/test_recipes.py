@@ -1,4 +1,4 @@
-"""The ten questions of docs/examples.md: each block prints what stands below it, and that is what plain Python gives."""
+"""The eleven questions of docs/examples.md: each block prints what stands below it, and that is what plain Python gives."""
 import ast
 import collections
 import contextlib
@@ -21,7 +21,7 @@ for _i, _j in KARATE_PAIRS:
 def recipes():
     """The heading, the block and what it prints, of each recipe."""
     with open(os.path.join(support.TOP, 'docs', 'examples.md'), encoding='utf-8') as file:
-        page = file.read().split('\n## Ten questions\n')[1].split('\n## ')[0]
+        page = file.read().split('\n## Eleven questions\n')[1].split('\n## ')[0]
     for part in page.split('\n### ')[1:]:
         blocks = [re.sub('^    ', '', block, flags=re.M) for block in re.findall(r'(?:^    .*\n)+', part, re.M)]
         yield part.split('\n', 1)[0], blocks
@@ -38,7 +38,7 @@ class Recipes(unittest.TestCase):
 
     def test_what_they_print(self):
         found = list(recipes())
-        self.assertEqual(len(found), 10)
+        self.assertEqual(len(found), 11)
         before = os.getcwd()
         os.chdir(support.TOP)
         try:
@@ -67,6 +67,14 @@ class Recipes(unittest.TestCase):
         common = {name: len(near[name] & near['Ann']) for name in near if name != 'Ann' and name not in near['Ann']}
         want = [(name, count) for name, count in sorted(common.items(), key=lambda pair: -pair[1]) if count]
         self.assertEqual(self.value('Friends of friends'), want)
+
+    def test_when_money_could_have_arrived(self):
+        payments = [('Ann', 'Bob', 9), ('Ann', 'Bob', 3), ('Bob', 'Cid', 5), ('Bob', 'Dee', 2), ('Cid', 'Dee', 8), ('Cid', 'Eva', 4)]
+        there, way = {'Ann': 1}, {'Ann': []}
+        for source, target, time in sorted(payments, key=lambda payment: payment[2]):
+            if there.get(source, time + 1) <= time and time < there.get(target, time + 1):
+                there[target], way[target] = time, [*way[source], (source, time)]
+        self.assertEqual(self.said['When money from one account could have reached another'], '%s %s\n' % (there, way['Dee']))
 
     def test_tolls(self):
         edges = {('a', 'b'): 12, ('b', 'd'): 4, ('a', 'c'): 9, ('c', 'd'): 10, ('d', 'e'): 30}

@@ -10,13 +10,13 @@ from typing import Callable, Dict, List, NamedTuple, Optional, Tuple
 
 from ..aliases import is_same
 from ..limits import MOST_SIDE
-from ..loops import Loop, State, empty
-from ..loops.pipelined_rounds import Round
+from ..loops import State
 from ..matrix import Matrix
 from ..operators import Semiring, asm, binary
 from . import step_bounds
 from .bfs import Search, find_levels
 from .cached_properties import is_both_ways, transpose_of
+from .frontier_loop import advance_front
 from .protocols import Place
 from .registry import algorithm
 from .triangle_counts import degrees
@@ -90,8 +90,8 @@ def _searches(G: Matrix, GT: Matrix, visit: Visit, progress: Progress) -> None:
 
 
 def _farthest(G: Matrix, sources: List[Place]) -> int:
-    """How many edges lead to the vertex that is the farthest from any of some. The searches from these push along the edges, a word a row, in a
-    loop that stays at the server. Where each edge leads both ways, what the last two levels found is all that an edge may lead back to."""
+    """How many edges lead to the vertex that is the farthest from any of some. The searches from these push along the edges, a word a row. Where
+    each edge leads both ways, what the last two levels found is all that an edge may lead back to."""
     many, both_ways, levels = len(sources), is_both_ways(G), [0]
     start = G.session.from_coo([k // WORD for k in range(many)], list(map(int, sources)), _bits(many), -(-many // WORD), G.nrows)
 
@@ -99,16 +99,8 @@ def _farthest(G: Matrix, sources: List[Place]) -> int:
         moved = s.front.mxm(G, PUSHED)
         new = moved.ewise_add(s.near, NEW, mask=moved.S).select('nonzero')
         return {'front': new, 'near': new.ewise_add(s.front if both_ways else s.near, 'bor')}
-
-    def heard(_: int, rounds: List[Round]) -> None:
-        levels[0] += sum(1 for one in rounds if one.counts['front'])
-    if G.in_one_place:
-        Loop(step, {'front': start, 'near': start}).rounds(empty('front'), G.nrows + 1, heard)
-        return levels[0]
-    state = State({'front': start, 'near': start})
-    while state.front.nvals:
-        state, levels[0] = State(step(state)), levels[0] + 1
-    return levels[0] - 1
+    advance_front(step, {'front': start, 'near': start}, G.nrows + 1, levels.append)
+    return levels[-1]
 
 
 @algorithm('how many vertices are how far from each', fields=('node', 'distance', 'vertices'),

@@ -1,0 +1,246 @@
+"""Events with times between vertices, such as payments, messages and trips: when could what begins at one of them have arrived where.
+
+Several events may join two vertices, so none of them is an edge: a matrix has a column for each event, with the time at which it begins in the row
+of the vertex that it leaves, and another one has a row for each, with the time at which it arrives.
+"""
+from __future__ import annotations
+
+from typing import Any, Dict, Iterable, List, NamedTuple, Optional, Tuple
+
+from ..io.arrays import is_frame, is_gap
+from ..io.coo import MOST
+from ..io.matrix_text import Triples, is_array
+from ..loops import State
+from ..matrix import Matrix
+from ..metadata import Nodes
+from ..operators import Semiring, asm, binary
+from ..session import Session
+from .frontier_loop import advance_front
+from .moments import Clock, read_times
+from .protocols import Place, Vertex, Vertices
+from .single_source_paths import LESS, NOT_LESS
+from .utils import Progress, find_place, find_places, tell
+
+# The time at which an event begins, where that isn't before one is there; else the least number
+TAKEN = asm('binary', 'mov64 r0, r2\njsge64 r2, r1, 2\nmov64 r0, 1\nlsh64 r0, 63\nexit\n', 'taken_in_time')
+TAKE, ARRIVE = Semiring(binary.any, TAKEN), Semiring(binary.min, binary.second)
+
+
+class Event(NamedTuple):
+    """An event of a path: its row in the table, counted from 0, where it leads, and its times."""
+    row: int
+    source: Any
+    target: Any
+    time: Any
+    arrival: Any
+
+
+class Columns(NamedTuple):
+    """Events by columns, with vertices as rows."""
+    sources: List[Place]
+    targets: List[Place]
+    times: List[int]
+    arrivals: List[int]
+
+
+class Arrivals(Dict[Any, Any]):
+    """{vertex: the earliest time at which what begins at the source could be there}; nothing of a vertex where it can't arrive. `times` is the
+    same as a column of whole numbers: times as they were handed in, dates as numpy counts them."""
+
+    def __init__(self, events: 'Events', times: Matrix, sources: List[Place]) -> None:
+        super().__init__((name, events.clock.moment(time)) for name, time in times.by_node().items())
+        self.times, self._events, self._sources = times, events, sources
+        self._before: Optional[Dict[Place, int]] = None
+
+    def path(self, target: Vertex) -> List[Event]:
+        """The events by which it arrives at a vertex first, in order: as few as any such way has. KeyError where it can't arrive there. It
+        asks nothing of the server."""
+        at, found = find_place(self._events.leave, target), []  # type: Place, List[Event]
+        if target not in self:
+            raise KeyError(target)
+        before = self._tree()
+        while at in before:
+            found.append(self._events.event(before[at]))
+            at = self._events.columns.sources[before[at]]
+        return found[::-1]
+
+    def _tree(self) -> Dict[Place, int]:
+        """The event by which each vertex is reached in time, with as few before it as can be."""
+        if self._before is None:
+            known = dict(zip(*self.times.to_coo(arrays=False)[::2]))
+            columns, leaving = self._events.columns, {}  # type: Columns, Dict[Place, List[int]]
+            for event, (source, target, time, arrival) in enumerate(zip(*columns)):
+                if known.get(target) == arrival and source in known and known[source] <= time:
+                    leaving.setdefault(source, []).append(event)
+            self._before, front = {}, list(self._sources)
+            seen = set(front)
+            for source in front:                   # which grows meanwhile
+                for event in leaving.get(source, ()):
+                    target = columns.targets[event]
+                    if target not in seen:
+                        seen.add(target)
+                        self._before[target] = event
+                        front.append(target)
+        return self._before
+
+
+class Events:
+    """Events between vertices, each with the time at which it begins and that at which it arrives. `spmat.events` makes them. `nodes` are the
+    names of the vertices, `len` the number of events; `leave` and `enter` are their matrices."""
+
+    def __init__(self, session: Session, names: Nodes, columns: Columns, clock: Clock) -> None:
+        self.columns, self.clock, self.nodes = columns, clock, names
+        many, count = range(len(columns.times)), len(names)
+        order = sorted(many, key=columns.sources.__getitem__)
+        keep = session.backend.keep
+        self.leave = keep(Triples([columns.sources[at] for at in order], order, [columns.times[at] for at in order], count, len(many)))
+        self.enter = keep(Triples(list(many), columns.targets, columns.arrivals, len(many), count))
+        self.leave.notes = self.leave.notes._replace(rows=names)
+        self.enter.notes = self.enter.notes._replace(columns=names)
+
+    def __len__(self) -> int:
+        return len(self.columns.times)
+
+    def __repr__(self) -> str:
+        return '<Events: %d between %d vertices>' % (len(self), len(self.nodes))
+
+    def event(self, row: int) -> Event:
+        """An event by its row in the table."""
+        columns, moment = self.columns, self.clock.moment
+        return Event(row, self.nodes[columns.sources[row]], self.nodes[columns.targets[row]], moment(columns.times[row]), moment(columns.arrivals[row]))
+
+    def earliest_arrival(self, source: Vertices, start: Any = None, stop: Any = None, progress: Progress = None) -> Arrivals:
+        """When what begins at one vertex, or at several, could be at each other one first: money, news, a traveller. An event takes it on that
+        begins when it is there, or later.
+
+        Parameters
+        ----------
+        source
+            A vertex by its name, or several.
+        start
+            When it begins; without it with the first of all events. Of dates also text, such as "2024-03-01".
+        stop
+            What would arrive later is left out.
+        progress
+            `progress('round', k, 0)` is called after each round.
+
+        Returns
+        -------
+        Arrivals
+            {vertex: time}, with `path(vertex)` for the events that lead there, and `times` as a column.
+
+        Raises
+        ------
+        ValueError
+            Where a source is no vertex.
+        TypeError
+            Where `start` or `stop` is no time as those of the events are.
+
+        Notes
+        -----
+        There are as many rounds as events on the longest of the earliest ways, and 1; they are a loop that stays at the server. Runs: 6 a
+        round, and 2. Steps: up to 9 for each event that leaves a vertex whose time changed, and 8 a vertex that these lead to, a round. GraphBLAS:
+        `vxm` over any and "in time", then over min and second. networkx has nothing of the kind.
+        """
+        sources = sorted(set(find_places(self.leave, source)))
+        begin = min(self.columns.times, default=0) if start is None else self.clock.number(start, 'start')
+        end = None if stop is None else self.clock.number(stop, 'stop')
+        if not sources:
+            raise ValueError('expected a vertex to begin with, or several')
+        front = self.leave.session.backend.keep(Triples([0] * len(sources), list(map(int, sources)), [begin] * len(sources), 1, len(self.nodes)))
+        if end is not None:
+            front = front.select('valuele', end)
+        state = advance_front(lambda s: self._advance(s, end), {'front': front, 'known': front}, len(self.nodes) + 1,
+                              lambda number: tell(progress, 'round', number))
+        _, at, times = state.known.to_coo(arrays=False)
+        found = self.leave.session.backend.keep(Triples(at, [0] * len(at), times, len(self.nodes), 1))
+        found.notes = found.notes._replace(rows=self.nodes)
+        return Arrivals(self, found, sources)
+
+    def _advance(self, s: State, end: Optional[int]) -> Dict[str, Matrix]:
+        """A round: the events that can be taken from the front, and where they arrive earlier than was known."""
+        taken = s.front.mxm(self.leave, TAKE).select('valuene', NOT_LESS)
+        reached = taken.mxm(self.enter, ARRIVE)
+        if end is not None:
+            reached = reached.select('valuele', end)
+        new = reached.ewise_add(s.known, LESS, mask=reached.S).select('valuene', NOT_LESS)
+        return {'front': new, 'known': s.known.ewise_add(new, 'second')}
+
+
+def events(session: Session, table: Any, source: Any = 'source', target: Any = 'target', time: Any = 'time',
+           duration: Any = None) -> Events:
+    """Events with times between vertices, from a table: payments, messages, trips. Two vertices may have many.
+
+    Parameters
+    ----------
+    session
+        Where they are kept.
+    table
+        (from, to, time), or (from, to, time, duration), for each event; an array of numpy with these as its columns; or a table of pandas,
+        or a dict, with columns by name. Times are whole numbers, or dates of Python, numpy or pandas, which want numpy; dates with a time zone
+        become those of UTC. Durations are 0 or more, in the unit of the times, or timedeltas; without them an event arrives when it begins.
+    source, target, time, duration
+        What the columns of a table of pandas, or of a dict, are called.
+
+    Returns
+    -------
+    Events
+        `.earliest_arrival(source, start)` says when what begins at a vertex could be where.
+
+    Raises
+    ------
+    ValueError
+        Where a name or a time is missing, a duration is below 0, or there is no such column.
+    TypeError
+        For what is no time.
+
+    Notes
+    -----
+    No job and no run: two matrices are sent, with an entry for each event.
+    """
+    froms, tos, times, durations = _columns(table, (source, target, time), duration)
+    for what, column in (('from', froms), ('to', tos)):
+        gap = next((at for at, name in enumerate(column) if is_gap(name)), None)
+        if gap is not None:
+            raise ValueError('event %d has no vertex that it leads %s: it is %r' % (gap, what, column[gap]))
+    begins, clock = read_times(times)
+    lengths = [0] * len(begins) if durations is None else clock.lengths(durations)
+    least, most = min(begins, default=0), max((begin + length for begin, length in zip(begins, lengths)), default=0)
+    if least == NOT_LESS or most > MOST:
+        raise ValueError('times are above -2^63, and up to 2^63 - 1, also when events arrive: here they are %d to %d' % (least, most))
+    names = dict.fromkeys([*froms, *tos])
+    nodes = Nodes(sorted(names) if all(type(name) is int for name in names) else names)
+    at = nodes.places
+    return Events(session, nodes, Columns([Place(at[name]) for name in froms], [Place(at[name]) for name in tos], begins,
+                                          [begin + length for begin, length in zip(begins, lengths)]), clock)
+
+
+def _columns(table: Any, names: Tuple[Any, Any, Any], duration: Any) -> Tuple[List[Any], List[Any], Any, Any]:
+    """The columns of a table of events: those of durations may be none."""
+    if is_frame(table) or isinstance(table, dict):
+        wanted = [*names, *([] if duration is None else [duration])]
+        missing = [name for name in wanted if name not in table]
+        if missing:
+            raise ValueError('no column %r: there are %s; source=, target=, time= and duration= say which are meant'
+                             % (missing[0], ', '.join(map(repr, table))))
+        columns = [table[name] for name in wanted]
+    elif is_array(table):
+        if table.ndim != 2 or table.shape[1] not in (3, 4):
+            raise ValueError('an array of events has 3 columns (from, to, time), or 4 with durations, not the shape %r' % (table.shape,))
+        columns = list(table.T)
+    else:
+        columns = _turned(table)
+    froms, tos = (column.tolist() if hasattr(column, 'tolist') else list(column) for column in columns[:2])
+    if len({len(column) for column in columns}) > 1:
+        raise ValueError('columns of one length are expected, not of %s' % ', '.join(str(len(column)) for column in columns))
+    return froms, tos, columns[2], columns[3] if len(columns) == 4 else None
+
+
+def _turned(table: Iterable[Any]) -> List[Any]:
+    """Rows as columns."""
+    rows = list(map(tuple, table))
+    wide = len(rows[0]) if rows else 3
+    wrong = next((at for at, row in enumerate(rows) if len(row) != wide or wide not in (3, 4)), None)
+    if wrong is not None:
+        raise ValueError('an event is (from, to, time), and each or none has a duration behind it, not %r (event %d)' % (rows[wrong], wrong))
+    return [list(column) for column in zip(*rows)] if rows else [[], [], []]
