@@ -129,7 +129,7 @@ class Test(support.InSession):
         self.assertEqual(found.times.by_node()['b'], int(times[0].astype('int64')))
         days = spmat.events(self.s, [('a', 'b', day.date()), ('b', 'c', datetime.date(2024, 3, 9))])
         self.assertEqual(days.earliest_arrival('a'), {'a': day.date(), 'b': day.date(), 'c': datetime.date(2024, 3, 9)})
-        for call, fault, words in ((lambda: days.earliest_arrival('a', day + hour), ValueError, 'as finely'), (lambda: days.earliest_arrival('a', 7), TypeError, 'date'),
+        for call, fault, words in ((lambda: days.earliest_arrival('a', day + hour), ValueError, 'no finer'), (lambda: days.earliest_arrival('a', 7), TypeError, 'date'),
                                    (lambda: spmat.events(self.s, [('a', 'b', day, 5)]), TypeError, 'timedelta'),
                                    (lambda: spmat.events(self.s, [('a', 'b', day), ('a', 'b', 5)]), TypeError, 'date'),
                                    (lambda: spmat.events(self.s, dict(table, time=numpy.array(['NaT'] * 4, 'M8[s]'))), ValueError, 'event 0 has no time'),

@@ -11,7 +11,7 @@ Step = Callable[[State], Dict[str, Any]]
 
 def advance_front(step: Step, begin: Dict[str, Any], most: int,
                   heard: Callable[[int], None]) -> State:
-    """The state after the rounds of a step, up to the one that leaves its `front` empty, or so many.
+    """The state after rounds of a step, up to the one that leaves its `front` empty, or so many.
 
     Where one session has the front, they are a loop that stays at the server, else they are made
     one by one. `heard(k)` is called after each round that leaves something."""

@@ -2,20 +2,21 @@
 from __future__ import annotations
 
 import datetime
+import numbers
 from typing import Any, List, NamedTuple, Tuple
 
 from ..io import coo
 from ..io.arrays import is_gap
 from ..io.matrix_text import is_array
 
-WANT_NUMPY = ('times that are dates want numpy, which is not installed: hand in whole numbers, such as '
-              'seconds since 1970')
+WANT_NUMPY = ('times that are dates want numpy, which is not installed: hand in whole numbers, such '
+              'as seconds since 1970')
 
 
 class Clock(NamedTuple):
-    """How times are counted. `unit` is that of numpy's datetime64, and empty where times are numbers;
-    `has_zone` says that dates have a time zone, and so are those of UTC here; `is_python` that the
-    caller has dates of Python."""
+    """How times are counted. `unit` is that of numpy's datetime64, and empty where times are
+    numbers; `has_zone` says that dates have a time zone, and so are those of UTC here; `is_python`
+    that the caller has dates of Python."""
     unit: str = ''
     has_zone: bool = False
     is_python: bool = False
@@ -26,12 +27,12 @@ class Clock(NamedTuple):
         if not self.unit:
             return coo.word(moment, what)
         if not isinstance(moment, str) and _has_zone(moment) != self.has_zone:
-            raise TypeError('a %s is a date with%s a time zone, as the times of the events are, not %r'
-                            % (what, '' if self.has_zone else 'out', moment))
+            raise TypeError('a %s is a date with%s a time zone, as the times of the events are, not '
+                            '%r' % (what, '' if self.has_zone else 'out', moment))
         found, exact = _dates([moment], what, self.unit), _dates([moment], what, 'us')
         if self.unit not in ('us', 'ns') and (found != exact).any():
-            raise ValueError('a %s is no finer than the times of the events, which are in %s of numpy: %r'
-                             % (what, self.unit, moment))
+            raise ValueError('a %s is no finer than the times of the events, which are in %s of '
+                             'numpy: %r' % (what, self.unit, moment))
         return int(found.astype('int64')[0])
 
     def moment(self, number: int) -> Any:
@@ -48,20 +49,20 @@ class Clock(NamedTuple):
         listed = _listed(durations)
         if self.unit:
             import numpy
-            odd = next((one for one in listed if hasattr(one, '__index__') or isinstance(one, float)), None)
-            if odd is not None and _kind(durations) != 'm':
+            odd = next((one for one in listed if isinstance(one, numbers.Real) and _kind(one) != 'm'), None)
+            if odd is not None:
                 raise TypeError('a duration is a timedelta where times are dates, not %r' % (odd,))
             found = numpy.asarray(durations, 'timedelta64[%s]' % self.unit)
             if (found != numpy.asarray(durations, 'timedelta64')).any():
-                raise ValueError('durations are no finer than the times of the events, which are in %s of numpy'
-                                 % self.unit)
+                raise ValueError('durations are no finer than the times of the events, which are in '
+                                 '%s of numpy' % self.unit)
             listed = found.astype('int64').tolist()
-        numbers = [coo.word(one, 'duration of event %d' % at) for at, one in enumerate(listed)]
-        wrong = next((at for at, one in enumerate(numbers) if one < 0), None)
+        lengths = [coo.word(one, 'duration of event %d' % at) for at, one in enumerate(listed)]
+        wrong = next((at for at, one in enumerate(lengths) if one < 0), None)
         if wrong is not None:
-            raise ValueError('event %d has a duration below 0, or none: nothing arrives before it begins'
-                             % wrong)
-        return numbers
+            raise ValueError('event %d has a duration below 0, or none: nothing arrives before it '
+                             'begins' % wrong)
+        return lengths
 
 
 def read_times(times: Any) -> Tuple[List[int], Clock]:
@@ -71,11 +72,12 @@ def read_times(times: Any) -> Tuple[List[int], Clock]:
     gap = next((at for at, one in enumerate(listed) if is_gap(one) or str(one) == 'NaT'), None)
     if gap is not None:
         raise ValueError('event %d has no time: it is %r' % (gap, listed[gap]))
-    if _kind(times) != 'M' and not any(hasattr(one, 'isoformat') or _kind(one) == 'M' for one in listed[:1]):
+    if not listed or not (hasattr(listed[0], 'isoformat') or 'M' in (_kind(times), _kind(listed[0]))):
         return [coo.word(one, 'time of event %d' % at) for at, one in enumerate(listed)], Clock()
     with_zone = sum(map(_has_zone, listed))
     if with_zone not in (0, len(listed)):
-        raise ValueError('%d of %d times have a time zone: either all have one, or none' % (with_zone, len(listed)))
+        raise ValueError('%d of %d times have a time zone: either all have one, or none'
+                         % (with_zone, len(listed)))
     found = _dates(times if is_array(times) else listed, 'time')
     import numpy
     is_python = not hasattr(times, 'dtype') and hasattr(listed[0], 'isoformat')
@@ -84,7 +86,7 @@ def read_times(times: Any) -> Tuple[List[int], Clock]:
 
 
 def _kind(column: Any) -> str:
-    """The kind of a column, or of a number, of numpy or pandas: M for dates, m for durations; else empty."""
+    """The kind of a column or a number of numpy or pandas: M for dates, m for durations."""
     found: str = getattr(getattr(column, 'dtype', None), 'kind', '')
     return found
 
@@ -99,20 +101,22 @@ def _listed(column: Any) -> List[Any]:
 
 
 def _dates(many: Any, what: str, unit: str = '') -> Any:
-    """Dates as an array of numpy, in a unit or in the finest that they have; with a zone those of UTC."""
+    """Dates as an array of numpy, in a unit or the finest that they have; with a zone those of UTC."""
     try:
         import numpy
     except ImportError:
         raise TypeError(WANT_NUMPY) from None
     if is_array(many):
         return many.astype('datetime64[%s]' % (unit or numpy.datetime_data(many.dtype)[0]))
-    wrong = next((one for one in many if not isinstance(one, (str, datetime.date, numpy.datetime64))), None)
+    known = str, datetime.date, numpy.datetime64
+    wrong = next((one for one in many if not isinstance(one, known)), None)
     if wrong is not None:
         raise TypeError('a %s is a date, as the times of the events are, not %r' % (what, wrong))
-    plain = [one.astimezone(datetime.timezone.utc).replace(tzinfo=None) if _has_zone(one) else one for one in many]
+    utc = datetime.timezone.utc
+    plain = [one.astimezone(utc).replace(tzinfo=None) if _has_zone(one) else one for one in many]
     if any(isinstance(one, numpy.datetime64) for one in many):
         finest = numpy.datetime_data(numpy.asarray(plain, 'datetime64').dtype)[0]
     else:
-        has_hours = any(hasattr(one, 'hour') for one in many)
-        finest = 'ns' if any(hasattr(one, 'nanosecond') for one in many) else 'us' if has_hours else 'D'
+        finest = 'us' if any(hasattr(one, 'hour') for one in many) else 'D'
+        finest = 'ns' if any(hasattr(one, 'nanosecond') for one in many) else finest
     return numpy.asarray(plain, 'datetime64[%s]' % (unit or finest))

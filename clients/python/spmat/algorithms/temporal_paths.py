@@ -1,7 +1,9 @@
-"""Events with times between vertices, such as payments, messages and trips: when could what begins at one of them have arrived where.
+"""Events with times between vertices, such as payments, messages and trips: what begins at one of
+them could have arrived where, and when.
 
-Several events may join two vertices, so none of them is an edge: a matrix has a column for each event, with the time at which it begins in the row
-of the vertex that it leaves, and another one has a row for each, with the time at which it arrives.
+Two vertices may have several events, so these are no edges. A matrix has a column for each event,
+with the time at which it begins in the row of the vertex that it leaves. Another one has a row for
+each, with the time at which it arrives.
 """
 from __future__ import annotations
 
@@ -22,12 +24,12 @@ from .single_source_paths import LESS, NOT_LESS
 from .utils import Progress, find_place, find_places, tell
 
 # The time at which an event begins, where that isn't before one is there; else the least number
-TAKEN = asm('binary', 'mov64 r0, r2\njsge64 r2, r1, 2\nmov64 r0, 1\nlsh64 r0, 63\nexit\n', 'taken_in_time')
+TAKEN = asm('binary', 'mov64 r0, r2\njsge64 r2, r1, 2\nmov64 r0, 1\nlsh64 r0, 63\nexit\n')
 TAKE, ARRIVE = Semiring(binary.any, TAKEN), Semiring(binary.min, binary.second)
 
 
 class Event(NamedTuple):
-    """An event of a path: its row in the table, counted from 0, where it leads, and its times."""
+    """An event of a path: its row in the table, from 0, what it joins, and its times."""
     row: int
     source: Any
     target: Any
@@ -44,27 +46,32 @@ class Columns(NamedTuple):
 
 
 class Arrivals(Dict[Any, Any]):
-    """{vertex: the earliest time at which what begins at the source could be there}; nothing of a vertex where it can't arrive. `times` is the
-    same as a column of whole numbers: times as they were handed in, dates as numpy counts them."""
+    """{vertex: the earliest time at which what begins at the source could be there}, with nothing
+    of a vertex where it can't arrive.
 
-    def __init__(self, events: 'Events', times: Matrix, sources: List[Place]) -> None:
-        super().__init__((name, events.clock.moment(time)) for name, time in times.by_node().items())
-        self.times, self._events, self._sources = times, events, sources
+    `times` is the same as a column of whole numbers: dates as numpy counts them."""
+
+    def __init__(self, events_: 'Events', times: Matrix, sources: List[Place]) -> None:
+        moment = events_.clock.moment
+        super().__init__((name, moment(time)) for name, time in times.by_node().items())
+        self.times, self._events, self._sources = times, events_, sources
         self._before: Optional[Dict[Place, int]] = None
 
     def path(self, target: Vertex) -> List[Event]:
-        """The events by which it arrives at a vertex first, in order: as few as any such way has. KeyError where it can't arrive there. It
-        asks nothing of the server."""
+        """The events by which it arrives at a vertex first, in order: as few as any such way has.
+
+        It asks nothing of the server. Raises ValueError where there is no such vertex, and KeyError
+        where nothing arrives there."""
         at, found = find_place(self._events.leave, target), []  # type: Place, List[Event]
         if target not in self:
             raise KeyError(target)
-        before = self._tree()
+        before = self._last_events()
         while at in before:
             found.append(self._events.event(before[at]))
             at = self._events.columns.sources[before[at]]
         return found[::-1]
 
-    def _tree(self) -> Dict[Place, int]:
+    def _last_events(self) -> Dict[Place, int]:
         """The event by which each vertex is reached in time, with as few before it as can be."""
         if self._before is None:
             known = dict(zip(*self.times.to_coo(arrays=False)[::2]))
@@ -85,16 +92,20 @@ class Arrivals(Dict[Any, Any]):
 
 
 class Events:
-    """Events between vertices, each with the time at which it begins and that at which it arrives. `spmat.events` makes them. `nodes` are the
-    names of the vertices, `len` the number of events; `leave` and `enter` are their matrices."""
+    """Events between vertices, each with the times at which it begins and arrives; `spmat.events`
+    makes them.
+
+    `nodes` are the names of the vertices, and `len` is the number of events. `leave` and `enter`
+    are their matrices."""
 
     def __init__(self, session: Session, names: Nodes, columns: Columns, clock: Clock) -> None:
         self.columns, self.clock, self.nodes = columns, clock, names
-        many, count = range(len(columns.times)), len(names)
-        order = sorted(many, key=columns.sources.__getitem__)
-        keep = session.backend.keep
-        self.leave = keep(Triples([columns.sources[at] for at in order], order, [columns.times[at] for at in order], count, len(many)))
-        self.enter = keep(Triples(list(many), columns.targets, columns.arrivals, len(many), count))
+        many, count, keep = len(columns.times), len(names), session.backend.keep
+        order = sorted(range(many), key=columns.sources.__getitem__)
+        self.leave = keep(Triples([columns.sources[at] for at in order], order,
+                                  [columns.times[at] for at in order], count, many))
+        at = list(range(many))
+        self.enter = keep(Triples(at, columns.targets, columns.arrivals, many, count))
         self.leave.notes = self.leave.notes._replace(rows=names)
         self.enter.notes = self.enter.notes._replace(columns=names)
 
@@ -106,19 +117,23 @@ class Events:
 
     def event(self, row: int) -> Event:
         """An event by its row in the table."""
-        columns, moment = self.columns, self.clock.moment
-        return Event(row, self.nodes[columns.sources[row]], self.nodes[columns.targets[row]], moment(columns.times[row]), moment(columns.arrivals[row]))
+        columns, nodes, moment = self.columns, self.nodes, self.clock.moment
+        return Event(row, nodes[columns.sources[row]], nodes[columns.targets[row]],
+                     moment(columns.times[row]), moment(columns.arrivals[row]))
 
-    def earliest_arrival(self, source: Vertices, start: Any = None, stop: Any = None, progress: Progress = None) -> Arrivals:
-        """When what begins at one vertex, or at several, could be at each other one first: money, news, a traveller. An event takes it on that
-        begins when it is there, or later.
+    def earliest_arrival(self, source: Vertices, start: Any = None, stop: Any = None,
+                         progress: Progress = None) -> Arrivals:
+        """When what begins at a vertex could first be at each other one: money, news, a traveller.
+
+        An event takes it on that begins when it is there, or later.
 
         Parameters
         ----------
         source
             A vertex by its name, or several.
         start
-            When it begins; without it with the first of all events. Of dates also text, such as "2024-03-01".
+            When it begins; without it with the first of all events. A date may be text, such as
+            "2024-03-01".
         stop
             What would arrive later is left out.
         progress
@@ -127,7 +142,8 @@ class Events:
         Returns
         -------
         Arrivals
-            {vertex: time}, with `path(vertex)` for the events that lead there, and `times` as a column.
+            {vertex: time}, with `path(vertex)` for the events that lead there, and `times` as a
+            column.
 
         Raises
         ------
@@ -138,27 +154,30 @@ class Events:
 
         Notes
         -----
-        There are as many rounds as events on the longest of the earliest ways, and 1; they are a loop that stays at the server. Runs: 6 a
-        round, and 2. Steps: up to 9 for each event that leaves a vertex whose time changed, and 8 a vertex that these lead to, a round. GraphBLAS:
+        There are as many rounds as events on the longest of the earliest ways, and 1. They are a
+        loop that stays at the server. Runs: 6 a round, and 2. Steps: up to 9 for each event that
+        leaves a vertex whose time changed, and 8 a vertex that these lead to, a round. GraphBLAS:
         `vxm` over any and "in time", then over min and second. networkx has nothing of the kind.
         """
         sources = sorted(set(find_places(self.leave, source)))
-        begin = min(self.columns.times, default=0) if start is None else self.clock.number(start, 'start')
-        end = None if stop is None else self.clock.number(stop, 'stop')
         if not sources:
             raise ValueError('expected a vertex to begin with, or several')
-        front = self.leave.session.backend.keep(Triples([0] * len(sources), list(map(int, sources)), [begin] * len(sources), 1, len(self.nodes)))
+        begin = min(self.columns.times) if start is None else self.clock.number(start, 'start')
+        end = None if stop is None else self.clock.number(stop, 'stop')
+        keep, count = self.leave.session.backend.keep, len(self.nodes)
+        zeros = [0] * len(sources)
+        front = keep(Triples(zeros, list(sources), [begin] * len(sources), 1, count))
         if end is not None:
             front = front.select('valuele', end)
-        state = advance_front(lambda s: self._advance(s, end), {'front': front, 'known': front}, len(self.nodes) + 1,
-                              lambda number: tell(progress, 'round', number))
+        state = advance_front(lambda s: self._advance(s, end), {'front': front, 'known': front},
+                              count + 1, lambda number: tell(progress, 'round', number))
         _, at, times = state.known.to_coo(arrays=False)
-        found = self.leave.session.backend.keep(Triples(at, [0] * len(at), times, len(self.nodes), 1))
+        found = keep(Triples(at, [0] * len(at), times, count, 1))
         found.notes = found.notes._replace(rows=self.nodes)
         return Arrivals(self, found, sources)
 
     def _advance(self, s: State, end: Optional[int]) -> Dict[str, Matrix]:
-        """A round: the events that can be taken from the front, and where they arrive earlier than was known."""
+        """A round: the events that the front can take, and where they arrive sooner than known."""
         taken = s.front.mxm(self.leave, TAKE).select('valuene', NOT_LESS)
         reached = taken.mxm(self.enter, ARRIVE)
         if end is not None:
@@ -167,18 +186,22 @@ class Events:
         return {'front': new, 'known': s.known.ewise_add(new, 'second')}
 
 
-def events(session: Session, table: Any, source: Any = 'source', target: Any = 'target', time: Any = 'time',
-           duration: Any = None) -> Events:
-    """Events with times between vertices, from a table: payments, messages, trips. Two vertices may have many.
+def events(session: Session, table: Any, source: Any = 'source', target: Any = 'target',
+           time: Any = 'time', duration: Any = None) -> Events:
+    """Events with times between vertices, from a table: payments, messages, trips.
+
+    Two vertices may have many.
 
     Parameters
     ----------
     session
         Where they are kept.
     table
-        (from, to, time), or (from, to, time, duration), for each event; an array of numpy with these as its columns; or a table of pandas,
-        or a dict, with columns by name. Times are whole numbers, or dates of Python, numpy or pandas, which want numpy; dates with a time zone
-        become those of UTC. Durations are 0 or more, in the unit of the times, or timedeltas; without them an event arrives when it begins.
+        (from, to, time), or (from, to, time, duration), for each event; an array of numpy with
+        these as its columns; or a table of pandas, or a dict, with columns by name. Times are whole
+        numbers, or dates of Python, numpy or pandas, which want numpy. Dates with a time zone
+        become those of UTC. Durations are 0 or more: numbers in the unit of the times, or
+        timedeltas. Without them an event arrives when it begins.
     source, target, time, duration
         What the columns of a table of pandas, or of a dict, are called.
 
@@ -202,45 +225,57 @@ def events(session: Session, table: Any, source: Any = 'source', target: Any = '
     for what, column in (('from', froms), ('to', tos)):
         gap = next((at for at, name in enumerate(column) if is_gap(name)), None)
         if gap is not None:
-            raise ValueError('event %d has no vertex that it leads %s: it is %r' % (gap, what, column[gap]))
+            raise ValueError('event %d has no vertex that it leads %s: it is %r'
+                             % (gap, what, column[gap]))
     begins, clock = read_times(times)
-    lengths = [0] * len(begins) if durations is None else clock.lengths(durations)
-    least, most = min(begins, default=0), max((begin + length for begin, length in zip(begins, lengths)), default=0)
+    arrivals = begins
+    if durations is not None:
+        arrivals = [begin + length for begin, length in zip(begins, clock.lengths(durations))]
+    least, most = min(begins, default=0), max(arrivals, default=0)
     if least == NOT_LESS or most > MOST:
-        raise ValueError('times are above -2^63, and up to 2^63 - 1, also when events arrive: here they are %d to %d' % (least, most))
+        raise ValueError('times are above -2^63, and up to 2^63 - 1, also when events arrive: here '
+                         'they are %d to %d' % (least, most))
     names = dict.fromkeys([*froms, *tos])
     nodes = Nodes(sorted(names) if all(type(name) is int for name in names) else names)
     at = nodes.places
-    return Events(session, nodes, Columns([Place(at[name]) for name in froms], [Place(at[name]) for name in tos], begins,
-                                          [begin + length for begin, length in zip(begins, lengths)]), clock)
+    columns = Columns([Place(at[name]) for name in froms], [Place(at[name]) for name in tos],
+                      begins, arrivals)
+    return Events(session, nodes, columns, clock)
 
 
-def _columns(table: Any, names: Tuple[Any, Any, Any], duration: Any) -> Tuple[List[Any], List[Any], Any, Any]:
-    """The columns of a table of events: those of durations may be none."""
+def _columns(table: Any, names: Tuple[Any, Any, Any],
+             duration: Any) -> Tuple[List[Any], List[Any], Any, Any]:
+    """The columns of a table of events, of which those of durations may be none."""
     if is_frame(table) or isinstance(table, dict):
         wanted = [*names, *([] if duration is None else [duration])]
         missing = [name for name in wanted if name not in table]
         if missing:
-            raise ValueError('no column %r: there are %s; source=, target=, time= and duration= say which are meant'
-                             % (missing[0], ', '.join(map(repr, table))))
+            raise ValueError('no column %r: there are %s; source=, target=, time= and duration= '
+                             'say which are meant' % (missing[0], ', '.join(map(repr, table))))
         columns = [table[name] for name in wanted]
     elif is_array(table):
         if table.ndim != 2 or table.shape[1] not in (3, 4):
-            raise ValueError('an array of events has 3 columns (from, to, time), or 4 with durations, not the shape %r' % (table.shape,))
+            raise ValueError('an array of events has 3 columns (from, to, time), or 4 with '
+                             'durations, not the shape %r' % (table.shape,))
         columns = list(table.T)
     else:
-        columns = _turned(table)
-    froms, tos = (column.tolist() if hasattr(column, 'tolist') else list(column) for column in columns[:2])
-    if len({len(column) for column in columns}) > 1:
-        raise ValueError('columns of one length are expected, not of %s' % ', '.join(str(len(column)) for column in columns))
+        columns = _turn_rows(table)
+    lengths = [len(column) for column in columns]
+    if len(set(lengths)) > 1:
+        raise ValueError('columns of one length are expected, not of %s'
+                         % ', '.join(map(str, lengths)))
+    froms, tos = (column.tolist() if hasattr(column, 'tolist') else list(column)
+                  for column in columns[:2])
     return froms, tos, columns[2], columns[3] if len(columns) == 4 else None
 
 
-def _turned(table: Iterable[Any]) -> List[Any]:
+def _turn_rows(table: Iterable[Any]) -> List[Any]:
     """Rows as columns."""
     rows = list(map(tuple, table))
-    wide = len(rows[0]) if rows else 3
-    wrong = next((at for at, row in enumerate(rows) if len(row) != wide or wide not in (3, 4)), None)
+    widths = [len(row) for row in rows]
+    first = widths[0] if widths else 3
+    wrong = next((at for at, width in enumerate(widths) if width not in {first} & {3, 4}), None)
     if wrong is not None:
-        raise ValueError('an event is (from, to, time), and each or none has a duration behind it, not %r (event %d)' % (rows[wrong], wrong))
+        raise ValueError('an event is (from, to, time), and either all or none have a duration as '
+                         'a fourth field, not %r (event %d)' % (rows[wrong], wrong))
     return [list(column) for column in zip(*rows)] if rows else [[], [], []]
