@@ -65,6 +65,12 @@ _PLACES: Dict[str, str] = {name: module for module, names in {
     'session': 'Session',
     'tiles': 'concat'}.items() for name in names.split()}
 
+# What python-graphblas has at its top, and what it is here.
+_ELSEWHERE = {'agg': 'aggregators are names, as in A.reduce_rowwise("count")', 'monoid': 'folds take binary operators, as in A.reduce_rowwise("plus")',
+              'op': 'operators are names, as in A.ewise_add(B, "plus")', 'Vector': 'vectors are matrices of one column, as v = s.from_coo(rows, [0] * n, '
+              'values, n, 1)', 'Scalar': 'scalars are numbers of Python', 'replace': 'write C.update(B, mask=M.S, replace=True)',
+              'dtypes': 'all values are whole numbers of 64 bits', 'ss': 'write spmat.concat(tiles), A.split(sizes) and A.reshape(nrows, ncols)'}
+
 
 def __getattr__(name: str) -> Any:
     if name in _PLACES:
@@ -72,7 +78,7 @@ def __getattr__(name: str) -> Any:
     else:
         found = None if name.startswith('_') else _module(name)
     if found is None:
-        raise AttributeError('module %r has no attribute %r' % (__name__, name))
+        raise AttributeError('module %r has no attribute %r%s' % (__name__, name, ': ' + _ELSEWHERE[name] if name in _ELSEWHERE else ''))
     globals()[name] = found
     return found
 

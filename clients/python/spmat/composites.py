@@ -2,11 +2,14 @@
 those in row blocks; what each takes in jobs stands with it."""
 from __future__ import annotations
 
+# what a matrix holds is told by the kinds of matrices
+# pylint: disable=abstract-method
+
 from typing import TYPE_CHECKING, Any, Dict, List, Optional, Tuple, TypeVar
 
-from . import aggregators, assignment, tiles, units
+from . import assignment, tiles, units
 from .errors import refusal
-from .indexing import gather
+from .indexing import gather, picked
 from .metadata import NOTHING, on_diagonal
 from .operators import Op
 from .signs import Signs
@@ -34,6 +37,20 @@ class Composites(Signs, metaclass=MatrixType):
     """What is made of the jobs of other methods."""
 
     # -- a part of it, and values by position
+
+    def __getitem__(self, at: Any) -> Any:
+        """`G[i, j]`: the value of an entry, what it stands for where there is a unit, None where there is none. `G[i, :]` is a row, `G[:, j]`
+        a column, `G[rows, columns]` a part, `G[M.S]` or `G[~M.V]` a copy under a mask.
+
+        Rows and columns are named as `index` has it, or counted from 0; below 0 no number is a position. Of a list or an array each counts, as
+        often as it stands there; a row that is there twice leaves the rows without names. Lists, arrays and columns of pandas that have
+        True and False alone filter, as do columns of 0 and 1 and masks of columns: those with names are aligned by these. A slice of names
+        takes both ends, as in pandas; one of positions leaves out the second and counts from the end below 0, as in numpy.
+
+        1 job for the rows and 1 for the columns that are chosen, and 1 run where both are; a value comes with 1 run more. In the GraphBLAS
+        GrB_extract. Raises ValueError where there is no such vertex, IndexError where a filter has another length, TypeError for floats and
+        other things that are no index."""
+        return picked(self, at)  # type: ignore[arg-type]
 
     def assign(self: C, what: Any, rows: Any = None, columns: Any = None, *, accum: Optional[Op] = None, mask: 'MaskLike' = None,
                replace: bool = False, name: Optional[str] = None) -> C:

@@ -18,7 +18,7 @@ if TYPE_CHECKING:
     from .matrix import Matrix
 
 WHAT = ('row', 'column')
-TWO = ('an index is two: G[i, j], G[i, :], G[:, j], G[rows, columns], or a mask: G[M.S]; G.by_node()[i] is one value of a column')
+TWO = 'an index is two: G[i, j], G[i, :], G[:, j], G[rows, columns], or a mask: G[M.S]; G.by_node()[i] is one value of a column'
 COLLECTIONS = (Set, dict, Iterator, KeysView, ValuesView)    # what has no order of its own, or is read once
 
 

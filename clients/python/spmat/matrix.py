@@ -10,7 +10,6 @@ from . import aggregators, metadata, oversized_jobs, units
 from .composites import Composites
 from .display import html
 from .errors import TooLarge, refusal
-from .indexing import picked
 from .job_operators import Number, applied, of_form
 from .io import matrix_text
 from .mask import Mask, as_mask, structure
@@ -32,8 +31,9 @@ class Matrix(Composites):
 
     Each method that takes an operator queues one job, unless it says otherwise, and answers at once with the matrix that it will
     be; it costs no run. Where an operand or the mask is itself a job's result that waits, the queue runs first; so it does where
-    a result's entries, their number, or a mask other than A.S are asked for. Every `mask=` takes A.S, A.V, ~A.S, ~A.V or a matrix
-    (its structure); those but A.S cost more jobs, as `S`, `V` and `without` say. Operators are Operators, ready names, or functions.
+    a result's entries, their number, or a mask other than A.S are asked for. Every `mask=` takes A.S, A.V, ~A.S, ~A.V or a mask
+    of these (a matrix is A.S, with a MaskWarning); those but A.S cost more jobs, as `S`, `V` and
+    `without` say. Operators are Operators, ready names, or functions.
 
     A stored whole number x stands for x / `unit`, 1 unless the matrix was read with `scale=`; results have units. UnitsDiffer where two that
     differ meet: `rescale` gives one matrix the other's. docs/files.md says more.
@@ -228,13 +228,6 @@ class Matrix(Composites):
         if any(want is not None and want != got for want, got in zip(shape, other.shape)):
             raise refusal('J5', command=form, detail='%dx%d and %dx%d' % (*self.shape, *other.shape))
 
-    def __getitem__(self, at: Any) -> Union['Matrix', int, float, None]:
-        """`G[i, j]`: the value of an entry, None where there is none; where there is a unit it is a float, what the stored number stands
-        for. `G[i, :]` a row, `G[:, j]` a column, `G[rows, columns]` with lists or slices a part. Rows and columns are named as `index` has
-        it, or counted from 0. 1 job for the rows and 1 for the columns that are chosen, and 1 run where both are; a value comes with 1 run
-        more. In the GraphBLAS GrB_extract."""
-        return picked(self, at)
-
     # -- what the protocol leaves out
 
     def reduce_columnwise(self, op: Op = 'plus', *, mask: MaskLike = None, name: Optional[str] = None) -> 'Matrix':
@@ -303,9 +296,10 @@ class Matrix(Composites):
                name: Optional[str] = None) -> 'Matrix':
         """A new matrix, what the GraphBLAS writes C<M, accum> = other: under the mask `other`, or with `accum` the union of both
         by it; outside the mask this matrix, or nothing where `replace` is set. So `C.update(A.mxm(B), "plus")` is python-graphblas'
-        `C(accum) << A.mxm(B)`, and `C.update(B, mask=M.S)` its `C(M.S) << B`; `assign` sets a part. Without a mask 1 job, no run. With one
-        7 jobs and 4 runs, with `replace` 1 and none (5 and 3 for a complement); `accum` is 1 job more, A.V 1 and 1; and where an operand
-        or the mask waits, 1 run."""
+        `C(accum) << A.mxm(B)`, and `C.update(B, mask=M.S)` its `C(M.S) << B`; `assign` sets a part.
+
+        Without a mask 1 job, no run. With one 7 jobs and 4 runs, with `replace` 1 and none (5 and 3 for a complement); `accum` is 1 job
+        more, A.V 1 and 1; and where an operand or the mask waits, 1 run."""
         self._check_shape('union', other, self.shape)
         where = as_mask(mask)
         if where is not None:

@@ -19,15 +19,12 @@ class Signs(Held):
     # -- between matrices, or a matrix and a number
 
     def __eq__(self, other: object) -> Any:
-        if other is self:
-            return True                            # which weak references ask
-        self._no('==', 'A.isequal(B) for all of both, A.select("valueeq", 3) for some entries, A.ewise_mult(B, "eq") entry by entry, or '
-                 'A is B')
+        return other is self or self._no(          # weak references ask whether it is itself
+            '==', 'A.isequal(B) for all of both, A.select("valueeq", 3) for some entries, A.ewise_mult(B, "eq") entry by entry, or A is B')
 
     def __ne__(self, other: object) -> Any:
-        if other is self:
-            return False
-        self._no('!=', 'not A.isequal(B), A.select("valuene", 3), A.ewise_mult(B, "ne"), or A is not B')
+        return other is not self and self._no(
+            '!=', 'not A.isequal(B), A.select("valuene", 3), A.ewise_mult(B, "ne"), or A is not B')
 
     __hash__ = object.__hash__                     # a matrix is itself in sets, dicts and weak references
 
@@ -147,7 +144,7 @@ class Signs(Held):
     def __array__(self, *_: Any, **__: Any) -> Any:
         self._no('array of its own', 'A.to_dense(), A.to_coo() or A.to_scipy_sparse()')
 
-    def __array_ufunc__(self, ufunc: Any, method: str, *inputs: Any, **options: Any) -> Any:
+    def __array_ufunc__(self, ufunc: Any, *_: Any, **__: Any) -> Any:
         name = other_names.UFUNCS['unary' if ufunc.nin == 1 else 'binary'].get(ufunc.__name__)
         if name is None:
             self._no('np.%s()' % ufunc.__name__, 'A.apply(f) or A.ewise_mult(B, f) with a function f of your own; %s' % (

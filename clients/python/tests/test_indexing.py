@@ -1,11 +1,14 @@
 """What an index means: positions as in numpy, names as in pandas, filters, masks; and what Python's signs say."""
 import gc
+import random
 import unittest
 import warnings
 import weakref
 
 from support import InSession, needs
+import alike
 import spmat
+from spmat import blocks
 
 ROWS = ['a', 'b', 'c', 'd', 'e']
 EDGES = [('a', 'b', 1), ('b', 'c', 2), ('a', 'c', 10), ('d', 'e', 4), ('e', 'a', 0)]
@@ -355,6 +358,17 @@ class Masks(InSession):
         self.assertEqual(len(heard), 1)            # once a place
         with self.assertRaisesRegex(TypeError, r'a mask is A\.S, A\.V, ~A\.S or ~A\.V, not True'):
             A.apply('one', mask=True)
+
+    def test_nothing_here_warns_by_itself(self):
+        """Whatever an algorithm does, its masks say what they mean."""
+        with blocks.Sessions(2) as many, warnings.catch_warnings():
+            warnings.simplefilter('error', spmat.MaskWarning)
+            for session in (self.s, many):
+                graphs = [graph(session) for graph in alike.graphs_of(random.Random(5), 10).values()]
+                for name, calls in alike.ALGORITHMS.items():
+                    for call, graph in zip(calls * len(graphs), graphs):
+                        with self.subTest(algorithm=name):
+                            self.assertNotIn('MaskWarning', str(alike.outcome(lambda: call(graph))))
 
     def test_masks_of_masks(self):
         a = {(0, 0): 1, (0, 1): 0, (1, 1): 5, (2, 0): 0}

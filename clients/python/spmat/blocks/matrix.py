@@ -11,7 +11,6 @@ from .._client.protocol import FORMS
 from ..composites import Composites
 from ..aliases import alias, is_same
 from ..errors import SpmatError, refusal
-from ..indexing import picked
 from ..mask import Mask, as_mask
 from ..job_operators import Number, applied, of_form
 from ..matrix import Ring
@@ -85,10 +84,6 @@ class BlockMatrix(Composites):
 
     def __getattr__(self, name: str) -> Any:
         raise AttributeError(unsupported.words('Matrix', name, self))
-
-    def __getitem__(self, at: Any) -> Any:
-        """`G[i, j]`, `G[i, :]`, `G[rows, columns]`; see `Matrix`."""
-        return picked(self, at)  # type: ignore[arg-type]
 
     @property
     def session(self) -> 'Sessions':  # type: ignore[override]
