@@ -136,7 +136,9 @@ METHODS = {
     'waits': [lambda g, mask: [g.G.nvals and g.G.waits]],
     'without': [lambda g, mask: g.G.without(g.K if mask is None else mask), lambda g, mask: g.G.without(g.G.select('triu', 1)), lambda g, mask: g.A.without(None)],
     '__getitem__': [lambda g, mask: [g.A[1, 2], g.A[1, :], g.A[:, 3], g.A[[2, 0], :], g.A[0:3, 1::2]], lambda g, mask: g.G[_first(g.G.nodes), :],
-                    lambda g, mask: g.A['nobody', 0]],
+                    lambda g, mask: g.A['nobody', 0],
+                    lambda g, mask: [g.A[g.K.V], g.A[g.C.S, :], g.A[:, ~g.R.V], g.A[[i % 2 == 0 for i in range(g.A.nrows)], -2:], g.A[[1, 1], ...]],
+                    lambda g, mask: g.A[[True], :], lambda g, mask: g.A[-1, :], lambda g, mask: g.A[g.K]],
 }
 MASKED = ('apply', 'assign', 'dup', 'ewise_add', 'ewise_mult', 'ewise_union', 'mxm', 'select', 'update', 'without')     # under each kind of mask
 
