@@ -125,7 +125,7 @@ class Matrix(Composites):
 
         Where this matrix has a unit, `right=0.25` is a number that meets its values, and is stored as they are; for times and division it is
         a whole factor. An operator of your own gets stored whole numbers, also for `right`, and its result has a unit of 1: set it, as in
-        `B.unit = 100`, where you know another. ValueError where the unit can't hold the number."""
+        `B.unit = 100`, where you know another. ValueError where the unit can't hold the number, but for <, <=, > and >=."""
         sent = applied(op, right, left, self.unit)
         told = metadata.of_applied(self.notes, sent.op, sent.even, sent.unit)
         return self._job(_Job('apply', [sent.op], [self], self.shape, told, sent.thunk), mask, name)
@@ -133,7 +133,7 @@ class Matrix(Composites):
     def select(self, op: Op, thunk: Number = 0, *, mask: MaskLike = None, name: Optional[str] = None) -> 'Matrix':
         """The entries for which an index operator's answer isn't 0, with their values. Its name may be a sign: `A.select(">=",
         3)` is `A.select("valuege", 3)`. A value to compare with is a number, also where this matrix has a unit, `A.select(">=", 1.5)`;
-        ValueError where the unit can't hold it. An operator of your own gets stored whole numbers. In the GraphBLAS GrB_select."""
+        of == and != a ValueError where the unit can't hold it. An operator of your own gets stored whole numbers. In the GraphBLAS GrB_select."""
         found = of_form('select', op)
         thunk = units.of_selected(found, thunk, self.unit)
         told = metadata.of_selected(self.notes, found, thunk)

@@ -79,6 +79,16 @@ def to_stored(number: Any, unit: Unit, what: str = 'thunk') -> int:
     return coo.word(exact.numerator, what)
 
 
+def to_compared(op: Operator, number: Any, unit: Unit, is_left: bool = False) -> int:
+    """The whole number that stored ones are compared with in place of a number: x > 0.125 is x > 12 of hundredths. ValueError where none
+    tells the same, as of equality."""
+    upward = None if unit == 1 else _rounds_up(op.kind).get(op)
+    if upward is None:
+        return to_stored(number, unit)
+    exact = exact_number(number) * unit
+    return coo.word(math.ceil(exact) if upward != is_left else math.floor(exact), 'thunk')
+
+
 def to_decimal(value: int, unit: Unit) -> Any:
     """What a stored number stands for: itself with a unit of 1, else the nearest float."""
     return value if unit == 1 else value * unit.denominator / unit.numerator
@@ -145,6 +155,13 @@ def with_unit(matrix: Any, unit: Unit) -> Any:
 def _kinds(kind: str) -> Dict[Operator, str]:
     """What the ready operators of a kind do with units."""
     return {READY[kind][name]: meaning for meaning, names in _KINDS[kind].items() for name in names.split()}
+
+
+@functools.lru_cache(maxsize=None)
+def _rounds_up(kind: str) -> Dict[Operator, bool]:
+    """Whether a number to compare with may be the next greater whole one: x < 12.5 is x < 13, and x > 12.5 is x > 12."""
+    names = {'lt': True, 'ge': True, 'le': False, 'gt': False}
+    return {READY[kind]['value' + name if kind == 'index' else name]: up for name, up in names.items()}
 
 
 def _meaning(op: Operator) -> Optional[str]:
@@ -219,8 +236,7 @@ def refuse(op: Union[Operator, str], first: Unit, second: Unit) -> NoReturn:
     """Raises UnitsDiffer of the operands of an operator, or of what else brings values together."""
     least = plain(Fraction(_lcm(Fraction(first).numerator, Fraction(second).numerator)))
     mend = ' and '.join('%s.rescale(%s)' % (name, least) for name, unit in (('A', first), ('B', second)) if unit != least)
-    raise UnitsDiffer('%s of matrices with units that differ: the values of A are parts of 1/%s, those of B of 1/%s; take %s'
-                      % (_name(op), first, second, mend))
+    raise UnitsDiffer('%s of values whose units differ: A has a unit of %s, and B of %s; write %s' % (_name(op), first, second, mend))
 
 
 def _lcm(first: int, second: int) -> int:
@@ -260,7 +276,7 @@ def of_index(op: Operator, thunk: Any, unit: Unit) -> Bound:
     number."""
     meaning = _meaning(op)
     if meaning == COMPARE and not _is_function(op):
-        return Bound(to_stored(thunk, unit), 1)
+        return Bound(to_compared(op, thunk, unit), 1)
     return Bound(coo.word(thunk, 'thunk'), unit if meaning == KEEP else 1)
 
 
@@ -270,8 +286,10 @@ def of_bound(op: Operator, number: Any, is_left: bool, unit: Unit) -> Bound:
     if unit == 1 or _is_function(op):
         return Bound(coo.word(number, 'thunk'), _own(op, is_left, unit))
     meaning = _meaning(op)
-    if meaning in (MEET, FIRST, SECOND, COMPARE):
-        return Bound(to_stored(number, unit), 1 if meaning == COMPARE else unit)
+    if meaning == COMPARE:
+        return Bound(to_compared(op, number, unit, is_left), 1)
+    if meaning in (MEET, FIRST, SECOND):
+        return Bound(to_stored(number, unit), unit)
     return Bound(coo.word(number, 'thunk'), _own(op, is_left, unit))
 
 
