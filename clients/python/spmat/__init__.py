@@ -16,8 +16,10 @@ from typing import TYPE_CHECKING, Any, Dict, List
 if TYPE_CHECKING:
     from . import algorithms, draw
     from .algorithms.temporal_paths import events
+    from .alignment import align
     from ._client.pending_jobs import Budget, JobResult
-    from .errors import (BudgetExceeded, BudgetWarning, Busy, Closed, CompileError, DimensionMismatch, DomainMismatch, MaskWarning, NoThread, NotMade,
+    from .errors import (BudgetExceeded, BudgetWarning, Busy, Closed, CompileError, DimensionMismatch, DomainMismatch, MaskWarning, NamesDiffer,
+                         NoThread, NotMade,
                          NotSettled, OperatorRefused, OutOfMemory, ReadError, Refused, ResultLost, SpmatError, TextRefused,
                          ThreadUnavailable, TooLarge, UnitsDiffer)
     from .loops import Loop, empty, loop, steady
@@ -41,16 +43,19 @@ def _version() -> str:
 
 __version__ = _version()
 __all__ = ['Budget', 'BudgetExceeded', 'BudgetWarning', 'Busy', 'Closed', 'CompileError', 'DimensionMismatch', 'DomainMismatch', 'JobResult', 'Loop',
-           'Mask', 'MaskWarning', 'Matrix', 'NoThread', 'NotMade', 'NotSettled', 'Operator', 'OperatorRefused', 'OutOfMemory', 'ReadError',
+           'Mask', 'MaskWarning', 'Matrix', 'NamesDiffer', 'NoThread', 'NotMade', 'NotSettled', 'Operator', 'OperatorRefused', 'OutOfMemory', 'ReadError',
            'Refused', 'ResultLost', 'Semiring', 'Session', 'SpmatError', 'TextRefused', 'ThreadUnavailable', 'TooLarge', 'UnitsDiffer', 'algorithms',
-           'asm', 'binary', 'bipartite', 'c', 'cdiv', 'cmod', 'code', 'code_of', 'concat', 'draw', 'empty', 'events', 'explain', 'fixpoint', 'indexunary',
+           'align', 'asm', 'binary', 'bipartite', 'c', 'cdiv', 'cmod', 'code', 'code_of', 'concat', 'draw', 'empty', 'events', 'explain', 'fixpoint',
+           'indexunary',
            'loop', 'price', 'rsh', 'select', 'semiring', 'steady', 'udiv', 'ult', 'umod', 'unary', 'where']
 
 # Each name is imported when it is first asked for: networkx imports this package to ask for its backend's names, and a program
 # that makes a session doesn't wait for pictures.
 _PLACES: Dict[str, str] = {name: module for module, names in {
+    'alignment': 'align',
     'operators.clang': 'c',
-    'errors': 'BudgetExceeded BudgetWarning Busy Closed CompileError DimensionMismatch DomainMismatch MaskWarning NoThread NotMade NotSettled OperatorRefused '
+    'errors': 'BudgetExceeded BudgetWarning Busy Closed CompileError DimensionMismatch DomainMismatch MaskWarning NamesDiffer NoThread NotMade '
+              'NotSettled OperatorRefused '
               'OutOfMemory ReadError Refused ResultLost SpmatError TextRefused ThreadUnavailable TooLarge UnitsDiffer',
     '_client.pending_jobs': 'Budget JobResult',
     'loops': 'Loop empty loop steady',

@@ -10,7 +10,7 @@ from typing import TYPE_CHECKING, Any, Dict, List, Optional, Tuple, TypeVar
 from . import assignment, tiles, units
 from .errors import refusal
 from .indexing import gather, picked
-from .metadata import NOTHING, on_diagonal
+from .metadata import COLUMNS, NOTHING, ROWS, on_diagonal
 from .operators import Op
 from .signs import Signs
 
@@ -209,7 +209,7 @@ def diagonal(matrix: 'Matrix', k: int, name: Optional[str]) -> 'Matrix':
     down, right = max(-k, 0), max(k, 0)
     moved: Tuple[Any, Any] = (at, at) if not k else ([int(i) + down for i in at], [int(i) + right for i in at])
     made = matrix.session.from_coo(*moved, values, count + abs(k), count + abs(k), name=name)
-    made.notes = on_diagonal(matrix.notes) if not k else NOTHING._replace(unit=matrix.unit)
+    made.notes = on_diagonal(matrix.notes, ROWS if matrix.ncols == 1 else COLUMNS) if not k else NOTHING._replace(unit=matrix.unit)
     return made
 
 

@@ -15,6 +15,7 @@ from .display import graph_layout
 from .display.matplotlib_style import (GREY, INK, LABELS, LONG, PALE, Path, SHORT, WARM, entries, figure_of, halo, many,
                                        name_ticks, note, plain_ticks, saved, shortened)
 from .matrix import Matrix
+from .metadata import VERTICES, joined, without_names
 
 RASTER = 256               # `spy` shows a square for each entry up to so many rows and columns, and a raster of as many cells above
 FEW_ROWS = 64              # with a line between squares up to so many
@@ -47,8 +48,8 @@ def raster(A: Matrix, rows: int = RASTER, columns: int = RASTER) -> Matrix:
     import numpy
     rows, columns = min(rows, A.nrows), min(columns, A.ncols)
     i, j = numpy.arange(A.nrows), numpy.arange(A.ncols)
-    P = A.session.from_coo(i * rows // max(1, A.nrows), i, 1, rows, A.nrows)
-    Q = A.session.from_coo(j, j * columns // max(1, A.ncols), 1, A.ncols, columns)
+    P = without_names(A.session.from_coo(i * rows // max(1, A.nrows), i, 1, rows, A.nrows))
+    Q = without_names(A.session.from_coo(j, j * columns // max(1, A.ncols), 1, A.ncols, columns))
     return P.mxm(A.apply('one'), 'plus_second').mxm(Q, 'plus_first')
 
 
@@ -138,6 +139,7 @@ def levels(G: Matrix, found: Matrix, path: Optional[Path] = None) -> Any:
     """
     if found.shape != (G.nrows, 1) or G.nrows != G.ncols:
         raise ValueError('levels are a column with a row for each vertex, as bfs_levels gives it')
+    joined(G.notes, found.notes, VERTICES)
     at = {i: level for (i, _), level in found.to_dict().items()}
     deepest = max(at.values(), default=-1)
     if G.nrows <= FEW_VERTICES and G.nvals <= 2 * FEW_EDGES:
@@ -278,7 +280,7 @@ def _dots(axes: Any, G: Matrix, place: Dict[int, Tuple[float, float]], at: Dict[
 def _between(G: Matrix, at: Dict[int, int], deepest: int) -> Dict[Tuple[int, int], int]:
     """How many entries lead from each level to each, counted by the server: P G P^T over plus, with P that gathers levels."""
     vertices = sorted(at)
-    gather = G.session.from_coo([at[i] for i in vertices], vertices, 1, deepest + 1, G.nrows)
+    gather = without_names(G.session.from_coo([at[i] for i in vertices], vertices, 1, deepest + 1, G.nrows))
     return gather.mxm(G.apply('one'), 'plus_second').mxm(gather.T, 'plus_first').to_dict()
 
 

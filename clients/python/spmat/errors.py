@@ -4,6 +4,7 @@
         Closed               the session has ended; open another one
         ReadError            a file, or a line of it, isn't what was to be read; a ValueError
         UnitsDiffer          values of two units meet: `A.rescale(unit)` gives one matrix the other's; a ValueError
+        NamesDiffer          two matrices have different names for their vertices: `align(A, B)` gives both the same; a ValueError
         NotMade              this matrix was the result of a run that was refused; its cause says why. Also called ResultLost
         Refused              the server answered `no ..`, or would have
             OperatorRefused      mend the operator (rules A1 to A6, V1 to V16, S9)
@@ -120,6 +121,16 @@ class ReadError(SpmatError, ValueError):
 
     def __reduce__(self) -> Tuple[Any, ...]:
         return type(self), (self.file, self.at, self.words, self.line)
+
+
+class NamesDiffer(SpmatError, ValueError):
+    """Two matrices that a job would combine have different names for their rows or columns: by position the values of different
+    vertices would meet. `spmat.align` brings matrices to the same names, and `nodelist=` reads one with the names of another.
+
+    Notes
+    -----
+    In pandas such tables are aligned; python-graphblas knows no names.
+    """
 
 
 class NotMade(SpmatError):

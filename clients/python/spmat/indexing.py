@@ -12,7 +12,7 @@ from . import units
 from .io.exporters import Held
 from .io.matrix_text import is_array
 from .mask import Mask
-from .metadata import NOTHING, Nodes
+from .metadata import NOTHING, Nodes, joined
 
 if TYPE_CHECKING:
     from .matrix import Matrix
@@ -227,14 +227,17 @@ def _of_column(matrix: 'Matrix', column: Any, axis: int) -> List[int]:
                         'value is not 0, or c.to_list() for a list of %ss' % (WHAT[axis], WHAT[axis]))
     stored = {place for place, number in zip(at, numbers) if number or (mask is not None and not mask.value)}
     inside = mask is None or not mask.complement
-    own, names = values.notes.names(0 if values.ncols == 1 else 1), matrix.notes.names(axis)
-    if own is not None and names is not None and list(own) != list(names):
-        unknown = next((name for name in names if name not in own.places), None)
+    side = 0 if values.ncols == 1 else 1
+    own, whole = values.notes.axis(side), matrix.notes.axis(axis)
+    if own.has_names and whole.has_names and not own.agrees(whole):
+        known, names = Nodes(own.listed(length)).places, whole.listed(matrix.shape[axis])
+        unknown = next((name for name in names if name not in known), None)
         if unknown is not None:
             raise IndexError('the filter has no vertex %r' % (unknown,))
-        return [place for place, name in enumerate(names) if (own.places[name] in stored) is inside]
+        return [place for place, name in enumerate(names) if (known[name] in stored) is inside]
     if length != matrix.shape[axis]:
         raise IndexError('a filter of %d values for %d %ss' % (length, matrix.shape[axis], WHAT[axis]))
+    joined(values.notes, matrix.notes, ((side, axis, 'the filter and the %ss that it filters' % WHAT[axis]),))
     return [place for place in range(length) if (place in stored) is inside]
 
 
@@ -242,12 +245,11 @@ def gather(matrix: 'Matrix', places: List[int], axis: int) -> 'Matrix':
     """The matrix of ones that gathers some rows (from the left) or columns (from the right). Its other side has the names of what is
     gathered, or none where one is gathered twice."""
     count, many = matrix.shape[axis], len(places)
-    names = matrix.notes.names(axis)
-    chosen = None if names is None or len(set(places)) < many else Nodes(names[place] for place in places)
+    whole = matrix.notes.axis(axis)
     if axis == 0:
         made = matrix.session.from_coo(range(many), places, 1, many, count)
-        made.notes = NOTHING._replace(rows=chosen, columns=names)
+        made.notes = NOTHING.with_axes(whole.part(places), whole)
     else:
         made = matrix.session.from_coo(places, range(many), 1, count, many)
-        made.notes = NOTHING._replace(rows=names, columns=chosen)
+        made.notes = NOTHING.with_axes(whole, whole.part(places))
     return made

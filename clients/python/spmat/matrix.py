@@ -213,20 +213,31 @@ class Matrix(Composites):
             raise oversized_jobs.explained(fault, job.form, job.ops, job.operands, cut) from None
 
     def _queued(self, job: '_Job', mask: MaskLike, name: Optional[str]) -> 'Matrix':
-        where = as_mask(mask)
+        where, told = as_mask(mask), job.told
         if where is not None:
-            _check_mask(where, job.shape)
-        cut = structure(where) if where is not None and not where.complement else None
-        inner = None if where is not None and where.complement else name
-        made = self.session.backend.submit(job.form, job.ops, job.operands, job.shape, job.thunk, cut, inner, job.parts)
-        made.notes = job.told if cut is None else metadata.masked(job.told, cut.notes)
-        return made.without(~where, name=name) if where is not None and where.complement else made
+            told = self._under(where, job.shape, told)
+        if where is not None and where.complement:
+            whole = self.session.backend.submit(job.form, job.ops, job.operands, job.shape, job.thunk, None, None, job.parts)
+            whole.notes = job.told
+            return whole.without(~where, name=name)
+        cut = None if where is None else structure(where)
+        made = self.session.backend.submit(job.form, job.ops, job.operands, job.shape, job.thunk, cut, name, job.parts)
+        made.notes = told
+        return made
+
+    def _under(self, where: Mask, shape: Tuple[int, int], told: metadata.Notes) -> metadata.Notes:
+        """What is known of a result under a mask. DimensionMismatch where the mask has another shape, NamesDiffer where it has other names."""
+        if where.matrix.shape != shape:
+            raise refusal('J9', detail='the result is %dx%d, the mask %dx%d%s' % (
+                *shape, *where.matrix.shape, metadata.hint_of(told, where.matrix.notes)))
+        return metadata.under(told, where.matrix.notes, where.value, where.complement)
 
     def _check_shape(self, form: str, other: 'Matrix', shape: Tuple[int, Optional[int]]) -> None:
         if not isinstance(other, Matrix):
             raise TypeError('expected a matrix, got %r' % (other,))
         if any(want is not None and want != got for want, got in zip(shape, other.shape)):
-            raise refusal('J5', command=form, detail='%dx%d and %dx%d' % (*self.shape, *other.shape))
+            raise refusal('J5', command=form, detail='%dx%d and %dx%d%s' % (
+                *self.shape, *other.shape, metadata.hint_of(self.notes, other.notes)))
 
     # -- what the protocol leaves out
 
@@ -284,13 +295,15 @@ class Matrix(Composites):
             raise TypeError('expected a mask')
         if where.complement:
             return self.dup(mask=~where, name=name)
-        _check_mask(where, self.shape)
+        told = self._under(~where, self.shape, metadata.of_copy(self.notes))
         other: Matrix = structure(where)
         if self.waits or other.waits:
             self.session.run()
         here, there = self.apply(unary.one), other.apply(unary.zero)
         alone = here.ewise_add(there, binary.zero).select(indexunary.nonzero)
-        return self.apply(unary.identity, mask=alone.S, name=name)
+        made = self.apply(unary.identity, mask=alone.S, name=name)
+        made.notes = told
+        return made
 
     def update(self, other: 'Matrix', accum: Optional[Op] = None, mask: MaskLike = None, replace: bool = False, *,
                name: Optional[str] = None) -> 'Matrix':
@@ -303,10 +316,15 @@ class Matrix(Composites):
         self._check_shape('union', other, self.shape)
         where = as_mask(mask)
         if where is not None:
-            _check_mask(where, self.shape)
-            if not replace:
-                units.check_same('update', self.unit, other.unit)
-        inside = other if accum is None else self.ewise_add(other, accum)
+            self._under(where, self.shape, self.notes)
+        op = None if accum is None else of_form('union', accum)
+        told = metadata.of_update(self.notes, other.notes, op, where, replace)
+        made = self._updated(other, accum, where, replace, name)
+        made.notes = told
+        return made
+
+    def _updated(self, other: 'Matrix', accum: Optional[Op], where: Optional[Mask], replace: bool, name: Optional[str]) -> 'Matrix':
+        inside = other if accum is None else self.ewise_add(other, accum, name=None if where is not None else name)
         if where is None:
             return inside if accum is not None else other.dup(name=name)
         where = Mask(structure(where), complement=where.complement)
@@ -320,8 +338,10 @@ class Matrix(Composites):
         and 2 runs."""
         if not isinstance(other, Matrix):
             raise TypeError('expected a matrix, got %r' % (other,))
-        units.check_same('isequal', self.unit, other.unit)
-        if self.shape != other.shape or self.nvals != other.nvals:
+        if self.shape != other.shape:
+            return False
+        metadata.check_equal(self.notes, other.notes)
+        if self.nvals != other.nvals:
             return False
         differ = self.ewise_mult(other, binary.ne)
         return differ.nvals == self.nvals and differ.select(indexunary.nonzero).nvals == 0
@@ -343,9 +363,6 @@ class _Job(NamedTuple):
     parts: bool = False
 
 
-def _check_mask(mask: Mask, shape: Tuple[int, int]) -> None:
-    if mask.matrix.shape != shape:
-        raise refusal('J9', detail='the result is %dx%d, the mask %dx%d' % (*shape, *mask.matrix.shape))
 
 
 def bipartite(B: Matrix) -> Matrix:

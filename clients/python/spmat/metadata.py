@@ -5,11 +5,15 @@ knows numbers.
 """
 from __future__ import annotations
 
+import enum
 import functools
+import itertools
 import numbers
-from typing import Any, Dict, FrozenSet, Iterable, List, NamedTuple, Optional, Set
+from typing import Any, Dict, FrozenSet, Iterable, List, NamedTuple, Optional, Protocol, Sequence, Set, Tuple, TypeVar
 
 from . import units
+from .errors import NamesDiffer
+from .mask import Mask
 from .operators import READY, Operator, Semiring, binary
 from .units import Unit
 
@@ -31,6 +35,8 @@ class Nodes(List[Any]):
         super().__init__(names)
         self._places: Optional[Dict[Any, int]] = None
         self._numbered: Optional[bool] = None
+        self._are_counted: Optional[bool] = None
+        self._list: object = self                  # one object for all lists that were found equal to this one
 
     @property
     def places(self) -> Dict[Any, int]:
@@ -45,6 +51,23 @@ class Nodes(List[Any]):
         if self._numbered is None:
             self._numbered = any(isinstance(name, numbers.Number) for name in self)
         return self._numbered
+
+    @property
+    def are_counted(self) -> bool:
+        """Whether the names are just the numbers 0 to n - 1, in this order."""
+        if self._are_counted is None:
+            ends = not self or (self[0] == 0 and self[-1] == len(self) - 1)
+            self._are_counted = bool(ends) and list.__eq__(self, list(range(len(self)))) is True
+        return self._are_counted
+
+    def equals(self, other: 'Nodes') -> bool:
+        """Whether two lists have the same names in the same order. Two that have are compared once: both know it from then on."""
+        mine, theirs = self._list, other._list
+        if mine is not theirs:
+            if len(self) != len(other) or list.__eq__(self, other) is not True:
+                return False
+            other._list = mine
+        return True
 
     def at(self, name: Any) -> int:
         """The index of a name. KeyError where there is none."""
@@ -66,11 +89,118 @@ def check_names(names: Nodes) -> None:
         raise ValueError('the name %r has an end of line in it, and lists have a line for each vertex' % wrong)
 
 
+class Unnamed(enum.IntEnum):
+    """What rows, or columns, are called that have no list of names."""
+    ANYTHING = 0                                   # whatever those beside them are: of constants, and of what the client makes for itself
+    ALIKE = 1                                      # the same, and rows and columns alike: of square constants, and of diagonals
+    POSITIONS = 2                                  # nothing: the caller made the matrix by indexes
+    NUMBERS = 3                                    # 0 to n - 1, by whoever read the graph
+
+
+class Axis(NamedTuple):
+    """What the rows of a matrix are called, or its columns: their names, or where they have no list of them what else."""
+    names: Optional[Nodes] = None
+    unnamed: Unnamed = Unnamed.ANYTHING
+
+    @property
+    def has_names(self) -> bool:
+        """Whether these are vertices that whoever read them calls by a name or a number."""
+        return self.names is not None or self.unnamed is Unnamed.NUMBERS
+
+    def agrees(self, other: 'Axis') -> bool:
+        """Whether both can mean the same vertices."""
+        if self.names is None or other.names is None:
+            names, else_ = (self.names, other) if other.names is None else (other.names, self)
+            return names is None or else_.unnamed <= Unnamed.ALIKE or names.are_counted
+        return self.names is other.names or self.names.equals(other.names)
+
+    def with_other(self, other: 'Axis') -> 'Axis':
+        """What both are called that agree."""
+        if self.names is None and other.names is None:
+            return self if self.unnamed >= other.unnamed else other
+        return other if self.names is None else self
+
+    def part(self, places: Sequence[int]) -> 'Axis':
+        """What some of the rows, or columns, are called, in this order: nothing where one stands there twice."""
+        if not self.has_names:
+            return self.alone()
+        if len(set(places)) < len(places):
+            return Axis(None, Unnamed.POSITIONS)
+        if self.names is None:
+            return axis_of(Nodes(places))
+        is_all = len(places) == len(self.names) and list(places) == list(range(len(places)))
+        return self if is_all else Axis(Nodes(self.names[place] for place in places))
+
+    def listed(self, count: int) -> Sequence[Any]:
+        """The names of so many rows, or columns: a list, or where they have none the numbers."""
+        return range(count) if self.names is None else self.names
+
+    def alone(self) -> 'Axis':
+        """The same of rows whose columns may be called otherwise."""
+        return Axis() if self.names is None and self.unnamed is Unnamed.ALIKE else self
+
+
+def axis_of(names: Nodes) -> Axis:
+    """What the vertices of a graph are called by whoever reads it: names that are just 0 to n - 1 need no list."""
+    are_plain = names.are_counted and all(type(name) is int for name in names)
+    return Axis(None, Unnamed.NUMBERS) if are_plain else Axis(names)
+
+
+ROWS, COLUMNS = 0, 1
+Axes = Tuple[Axis, Axis]
+
+
+def given_axis(names: Optional[Iterable[Any]], count: int) -> Axis:
+    """What so many vertices are called by a caller who made a matrix by indexes. ValueError where there are more or fewer names, or they can't
+    be told apart."""
+    if names is None:
+        return Axis(None, Unnamed.POSITIONS)
+    found = names if isinstance(names, Nodes) else Nodes(names)
+    if found is not names:
+        check_names(found)
+    if len(found) != count:
+        raise ValueError('%d names for %d vertices' % (len(found), count))
+    return Axis(found)
+
+
+def axes_of(nodes: Any, shape: Tuple[int, int]) -> Axes:
+    """What rows and columns are called by a caller: both of a square matrix, the longer side of a vector by one list, of any matrix by a pair.
+    ValueError where sizes don't fit."""
+    (nrows, ncols), pair = shape, _pair(nodes)
+    if pair is not None:
+        return given_axis(pair[0], nrows), given_axis(pair[1], ncols)
+    if nodes is None:
+        return given_axis(None, nrows), given_axis(None, ncols)
+    if nrows != ncols and 1 not in shape:
+        raise ValueError('rows and columns of a matrix of %dx%d have names of their own: row_nodes and column_nodes, or nodes=(rows, columns) '
+                         'where it is made' % shape)
+    count = max(shape) if 0 not in shape else 0 if 1 in shape else nrows
+    axis = given_axis(nodes, count)
+    return axis if nrows == count else Axis(), axis if ncols == count else Axis()
+
+
+def sizes_of(nodes: Any, nrows: Optional[int], ncols: Optional[int]) -> Tuple[Optional[int], Optional[int]]:
+    """Rows and columns, where a caller doesn't say how many those that have names."""
+    if nodes is None:
+        return nrows, ncols
+    pair = _pair(nodes)
+    rows, columns = pair if pair is not None else (nodes if ncols in (None, 1, len(nodes)) else None, nodes if nrows in (None, 1, len(nodes)) else None)
+    return (len(rows) if nrows is None and rows is not None else nrows, len(columns) if ncols is None and columns is not None else ncols)
+
+
+def _pair(nodes: Any) -> Optional[Tuple[Any, Any]]:
+    """The names of rows and of columns, where these are given each by themselves: a tuple of two lists, of which one may be None."""
+    def is_list(many: Any) -> bool:
+        return hasattr(many, '__len__') and hasattr(many, '__getitem__') and not isinstance(many, (str, bytes, tuple))
+    is_pair = isinstance(nodes, tuple) and len(nodes) == 2 and all(many is None or is_list(many) for many in nodes)
+    return nodes if is_pair else None
+
+
 class Notes(NamedTuple):
     """The names of the rows and of the columns, where they have any; whether an entry (i, j) may stand without one of (j, i), or
     with one of another value; and whether the values are weights that the caller gave. None: not known. `source` says what was
     taken of the file or table that the matrix was read from, and is empty for results. A stored number x stands for x / `unit`, or, where there are `value_names`, for the
-    vertex of that place among these."""
+    vertex of that place among these. `unnamed_rows` and `unnamed_columns` say what those are called that have no names."""
     rows: Optional[Nodes] = None
     columns: Optional[Nodes] = None
     directed: Optional[bool] = None
@@ -78,6 +208,8 @@ class Notes(NamedTuple):
     source: str = ''
     unit: Unit = 1
     value_names: Optional[Nodes] = None
+    unnamed_rows: Unnamed = Unnamed.ANYTHING
+    unnamed_columns: Unnamed = Unnamed.ANYTHING
 
     def __repr__(self) -> str:
         sides = ['None' if names is None else '<%d names>' % len(names) for names in (self.rows, self.columns)]
@@ -88,15 +220,108 @@ class Notes(NamedTuple):
         """The names of the rows, with an axis of 1 those of the columns."""
         return self.columns if axis else self.rows
 
+    def axis(self, axis: int) -> Axis:
+        """What the rows are called, with an axis of 1 the columns."""
+        return Axis(self.columns, self.unnamed_columns) if axis else Axis(self.rows, self.unnamed_rows)
+
+    def with_axes(self, rows: Axis, columns: Axis) -> 'Notes':
+        """The same of a matrix whose rows and columns are called so."""
+        return self._replace(rows=rows.names, columns=columns.names, unnamed_rows=rows.unnamed, unnamed_columns=columns.unnamed)
+
 
 NOTHING = Notes()
+ALIKE = Notes(unnamed_rows=Unnamed.ALIKE, unnamed_columns=Unnamed.ALIKE)
+BY_POSITIONS = Notes(unnamed_rows=Unnamed.POSITIONS, unnamed_columns=Unnamed.POSITIONS)
 
 
-def _same(a: Optional[Nodes], b: Optional[Nodes]) -> Optional[Nodes]:
-    """The names of what two matrices make together, position by position: none where they have different ones."""
-    if a is None or b is None:
-        return a if b is None else b
-    return a if a is b or list.__eq__(a, b) is True else None
+class HasNotes(Protocol):
+    """A matrix, whatever holds it."""
+    notes: Notes
+
+    @property
+    def shape(self) -> Tuple[int, int]:
+        """Rows and columns."""
+
+
+N = TypeVar('N', bound=HasNotes)
+
+
+def without_names(matrix: N) -> N:
+    """A matrix that was made by indexes, as one that the client makes for itself: it goes with any names."""
+    matrix.notes = NOTHING
+    return matrix
+
+
+def as_constant(matrix: N) -> N:
+    """A constant, which goes with any names; where it is square, its rows and columns are the same vertices."""
+    nrows, ncols = matrix.shape
+    matrix.notes = ALIKE if nrows == ncols > 1 else NOTHING
+    return matrix
+
+
+SHOWN_NAMES = 3                                    # of two lists that differ
+ALIGN = 'spmat.align(A, B) brings both to the same names, and nodelist=A.nodes reads B with those of A'
+GATHER = 'B[A.column_nodes, :] has the rows of the second in the order of the columns of the first'
+POSITIONS = ('what was made by positions has no names: v.nodes = G.nodes says that it has those of G, as nodes=G.nodes of from_coo, '
+             'from_triples and from_dense does')
+# What has to agree, by form of job: the rows (0) or columns (1) of the first, those of the second, and what both are in words.
+Pairs = Tuple[Tuple[int, int, str], ...]
+ELEMENTWISE: Pairs = ((ROWS, ROWS, 'the rows of the two matrices'), (COLUMNS, COLUMNS, 'the columns of the two matrices'))
+PRODUCT: Pairs = ((COLUMNS, ROWS, 'the columns of the first and the rows of the second'),)
+MASK: Pairs = ((ROWS, ROWS, 'the rows of the result and of the mask'), (COLUMNS, COLUMNS, 'the columns of the result and of the mask'))
+TRANSPOSE: Pairs = ((ROWS, COLUMNS, 'the rows of the graph and the columns of its transpose'),
+                    (COLUMNS, ROWS, 'the columns of the graph and the rows of its transpose'))
+VERTICES: Pairs = ((ROWS, ROWS, 'the vertices of the graph and the rows of the column'),)
+
+
+def joined(first: Notes, second: Notes, pairs: Pairs) -> List[Axis]:
+    """What each pair of rows or columns of two matrices is called that have to mean the same vertices. NamesDiffer where two can't.
+
+    The one row of a row vector, and the one column of a column, are not compared: it has no name where they differ."""
+    out = []
+    for i, j, words in pairs:
+        a, b = first.axis(i), second.axis(j)
+        if a.agrees(b):
+            out.append(a.with_other(b))
+        elif _is_one(a, b) and not (_is_vertex(first) and _is_vertex(second)):
+            out.append(Axis())
+        else:
+            raise NamesDiffer('%s have different names: %s; %s' % (words, _differences(a, b), _remedy(first, second, (a, b), pairs)))
+    return out
+
+
+def _remedy(first: Notes, second: Notes, axes: Axes, pairs: Pairs) -> str:
+    """What to do about names that differ."""
+    if not all(axis.has_names for axis in axes):
+        return POSITIONS
+    return GATHER if pairs is PRODUCT and None in (vertices_of(first), vertices_of(second)) else ALIGN
+
+
+def _differences(a: Axis, b: Axis) -> str:
+    """The first names that differ of two lists, with their places. Where there is no list, they are the places."""
+    count = len(a.names if a.names is not None else b.names or ())
+    both = zip(*(range(count) if axis.names is None else axis.names for axis in (a, b)))
+    words = ['position %r' if axis.names is None and axis.unnamed is Unnamed.POSITIONS else '%r' for axis in (a, b)]
+    found = ('%d: %s and %s' % (at, words[0] % (one,), words[1] % (other,))
+             for at, (one, other) in enumerate(both) if one is not other and one != other)
+    return ', '.join(itertools.islice(found, SHOWN_NAMES))
+
+
+def hint_of(first: Notes, second: Notes) -> str:
+    """What to do about two matrices with vertices of their own whose sizes differ, behind a semicolon; else nothing."""
+    return '; ' + ALIGN if all(axis.has_names for one in (first, second) for axis in (one.axis(ROWS), one.axis(COLUMNS))) else ''
+
+
+def _is_one(a: Axis, b: Axis) -> bool:
+    """Whether these are the one row, or column, of a vector, of two that don't agree."""
+    names = a.names if a.names is not None else b.names
+    return names is not None and len(names) == 1
+
+
+def _is_vertex(notes: Notes) -> bool:
+    """Whether a matrix of one row, or column, is a graph of one vertex, which has one name."""
+    sides = notes.axis(ROWS), notes.axis(COLUMNS)
+    return all(axis.has_names for axis in sides) and sides[0].agrees(sides[1])
 
 
 def _even(*both: Notes) -> Optional[bool]:
@@ -107,7 +332,7 @@ def _even(*both: Notes) -> Optional[bool]:
 def _chosen(op: Operator, first: Optional[Nodes], second: Optional[Nodes]) -> Optional[Nodes]:
     """The vertices that a result's values are, each of which is one of two values that may meet: none where these mean other vertices, or
     the operator makes numbers of them."""
-    return first if first is not None and second is not None and _is_ready(op, CHOOSE) and _same(first, second) is not None else None
+    return first if first is not None and second is not None and _is_ready(op, CHOOSE) and first.equals(second) else None
 
 
 def of_applied(first: Notes, op: Operator, even: bool, unit: Unit) -> Notes:
@@ -148,31 +373,40 @@ def _met(op: Operator, first: Notes, second: Notes) -> Optional[Nodes]:
 def _of_pair(first: Notes, second: Notes, unit: Unit, value_names: Optional[Nodes] = None) -> Notes:
     if first is NOTHING and second is NOTHING:
         return NOTHING
-    return Notes(_same(first.rows, second.rows), _same(first.columns, second.columns), _even(first, second), unit=unit,
-                 value_names=value_names)
+    return Notes(directed=_even(first, second), unit=unit, value_names=value_names).with_axes(*joined(first, second, ELEMENTWISE))
 
 
 def of_product(first: Notes, second: Notes, ring: Semiring, same: bool) -> Notes:
     """What is known of a product; `same` says that both operands are one matrix."""
     if first is NOTHING and second is NOTHING:
         return NOTHING
+    inner, = joined(first, second, PRODUCT)
+    rows, columns = (inner if _are_alike(one) else one.axis(axis) for one, axis in ((first, ROWS), (second, COLUMNS)))
+    if not (_are_alike(first) and _are_alike(second)):
+        rows, columns = rows.alone(), columns.alone()
     met = _met(ring.mul, first, second)
-    return Notes(first.rows, second.columns, _even(first) if same and _is_ready(ring.mul, COMMUTE) else None,
-                 unit=units.of_product(ring.add, ring.mul, first.unit, second.unit), value_names=_chosen(ring.add, met, met))
+    return Notes(directed=_even(first) if same and _is_ready(ring.mul, COMMUTE) else None, value_names=_chosen(ring.add, met, met),
+                 unit=units.of_product(ring.add, ring.mul, first.unit, second.unit)).with_axes(rows, columns)
+
+
+def _are_alike(notes: Notes) -> bool:
+    """Whether rows and columns are called alike, whatever they are called."""
+    return notes.rows is notes.columns is None and notes.unnamed_rows is notes.unnamed_columns is Unnamed.ALIKE
 
 
 def of_rows(first: Notes, op: Operator) -> Notes:
     """What is known of a column that has the fold of each row."""
-    return NOTHING if first is NOTHING else Notes(first.rows, unit=units.of_fold(op, first.unit),
-                                                  value_names=_chosen(op, first.value_names, first.value_names))
+    return NOTHING if first is NOTHING else Notes(
+        unit=units.of_fold(op, first.unit), value_names=_chosen(op, first.value_names, first.value_names)).with_axes(
+        first.axis(ROWS).alone(), Axis())
 
 
 def masked(result: Notes, mask: Notes) -> Notes:
     """What is known of a result that is cut to the structure of a mask."""
     if result is NOTHING and mask is NOTHING:
         return NOTHING
-    return Notes(_same(result.rows, mask.rows) or result.rows, _same(result.columns, mask.columns) or result.columns,
-                 _even(result, mask), result.weighted, unit=result.unit, value_names=result.value_names)
+    return Notes(directed=_even(result, mask), weighted=result.weighted, unit=result.unit,
+                 value_names=result.value_names).with_axes(*joined(result, mask, MASK))
 
 
 def of_structure(mask: Notes, value: bool) -> Notes:
@@ -184,13 +418,13 @@ def outside(result: Notes, mask: Notes) -> Notes:
     """What is known of the entries of a result that lie outside of a mask: undirected only where both are."""
     if result is NOTHING and mask is NOTHING:
         return NOTHING
-    alone = _of_pair(result, mask, result.unit)
+    alone = masked(result, mask)
     return masked(of_copy(result), alone)
 
 
 def of_copy(first: Notes) -> Notes:
     """What is known of a copy, which is a job."""
-    return NOTHING if first is NOTHING else first._replace(directed=_even(first))
+    return NOTHING if first is NOTHING else first._replace(directed=_even(first), source='')
 
 
 def under(result: Notes, mask: Optional[Notes], value: bool, complement: bool) -> Notes:
@@ -201,23 +435,29 @@ def under(result: Notes, mask: Optional[Notes], value: bool, complement: bool) -
     return outside(result, there) if complement else masked(result, there)
 
 
-def of_update(first: Notes, second: Notes, accum: Optional[Operator], mask: Optional[Notes] = None, *, value: bool = False,
-              complement: bool = False, replace: bool = False) -> Notes:
+def of_update(first: Notes, second: Notes, accum: Optional[Operator], where: Optional[Mask], replace: bool) -> Notes:
     """What is known of C<M, accum> = second, where `first` is of C."""
-    inside = second if accum is None else of_union(first, second, accum)
-    if mask is None:
-        return of_copy(second) if accum is None else inside
-    there = under(of_copy(inside), mask, value, complement)
+    both = _of_pair(first, second, second.unit) if accum is None else of_union(first, second, accum)
+    inside = of_copy(second.with_axes(both.axis(ROWS), both.axis(COLUMNS))) if accum is None else both
+    if where is None:
+        return inside
+    there = under(of_copy(inside), where.matrix.notes, where.value, where.complement)
     if replace:
         return there
     units.check_same('update', first.unit, there.unit)
     alike = _chosen(binary.first, first.value_names, there.value_names)
-    return _of_pair(under(of_copy(first), mask, value, not complement), there, first.unit, alike)
+    return _of_pair(under(of_copy(first), where.matrix.notes, where.value, not where.complement), there, first.unit, alike)
+
+
+def check_equal(first: Notes, second: Notes) -> None:
+    """Raises NamesDiffer or UnitsDiffer where two matrices can't be compared, as they are of other vertices, or other parts."""
+    units.check_same('isequal', first.unit, second.unit)
+    joined(first, second, ELEMENTWISE)
 
 
 def turned(first: Notes) -> Notes:
     """What is known of the transpose."""
-    return first._replace(rows=first.columns, columns=first.rows, source='')
+    return first.with_axes(first.axis(COLUMNS), first.axis(ROWS))._replace(source='')
 
 
 def of_both_sides(first: Notes, nrows: int, ncols: int) -> Notes:
@@ -230,10 +470,25 @@ def of_both_sides(first: Notes, nrows: int, ncols: int) -> Notes:
     return Notes(names, names, False, first.weighted, unit=first.unit)
 
 
-def on_diagonal(first: Notes) -> Notes:
-    """What is known of the square matrix with a column's, or a row's, entries on its diagonal."""
-    names = first.rows if first.rows is not None else first.columns
-    return Notes(names, names, False, unit=first.unit, value_names=first.value_names)
+def on_diagonal(first: Notes, along: int) -> Notes:
+    """What is known of the square matrix with the entries of a column (along its rows, 0) or of a row (along its columns, 1) on its
+    diagonal."""
+    axis = first.axis(along)
+    if axis == Axis():
+        return ALIKE._replace(directed=False, unit=first.unit, value_names=first.value_names)
+    return Notes(directed=False, unit=first.unit, value_names=first.value_names).with_axes(axis, axis)
+
+
+def of_vertices(first: Notes, graph: Notes) -> Notes:
+    """What is known of a column, of which nothing is known but that it says something of each vertex of a graph."""
+    axis = vertices_of(graph)
+    return first if axis is None else first._replace(rows=axis.names, unnamed_rows=axis.unnamed)
+
+
+def vertices_of(graph: Notes) -> Optional[Axis]:
+    """What the vertices of a square matrix are called: its rows and its columns; None where these differ."""
+    rows, columns = graph.axis(ROWS), graph.axis(COLUMNS)
+    return rows.with_other(columns) if rows.agrees(columns) else None
 
 
 def _is_ready(op: Operator, names: FrozenSet[str]) -> bool:

@@ -18,7 +18,7 @@ from .io.importers import DupOp, Sources
 from .io.matrix_text import Triples
 from .limits import MOST_STEPS
 from .matrix import Matrix
-from .metadata import NOTHING
+from .metadata import BY_POSITIONS, NOTHING, as_constant
 from .operators import Operator, diagnostics, find
 from .pricing import foreseen
 
@@ -116,6 +116,11 @@ class Session(Sources[Matrix]):
     def from_text(self, text: Union[bytes, str], name: Optional[str] = None) -> Matrix:
         """A matrix from a Matrix Market text that the server reads as it is: coordinate, integer or pattern, general or symmetric.
         TextRefused names the line; `mmread` reads other texts too."""
+        made = self._from_text(text, name)
+        made.notes = BY_POSITIONS
+        return made
+
+    def _from_text(self, text: Union[bytes, str], name: Optional[str] = None) -> Matrix:
         foreseen.check_read()
         text = text.encode() if isinstance(text, str) else bytes(text)
         if len(text) > limits.MOST_TEXT:
@@ -142,7 +147,7 @@ class Session(Sources[Matrix]):
 
     def _of_triples(self, triples: Triples, symmetric: bool, name: Optional[str]) -> Matrix:
         try:
-            return foreseen.stood(self, triples[3:], len(triples.rows)) or self.from_text(matrix_text.write(triples, ones=True, symmetric=symmetric), name)
+            return foreseen.stood(self, triples[3:], len(triples.rows)) or self._from_text(matrix_text.write(triples, ones=True, symmetric=symmetric), name)
         except TextRefused as refused:
             if refused.rule != 'M8' or refused.at is None:
                 raise
@@ -196,12 +201,12 @@ class Session(Sources[Matrix]):
         nrows, ncols = coo.side(nrows, 0, 'nrows'), coo.side(ncols, 0, 'ncols')
         if nrows * ncols > limits.MOST_SIDE:
             raise refusal('M4', detail='%d entries' % (nrows * ncols))
-        return foreseen.stood(self, (nrows, ncols), nrows * ncols) or self._from(coo.full(nrows, ncols, value), name=name)
+        return as_constant(foreseen.stood(self, (nrows, ncols), nrows * ncols) or self._from(coo.full(nrows, ncols, value), name=name))
 
     def identity(self, n: int, value: int = 1, *, name: Optional[str] = None) -> Matrix:
         """A square matrix with one value on its diagonal."""
         at = coo.indices(coo.side(n, 0, 'n'))
-        return foreseen.stood(self, (n, n), n) or self._from(coo.checked(at, at, value, n, n), name=name)
+        return as_constant(foreseen.stood(self, (n, n), n) or self._from(coo.checked(at, at, value, n, n), name=name))
 
     def ones(self, ncols: int) -> Matrix:
         """A row of ones, which folds columns. The session keeps those of the last few lengths, but for very long ones, and gives another

@@ -285,7 +285,7 @@ ALGORITHMS = {
     'hits': [lambda G: algorithms.hits(algorithms.undirected(G))],
     'katz': [lambda G: algorithms.katz(G, .05)],
     'louvain': [lambda G: algorithms.louvain(algorithms.undirected(G))],
-    'modularity': [lambda G: algorithms.modularity(algorithms.undirected(G), G.session.from_coo(range(G.nrows), [0] * G.nrows, [i % 3 for i in range(G.nrows)]))],
+    'modularity': [lambda G: algorithms.modularity(algorithms.undirected(G), G.session.from_coo(range(G.nrows), [0] * G.nrows, [i % 3 for i in range(G.nrows)], G.nrows, 1, nodes=G.nodes))],
     'jaccard': [lambda G: algorithms.jaccard(G)],
     'k_core': [lambda G: algorithms.k_core(algorithms.undirected(G), 2)],
     'k_hop': [lambda G: algorithms.k_hop(G, 2)],

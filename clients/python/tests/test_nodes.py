@@ -56,10 +56,11 @@ class Names(unittest.TestCase):
         C.notes = C.notes._replace(rows=Nodes('xy'), columns=Nodes('ab'))
         self.assertIsNone(C.nodes)
 
-    def test_different_names_are_no_names(self):
+    def test_different_names_are_refused(self):
         G, H = self.s.full(2, 2), self.s.full(2, 2)
         G.nodes, H.nodes = 'ab', 'ba'
-        self.assertIsNone(G.ewise_add(H).nodes)
+        with self.assertRaises(spmat.NamesDiffer):
+            G.ewise_add(H)
         H.nodes = 'ab'
         self.assertEqual(G.ewise_add(H).nodes, ['a', 'b'])
         self.assertEqual(G.ewise_mult(self.s.full(2, 2)).nodes, ['a', 'b'])

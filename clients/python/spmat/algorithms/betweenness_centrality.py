@@ -3,6 +3,7 @@ from __future__ import annotations
 
 from typing import Any, Callable, Generic, List, NamedTuple, Optional, Tuple
 
+from ..metadata import without_names
 from ..operators import Semiring, asm, binary
 from . import step_bounds
 from .all_pairs_lengths import lengths_from, reach_of
@@ -36,8 +37,8 @@ class Edges(Generic[M]):
     def __init__(self, G: M) -> None:
         tails, heads, values = G.to_coo()
         self.many = len(tails)
-        self.leave = G.session.from_coo(tails, range(self.many), values, G.nrows, self.many)
-        self.enter = G.session.from_coo(range(self.many), heads, 1, self.many, G.nrows)
+        self.leave = without_names(G.session.from_coo(tails, range(self.many), values, G.nrows, self.many))
+        self.enter = without_names(G.session.from_coo(range(self.many), heads, 1, self.many, G.nrows))
         self.tails, self.heads = self.leave.T, self.enter.T
         self.reach = reach_of(G)
 
@@ -48,7 +49,7 @@ class Tight(Generic[M]):
 
     def __init__(self, edges: Edges[M], sources: List[Place], count: int) -> None:
         self._edges, many = edges, len(sources)
-        self.front = edges.leave.session.from_coo(range(many), sources, 1, many, count)
+        self.front = without_names(edges.leave.session.from_coo(range(many), sources, 1, many, count))
         lengths = lengths_from(self.front.apply('zero'), edges.reach)
         there = product(lengths, edges.heads, REACHED)
         self._tight = product(lengths, edges.leave, LENGTHEN).ewise_mult(there, 'eq').select('nonzero')

@@ -3,6 +3,7 @@ from __future__ import annotations
 
 from typing import Any, Dict, Hashable, Iterable, List, Mapping, Tuple, Union
 
+from ..metadata import VERTICES, joined
 from .protocols import GraphMatrix, Place
 from .utils import find_place, name_of
 
@@ -52,6 +53,7 @@ def _of_column(graph: GraphMatrix, column: Any) -> Dict[Place, Any]:
         return _placed(graph, ((column.nodes[at], value) for at, value in zip(rows, values)))
     if column.shape != (graph.nrows, 1):
         raise ValueError('labels are a column with a community for each of %d vertices, and this one is %dx%d' % (graph.nrows, *column.shape))
+    joined(graph.notes, column.notes, VERTICES)
     return dict(zip(map(Place, rows), values))
 
 

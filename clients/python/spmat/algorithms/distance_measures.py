@@ -12,6 +12,7 @@ from ..aliases import is_same
 from ..limits import MOST_SIDE
 from ..loops import State
 from ..matrix import Matrix
+from ..metadata import without_names
 from ..operators import Semiring, asm, binary
 from . import step_bounds
 from .bfs import Search, find_levels
@@ -76,7 +77,7 @@ def _searches(G: Matrix, GT: Matrix, visit: Visit, progress: Progress) -> None:
     batch = words * WORD
     for first in range(0, count, batch):
         at = list(range(first, min(first + batch, count)))
-        front = G.session.from_coo(at, [k // WORD for k in range(len(at))], _bits(len(at)), count, words)
+        front = without_names(G.session.from_coo(at, [k // WORD for k in range(len(at))], _bits(len(at)), count, words))
         seen, level = G.session.full(count, words, 0).ewise_add(front, 'bor'), 0
         while True:
             moved = GT.mxm(front, MOVED)

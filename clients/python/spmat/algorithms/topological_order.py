@@ -7,6 +7,7 @@ from ..io import matrix_text
 from ..loops import Loop, State, empty
 from ..loops.pipelined_rounds import Round
 from ..matrix import Matrix
+from ..metadata import without_names
 from ..operators import Semiring, asm, binary
 from . import step_bounds
 from .bfs import NONE
@@ -165,7 +166,7 @@ def _cycle(G: Matrix, levelled_: Numbers) -> List[Any]:
     they meet one twice."""
     count = G.nrows
     rest = sorted(set(range(count)).difference(levelled_.tolist() if matrix_text.is_array(levelled_) else levelled_))
-    left = G.session.from_coo(rest, rest, rest, count, count)
+    left = without_names(G.session.from_coo(rest, rest, rest, count, count))
     sources = G.session.ones(count).apply('zero').mxm(left, 'any_second').mxm(G, 'min_first')
     _, columns, values = sources.to_coo(arrays=False)
     before = dict(zip(columns, values))

@@ -3,9 +3,9 @@ from __future__ import annotations
 
 from typing import Any, Callable, Generic, Iterable, List, Optional, Sequence, TypeVar, cast
 
+from .. import metadata
 from ..errors import NotSettled
 from ..io.matrix_text import Triples
-from ..metadata import Nodes
 from ..operators import asm
 from ..pricing.foreseen import asked
 from . import step_bounds
@@ -22,7 +22,7 @@ NOT_THIS_ROW = asm('index', 'mov64 r0, 1\njne64 r2, r4, 1\nmov64 r0, 0\nexit\n')
 
 def order(graph: GraphMatrix, transpose: Optional[GraphMatrix] = None) -> int:
     """The number of vertices. Raises TypeError where the graph is no matrix, ValueError where it isn't square, or its transpose is
-    of another size."""
+    of another size; NamesDiffer where the transpose has other names."""
     if not hasattr(type(graph), 'mxm'):
         raise TypeError('a graph is a matrix of a session, as from_coo or from_networkx makes it, not %s' % type(graph).__name__)
     if graph.nrows != graph.ncols:
@@ -30,6 +30,8 @@ def order(graph: GraphMatrix, transpose: Optional[GraphMatrix] = None) -> int:
     if transpose is not None and transpose.shape != graph.shape:
         raise ValueError('GT has to be the transpose: it has %d rows and %d columns, and the graph %d vertices'
                          % (transpose.nrows, transpose.ncols, graph.nrows))
+    if transpose is not None and transpose is not graph:
+        metadata.joined(graph.notes, transpose.notes, metadata.TRANSPOSE)
     return graph.nrows
 
 
@@ -66,36 +68,42 @@ def name_of(graph: GraphMatrix, at: Place) -> Any:
 
 def beside(graph: GraphMatrix, result: M) -> M:
     """A column that says something of each vertex, with the graph's names of its vertices."""
-    if graph.nodes is not None:
-        result.notes = result.notes._replace(rows=graph.notes.rows)
+    result.notes = metadata.of_vertices(result.notes, graph.notes)
     return result
 
 
 def name_pairs(graph: GraphMatrix, result: M) -> M:
     """A matrix that says something of each two vertices, with the graph's names of its vertices."""
-    result.notes = result.notes._replace(rows=graph.notes.rows, columns=graph.notes.columns)
+    result.notes = result.notes.with_axes(graph.notes.axis(metadata.ROWS), graph.notes.axis(metadata.COLUMNS))
     return result
 
 
 def mark_rows(like: M, at: List[Place], value: int) -> M:
     """A matrix with a row for each of some vertices, which has one entry, at the vertex."""
-    return like.session.from_coo(range(len(at)), at, value, len(at), like.nrows)
+    return metadata.without_names(like.session.from_coo(range(len(at)), at, value, len(at), like.nrows))
 
 
 def name_rows(graph: GraphMatrix, result: M, rows: List[Place]) -> M:
     """A matrix with a row for each of some vertices and a column for each vertex, with their names. Rows have none where a vertex stands
     twice."""
-    names = graph.notes.rows
-    if names is not None:
+    vertices = metadata.vertices_of(graph.notes)
+    if vertices is not None:
         differ = len(set(rows)) == len(rows)
-        are_all = rows == list(range(graph.nrows))
-        result.notes = result.notes._replace(rows=names if are_all else Nodes(names[at] for at in rows) if differ else None, columns=names)
+        result.notes = result.notes.with_axes(vertices.part([int(at) for at in rows]) if differ else metadata.Axis(), vertices)
     return result
 
 
 def column(like: M, value: int) -> M:
     """A column of one value, with a row for each vertex of a graph. It is kept with the graph."""
     made: M = found(like, 'column of %d' % value, lambda: like.session.full(like.nrows, 1, value))
+    return made
+
+
+def starts(graph: M, sources: Sequence[int], value: int) -> M:
+    """A row for each of some vertices, with one value at it: what searches from these begin with."""
+    made = graph.session.from_coo(range(len(sources)), sources, value, len(sources), graph.nrows)
+    vertices = metadata.vertices_of(graph.notes) or metadata.Axis()
+    made.notes = metadata.NOTHING.with_axes(vertices.part(sources), vertices)
     return made
 
 

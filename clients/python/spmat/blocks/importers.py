@@ -12,7 +12,7 @@ from ..io import column_names, coo, matrix_market, matrix_text
 from ..io.graph_files import Layout, Request, name_of
 from ..io.importers import DupOp, Sources
 from ..io.matrix_text import Triples
-from ..metadata import NOTHING
+from ..metadata import BY_POSITIONS, as_constant, without_names
 from ..operators import Operator, find
 from . import chunked_input, duplicate_errors, parallel_edgelist, parallel_read, row_partition, worker_tasks
 from .deferred_upload import HeldVector
@@ -39,7 +39,7 @@ class Sender:
         """A matrix of entries by ascending row and column, which aren't looked at. The client keeps those of a vector; they are sent
         when a job wants them."""
         if 1 not in (entries.nrows, entries.ncols):
-            return self._sessions.from_coo(*entries)
+            return without_names(self._sessions.from_coo(*entries))
         cut = self._sessions.cut_for(entries.nrows, None) or row_partition.evenly(entries.nrows, self._sessions.blocks)
         return HeldVector(self._sessions, entries, cut)
 
@@ -67,6 +67,7 @@ class Inputs(Sources[BlockMatrix]):
         TextRefused (M8), or with `dup_op` its values are folded by that operator in the order in which they came."""
         with chunked_input.Spool(coo.side(nrows, 0, 'nrows'), coo.side(ncols, 0, 'ncols')) as spool:
             spool.take(edges)
+            spool.notes = BY_POSITIONS
             return self._spooled(spool, cut, name, dup_op)
 
     def from_text(self, text: Union[bytes, str], name: Optional[str] = None) -> BlockMatrix:
@@ -77,7 +78,7 @@ class Inputs(Sources[BlockMatrix]):
         if matrix_market.is_plain(text):
             try:
                 made = self.mmread(io.BytesIO(text), name=name)
-                made.notes = NOTHING               # as a session's, which reads the text itself
+                made.notes = BY_POSITIONS          # as a session's, which reads the text itself
                 return made
             except Refused:                        # a session has the words for it
                 pass
@@ -154,7 +155,7 @@ class Inputs(Sources[BlockMatrix]):
         """A matrix with one value everywhere, made at the workers."""
         shape = coo.side(nrows, 0, 'nrows'), coo.side(ncols, 0, 'ncols')
         cut, value = self._cut(shape[0], None), coo.word(value, 'value')
-        return self._each(cut, shape[1], name, lambda first, end: (worker_tasks.full, first, end, shape, value))
+        return as_constant(self._each(cut, shape[1], name, lambda first, end: (worker_tasks.full, first, end, shape, value)))
 
     def ones(self, ncols: int) -> BlockMatrix:
         """A row of ones, which folds columns."""
@@ -163,7 +164,7 @@ class Inputs(Sources[BlockMatrix]):
     def identity(self, n: int, value: int = 1, *, name: Optional[str] = None) -> BlockMatrix:
         """A square matrix with one value on its diagonal, made at the workers."""
         n, value = coo.side(n, 0, 'n'), coo.word(value, 'value')
-        return self._each(self._cut(n, None), n, name, lambda first, end: (worker_tasks.identity, first, end, n, value))
+        return as_constant(self._each(self._cut(n, None), n, name, lambda first, end: (worker_tasks.identity, first, end, n, value)))
 
     def _each(self, cut: Cut, ncols: int, name: Optional[str], task: Callable[[int, int], Tuple[Any, ...]]) -> BlockMatrix:
         futures = [self.submit(k, cut.label(k), *task(first, end)) for k, (first, end) in enumerate(cut.ranges())]

@@ -193,10 +193,9 @@ class BlockMatrix(Composites):
                name: Optional[str] = None) -> 'BlockMatrix':
         """What the GraphBLAS writes C<M, accum> = other; see `Matrix.update`."""
         self.check_shape('union', other, self.shape)
-        op, where = None if accum is None else of_form('union', accum), as_mask(mask)
-        told = metadata.of_update(self.notes, other.notes, op) if where is None else metadata.of_update(
-            self.notes, other.notes, op, where.matrix.notes, value=where.value, complement=where.complement, replace=replace)
-        made = self.job('update', [other], [op], told=metadata.NOTHING, mask=where, name=name, replace=replace)
+        op, where = None if accum is None else of_form('union', accum), self._mask(mask, self.shape)
+        told = metadata.of_update(self.notes, other.notes, op, where, replace)
+        made = self.job('update', [other], [op], told=told, mask=where, name=name, replace=replace)
         made.notes = told
         return made
 
@@ -204,8 +203,10 @@ class BlockMatrix(Composites):
         """Whether both have the same sizes, positions and values. No job where sizes or numbers of entries differ; else 2 jobs at
         each block."""
         self._check_sessions(other)
-        units.check_same('isequal', self.unit, other.unit)
-        if self.shape != other.shape or self.nvals != other.nvals:
+        if self.shape != other.shape:
+            return False
+        metadata.check_equal(self.notes, other.notes)
+        if self.nvals != other.nvals:
             return False
         differ = self.ewise_mult(other, binary.ne)
         return differ.nvals == self.nvals and differ.select(indexunary.nonzero).nvals == 0
@@ -214,7 +215,8 @@ class BlockMatrix(Composites):
             told: metadata.Notes, mask: MaskLike = None, name: Optional[str] = None, **options: Any) -> 'BlockMatrix':
         """A method of Matrix at each block. The result has this matrix's rows and cut, and `told` is known of it without a mask."""
         width = self.ncols if ncols is None else ncols
-        where = self._mask(mask, (self.nrows, width))
+        where = self._mask(mask, (self.nrows, width), told)
+        notes = noted(told, where)
         if not composite_methods.is_single(method, where) and self.sessions.is_metered:
             return self._singly(method, others, args, ncols, told, where, name, options)
         there = [self, *(repartition.recut(other, self.cut) for other in others)]
@@ -224,7 +226,7 @@ class BlockMatrix(Composites):
             for k in range(self.cut.blocks)])
         holds = [future for matrix in (*there, *([where.matrix] if where is not None else [])) for future in matrix.holds]
         made = BlockMatrix(self.sessions, futures, self.cut, width, name, holds).of_job(FORM_OF[method])
-        made.notes = noted(told, where)
+        made.notes = notes
         return made
 
     def _singly(self, method: str, others: Sequence['BlockMatrix'], args: Sequence[Any], ncols: Optional[int], told: metadata.Notes,
@@ -248,20 +250,22 @@ class BlockMatrix(Composites):
         matrix = repartition.recut(where.matrix, self.cut)
         return [(future, where.value, where.complement) for future in matrix.futures]
 
-    def _mask(self, mask: MaskLike, shape: Tuple[int, int]) -> Optional[Mask]:
+    def _mask(self, mask: MaskLike, shape: Tuple[int, int], told: Optional[metadata.Notes] = None) -> Optional[Mask]:
         where = as_mask(mask)
         if where is None:
             return None
         self._check_sessions(where.matrix)
         if where.matrix.shape != shape:
-            raise refusal('J9', detail='the result is %dx%d, the mask %dx%d' % (*shape, *where.matrix.shape))
+            raise refusal('J9', detail='the result is %dx%d, the mask %dx%d%s' % (
+                *shape, *where.matrix.shape, metadata.hint_of(told or self.notes, where.matrix.notes)))
         return where
 
     def check_shape(self, form: str, other: 'BlockMatrix', shape: Tuple[int, Optional[int]]) -> None:
         """DimensionMismatch where another matrix isn't of this shape, where None stands for any."""
         self._check_sessions(other)
         if any(want is not None and want != got for want, got in zip(shape, other.shape)):
-            raise refusal('J5', command=form, detail='%dx%d and %dx%d' % (*self.shape, *other.shape))
+            raise refusal('J5', command=form, detail='%dx%d and %dx%d%s' % (
+                *self.shape, *other.shape, metadata.hint_of(self.notes, other.notes)))
 
     def _check_sessions(self, other: Any) -> None:
         if not isinstance(other, BlockMatrix):
@@ -293,12 +297,13 @@ class BlockMatrix(Composites):
         ring = find_semiring(op)
         for part in (ring.add, ring.mul):
             of_form('product', part)
-        where = self._mask(mask, (self.nrows, other.ncols))
+        told = metadata.of_product(self.notes, other.notes, ring, is_same(self, other))
+        where = self._mask(mask, (self.nrows, other.ncols), told)
+        notes = noted(told, where)
         if associative is None:
             associative = other.ncols > 1 and ring.add in self.sessions.associative
-        told = metadata.of_product(self.notes, other.notes, ring, is_same(self, other))
         made = matrix_products.made(self, other, matrix_products.Way(ring, where, parts), bool(associative), name)
-        made.notes = noted(told, where)
+        made.notes = notes
         waits = other.ncols != 1 or associative or self.sessions.engine.forgets
         return made.wait() if waits else made
 

@@ -18,7 +18,7 @@ from ..io.graph_files import Request
 from ..io.importers import DupOp
 from ..io.left_out import LeftOut
 from ..io.pandas import value_column
-from ..metadata import Nodes, Notes
+from ..metadata import Nodes, Notes, axis_of
 from ..operators import Operator, find
 from . import edgelist_partitions, parallel_read, row_partition, worker_tasks
 from .edgelist_partitions import Frame, ListRange, Repeated, Source, To, WholeFile
@@ -134,20 +134,16 @@ def of_sources(sessions: 'Inputs', sources: Sequence[Source], asked: Asked) -> O
     sizes = [len(names) for names in vertices.names]
     to = [To(numbers, sizes[0], sizes[-1], asked.directed, not weighted and op is None) for numbers in vertices.places]
     made = _Moved(sessions, places, labels, parts, to).made(op, weighted, vertices, asked.name)
-    rows, columns = (_named(names) for names in (vertices.names[0], vertices.names[-1]))
-    made.notes = Notes(rows, rows if len(sizes) == 1 else columns, asked.directed, weighted or op is not None, _left_out(told).behind(told[0][2]),
-                       units.of_read(asked.scale, asked.dup_op) if weighted else 1)
+    rows = axis_of(vertices.names[0])
+    columns = rows if len(sizes) == 1 else axis_of(vertices.names[-1])
+    made.notes = Notes(None, None, asked.directed, weighted or op is not None, _left_out(told).behind(told[0][2]),
+                       units.of_read(asked.scale, asked.dup_op) if weighted else 1).with_axes(rows, columns)
     return made
 
 
 def _left_out(told: Sequence[Any]) -> LeftOut:
     """What all parts leave out."""
     return functools.reduce(LeftOut.plus, (part[3] for part in told), LeftOut())
-
-
-def _named(names: Nodes) -> Optional[Nodes]:
-    """The names, None where they are 0 to n - 1."""
-    return None if not names or (type(names[0]) is int and names == list(range(len(names)))) else names
 
 
 def _told(sessions: 'Inputs', places: Sequence[int], labels: Sequence[str], parts: Sequence[Any],

@@ -11,6 +11,7 @@ import math
 from typing import TYPE_CHECKING, Any, Dict, Iterator, List, Mapping, NamedTuple, Optional, Sequence, Tuple
 
 from ..errors import SpmatError
+from ..metadata import without_names
 from ..units import to_text
 
 if TYPE_CHECKING:
@@ -138,8 +139,8 @@ def _cell(at: int, count: int) -> int:
 def many(shown: 'Matrix') -> Shown:
     """What is shown of a matrix of many entries: by one job the corner, by two the raster."""
     session, (nrows, ncols) = shown.session, shown.shape
-    rows = session.from_coo([_cell(i, nrows) for i in range(nrows)], range(nrows), 1, min(CELLS, nrows), nrows)
-    columns = session.from_coo(range(ncols), [_cell(j, ncols) for j in range(ncols)], 1, ncols, min(CELLS, ncols))
+    rows = without_names(session.from_coo([_cell(i, nrows) for i in range(nrows)], range(nrows), 1, min(CELLS, nrows), nrows))
+    columns = without_names(session.from_coo(range(ncols), [_cell(j, ncols) for j in range(ncols)], 1, ncols, min(CELLS, ncols)))
     near, counts = first_cells(shown), rows.mxm(shown, 'plus_pair').mxm(columns, 'plus_first')
     return Shown(near.to_dict(), counts.to_dict())
 
@@ -148,8 +149,8 @@ def first_cells(shown: 'Matrix') -> 'Matrix':
     """The job that gives the corner's entries: a product of ones with the first rows, under a mask of the first columns. It makes a call
     for each entry of the corner alone."""
     session, height, width = shown.session, min(CORNER, shown.nrows), min(CORNER, shown.ncols)
-    first = session.from_coo(range(height), range(height), 1, height, shown.nrows)
-    where = session.from_coo([i for i in range(height) for _ in range(width)], [*range(width)] * height, 1, height, shown.ncols)
+    first = without_names(session.from_coo(range(height), range(height), 1, height, shown.nrows))
+    where = without_names(session.from_coo([i for i in range(height) for _ in range(width)], [*range(width)] * height, 1, height, shown.ncols))
     return first.mxm(shown, 'any_second', mask=where.S)
 
 

@@ -15,7 +15,7 @@ from typing import Any, Dict, Iterable, List, Mapping, Optional, Tuple
 
 from ..errors import ReadError, refusal
 from ..limits import MOST_TEXT
-from ..metadata import Nodes, Notes
+from ..metadata import Nodes, Notes, Unnamed
 from ..units import plain
 from .exporters import Held
 from .file_writers import replacing
@@ -34,6 +34,7 @@ def save(path: Any, matrices: Mapping[str, Held]) -> None:
         contents['matrices'][name] = {
             'entries': '%d.mtx' % number, 'rows': _encoded(matrix.notes.rows, name),
             'columns': 'rows' if matrix.notes.columns is matrix.notes.rows else _encoded(matrix.notes.columns, name),
+            'unnamed': [matrix.notes.unnamed_rows.name.lower(), matrix.notes.unnamed_columns.name.lower()],
             'directed': matrix.notes.directed, 'weighted': matrix.notes.weighted, 'source': matrix.notes.source}
         if matrix.unit != 1:                       # a client that knows no units doesn't read the file
             contents['matrices'][name]['unit'], contents['spmat'] = str(matrix.unit), VERSION
@@ -70,7 +71,8 @@ def _notes(about: Dict[str, Any]) -> Notes:
     rows = _decoded(about['rows'])
     columns = rows if about['columns'] == 'rows' else _decoded(about['columns'])
     vertices = rows if about.get('values') == 'rows' else _decoded(about.get('values'))
-    return Notes(rows, columns, about['directed'], about['weighted'], about['source'], plain(Fraction(about.get('unit', 1))), vertices)
+    unnamed = [Unnamed[word.upper()] for word in about.get('unnamed', ('positions', 'positions'))]     # which older files don't say
+    return Notes(rows, columns, about['directed'], about['weighted'], about['source'], plain(Fraction(about.get('unit', 1))), vertices, *unnamed)
 
 
 def _encoded(names: Optional[Nodes], matrix: str) -> Any:

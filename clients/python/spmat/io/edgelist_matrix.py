@@ -9,7 +9,7 @@ from typing import Any, Callable, Dict, List, NamedTuple, NoReturn, Optional, Se
 
 from ..errors import refusal
 from ..limits import MOST_SIDE
-from ..metadata import Nodes, Notes
+from ..metadata import Nodes, Notes, axis_of
 from . import coo, matrix_market
 from .factorize import Coded, ascending, factorized
 from .left_out import LeftOut
@@ -63,8 +63,10 @@ def graph_of(edges: Edges, how: How) -> Graph:
         triples = matrix_market.lowered(triples, 'symmetric')
     if not how.folds:
         triples = _once(triples, edges, first, second)
-    notes = Notes(_named(first), _named(second), how.directed, edges.values is not None, edges.left_out.behind(edges.told))
-    return Graph(triples, notes._replace(columns=notes.rows) if second is first else notes)
+    axis = axis_of(first)
+    axes = axis, axis if second is first else axis_of(second)
+    notes = Notes(None, None, how.directed, edges.values is not None, edges.left_out.behind(edges.told))
+    return Graph(triples, notes.with_axes(*axes))
 
 
 def _among(edges: Edges, kept: Any) -> Edges:
@@ -114,12 +116,6 @@ def _numbered_lists(columns: Sequence[List[Any]]) -> Tuple[List[Any], Nodes]:
         names = list(dict.fromkeys(name for edge in zip(*columns) for name in edge))
     nodes = Nodes(names)
     return [list(map(nodes.places.__getitem__, column)) for column in columns], nodes
-
-
-def _named(names: Nodes) -> Optional[Nodes]:
-    """The names, None where they are 0 to n - 1."""
-    ends = not names or (names[0] == 0 and names[-1] == len(names) - 1)
-    return None if ends and all(type(name) is int for name in names) and names == list(range(len(names))) else names
 
 
 def _triples(places: Sequence[Any], values: Any, nrows: int, ncols: int) -> Triples:

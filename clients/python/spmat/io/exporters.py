@@ -7,7 +7,7 @@ from typing import TYPE_CHECKING, Any, Dict, Iterable, List, Optional, Sequence,
 
 from .. import top_k
 from ..errors import BudgetExceeded, refusal
-from ..metadata import NOTHING, Nodes, Notes, check_names
+from ..metadata import COLUMNS, NOTHING, ROWS, Nodes, Notes, axes_of, given_axis, vertices_of
 from ..units import Unit, are_decimals, as_unit, rescaled, to_decimals
 from . import compressed, coo, matrix_text
 from .file_writers import Written
@@ -43,32 +43,32 @@ class Held(Written):
         columns have the same. None where there are none, or rows and columns have different ones (`row_nodes`, `column_nodes`).
         Results carry the names of what they are made of. They can be set: `G.nodes = names`; ValueError where one stands twice, or has
         an end of line in it."""
-        rows, columns = self.notes.rows, self.notes.columns
         if 1 in self.shape and self.shape != (1, 1):
-            return rows if self.ncols == 1 else columns
-        return rows if columns is None or rows is columns or rows == columns else columns if rows is None else None
+            return self.notes.rows if self.ncols == 1 else self.notes.columns
+        axis = vertices_of(self.notes)
+        return None if axis is None else axis.names
 
     @nodes.setter
     def nodes(self, names: Optional[Iterable[Any]]) -> None:
-        if self.nrows != self.ncols and 1 not in self.shape:
-            raise ValueError('rows and columns of a matrix of %dx%d have names of their own: row_nodes and column_nodes' % self.shape)
-        found = None if names is None else names if isinstance(names, Nodes) else Nodes(names)
-        if found is not None and found is not names:
-            check_names(found)
-        count = max(self.shape) if 0 not in self.shape else 0 if 1 in self.shape else self.nrows
-        if found is not None and len(found) != count:
-            raise ValueError('%d names for %d vertices' % (len(found), count))
-        self.notes = self.notes._replace(rows=found if self.nrows == count else None, columns=found if self.ncols == count else None)
+        self.notes = self.notes.with_axes(*axes_of(names if names is None or isinstance(names, Nodes) else list(names), self.shape))
 
     @property
     def row_nodes(self) -> Optional[List[Any]]:
-        """The names of the rows, None where they have none."""
+        """The names of the rows, None where they have none. They can be set as `nodes`."""
         return self.notes.rows
+
+    @row_nodes.setter
+    def row_nodes(self, names: Optional[Iterable[Any]]) -> None:
+        self.notes = self.notes.with_axes(given_axis(names, self.nrows), self.notes.axis(COLUMNS))
 
     @property
     def column_nodes(self) -> Optional[List[Any]]:
-        """The names of the columns, None where they have none."""
+        """The names of the columns, None where they have none. They can be set as `nodes`."""
         return self.notes.columns
+
+    @column_nodes.setter
+    def column_nodes(self, names: Optional[Iterable[Any]]) -> None:
+        self.notes = self.notes.with_axes(self.notes.axis(ROWS), given_axis(names, self.ncols))
 
     @property
     def directed(self) -> Optional[bool]:

@@ -6,6 +6,7 @@ from typing import Any, Dict, Generic, Iterable, Optional, Sequence, TypeVar
 
 from .. import units
 from ..errors import ReadError
+from ..metadata import NOTHING, Axes, axes_of, sizes_of
 from ..operators import Op
 from . import archive, arrays, column_names, compressed, coo, matrix_market, networkx_adjacency, pandas
 from .comment_lines import Comments
@@ -33,7 +34,7 @@ class Sources(abc.ABC, Generic[Made]):
 
     def from_coo(self, rows: Iterable[int], columns: Iterable[int], values: Any = 1, nrows: Optional[int] = None,
                  ncols: Optional[int] = None, *, square: bool = False, symmetric: bool = False, scale: Optional[float] = None,
-                 dup_op: DupOp = None, name: Optional[str] = None) -> Made:
+                 dup_op: DupOp = None, name: Optional[str] = None, nodes: Any = None) -> Made:
         """A matrix from rows and columns (from 0) and values, or one value for all: lists, or arrays of numpy. Sizes that aren't
         given are the least that fit, with `square` the least for both. Values are whole numbers of 64 bits, else a ValueError; with
         `scale` they are multiplied by it and rounded to the nearest, it is the matrix' `unit`, and `notes.source` says what that did. Where
@@ -41,36 +42,43 @@ class Sources(abc.ABC, Generic[Made]):
         this takes 1 job and 1 run where any repeats.
 
         With `symmetric` each entry (i, j) stands at (j, i), too, and the matrix is square: an undirected graph of which each edge is
-        given once, in either direction. It is loaded in less time. In python-graphblas `Matrix.from_coo`."""
+        given once, in either direction. It is loaded in less time.
+
+        `nodes` are the names of the vertices, such as `G.nodes`, or a tuple of two lists, those of the rows and those of the columns,
+        of which one may be None. Sizes that aren't given are theirs then: a matrix with one list is square, unless it has one row or
+        column. Without them the matrix goes with others that have none, or just 0 to n - 1. In python-graphblas `Matrix.from_coo`."""
+        nrows, ncols = sizes_of(nodes, nrows, ncols)
         whole, rounding = scaled(arrays.plain_column(values, 'value') if arrays.is_many(values) else values, scale)
         unit = units.of_read(scale, dup_op)
         triples = coo.checked(rows, columns, whole, nrows, ncols)
         if (square or symmetric) and nrows is None and ncols is None:
             triples = triples._replace(nrows=max(triples.nrows, triples.ncols), ncols=max(triples.nrows, triples.ncols))
+        axes = axes_of(nodes, (triples.nrows, triples.ncols))
         if not symmetric:
-            return _told(self._from(triples, dup_op, name), rounding, unit)
+            return _told(self._from(triples, dup_op, name), rounding, unit, axes)
         if triples.nrows != triples.ncols:
             raise ValueError('symmetric=True is of a square matrix, not of %d rows and %d columns' % (triples.nrows, triples.ncols))
-        made = _told(self._both_ways(self._folded(triples, dup_op), name), rounding, unit)
+        made = _told(self._both_ways(self._folded(triples, dup_op), name), rounding, unit, axes)
         made.notes = made.notes._replace(directed=False)
         return made
 
     def from_triples(self, triples: Iterable[Sequence[Any]], nrows: Optional[int] = None, ncols: Optional[int] = None, *,
-                     square: bool = False, scale: Optional[float] = None, dup_op: DupOp = None, name: Optional[str] = None) -> Made:
+                     square: bool = False, scale: Optional[float] = None, dup_op: DupOp = None, name: Optional[str] = None,
+                     nodes: Any = None) -> Made:
         """A matrix from (row, column, value), or (row, column), whose value is 1; or an array of numpy with these as its columns.
         See `from_coo`; `from_edgelist` takes names."""
-        return self.from_coo(*coo.columns_of(triples), nrows, ncols, square=square, scale=scale, dup_op=dup_op, name=name)
+        return self.from_coo(*coo.columns_of(triples), nrows, ncols, square=square, scale=scale, dup_op=dup_op, name=name, nodes=nodes)
 
     def from_dense(self, rows: Any, missing: Any = None, *, missing_value: Any = None, scale: Optional[float] = None,
-                   name: Optional[str] = None) -> Made:
+                   name: Optional[str] = None, nodes: Any = None) -> Made:
         """A matrix from a table: a list of rows, an array of numpy, or a table or column of pandas, whose labels are the names of the
         rows and columns unless they are positions; of one dimension it is a column. Each cell is an entry, but for those that are
-        `missing` (also called `missing_value`; NaN stands for NaN, None and NA) and for masked ones. `scale` is as for `from_coo`.
-        ValueError names a cell that holds no value. In python-graphblas `Matrix.from_dense`."""
+        `missing` (also called `missing_value`; NaN stands for NaN, None and NA) and for masked ones. `scale` and `nodes` are as for
+        `from_coo`. ValueError names a cell that holds no value. In python-graphblas `Matrix.from_dense`."""
         table = arrays.table_of(rows)
         cells = coo.from_dense(table.cells, missing if missing is not None else missing_value)
-        made = self.from_coo(*cells, scale=scale, name=name)
-        if table.rows is not None or table.columns is not None:
+        made = self.from_coo(*cells, scale=scale, name=name, nodes=nodes)
+        if nodes is None and (table.rows is not None or table.columns is not None):
             made.notes = made.notes._replace(rows=table.rows, columns=table.columns)
         return made
 
@@ -259,8 +267,10 @@ def _check_kinds(ends: Sequence[Any], bipartite: Optional[bool]) -> None:
         raise ValueError(question)
 
 
-def _told(made: Made, rounding: Rounding, unit: units.Unit) -> Made:
-    """A matrix that says what rounding did to its values, and what they are parts of."""
+def _told(made: Made, rounding: Rounding, unit: units.Unit, axes: Axes) -> Made:
+    """A matrix that the caller made by indexes, with what its rows and columns are called, what rounding did to its values, and what they are
+    parts of."""
+    made.notes = NOTHING.with_axes(*axes)
     if rounding.scale is not None:
         made.notes = made.notes._replace(source=str(rounding), unit=unit)
     return made

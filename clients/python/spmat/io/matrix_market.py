@@ -11,7 +11,7 @@ from typing import Any, Dict, Iterator, List, NamedTuple, Optional, Tuple
 
 from ..errors import Refused, refusal
 from ..limits import MOST_SIDE
-from ..metadata import Notes
+from ..metadata import BY_POSITIONS, Notes
 from ..units import as_unit
 from . import compression
 from .coo import LEAST
@@ -50,8 +50,8 @@ class Kind(NamedTuple):
     def notes(self) -> Notes:
         """What is known of the matrix."""
         weighted = self.field != 'pattern' and self.values.read
-        return Notes(directed=False if self.symmetry == 'symmetric' else None, weighted=weighted,
-                     unit=as_unit(self.values.scale) if weighted and self.values.scale is not None else 1)
+        return BY_POSITIONS._replace(directed=False if self.symmetry == 'symmetric' else None, weighted=weighted,
+                                     unit=as_unit(self.values.scale) if weighted and self.values.scale is not None else 1)
 
 
 def is_plain(text: bytes) -> bool:

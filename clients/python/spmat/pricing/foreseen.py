@@ -5,6 +5,7 @@ import contextlib
 import threading
 from typing import TYPE_CHECKING, Any, Callable, Dict, Iterator, NoReturn, Optional, Sequence, Tuple
 
+from .. import metadata
 from .._client.handles import Handle
 from ..matrix import Matrix
 from ..operators import Operator
@@ -202,7 +203,7 @@ def stand(session: Session, shape: Tuple[int, int], entries: int, most: Optional
 def turn(matrix: Matrix) -> Stand:
     """What stands for a transpose."""
     made = stand(matrix.session, (matrix.ncols, matrix.nrows), least_entries(matrix), matrix.handle.most)
-    made.turned, made.notes = root(matrix), matrix.notes
+    made.turned, made.notes = root(matrix), metadata.turned(matrix.notes)
     return made
 
 
