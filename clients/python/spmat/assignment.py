@@ -8,7 +8,7 @@ from .errors import refusal
 from .indexing import WHAT, Chosen, choose_places
 from .io.exporters import Held
 from .mask import as_mask, structure
-from .metadata import NOTHING, Nodes
+from .metadata import COLUMNS, NOTHING, ROWS, Axes, Axis
 from .operators import Op
 
 if TYPE_CHECKING:
@@ -68,10 +68,10 @@ def _turned(what: Any, matrix: 'Matrix', rows: Chosen, columns: Chosen) -> 'Matr
     raise refusal('J5', detail='%dx%d places are set, and the matrix has %dx%d' % (*wanted, *what.shape))
 
 
-def selector(matrix: 'Matrix', rows: Any, columns: Any, shape: Tuple[int, int], names: Tuple[Optional[Nodes], Optional[Nodes]]) -> 'Matrix':
+def selector(matrix: 'Matrix', rows: Any, columns: Any, shape: Tuple[int, int], axes: Axes) -> 'Matrix':
     """A matrix of ones that moves rows or columns, with the names that these have on either side."""
     made = matrix.session.from_coo(rows, columns, 1, *shape)
-    made.notes = NOTHING._replace(rows=names[0], columns=names[1])
+    made.notes = NOTHING.with_axes(*axes)
     return made
 
 
@@ -79,27 +79,29 @@ def _spread(matrix: 'Matrix', what: 'Matrix', rows: Chosen, columns: Chosen) -> 
     """What a part is set to, at its places in a matrix of the whole's shape."""
     if rows.places is not None:
         at = rows.places
-        sides = matrix.notes.rows, _part(matrix.notes.rows, at) if what.notes.rows is not None else None
+        sides = matrix.notes.axis(ROWS), _part(matrix, what, ROWS, at)
         what = selector(matrix, at, range(len(at)), (matrix.nrows, len(at)), sides).mxm(what, 'any_second')
     if columns.places is not None:
         at = columns.places
-        sides = _part(matrix.notes.columns, at) if what.notes.columns is not None else None, matrix.notes.columns
+        sides = _part(matrix, what, COLUMNS, at), matrix.notes.axis(COLUMNS)
         what = what.mxm(selector(matrix, range(len(at)), at, (len(at), matrix.ncols), sides), 'any_first')
     return what
 
 
-def _part(names: Optional[Nodes], places: List[int]) -> Optional[Nodes]:
-    return None if names is None else Nodes(names[place] for place in places)
+def _part(matrix: 'Matrix', what: 'Matrix', axis: int, places: List[int]) -> Axis:
+    """What the rows or columns that are set are called: as those of what they are set to have to be, where these have names. Where they
+    have none, the caller says by the index which they are."""
+    return matrix.notes.axis(axis).part(places) if what.notes.axis(axis).has_names else Axis()
 
 
 def _within(matrix: 'Matrix', rows: Chosen, columns: Chosen) -> 'Matrix':
     """The entries of a matrix in some rows and columns."""
     if rows.places is not None:
-        names = matrix.notes.rows
-        matrix = selector(matrix, rows.places, rows.places, (matrix.nrows,) * 2, (names, names)).mxm(matrix, 'any_second')
+        axis = matrix.notes.axis(ROWS)
+        matrix = selector(matrix, rows.places, rows.places, (matrix.nrows,) * 2, (axis, axis)).mxm(matrix, 'any_second')
     if columns.places is not None:
-        names = matrix.notes.columns
-        matrix = matrix.mxm(selector(matrix, columns.places, columns.places, (matrix.ncols,) * 2, (names, names)), 'any_first')
+        axis = matrix.notes.axis(COLUMNS)
+        matrix = matrix.mxm(selector(matrix, columns.places, columns.places, (matrix.ncols,) * 2, (axis, axis)), 'any_first')
     return matrix
 
 
@@ -108,5 +110,5 @@ def _everywhere(matrix: 'Matrix', stored: int, rows: Chosen, columns: Chosen) ->
     down = range(matrix.nrows) if rows.places is None else rows.places
     along = range(matrix.ncols) if columns.places is None else columns.places
     made = matrix.session.from_coo(down, [0] * len(down), stored, matrix.nrows, 1)
-    made.notes = NOTHING._replace(rows=matrix.notes.rows, unit=matrix.unit)
-    return made.mxm(selector(matrix, [0] * len(along), along, (1, matrix.ncols), (None, matrix.notes.columns)), 'any_first')
+    made.notes = NOTHING._replace(unit=matrix.unit).with_axes(matrix.notes.axis(ROWS), Axis())
+    return made.mxm(selector(matrix, [0] * len(along), along, (1, matrix.ncols), (Axis(), matrix.notes.axis(COLUMNS))), 'any_first')

@@ -10,7 +10,7 @@ from typing import TYPE_CHECKING, Any, Dict, List, Optional, Tuple, TypeVar
 from . import assignment, tiles, units
 from .errors import refusal
 from .indexing import gather, picked
-from .metadata import COLUMNS, NOTHING, ROWS, on_diagonal
+from .metadata import BY_POSITIONS, COLUMNS, NOTHING, ROWS, check_same_names, on_diagonal
 from .operators import Op
 from .signs import Signs
 
@@ -106,7 +106,10 @@ class Composites(Signs, metaclass=MatrixType):
             raise TypeError('expected a matrix, got %r' % (other,))
         if rel_tol < 0 or abs_tol < 0:
             raise ValueError('tolerances are 0 or more, not %r and %r' % (rel_tol, abs_tol))
-        if self.shape != other.shape or self.nvals != other.nvals:  # type: ignore[attr-defined]
+        if self.shape != other.shape:
+            return False
+        check_same_names(self.notes, other.notes)
+        if self.nvals != other.nvals:  # type: ignore[attr-defined]
             return False
         (rows, columns, values), (i, j, others) = self.to_coo(arrays=False), other.to_coo(arrays=False)
         if (rows, columns) != (i, j):
@@ -185,7 +188,7 @@ def power_of(matrix: 'Matrix', n: int, op: 'Ring', name: Optional[str]) -> 'Matr
         if op not in NEUTRAL:
             raise ValueError('what changes nothing is known for %s, not for %r: powers are 1 or more' % (', '.join(NEUTRAL), op))
         neutral = matrix.session.identity(matrix.nrows, NEUTRAL[op], name=name)  # type: ignore[index]
-        neutral.notes = NOTHING._replace(rows=matrix.notes.rows, columns=matrix.notes.columns)
+        neutral.notes = NOTHING.with_axes(matrix.notes.axis(ROWS), matrix.notes.axis(COLUMNS))
         return neutral
     made: Optional['Matrix'] = None
     square = matrix
@@ -209,7 +212,8 @@ def diagonal(matrix: 'Matrix', k: int, name: Optional[str]) -> 'Matrix':
     down, right = max(-k, 0), max(k, 0)
     moved: Tuple[Any, Any] = (at, at) if not k else ([int(i) + down for i in at], [int(i) + right for i in at])
     made = matrix.session.from_coo(*moved, values, count + abs(k), count + abs(k), name=name)
-    made.notes = on_diagonal(matrix.notes, ROWS if matrix.ncols == 1 else COLUMNS) if not k else NOTHING._replace(unit=matrix.unit)
+    along = ROWS if matrix.ncols == 1 else COLUMNS
+    made.notes = BY_POSITIONS._replace(unit=matrix.unit) if k else on_diagonal(matrix.notes, along)
     return made
 
 
@@ -220,5 +224,5 @@ def _diagonal_of(matrix: 'Matrix', k: int, name: Optional[str]) -> 'Matrix':
     first = max(-k, 0)
     length = max(0, min(matrix.nrows - first, matrix.ncols - max(k, 0)))
     part = gather(column, list(range(first, first + length)), 0).mxm(column, 'any_second', name=name)
-    part.notes = NOTHING._replace(unit=matrix.unit)
+    part.notes = BY_POSITIONS._replace(unit=matrix.unit)
     return part

@@ -452,6 +452,11 @@ def of_update(first: Notes, second: Notes, accum: Optional[Operator], where: Opt
 def check_equal(first: Notes, second: Notes) -> None:
     """Raises NamesDiffer or UnitsDiffer where two matrices can't be compared, as they are of other vertices, or other parts."""
     units.check_same('isequal', first.unit, second.unit)
+    check_same_names(first, second)
+
+
+def check_same_names(first: Notes, second: Notes) -> None:
+    """Raises NamesDiffer where two matrices are of other vertices."""
     joined(first, second, ELEMENTWISE)
 
 

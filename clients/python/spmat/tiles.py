@@ -1,6 +1,7 @@
 """Matrices put together of others, and taken apart: tiles, other sizes and shapes, Kronecker products."""
 from __future__ import annotations
 
+import itertools
 from typing import TYPE_CHECKING, Any, List, Optional, Sequence, Tuple, Union
 
 from .assignment import selector
@@ -10,7 +11,7 @@ from .io import coo
 from .io.exporters import Held
 from .io.matrix_text import is_array
 from .limits import MOST_SIDE
-from .metadata import NOTHING, Nodes
+from .metadata import BY_POSITIONS, COLUMNS, NOTHING, ROWS, Axis, Nodes, Unnamed, axis_of, joined
 from .operators import Op
 
 if TYPE_CHECKING:
@@ -39,15 +40,14 @@ def concat(tiles: Sequence[Sequence[Any]], *, name: Optional[str] = None) -> 'Ma
                          % ' and '.join(sorted({str(len(row)) for row in tiles})))
     heights = [_common_size(row, 0, at) for at, row in enumerate(tiles)]
     widths = [_common_size(column, 1, at) for at, column in enumerate(zip(*tiles))]
-    rows, columns = (_joined_names(bands, sizes, axis)
-                     for axis, (bands, sizes) in enumerate(((tiles, heights), (list(zip(*tiles)), widths))))
+    axes = [_joined_axis(bands, sizes, axis) for axis, (bands, sizes) in enumerate(((tiles, heights), (list(zip(*tiles)), widths)))]
     placed = [_placed(tile, (sum(heights[:i]), sum(widths[:j])), (sum(heights), sum(widths)))
               for i, row in enumerate(tiles) for j, tile in enumerate(row) if tile is not None]
     made = placed[0]
     for tile in placed[1:]:
         made = made.ewise_add(tile, 'first')
     made = made.dup(name=name) if name is not None else made
-    made.notes = NOTHING._replace(rows=rows, columns=rows if rows is not None and columns == rows else columns, unit=made.unit)
+    made.notes = NOTHING._replace(unit=made.unit).with_axes(*axes)
     return made
 
 
@@ -63,25 +63,35 @@ def _common_size(tiles: Sequence[Any], axis: int, at: int) -> int:
     return found
 
 
-def _joined_names(bands: Sequence[Sequence[Any]], sizes: Sequence[int], axis: int) -> Optional[Nodes]:
-    """The names of all rows (or columns) of tiles one after the other; None where some have none, or one stands twice."""
-    out: List[Any] = []
-    for at, (band, size) in enumerate(zip(bands, sizes)):
-        known = [tile.notes.names(axis) for tile in band if tile is not None and tile.notes.names(axis) is not None]
-        if any(list(names) != list(known[0]) for names in known):
-            raise ValueError('the tiles of %s %d have other names of %ss: spmat.align, or A[B.row_nodes, :], gives them the same' % (
-                WHAT[axis], at, WHAT[axis]))
-        if not known and size:
-            return None
-        out += known[0] if known else []
-    return Nodes(out) if len(set(out)) == len(out) else None
+def _joined_axis(bands: Sequence[Sequence[Any]], sizes: Sequence[int], axis: int) -> Axis:
+    """What all rows (or columns) of tiles are called one after the other; nothing where some have no names, or one stands twice."""
+    found = [_band_axis(band, axis, at) for at, band in enumerate(bands)]
+    if len(found) == 1 or all(one == Axis() for one in found):
+        return found[0]
+    filled = [(one, size) for one, size in zip(found, sizes) if size]
+    names = [one.listed(size) for one, size in filled]
+    are_numbers = sum(one.names is None for one, _ in filled)
+    if not all(one.has_names for one, _ in filled) or are_numbers > 1 or len(set().union(*names)) < sum(map(len, names)):
+        return Axis(None, Unnamed.POSITIONS)
+    return axis_of(Nodes(itertools.chain.from_iterable(names)))
+
+
+def _band_axis(band: Sequence[Any], axis: int, at: int) -> Axis:
+    """What the rows of tiles beside one another are called, or the columns of those below one another. NamesDiffer where they differ."""
+    words = 'the %ss of the tiles of %s %d' % (WHAT[axis], WHAT[axis], at)
+    notes = NOTHING
+    for tile in band:
+        if tile is not None:
+            one, = joined(notes, tile.notes, ((axis, axis, words),))
+            notes = NOTHING.with_axes(one, one)
+    return notes.axis(axis)
 
 
 def _placed(tile: 'Matrix', at: Tuple[int, int], shape: Tuple[int, int]) -> 'Matrix':
     """A tile at its place in the whole, without names."""
     (top, left), (nrows, ncols) = at, shape
-    down = selector(tile, range(top, top + tile.nrows), range(tile.nrows), (nrows, tile.nrows), (None, tile.notes.rows))
-    along = selector(tile, range(tile.ncols), range(left, left + tile.ncols), (tile.ncols, ncols), (tile.notes.columns, None))
+    down = selector(tile, range(top, top + tile.nrows), range(tile.nrows), (nrows, tile.nrows), (Axis(), tile.notes.axis(ROWS)))
+    along = selector(tile, range(tile.ncols), range(left, left + tile.ncols), (tile.ncols, ncols), (tile.notes.axis(COLUMNS), Axis()))
     return down.mxm(tile, 'any_second').mxm(along, 'any_first')
 
 
@@ -115,19 +125,23 @@ def _bounds(count: int, sizes: Optional[Sizes], axis: int) -> List[Tuple[int, in
 def resized(matrix: 'Matrix', nrows: int, ncols: int, name: Optional[str]) -> 'Matrix':
     """See `Matrix.resize`."""
     nrows, ncols = coo.side(nrows, 0, 'nrows'), coo.side(ncols, 0, 'ncols')
-    names = [_shortened(matrix.notes.names(axis), size) for axis, size in enumerate((nrows, ncols))]
+    axes = [_resized_axis(matrix, axis, size) for axis, size in enumerate((nrows, ncols))]
     made = matrix
     if nrows != matrix.nrows:
         both = range(min(nrows, matrix.nrows))
-        made = selector(matrix, both, both, (nrows, matrix.nrows), (names[0], matrix.notes.rows)).mxm(made, 'any_second')
+        made = selector(matrix, both, both, (nrows, matrix.nrows), (axes[0], matrix.notes.axis(ROWS))).mxm(made, 'any_second')
     if ncols != matrix.ncols:
         both = range(min(ncols, matrix.ncols))
-        made = made.mxm(selector(matrix, both, both, (matrix.ncols, ncols), (matrix.notes.columns, names[1])), 'any_first')
+        made = made.mxm(selector(matrix, both, both, (matrix.ncols, ncols), (matrix.notes.axis(COLUMNS), axes[1])), 'any_first')
     return made.dup(name=name) if made is matrix or name is not None else made
 
 
-def _shortened(names: Optional[Nodes], size: int) -> Optional[Nodes]:
-    return None if names is None or size > len(names) else names if size == len(names) else Nodes(names[:size])
+def _resized_axis(matrix: 'Matrix', axis: int, size: int) -> Axis:
+    """What rows or columns are called that were cut off, or have grown in number, which gives new ones no names."""
+    old = matrix.notes.axis(axis)
+    if size <= matrix.shape[axis]:
+        return old.part(range(size)) if size < matrix.shape[axis] else old
+    return old.alone() if old.names is None else Axis(None, Unnamed.POSITIONS)
 
 
 ORDERS = {'rowwise': True, 'C': True, 'columnwise': False, 'F': False}     # numpy's letters too
@@ -151,7 +165,7 @@ def reshaped(matrix: 'Matrix', nrows: int, ncols: int, order: str, name: Optiona
         places = [i * width + j if by_rows else j * width + i for i, j in zip(rows, columns)]
         first, second = [place // new for place in places], [place % new for place in places]
     made = matrix.session.from_coo(first if by_rows else second, second if by_rows else first, values, nrows, ncols, name=name)
-    made.notes = NOTHING._replace(unit=matrix.unit)
+    made.notes = BY_POSITIONS._replace(unit=matrix.unit)
     return made
 
 
@@ -179,12 +193,17 @@ def kronecker(first: 'Matrix', second: 'Matrix', op: Op, name: Optional[str]) ->
         columns = [a * second.ncols + b for a in j for b in l]
         values = [a for a in x for _ in y], [b for _ in x for b in y]
     sides = [first.session.from_coo(rows, columns, many, *shape) for many in values]
+    axes = [_pairs(first, second, axis) for axis in (ROWS, COLUMNS)]
     for made, of in zip(sides, (first, second)):
-        made.notes = NOTHING._replace(rows=_pairs(first.notes.rows, second.notes.rows), columns=_pairs(first.notes.columns, second.notes.columns),
-                                      unit=of.unit)
+        made.notes = NOTHING._replace(unit=of.unit).with_axes(*axes)
     return sides[0].ewise_mult(sides[1], op, name=name)
 
 
-def _pairs(first: Optional[Nodes], second: Optional[Nodes]) -> Optional[Nodes]:
+def _pairs(first: 'Matrix', second: 'Matrix', axis: int) -> Axis:
     """Names of pairs of vertices, where both have names."""
-    return None if first is None or second is None else Nodes((one, other) for one in first for other in second)
+    one, other = first.notes.axis(axis), second.notes.axis(axis)
+    if one.names is None and other.names is None:
+        return Axis() if one.alone() == other.alone() == Axis() else Axis(None, Unnamed.POSITIONS)
+    if not (one.has_names and other.has_names):
+        return Axis(None, Unnamed.POSITIONS)
+    return Axis(Nodes(itertools.product(one.listed(first.shape[axis]), other.listed(second.shape[axis]))))

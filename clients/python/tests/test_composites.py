@@ -357,7 +357,7 @@ class Shapes(Composites):
         twice = spmat.concat([[W], [W]])
         self.assertEqual((twice.row_nodes, twice.column_nodes, twice.nvals), (None, ['a', 'b', 'c'], 6))
         V = self.s.from_edgelist([('x', 'y', 1), ('y', 'z', 2)])
-        with self.assertRaisesRegex(ValueError, 'the tiles of row 0 have other names of rows'):
+        with self.assertRaisesRegex(ValueError, 'the rows of the tiles of row 0 have different names'):
             spmat.concat([[W, V]])
 
     def test_sizes(self):

@@ -94,7 +94,7 @@ def _farthest(G: Matrix, sources: List[Place]) -> int:
     """How many edges lead to the vertex that is the farthest from any of some. The searches from these push along the edges, a word a row. Where
     each edge leads both ways, what the last two levels found is all that an edge may lead back to."""
     many, both_ways, levels = len(sources), is_both_ways(G), [0]
-    start = G.session.from_coo([k // WORD for k in range(many)], list(map(int, sources)), _bits(many), -(-many // WORD), G.nrows)
+    start = without_names(G.session.from_coo([k // WORD for k in range(many)], list(map(int, sources)), _bits(many), -(-many // WORD), G.nrows))
 
     def step(s: State) -> Dict[str, Matrix]:
         moved = s.front.mxm(G, PUSHED)
