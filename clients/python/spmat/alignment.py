@@ -140,7 +140,8 @@ def _moved(matrix: M, rows: _Target, columns: _Target, before: Sequence[M]) -> M
     notes = matrix.notes.with_axes(rows.axis, columns.axis)
     tables = [_table(_target_of(matrix, axis), target) for axis, target in ((ROWS, rows), (COLUMNS, columns))]
     if tables == [None, None]:
-        return matrix if notes == matrix.notes else alias(matrix, notes)
+        is_same = notes.rows is matrix.notes.rows and notes.columns is matrix.notes.columns and notes == matrix.notes
+        return matrix if is_same else alias(matrix, notes)
     i, j, values = _kept(*matrix.to_coo(), *tables)
     like = next((one for one in before if one.nrows == rows.size and one.session == matrix.session), matrix)
     made: M = like.session.from_coo(i, j, values, rows.size, columns.size)  # type: ignore[assignment]

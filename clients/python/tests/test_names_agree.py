@@ -5,7 +5,7 @@ import tempfile
 import unittest
 
 import alike
-import support
+import support  # noqa: F401 (finds the program)
 import spmat
 from spmat import algorithms, blocks
 
@@ -242,6 +242,243 @@ class Months(Both):
             self.assertEqual(m1.ewise_add(m2).to_edgelist(), [(0, 1, 1), (1, 2, 2), (2, 3, 1)])
             m3 = s.from_edgelist([(2, 1), (1, 0)])
             self.assertEqual(s.from_edgelist([(0, 1), (1, 2)]).ewise_add(m3).nvals, 4)
+
+
+class Labels(Both):
+    """Parts, diagonals and transposes have the names of what they are made of."""
+
+    def test_parts_of_numbered_graphs(self):
+        for s in self.each():
+            G = s.from_edgelist([(0, 1, 5), (2, 3, 7), (3, 2, 8)])
+            self.assertIsNone(G.nodes)
+            self.assertEqual(G[[2, 3], [2, 3]].to_edgelist(), [(2, 3, 7), (3, 2, 8)])
+            self.assertEqual(G[[2, 3], [2, 3]].nodes, [2, 3])
+            self.assertEqual(G[2:, :].to_edgelist(), [(2, 3, 7), (3, 2, 8)])
+            self.assertEqual(G[2, :].by_node(), {3: 7})
+            self.assertEqual(G[[3, 2], :].row_nodes, [3, 2])
+            self.assertEqual(G[[2, 3], [2, 3]].reduce_rowwise().by_node(), {2: 7, 3: 8})
+            self.assertEqual(algorithms.degrees(G)[[2, 3], 0].by_node(), {2: 1, 3: 1})
+            self.assertEqual(algorithms.bfs_levels(G, 2)[[2, 3], 0].by_node(), {2: 0, 3: 1})
+            self.assertEqual(G.T[[2, 3], :].row_nodes, [2, 3])
+            self.assertEqual(G[[0, 1], [0, 1]].ewise_add(s.from_edgelist([(0, 1, 1)])).to_edgelist(), [(0, 1, 6)])
+            self.differ(lambda: G[[2, 3], [2, 3]].ewise_add(s.from_edgelist([(0, 1, 1)])), '0: 2 and 0')
+
+    def test_parts_by_position(self):
+        for s in self.each():
+            G = s.from_triples([(0, 1, 5), (2, 3, 7), (3, 2, 8)], 4, 4)
+            self.assertEqual(G[[2, 3], [2, 3]].to_edgelist(), [(0, 1, 7), (1, 0, 8)])
+            self.assertIsNone(G[[2, 3], [2, 3]].nodes)
+
+    def test_diagonals(self):
+        for s in self.each():
+            G = s.from_edgelist([('a', 'b', 1), ('b', 'a', 7), ('b', 'c', 2)])
+            self.assertEqual(G['b', :].diag().to_edgelist(), [('a', 'a', 7), ('c', 'c', 2)])
+            self.assertEqual(G[:, 'a'].diag().to_edgelist(), [('b', 'b', 7)])
+            self.assertEqual(G.diag().nodes, ['a', 'b', 'c'])
+
+    def test_transposes_after_other_names(self):
+        for s in self.each():
+            G = s.from_edgelist([(0, 1), (1, 2), (1, 0)])
+            before = G.T
+            G.nodes = ['a', 'b', 'c']
+            self.assertEqual((G.T.nodes, G.T.T.nodes), (['a', 'b', 'c'],) * 2)
+            self.assertEqual(algorithms.degrees(G.T).by_node(), {'a': 1, 'b': 1, 'c': 1})
+            self.assertEqual(algorithms.distance_counts(G)[0].nodes, ['a', 'b', 'c'])
+            G.nodes = ['c', 'a', 'b']
+            self.assertEqual(G.T.to_edgelist(), [('c', 'a', 1), ('a', 'c', 1), ('b', 'a', 1)])
+            self.assertEqual(algorithms.distance_counts(G)[0].nodes, ['c', 'a', 'b'])
+            self.assertIsNone(before.nodes)
+
+    def test_vectors(self):
+        """The one row of a row, and the one column of a column, aren't compared; a graph of one vertex is."""
+        for s in self.each():
+            G = s.from_edgelist([('a', 'b', 1), ('b', 'a', 7), ('b', 'b', 2)])
+            both = G['a', :].ewise_add(G['b', :])
+            self.assertEqual((both.by_node(), both.row_nodes), ({'a': 7, 'b': 3}, None))
+            self.assertEqual(G['a', :].ewise_add(G['a', :]).row_nodes, ['a'])
+            self.assertEqual(G[:, 'a'].mxm(G['b', :]).to_edgelist(), [('b', 'a', 49), ('b', 'b', 14)])
+            self.differ(lambda: s.from_edgelist([('a', 'a', 1)]).ewise_add(s.from_edgelist([('b', 'b', 1)])), "0: 'a' and 'b'")
+
+    def test_constants(self):
+        for s in self.each():
+            G = named(s, NAMES)
+            self.assertEqual(G.mxm(s.identity(3)).to_edgelist(), G.to_edgelist())
+            self.assertEqual(s.identity(3).mxm(G).to_edgelist(), G.to_edgelist())
+            self.assertEqual(s.identity(3).ewise_add(G, 'first').nodes, NAMES)
+            self.assertEqual(G.mxv(s.full(3, 1)).nodes, NAMES)
+            self.assertEqual(s.ones(3).vxm(G).nodes, NAMES)
+            ones = s.ones(3)
+            ones.nodes = ['x', 'y', 'z']
+            self.assertIsNone(s.ones(3).nodes)
+            self.assertEqual(G.reduce_columnwise().nodes, NAMES)
+
+    def test_kept_elsewhere(self):
+        """What vertices are called stays in files and in other sessions."""
+        for s in self.each():
+            G = s.from_edgelist([(0, 1, 5), (2, 3, 7), (3, 2, 8)])
+            with tempfile.TemporaryDirectory() as folder:
+                path = os.path.join(folder, 'graphs.spmat')
+                s.save(path, G=G, H=named(s, NAMES), P=s.from_triples(EDGES, 3, 3))
+                found = s.load(path)
+            for H in (found['G'], s.adopt(G), G.dup()):
+                self.assertEqual(H[[2, 3], [2, 3]].nodes, [2, 3])
+            self.assertEqual(found['H'].nodes, NAMES)
+            self.assertIsNone(found['P'][[1, 2], [1, 2]].nodes)
+            self.differ(lambda: found['P'].ewise_add(found['H']), 'position 0')
+
+    def test_loops(self):
+        G, H = named(self.one, NAMES), named(self.one, ['Ann', 'Cid', 'Bob'])
+        start = G['Ann', :]
+        self.differ(lambda: spmat.loop(lambda s: {'front': s.front.mxm(H, 'any_first')}, {'front': start}), "1: 'Bob' and 'Cid'")
+        self.differ(lambda: spmat.fixpoint(start, lambda d: d.ewise_add(d.mxm(H), 'max')), "1: 'Bob' and 'Cid'")
+        loop = spmat.loop(lambda s: {'front': s.front.mxm(G, 'any_first')}, {'front': start})
+        loop.advance(2)
+        self.assertEqual(loop.state.front.nodes, NAMES)
+
+
+class Given(Both):
+    """Names that a caller gives to what is made by indexes."""
+
+    def test_nodes(self):
+        for s in self.each():
+            G = named(s, NAMES)
+            self.assertEqual(G.mxv(s.from_dense([1, 2, 3], nodes=G.nodes)).nodes, NAMES)
+            self.assertEqual(G.mxv(s.from_coo([0, 2], [0, 0], 1, ncols=1, nodes=G.nodes)).nodes, NAMES)
+            self.assertEqual(s.from_coo([0], [1], 1, 1, nodes=G.nodes).vxm(G).nodes, NAMES)
+            self.assertEqual(s.from_triples([(0, 1, 4)], nodes=NAMES).ewise_add(G).nodes, NAMES)
+            B = s.from_coo([0, 1], [2, 0], 1, nodes=(['u', 'v'], NAMES))
+            self.assertEqual((B.shape, B.row_nodes, B.mxm(G).column_nodes), ((2, 3), ['u', 'v'], NAMES))
+            self.assertEqual(s.from_coo([0, 1], [2, 0], 1, nodes=(None, NAMES)).mxm(G).row_nodes, None)
+            v = s.from_dense([1, 2, 3])
+            v.nodes = G.nodes
+            self.assertEqual(G.mxv(v).nodes, NAMES)
+            B.row_nodes, B.column_nodes = ['x', 'y'], None
+            self.assertEqual((B.row_nodes, B.column_nodes), (['x', 'y'], None))
+
+    def test_tuples_as_names(self):
+        for s in self.each():
+            G = s.from_triples([(0, 1, 4)], nodes=(('a', 1), ('b', 2)))
+            self.assertEqual(G.nodes, [('a', 1), ('b', 2)])
+            self.differ(lambda: G.ewise_add(s.from_edgelist([(('b', 2), ('a', 1))])), "0: ('a', 1) and ('b', 2)")
+
+    def test_wrong(self):
+        for s in self.each():
+            for call in (lambda: s.from_triples(EDGES, 3, 3, nodes=['a', 'b']), lambda: s.from_triples(EDGES, 3, 3, nodes=['a', 'b', 'a']),
+                         lambda: s.from_coo([0], [1], 1, 2, 3, nodes=NAMES), lambda: s.from_coo([0], [1], 1, 2, 3, nodes=(NAMES, NAMES))):
+                with self.assertRaises(ValueError):
+                    call()
+
+
+class Align(Both):
+    """Matrices brought to the same names."""
+
+    def test_union_and_intersection(self):
+        for s in self.each():
+            A = s.from_edgelist([('a', 'b', 1), ('b', 'c', 2)])
+            B = s.from_edgelist([('c', 'b', 3), ('d', 'c', 4), ('b', 'd', 5)])
+            one, two = spmat.align(A, B)
+            self.assertEqual((one.nodes, two.nodes, one.nodes is two.nodes), (['a', 'b', 'c', 'd'],) * 2 + (True,))
+            self.assertEqual(sorted(one.ewise_add(two).to_edgelist()), [('a', 'b', 1), ('b', 'c', 2), ('b', 'd', 5), ('c', 'b', 3), ('d', 'c', 4)])
+            one, two = spmat.align(A, B, how='inner')
+            self.assertEqual((one.nodes, one.to_edgelist(), two.to_edgelist()), (['b', 'c'], [('b', 'c', 2)], [('c', 'b', 3)]))
+            self.assertIs(one.row_nodes, two.column_nodes)
+
+    def test_what_has_the_names_stays(self):
+        for s in self.each():
+            A, B = named(s, NAMES), named(s, list(NAMES))
+            one, two = spmat.align(A, B)
+            self.assertIs(one, A)
+            self.assertIs(two.nodes, A.nodes)
+            self.assertEqual(two.to_edgelist(), B.to_edgelist())
+
+    def test_kinds_of_names(self):
+        for s in self.each():
+            numbers = s.from_edgelist([(0, 1), (1, 2)])
+            for other, names in ((s.from_edgelist([(7, 1)]), [0, 1, 2, 7]), (s.from_edgelist([('x', 1)]), [0, 1, 2, 'x']),
+                                 (s.from_edgelist([((1, 2), (3,))]), [0, 1, 2, (1, 2), (3,)])):
+                one, two = spmat.align(numbers, other)
+                self.assertEqual((one.nodes, two.nodes), (names, names))
+                self.assertEqual(one.to_edgelist(), numbers.to_edgelist())
+                self.assertEqual(two.to_edgelist(), other.to_edgelist())
+            more = s.from_edgelist([(3, 0), (1, 2)])
+            one, two = spmat.align(numbers, more)
+            self.assertEqual((one.shape, one.nodes, one[[2, 3], :].row_nodes), ((4, 4), None, [2, 3]))
+
+    def test_two_kinds_and_vectors(self):
+        for s in self.each():
+            A, B = s.from_edgelist([('u', 'i', 1), ('v', 'j', 2)], bipartite=True), s.from_edgelist([('w', 'j', 3), ('u', 'k', 4)], bipartite=True)
+            one, two = spmat.align(A, B)
+            self.assertEqual((one.row_nodes, one.column_nodes, one.shape), (['u', 'v', 'w'], ['i', 'j', 'k'], (3, 3)))
+            self.assertEqual(one.ewise_add(two).nvals, 4)
+            G, column = named(s, NAMES), s.from_edgelist([('Cid', 'Dee', 9)]).reduce_rowwise()
+            G, column = spmat.align(G, column)
+            self.assertEqual((G.nodes, column.shape, column.by_node()), ([*NAMES, 'Dee'], (4, 1), {'Cid': 9}))
+            self.assertEqual(G.mxv(column).nodes, [*NAMES, 'Dee'])
+            with self.assertRaisesRegex(ValueError, 'align graphs with graphs'):
+                spmat.align(G, A)
+
+    def test_what_is_known_stays(self):
+        for s in self.each():
+            A = s.from_edgelist([('a', 'b', 1.25)], directed=False, scale=100)
+            B = s.from_edgelist([('b', 'c', 2.5)], directed=False, scale=100)
+            one, two = spmat.align(A, B)
+            self.assertEqual((one.directed, two.directed, one.unit, two.unit, two['b', 'c']), (False, False, 100, 100, 2.5))
+
+    def test_empty_and_single(self):
+        for s in self.each():
+            none, one = s.from_edgelist([]), s.from_edgelist([('a', 'a', 4)])
+            self.assertEqual([G.nodes for G in spmat.align(none, one)], [['a'], ['a']])
+            self.assertEqual([G.shape for G in spmat.align(none, one, how='inner')], [(0, 0), (0, 0)])
+            self.assertEqual(spmat.align(one), (one,))
+            self.assertEqual(spmat.align(), ())
+
+    def test_refused(self):
+        for s in self.each():
+            A = named(s, NAMES)
+            self.differ(lambda: spmat.align(A, s.from_triples(EDGES, 3, 3)), 'without names', 'v.nodes = G.nodes')
+            self.differ(lambda: spmat.align(A, s.identity(3)), 'without names')
+            for wrong in (lambda: spmat.align(A, A, how='left'), lambda: spmat.align([A, A]), lambda: spmat.align(A, 3)):
+                with self.assertRaises((ValueError, TypeError)):
+                    wrong()
+
+
+class Algorithms(unittest.TestCase):
+    """Each algorithm's matrices have the names of the graph's vertices."""
+
+    def matrices(self, found):
+        """The matrices of an answer."""
+        if hasattr(found, 'mxm'):
+            return [found]
+        parts = found if isinstance(found, (list, tuple)) else [getattr(found, name, None) for name in ('values', 'labels', 'lengths', 'predecessors')]
+        return [one for part in parts if hasattr(part, 'mxm') or isinstance(part, (list, tuple)) or hasattr(part, 'values')
+                for one in self.matrices(part)] if parts else []
+
+    def test_all(self):
+        names, looked_at = ['Ann', 'Bob', 'Cid', 'Dee', 'Eve', 'Fay'], set()
+        edges = [(0, 1, 3), (1, 2, 1), (2, 3, 4), (3, 4, 1), (4, 5, 5), (5, 0, 2), (1, 4, 6)]
+        with spmat.Session() as s:
+            for directed in (True, False):
+                G = s.from_edgelist([(names[i], names[j], value) for i, j, value in edges], directed=directed, nodelist=names)
+                for name, calls in alike.ALGORITHMS.items():
+                    for call in calls:
+                        try:
+                            found = call(G)
+                        except (spmat.SpmatError, ValueError):
+                            continue
+                        for matrix in self.matrices(found):
+                            with self.subTest(algorithm=name, directed=directed):
+                                looked_at.add(name)
+                                for axis, count in enumerate(matrix.shape):
+                                    if count == len(names):
+                                        self.assertEqual((matrix.row_nodes, matrix.column_nodes)[axis], names)
+        self.assertIn('minimum_spanning_forest', looked_at)
+        self.assertGreater(len(looked_at), 25)
+
+    def test_forest(self):
+        with spmat.Session() as s:
+            forest = algorithms.minimum_spanning_forest(s.from_edgelist([(1, 2, 5), (2, 3, 4), (3, 4, 1)], directed=False))
+            self.assertEqual(forest.select('triu').to_edgelist(), [(1, 2, 5), (2, 3, 4), (3, 4, 1)])
+            self.assertIs(forest.directed, False)
 
 
 if __name__ == '__main__':

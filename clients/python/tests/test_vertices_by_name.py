@@ -61,7 +61,8 @@ def call(name, graph, names, turned):
     if 'k' in ALGORITHMS[name].parameters:
         given['k'] = 2
     if name == 'modularity':
-        given['labels'] = graph.session.from_coo(range(graph.nrows), [0] * graph.nrows, [i % 3 for i in range(graph.nrows)], graph.nrows, 1)
+        given['labels'] = graph.session.from_coo(range(graph.nrows), [0] * graph.nrows, [i % 3 for i in range(graph.nrows)], graph.nrows, 1,
+                                                 nodes=graph.nodes)
     if name == 'pagerank':
         given['personalization'] = {names[1]: 1, names[4]: 2}
     if turned is not None:
@@ -108,15 +109,15 @@ def columns_of(found):
 
 class Test(support.InSession):
     def compare(self, session, name, seed, names):
-        """The answer of a graph with names, renamed, is that of the same graph without, whatever names the transpose has."""
+        """The answer of a graph with names, renamed, is that of the same graph without, whichever way it has its transpose."""
         drawn = Drawn(name, seed)
         due, _ = outcome(name, drawn.matrix(session, None), range(COUNT))
         ways = ['no transpose']
         if {'GT', 'WT'} & set(ALGORITHMS[name].parameters):
-            ways += ['G.T', 'a transpose without names']
+            ways += ['G.T', 'another transpose']
         for way in ways[seed % len(ways):][:1]:
             graph = drawn.matrix(session, names)
-            turned = None if way == 'no transpose' else graph.T if way == 'G.T' else drawn.matrix(session, None, back=True)
+            turned = None if way == 'no transpose' else graph.T if way == 'G.T' else drawn.matrix(session, names, back=True)
             got, found = outcome(name, graph, names, turned)
             with self.subTest(algorithm=name, names=names, seed=seed, transpose=way, edges=drawn.values):
                 self.assertEqual(got, due)
@@ -147,7 +148,7 @@ class Test(support.InSession):
             self.assertEqual(len(set(due)) == count, not more)
             names = chance.sample(range(1, count + 1), count)
             named = self.s.from_edgelist([(names[i], names[j]) for i, j in edges], nodelist=names)
-            for turned in (None, named.T, graph.T):
+            for turned in (None, named.T):
                 found = algorithms.strongly_connected_components(named, turned)
                 self.assertEqual((found.to_list(), found.nodes), (due, names))
 
