@@ -12,6 +12,7 @@ from .errors import refusal
 from .indexing import gather, picked
 from .metadata import BY_POSITIONS, COLUMNS, NOTHING, ROWS, check_same_names, on_diagonal
 from .operators import Op
+from .pricing.unread import reading
 from .signs import Signs
 
 if TYPE_CHECKING:
@@ -38,6 +39,7 @@ class Composites(Signs, metaclass=MatrixType):
 
     # -- a part of it, and values by position
 
+    @reading
     def __getitem__(self, at: Any) -> Any:
         """`G[i, j]`: the value of an entry, what it stands for where there is a unit, None where there is none. `G[i, :]` is a row, `G[:, j]`
         a column, `G[rows, columns]` a part, `G[M.S]` or `G[~M.V]` a copy under a mask.

@@ -14,6 +14,7 @@ from .job_operators import Number, applied, of_form
 from .io import matrix_text
 from .mask import Mask, as_mask, structure
 from .operators import Op, Operator, Semiring, binary, find_semiring, indexunary, unary
+from .pricing.unread import reading
 
 if TYPE_CHECKING:
     from ._client.handles import Handle
@@ -251,6 +252,7 @@ class Matrix(Composites):
         ring = Semiring(of_form('product', op), binary.second)
         return self.session.ones(self.nrows).mxm(self, ring, mask=mask, name=name)
 
+    @reading
     def reduce_scalar(self, op: Op = 'plus', *, raw: bool = False) -> Any:
         """The fold of all entries as a number, or None where there are none: the folds of the rows, folded, so the operator has
         to be associative. It is an int, or where the fold has a unit a float, what it stands for; `raw=True` gives the stored whole
@@ -333,6 +335,7 @@ class Matrix(Composites):
         outside = self.without(where)
         return outside.ewise_add(inside.dup(mask=where), binary.first, name=name)
 
+    @reading
     def isequal(self, other: 'Matrix') -> bool:
         """Whether both have the same sizes, positions and values. No job where sizes or numbers of entries differ; else 2 jobs
         and 2 runs."""

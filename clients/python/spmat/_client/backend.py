@@ -163,7 +163,8 @@ class Backend:
                     matrix.handle.check_made()
             asked = foreseen.asked()
             if asked is not None:
-                return asked.foresee(self.session, form, ops, operands, mask, shape)
+                made: Matrix = asked.foresee(self.session, form, ops, operands, mask, shape)
+                return made
             sent = [self._operators.get(op) or self._uploaded(op) for op in ops]
             words = [op.name for op in sent] + [matrix.handle.key for matrix in operands] + ([str(thunk)] if thunk is not None else [])
             words += ['mask', mask.handle.key] if mask is not None else []

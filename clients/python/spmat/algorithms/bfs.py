@@ -9,6 +9,7 @@ from ..operators import Semiring, asm, binary
 from . import server_side_search, step_bounds
 from .cached_properties import is_both_ways, transpose_of
 from .frontier import Columns, FEW, Fronts, Lines, Rows, Tally, Vector, is_shared, ones_like
+from .partial_results import keep_partial, unless_empty
 from .protocols import M, Numbers, Place, Vertex, Vertices
 from .registry import algorithm
 from .utils import Progress, beside, find_place, find_places, order, tell
@@ -105,9 +106,9 @@ def fronts_of(G: M, GT: Optional[M], check: bool, values: bool = False) -> Lines
     return Fronts(G, G if both else None)
 
 
-def run_search(lines: Lines[M], search: Search, parents: bool) -> Tally:
-    """The level of each vertex that is found, or its parent; NONE for the others."""
-    told, unseen = Tally(lines.count, NONE), Unseen(lines, search.sources)
+def run_search(lines: Lines[M], search: Search, parents: bool, told: Optional[Tally] = None) -> Tally:
+    """The level of each vertex that is found, or its parent; NONE for the others. They are noted in `told`, where that is given."""
+    told, unseen = Tally(lines.count, NONE) if told is None else told, Unseen(lines, search.sources)
     front: Numbers = search.sources
     matrix: Optional[M] = None
     told.put(front, front if parents else [0] * len(front))
@@ -158,6 +159,17 @@ def _fresh(told: Tally, got: Vector) -> Vector:
     return Vector(list(compress(got.at, keep)), list(compress(got.values, keep)))
 
 
+def _found(G: M, search: Search, GT: Optional[M], check: bool, parents: bool) -> M:
+    """The column of a search; of one that is refused amid its work that of the levels before."""
+    told = Tally(G.nrows, NONE)
+
+    def column() -> M:
+        return beside(G, told.column(G, NONE))
+    with keep_partial(lambda: unless_empty(column())):
+        run_search(fronts_of(G, GT, check), search, parents, told)
+    return column()
+
+
 @algorithm('edges from a vertex to each other one', 'source', plot='levels',
            runs=lambda g: 3 * (g.rounds + 1), steps=step_bounds.bfs_levels)
 def bfs_levels(G: M, source: Vertices, GT: Optional[M] = None, progress: Progress = None, *, depth: Optional[int] = None,
@@ -177,11 +189,10 @@ def bfs_levels(G: M, source: Vertices, GT: Optional[M] = None, progress: Progres
     a level, and up to 30 steps an edge, with 15 to see once that each leads both ways. GraphBLAS: `vxm` over any and first. LAGraph:
     `LAGr_BreadthFirstSearch`. networkx: `single_source_shortest_path_length`. Raises
     ValueError where a source is no vertex, and where GT isn't the transpose (`check=False` leaves that check out, which
-    takes 4 jobs, once).
+    takes 4 jobs, once). Where the budget ends amid the work, `partial` of BudgetExceeded has the levels that were found by then, which are right.
     """
     order(G, GT)
-    search = search_of(G, source, depth, target, progress)
-    return beside(G, find_levels(G, search, GT, check))
+    return _found(G, search_of(G, source, depth, target, progress), GT, check, False)
 
 
 @algorithm('the tree of a breadth-first search', 'source', are_vertices=True,
@@ -198,5 +209,4 @@ def bfs_parents(G: M, source: Vertices, GT: Optional[M] = None, progress: Progre
     `bfs_levels` does.
     """
     order(G, GT)
-    search = search_of(G, source, depth, target, progress)
-    return beside(G, run_search(fronts_of(G, GT, check), search, True).column(G, NONE))
+    return _found(G, search_of(G, source, depth, target, progress), GT, check, True)

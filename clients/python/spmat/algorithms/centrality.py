@@ -3,7 +3,7 @@ from __future__ import annotations
 
 import math
 from fractions import Fraction
-from typing import Callable, Generic, List, NamedTuple, Optional, Tuple, Union
+from typing import Any, Callable, Generic, List, NamedTuple, Optional, Tuple, Union
 
 from ..io.coo import whole
 from ..io.matrix_text import find_numpy, is_array
@@ -14,6 +14,7 @@ from .bfs import flow_lines
 from .cached_properties import extremes
 from .frontier import Columns, FEW, Lines, Vector, column_of, plus_times
 from .graph_units import unit_of
+from .partial_results import keep_partial
 from .protocols import M, Numbers
 from .registry import algorithm
 from .results import BOUND, CHANGE, Centrality, RESIDUAL, as_centrality
@@ -158,13 +159,15 @@ class _Settled(NamedTuple):
     moved: float
 
 
-def _iterated(step: Callable[[Numbers], Numbers], start: Numbers, tolerance: float, rounding: float, most: Tuple[int, Progress]) -> _Settled:
+def _iterated(step: Callable[[Numbers], Numbers], start: Numbers, tolerance: float, rounding: float, most: Tuple[int, Progress],
+              show: Callable[[_Settled], Any]) -> _Settled:
     """What a step comes to whose results change by less than the tolerance, or by no more than rounding takes and no less than the round
-    before. ValueError where that takes too many rounds."""
+    before. ValueError where that takes too many rounds. `show` makes the result of a round behind which the budget ends."""
     rounds, progress = most
     now, last = start, math.inf
     for number in range(1, rounds + 1):
-        before, now = now, step(now)
+        with keep_partial(lambda: None if now is start else show(_Settled(now, number - 1, last))):  # pylint: disable=cell-var-from-loop
+            before, now = now, step(now)
         tell(progress, 'round', number)
         moved = _distance(now, before) if _most(now) else 0.0
         if moved < tolerance or last <= moved < rounding:
@@ -199,10 +202,14 @@ def eigenvector(G: M, GT: Optional[M] = None, tolerance: Optional[float] = None,
     steps = _steps(G, GT, weighted, check)
     bits = _bits(_most(steps.comes(steps.all(1))))
     kept = _kept(tolerance, 1e-6, bits)
+
+    def show(last: _Settled) -> Centrality:
+        return as_centrality(_column(G, _divided(last.numbers, _norm(last.numbers)), scale), scale, last.moved, CHANGE, tolerance=kept, rounds=last.rounds)
     settled = _iterated(lambda numbers: _scaled(plus_times(numbers, steps.comes(numbers), 1), bits), steps.all(1 << bits), kept * count, 0,
-                        (rounds, progress))
+                        (rounds, progress), show)
     found = settled.numbers
-    norm, product = _norm(found), steps.comes(found)
+    with keep_partial(lambda: show(settled)):
+        norm, product = _norm(found), steps.comes(found)
     value = _dot(found, product) / norm ** 2
     away = plus_times(_divided(product, value), _divided(found, 1), -1) if value else found
     return as_centrality(_column(G, _divided(found, norm), scale), scale, _norm(away) / norm if value else math.inf, RESIDUAL,
@@ -260,7 +267,12 @@ def katz(G: M, alpha: float = 0.1, beta: float = 1.0, GT: Optional[M] = None, to
     while True:
         bits = _bits(heaviest, room)
         kept = _kept(tolerance, 1e-9, bits)
-        settled = _spread(steps, handed, (bits, room), kept / (2 + kept if normalized else 1), (rounds, progress))
+
+        def show(last: _Settled, bits: int = bits, kept: float = kept) -> Centrality:
+            found = _divided(last.numbers, _norm(last.numbers) if normalized else (1 << bits) / beta)
+            share = 2 * last.moved / max(1 - last.moved, FLOATS) if normalized else last.moved
+            return as_centrality(_column(G, found, scale), scale, (share + FLOATS) * _most_of(found) + .5 / scale, tolerance=kept, rounds=last.rounds)
+        settled = _spread(steps, handed, (bits, room), kept / (2 + kept if normalized else 1), (rounds, progress), show)
         if isinstance(settled, _Settled):
             break
         room += MORE_ROOM
@@ -268,19 +280,20 @@ def katz(G: M, alpha: float = 0.1, beta: float = 1.0, GT: Optional[M] = None, to
             raise ValueError('alpha=%g is too great for this graph: numbers grow on and on. It has to be less than 1 divided by the greatest '
                              'eigenvalue%s, and by their growth that is near %.3g'
                              % (alpha, ' of the weights' if weighted else '', alpha / max(1.0, settled)))
-    found = _divided(settled.numbers, _norm(settled.numbers) if normalized else (1 << bits) / beta)
-    share = 2 * settled.moved / (1 - settled.moved) if normalized else settled.moved
-    return as_centrality(_column(G, found, scale), scale, (share + FLOATS) * _most_of(found) + .5 / scale, tolerance=kept, rounds=settled.rounds)
+    return show(settled)
 
 
-def _spread(steps: _Steps[M], handed: _Handed, room: Tuple[int, int], aim: float, most: Tuple[int, Progress]) -> Union[_Settled, float]:
+def _spread(steps: _Steps[M], handed: _Handed, room: Tuple[int, int], aim: float, most: Tuple[int, Progress],
+            show: Callable[[_Settled], Any]) -> Union[_Settled, float]:
     """Katz' numbers, where the least is 2^bits, with how far they are from the true ones at most, as a share of each; or, where they leave the
     room, by how much they grew in the last round. One more step takes each number nearer to the true ones, by the norm in which these are
     one: so its change, divided by 1 less itself, bounds the distance. ValueError where rounds don't do."""
     (bits, more), (rounds, progress) = room, most
-    unit, numbers = 1 << bits, steps.all(1 << bits)
+    unit, numbers, off = 1 << bits, steps.all(1 << bits), math.inf
+    before = numbers
     for number in range(1, rounds + 1):
-        before, numbers = numbers, _times(steps.comes(numbers), handed.share, unit)
+        with keep_partial(lambda: show(_Settled(before, number - 1, off / (1 - off))) if off < 1 else None):  # pylint: disable=cell-var-from-loop
+            before, numbers = numbers, _times(steps.comes(numbers), handed.share, unit)
         tell(progress, 'round', number)
         off = (_farthest(numbers, before) + 1 + handed.drift * _most(numbers)) / unit if steps.count else 0
         if off < 1 and off / (1 - off) <= aim:
@@ -342,9 +355,19 @@ def hits(G: M, GT: Optional[M] = None, tolerance: Optional[float] = None, scale:
     steps = _steps(G, GT, weighted, check)
     bits = _bits(max(_most(steps.comes(steps.all(1))), _most(steps.leads(steps.all(1)))))
     kept = _kept(tolerance, 1e-8, bits)
-    settled = _iterated(lambda numbers: _scaled(steps.leads(_scaled(steps.comes(numbers), bits)), bits), steps.all(1 << bits), kept,
-                        8 * count / (1 << bits) if tolerance is None else 0, (rounds, progress))
-    hubs, authorities = (as_centrality(_column(G, _divided(kind, max(1.0, _sum(kind))), scale), scale, settled.moved, CHANGE,
-                                       tolerance=max(kept, settled.moved), rounds=settled.rounds)
-                         for kind in (settled.numbers, steps.comes(settled.numbers)))
-    return hubs, authorities
+    came: List[Numbers] = []                       # the authorities of the last rounds
+
+    def step(hubs: Numbers) -> Numbers:
+        came.append(_scaled(steps.comes(hubs), bits))
+        found = _scaled(steps.leads(came[-1]), bits)
+        del came[:-1]
+        return found
+
+    def show(last: _Settled, authorities: Numbers) -> Tuple[Centrality, Centrality]:
+        hubs, others = (as_centrality(_column(G, _divided(kind, max(1.0, _sum(kind))), scale), scale, last.moved, CHANGE,
+                                      tolerance=max(kept, last.moved), rounds=last.rounds) for kind in (last.numbers, authorities))
+        return hubs, others
+    settled = _iterated(step, steps.all(1 << bits), kept, 8 * count / (1 << bits) if tolerance is None else 0, (rounds, progress),
+                        lambda last: show(last, came[0]))
+    with keep_partial(lambda: show(settled, came[0])):
+        return show(settled, steps.comes(settled.numbers))

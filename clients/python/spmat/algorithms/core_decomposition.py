@@ -15,6 +15,7 @@ from .bfs import Unseen, fronts_of, is_large
 from .cached_properties import check_undirected
 from .components import connected_components
 from .frontier import Columns, Tally, Vector, ones_like, zeros_like
+from .partial_results import keep_partial
 from .protocols import M, Numbers
 from .registry import WITHOUT_LOOPS, algorithm
 from .results import Result, as_result
@@ -23,7 +24,7 @@ from .triangle_counts import degrees
 from .utils import Progress, beside, order, product, tell
 
 COUNTS = Semiring(binary.plus, binary.first)
-GONE = -1
+GONE = UNKNOWN = -1
 HANDED_OVER = 1 << 12                              # vertices that are left where a loop at the server does the rest
 
 
@@ -150,20 +151,24 @@ def core_numbers(G: M, progress: Progress = None, *, check: bool = True) -> M:
 
     Runs: 1 a round, and 2; 2 more a round in which many fall; in the loop 4 a round, and 4. Steps: up to 10 an edge; 4 a vertex and round in
     which many fall; in the loop 20 for each vertex that is left, a round, and 20 an edge among them. LAGraph: `LAGraph_KCore` for all k.
-    networkx: `core_number`. igraph: `coreness`. Raises ValueError as `k_core` does.
+    networkx: `core_number`. igraph: `coreness`. Raises ValueError as `k_core` does. Where the budget ends amid the work, `partial` of
+    BudgetExceeded has an entry for each vertex whose number is known.
     """
     order(G)
     check_undirected(G, check)
     peeling, cores = Peeling(G, progress), Tally(G.nrows, 0)
-    while True:
-        k = peeling.least()
-        if k is None:
-            return beside(G, cores.column(G, None))
-        if len(peeling.alive) <= HANDED_OVER and is_ample(G):
-            _on_the_loop(peeling, k, cores)
-            return beside(G, cores.column(G, None))
-        for fallen in peeling.peel(k + 1):
-            cores.set(fallen, k)
+    cores.set(peeling.alive, UNKNOWN)
+    with keep_partial(lambda: beside(G, cores.column(G, UNKNOWN))):
+        while True:
+            k = peeling.least()
+            if k is None:
+                break
+            if len(peeling.alive) <= HANDED_OVER and is_ample(G):
+                _on_the_loop(peeling, k, cores)
+                break
+            for fallen in peeling.peel(k + 1):
+                cores.set(fallen, k)
+    return beside(G, cores.column(G, None))
 
 
 def _own(at: Numbers) -> Numbers:

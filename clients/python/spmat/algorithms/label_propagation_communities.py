@@ -7,6 +7,7 @@ from ..operators import asm
 from . import step_bounds
 from .cached_properties import check_undirected
 from .frontier import Columns, FEW, Vector
+from .partial_results import keep_partial
 from .protocols import M, Numbers
 from .registry import BOTH_WAYS, algorithm
 from .utils import Progress, beside, order, product, tell
@@ -27,7 +28,8 @@ def label_propagation(G: M, rounds: int = ROUNDS, progress: Progress = None, *, 
     vertex' neighbours, a round; 4 an edge. GraphBLAS: G times a matrix with a one at each vertex' label, over plus and first of
     ones; the greatest of each row. LAGraph: `LAGraph_cdlp`, as LDBC Graphalytics defines it. networkx:
     `label_propagation_communities` has another rule for ties. Raises ValueError where rounds is below 1, and where an edge
-    leads one way alone (2 jobs, 3 runs, 13 steps an edge and 5 a vertex, once; `check=False` leaves it out).
+    leads one way alone (2 jobs, 3 runs, 13 steps an edge and 5 a vertex, once; `check=False` leaves it out). Where the budget ends
+    amid the work, `partial` of BudgetExceeded has the labels of the last round.
     """
     count, rounds = order(G), whole(rounds, 'number of rounds')
     if rounds < 1:
@@ -38,10 +40,14 @@ def label_propagation(G: M, rounds: int = ROUNDS, progress: Progress = None, *, 
     best = asm('index', 'mov64 r0, r1\nmul64 r0, %d\nadd64 r0, %d\nsub64 r0, r3\nexit\n' % (max(count, 1), count - 1))
     own: Numbers = list(range(count)) if numpy is None else numpy.arange(count)
     labels, columns = own, Columns(G, G)
-    for number in range(1, rounds + 1):
+
+    def next_labels(labels: Numbers) -> Numbers:
         have = G.session.backend.keep(Triples(own, labels, [1] * count if numpy is None else own * 0 + 1, count, count))
         got = columns.get(product(graph, have, 'plus_pair').apply(best, right=0).reduce_rowwise('max'))
-        before, labels = labels, _taken(labels, got, count)
+        return _taken(labels, got, count)
+    for number in range(1, rounds + 1):
+        with keep_partial(lambda: None if labels is own else beside(G, columns.put(Vector(own, labels)))):
+            before, labels = labels, next_labels(labels)
         tell(progress, 'round', number, rounds)
         if bool((before == labels).all()) if numpy is not None else before == labels:
             break

@@ -3,13 +3,14 @@ from __future__ import annotations
 
 import random
 from fractions import Fraction
-from typing import Any, Dict, List, NamedTuple, Tuple
+from typing import Any, Callable, Dict, List, NamedTuple, Tuple
 
 from ..io.matrix_text import Triples
 from . import step_bounds
 from .cached_properties import check_undirected, extremes, has_loops, is_both_ways
 from .community_labels import Partition, number_communities
 from .frontier import column_of
+from .partial_results import keep_partial
 from .protocols import M
 from .registry import BOTH_WAYS, algorithm
 from .results import Communities, as_result
@@ -135,8 +136,25 @@ def _sweep(level: _Level, labels: List[int], sums: List[int]) -> int:
     return moved
 
 
-def _settled(level: _Level, graph: Any) -> Tuple[List[int], int, float]:
-    """The communities of one level, numbered, how many there are, and their modularity."""
+class _Reached(NamedTuple):
+    """The best communities that were found: a number for each vertex, their modularity, and after how many levels."""
+    labels: List[int]
+    modularity: float
+    levels: int
+
+    def on(self, numbers: List[int], found: float) -> '_Reached':
+        """Those of one level more, whose vertices these communities are."""
+        return _Reached([numbers[label] for label in self.labels], found, self.levels + 1)
+
+    def communities(self, G: M) -> Communities:
+        """The same, each by its least vertex."""
+        first: Dict[int, int] = {}
+        least_of = [first.setdefault(label, i) for i, label in enumerate(self.labels)]
+        return as_result(Communities, beside(G, column_of(G, least_of)), modularity=self.modularity, levels=self.levels)
+
+
+def _settled(level: _Level, graph: Any, note: Callable[[List[int], float], None]) -> Tuple[List[int], int, float]:
+    """The communities of one level, numbered, how many there are, and their modularity. Each that is better than those before is noted."""
     labels, sums = list(range(graph.nrows)), list(level.weights)
     best = (list(labels), graph.nrows, _modularity(graph, level.resolution))
     for _ in range(SWEEPS):
@@ -145,6 +163,8 @@ def _settled(level: _Level, graph: Any) -> Tuple[List[int], int, float]:
         numbers, many = _numbered(labels)
         found = _modularity(_gathered(graph, numbers, many), level.resolution)
         gained, best = found - best[2], (numbers, many, found) if found > best[2] else best
+        if gained > 0:
+            note(numbers, found)
         if gained < ENOUGH:
             break
     return best
@@ -166,7 +186,9 @@ def louvain(G: M, resolution: float = 1.0, seed: int = 0, progress: Progress = N
 
     Runs: 10 a sweep, and 6 a level. Steps: up to 12 an edge of the level, a sweep. The client looks at each vertex and community next to it,
     a sweep. networkx: `louvain_communities`. igraph: `community_multilevel`. Raises ValueError where an edge leads one way alone (2 jobs, 13
-    steps an edge, once; `check=False` leaves it out), a value is below 0, or the values add up to nothing, or to 2^53 or more.
+    steps an edge, once; `check=False` leaves it out), a value is below 0, or the values add up to nothing, or to 2^53 or more. There are up to
+    16 levels of up to 20 sweeps. Where the budget ends amid the work, `partial` of BudgetExceeded has the best communities by then, with
+    their modularity.
     """
     count = order(G)
     check_undirected(G, check, loops=True)
@@ -174,16 +196,17 @@ def louvain(G: M, resolution: float = 1.0, seed: int = 0, progress: Progress = N
     if least < 0 or most * max(1, G.nvals) >= MOST_WEIGHT:
         raise ValueError('weights are 0 or more, and add up to less than 2^53: here they are %d to %d' % (least, most))
     graph, chance = _doubled(G, weighted), random.Random(seed)
-    labels, found, number = list(range(count)), _modularity(graph, resolution), 0
-    while number < LEVELS:
-        level = _level(graph, chance, resolution)
-        numbers, many, gained = _settled(level, graph)
-        number += 1
-        tell(progress, 'level', number)
-        if gained <= found + LEAST:
-            break
-        labels, found = [numbers[label] for label in labels], gained
-        graph = _gathered(graph, numbers, many)
-    first: Dict[int, int] = {}
-    least_of = [first.setdefault(label, i) for i, label in enumerate(labels)]
-    return as_result(Communities, beside(G, column_of(G, least_of)), modularity=found, levels=number)
+    now = best = _Reached(list(range(count)), _modularity(graph, resolution), 0)
+
+    def note(numbers: List[int], found: float) -> None:
+        nonlocal best
+        best = now.on(numbers, found)
+    with keep_partial(lambda: best.communities(G) if best.levels else None):
+        while now.levels < LEVELS:
+            numbers, many, gained = _settled(_level(graph, chance, resolution), graph, note)
+            tell(progress, 'level', now.levels + 1)
+            if gained <= now.modularity + LEAST:
+                return now._replace(levels=now.levels + 1).communities(G)
+            now = now.on(numbers, gained)
+            graph = _gathered(graph, numbers, many)
+    return now.communities(G)

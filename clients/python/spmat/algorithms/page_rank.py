@@ -11,6 +11,7 @@ from . import step_bounds
 from .bfs import flow_lines
 from .cached_properties import extremes, found, is_both_ways
 from .frontier import Columns, FEW, Lines, Vector, column_of, plus_times
+from .partial_results import keep_partial
 from .protocols import GraphMatrix, M, Numbers
 from .registry import algorithm
 from .results import Centrality, as_centrality
@@ -114,10 +115,11 @@ class Watch:
         self.most = max(1, math.ceil(math.log(aim / 2) / math.log(point.damping)))
         self.number, self.next, self.distance = 0, min(FIRST, self.most), math.inf
         self.last: Optional[Tuple[int, float]] = None
+        self.flow: Any = None                      # of the last round
 
-    def tick(self) -> bool:
-        """A round has ended; whether it is time to ask."""
-        self.number += 1
+    def tick(self, flow: Any) -> bool:
+        """A round has ended, with what came to each vertex; whether it is time to ask."""
+        self.number, self.flow = self.number + 1, flow
         tell(self.progress, 'round', self.number, self.most)
         return self.number >= self.next
 
@@ -158,7 +160,7 @@ def solve(system: System[M], given: Vector, watch: Watch) -> Solved:
     before: Optional[M] = None
     flow = system.flow(system.start(given))
     while True:
-        if watch.tick():
+        if watch.tick(flow):
             change = 2.0 if before is None else _change(flow, before) * point.damping / 2.0 ** (point.bits + SPARE)
             total = system.total(flow, anew)
             if watch.settled(change, total):
@@ -302,13 +304,33 @@ def pagerank(G: M, GT: Optional[M] = None, damping: float = 0.85, tolerance: Opt
     scale = scale_for(count, wanted) if scale is None else scale
     aim = kept_tolerance(count, weight, point, wanted, scale)
     system, unit = System(lines, out, weighted, point), 1 << point.bits
-    ranks = solve(system, given_by(G, personalization, unit), Watch(point, aim.rest, progress))
+    given, watch = given_by(G, personalization, unit), Watch(point, aim.rest, progress)
+    with keep_partial(lambda: last_round(G, system, given, watch, Report(scale or ONE, aim)) if dangling is None else None):
+        ranks = solve(system, given, watch)
     if dangling is None or ranks.total > 1 - 1e-9:
         return _column(G, ranks.ranks, scale, aim.rounding + ranks.distance, wanted, ranks.rounds)
     others = solve(system, given_by(G, dangling, unit), Watch(point, aim.rest, progress))
     lost, again = _lost(ranks.total, point.damping), _lost(others.total, point.damping)
     share = point.damping * lost / (1 - point.damping - point.damping * again)
     return _column(G, plus_times(ranks.ranks, others.ranks, share), scale, wanted, wanted, ranks.rounds + others.rounds)
+
+
+class Report(NamedTuple):
+    """In which units ranks are told, and how far they may be from the true ones."""
+    scale: int
+    aim: Aim
+
+
+def last_round(G: M, system: System[M], given: Vector, watch: Watch, report: Report) -> Optional[Centrality]:
+    """The ranks of the last round, with how far they may be from the true ones: each round makes distances smaller by the damping. None where
+    no round has ended."""
+    if watch.flow is None:
+        return None
+    point = system.point
+    ranks = system.ranks(watch.flow, _scaled(given, point.whole - point.parts, point.whole))
+    total = float(sum(map(int, ranks))) / 2.0 ** point.bits
+    distance = 2 * point.damping ** watch.number * (1 if total > 1 - 1e-9 else 2 / total)
+    return _column(G, ranks, report.scale, report.aim.rounding + distance, report.aim.tolerance, watch.number)
 
 
 def _lost(total: float, damping: float) -> float:

@@ -9,6 +9,7 @@ from . import server_side_search, step_bounds
 from .bfs import fronts_of, joined
 from .cached_properties import extremes
 from .frontier import Lines, Tally, Vector
+from .partial_results import keep_partial, unless_empty
 from .protocols import GraphMatrix, M, Numbers, Place, Vertex
 from .registry import algorithm
 from .utils import Progress, beside, find_place, nothing, order, tell
@@ -60,9 +61,9 @@ class Lengths(Generic[M]):
     """The lengths that are known, and the vertices whose length changed and that weren't taken since. They are kept by the client, or
     for large fronts by jobs. Those within the band are the front; the others wait as `far`, where a vertex may stand several times."""
 
-    def __init__(self, lines: Lines[M], source: Place, bounds: Bounds) -> None:
+    def __init__(self, lines: Lines[M], source: Place, bounds: Bounds, known: Optional[Tally] = None) -> None:
         self.lines, self.bounds = lines, bounds
-        self.known = Tally(lines.count, UNREACHED)
+        self.known = Tally(lines.count, UNREACHED) if known is None else known
         self.known.put([source], [0])
         self.front = Vector([source], [0])
         self.end, self.far = bounds.width, cast(List[Numbers], [])
@@ -242,15 +243,15 @@ class Query(NamedTuple):
     progress: Progress = None
 
 
-def find_lengths(W: M, source: Place, WT: Optional[M], query: Query) -> M:
-    """`sssp` from a row, for functions within; the column has no names."""
+def find_lengths(W: M, source: Place, WT: Optional[M], query: Query, known: Optional[Tally] = None) -> M:
+    """`sssp` from a row, for functions within; the column has no names. Lengths are noted in `known`, where that is given."""
     cutoff, target, check, progress = query
     count = W.nrows
     least, most = extremes(W) if check or cutoff is not None or target is not None else (-1, 0)
     bounds = Bounds(cutoff, target, least >= 0, _width(W, least, most))
     if cutoff is not None and cutoff < 0 and bounds.ascending:
         return nothing(W)                          # the source is farther
-    lengths = Lengths(fronts_of(W, WT, check, values=True), source, bounds)
+    lengths = Lengths(fronts_of(W, WT, check, values=True), source, bounds, known)
     told = Told(progress, count, max(abs(least), abs(most)) if check else 0)
     may_stay = cutoff is None and target is None and server_side_search.are_close(least, most, count)
     while len(lengths.front.at):
@@ -291,8 +292,11 @@ def sssp(W: M, source: Vertex, WT: Optional[M] = None, progress: Progress = None
     the greatest value, which are kept with the matrix. GraphBLAS: `vxm` over min and plus (Bellman and Ford; Meyer and Sanders).
     LAGraph: `LAGr_SingleSourceShortestPath`. networkx: `single_source_bellman_ford_path_length`. Raises ValueError
     where the source is no vertex, or reaches a cycle of negative length, and where lengths could wrap (with `check=False` they are
-    taken to stay below 2^63), and where WT isn't the transpose.
+    taken to stay below 2^63), and where WT isn't the transpose. Where the budget ends amid the work, `partial` of BudgetExceeded has the lengths
+    that were known by then, of paths that there are: none is less than the shortest.
     """
     order(W, WT)
     until = None if target is None else find_place(W, target)
-    return beside(W, find_lengths(W, find_place(W, source), WT, Query(cutoff, until, check, progress)))
+    known, at = Tally(W.nrows, UNREACHED), find_place(W, source)
+    with keep_partial(lambda: unless_empty(beside(W, known.column(W, UNREACHED)))):
+        return beside(W, find_lengths(W, at, WT, Query(cutoff, until, check, progress), known))

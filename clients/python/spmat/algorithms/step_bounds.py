@@ -427,7 +427,7 @@ def katz(g: CallSizes) -> Bound:
     rounds, tolerance = 4 * int(g.given['rounds']), float(g.given['tolerance'] or 1e-9)
     heaviest = 1 if not g.given['weighted'] else max(0, _extremes_of(g)[1])
     rate = float(g.given['alpha']) * heaviest * (max(g.degrees.entering, default=0) if g.degrees else g.vertices)
-    if 0 < rate < .99:
+    if 0 < rate < .99 and not (g.given['weighted'] and getattr(g.graph, 'unit', None)):
         rounds = min(int(g.given['rounds']), rounds_to(tolerance * (1 - rate) / 8, rate) + 2)
     return _flow(g, 1 if rate == 0 else rounds, 1, 1)
 

@@ -14,6 +14,7 @@ from ..io.importers import DupOp, Sources
 from ..io.matrix_text import Triples
 from ..metadata import BY_POSITIONS, as_constant, without_names
 from ..operators import Operator, find
+from ..pricing import foreseen
 from . import chunked_input, duplicate_errors, parallel_edgelist, parallel_read, row_partition, worker_tasks
 from .deferred_upload import HeldVector
 from .edgelist_partitions import Frame
@@ -42,6 +43,15 @@ class Sender:
             return without_names(self._sessions.from_coo(*entries))
         cut = self._sessions.cut_for(entries.nrows, None) or row_partition.evenly(entries.nrows, self._sessions.blocks)
         return HeldVector(self._sessions, entries, cut)
+
+    def submit(self, form: str, ops: Any, operands: Any, shape: Tuple[int, int], thunk: Optional[int] = None, mask: Any = None,
+               name: Optional[str] = None, parts: bool = False) -> Any:
+        """Tells a job to who asks for a price. No other job is of all blocks at once."""
+        _ = thunk, name, parts
+        asker = foreseen.asked()
+        if asker is None:
+            raise ValueError('what stands for a matrix in a price is none')
+        return asker.foresee(self._sessions, form, ops, operands, mask, shape)
 
 
 class Inputs(Sources[BlockMatrix]):

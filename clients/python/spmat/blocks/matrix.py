@@ -15,7 +15,7 @@ from ..mask import Mask, as_mask
 from ..job_operators import Number, applied, of_form
 from ..matrix import Ring
 from ..operators import Op, Semiring, binary, find_semiring, indexunary
-from . import composite_methods, frontier, html, matrix_products, repartition, row_partition, unsupported, worker_tasks
+from . import composite_methods, foreseen_methods, frontier, html, matrix_products, repartition, row_partition, unsupported, worker_tasks
 from .row_partition import Cut
 from .shared_budget import Work
 from .worker_store import Counts
@@ -382,6 +382,9 @@ class BlockMatrix(Composites):
         target.write(row_partition.head(*self.shape, self.nvals))
         for lines in self.texts():
             target.write(lines)
+
+
+foreseen_methods.foresee_methods(BlockMatrix)
 
 
 def noted(told: metadata.Notes, where: Optional[Mask]) -> metadata.Notes:

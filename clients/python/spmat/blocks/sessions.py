@@ -17,7 +17,7 @@ from ..errors import BudgetExceeded, SpmatError
 from ..io import coo
 from ..limits import MOST_STEPS, MOST_WORKERS
 from ..operators import Op, Operator, diagnostics, find
-from ..pricing import budget_check
+from ..pricing import budget_check, foreseen
 from . import unsupported, worker_tasks
 from .dask_direct_calls import Call
 from .errors import AtBlock, VersionMismatch, in_all, named
@@ -198,6 +198,7 @@ class Sessions(Inputs):
     def batch(self, works: Sequence[Work]) -> List[Any]:
         """The futures of tasks, each of which makes one job at its block. Where the budget is small, BudgetExceeded with the price of all of
         them before any is charged, and else they are done."""
+        foreseen.check_queued()
         if not self.is_metered:
             self.ledger.grant(len(works))
             return [self.submit(*work[:3], *work.args) for work in works]
@@ -217,6 +218,7 @@ class Sessions(Inputs):
     def asked(self, works: Sequence[Work]) -> List[Any]:
         """What tasks give whose first argument is a piece and whose others are short, as `batch` and `results` have it, and by a shorter way
         where there is one: nothing of it stays at the workers."""
+        foreseen.check_queued()
         labels = [work.label for work in works]
         if works and not self.is_metered:
             calls = [Call(work.args[0], work.label, work.args[1:]) for work in works]

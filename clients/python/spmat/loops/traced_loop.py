@@ -161,7 +161,7 @@ class Loop:
         number = self.number
 
         def made(round_: int, now: State) -> State:
-            got = results(self._step, now, number + round_)
+            got = results(self._step, State(now), number + round_)
             return State((name, got[name]) for name in now)
         if id(self) not in asker.loops:
             again = 0 if self._end is None or self._trips is None else self._end - self._trips.place.number

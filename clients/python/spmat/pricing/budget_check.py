@@ -27,10 +27,11 @@ def guarded(function: F) -> F:
         if asker is not None:
             args, named = _listed(args, named)
             return asker.call(function.__name__, args, named)
-        matrices = [one for one in (*args, *named.values()) if isinstance(one, Matrix)]
-        if matrices and matrices[0].session.backend.queue.ceiling < AMPLE and not any(matrix.is_traced for matrix in matrices):
+        graph = args[0] if args else next(iter(named.values()), None)
+        left = _left(graph)
+        if left < AMPLE and not any(isinstance(one, Matrix) and one.is_traced for one in (*args, *named.values())):
             args, named = _listed(args, named)
-            _check_budget(matrices[0], function, args, named)
+            _check_budget(function, args, named, left)
         return function(*args, **named)
     return cast(F, call)
 
@@ -46,22 +47,29 @@ def _list(one: Any) -> Any:
     return list(one) if hasattr(one, '__next__') else one
 
 
-def _check_budget(graph: Matrix, function: Callable[..., Any], args: Tuple[Any, ...], named: Any) -> None:
-    left = graph.session.backend.queue.ceiling
-    if left < AN_ENTRY * (graph.handle.most + sum(graph.shape) + 1):
+def _left(graph: Any) -> int:
+    """What a graph's session, or those of its blocks, can have left at the most; all there can be of what is no graph."""
+    if isinstance(graph, Matrix):
+        return graph.session.backend.queue.ceiling
+    return int(graph.sessions.ledger.budget.left) if hasattr(type(graph), 'in_sessions') else AMPLE
+
+
+def _check_budget(function: Callable[..., Any], args: Tuple[Any, ...], named: Any, left: int) -> None:
+    graph = args[0] if args else next(iter(named.values()))
+    if isinstance(graph, Matrix) and left < AN_ENTRY * (graph.handle.most + sum(graph.shape) + 1):
         try:
             needed = needed_by(lambda: function(*args, **named))
         except Exception:                          # pylint: disable=broad-exception-caught  # the call itself raises it
             return
         if needed > left:
             raise BudgetExceeded('S8', (needed, left)).of_call(function.__name__)
-    most = _most(graph, function, args, named, left)
+    most = _most(function, args, named, left)
     if most is not None and most > left:
         warnings.warn('%s may take up to %s steps, and %s are left: it may be refused amid its work; %s' % (
             function.__name__, format(most, ','), format(left, ','), MORE_STEPS), BudgetWarning, stacklevel=3)
 
 
-def _most(graph: Matrix, function: Callable[..., Any], args: Tuple[Any, ...], named: Any, left: int) -> Optional[int]:
+def _most(function: Callable[..., Any], args: Tuple[Any, ...], named: Any, left: int) -> Optional[int]:
     """The most that has to be left, by the sizes of the graph; where that may be too much, by its entries."""
     from ..algorithms.registry import ALGORITHMS  # which want matrices
     steps = ALGORITHMS[function.__name__].steps
@@ -75,7 +83,6 @@ def _most(graph: Matrix, function: Callable[..., Any], args: Tuple[Any, ...], na
         most = None if bound is None else bound.reserved
         if most is None or most <= left:
             break
-    _ = graph
     return most
 
 

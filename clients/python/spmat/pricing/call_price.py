@@ -8,7 +8,7 @@ from .._client.protocol import Places
 from ..matrix import Matrix
 from ..operators import Operator
 from .call_sizes import CallSizes
-from .foreseen import Asked, Stand, Unforeseen, Unread, asking, root, stand
+from .foreseen import Asked, Stand, Unforeseen, Unread, asking, root, stand, stand_for
 from .job_bounds import Job, Least, Size, least_taken, most_taken, size_of
 
 if TYPE_CHECKING:
@@ -68,7 +68,7 @@ class Price(Asked):
 
     # -- jobs
 
-    def foresee(self, session: Session, form: str, ops: Sequence[Operator], operands: Sequence[Matrix], mask: Optional[Matrix],
+    def foresee(self, session: Any, form: str, ops: Sequence[Operator], operands: Sequence[Matrix], mask: Optional[Matrix],
                 shape: Tuple[int, int]) -> Matrix:
         """Notes the least and the most that a job comes to. Its price has to be left, and of the jobs before it what they take."""
         job, sizes = Job(form, ops, operands, mask, shape), [self._size(session, op) for op in ops]
@@ -79,7 +79,7 @@ class Price(Asked):
         self._add(most.steps, most.steps)
         return self._result(job, least, most.entries)
 
-    def _size(self, session: Session, op: Operator) -> Size:
+    def _size(self, session: Any, op: Operator) -> Size:
         try:
             return size_of(op)
         except Unforeseen:
@@ -121,6 +121,8 @@ class Price(Asked):
         before, jobs, ended = (self.most, self._reserved), len(self.jobs), True
         self.is_inside = True
         try:
+            if not sizes.graph.in_one_place:       # in blocks algorithms go other ways
+                raise Unforeseen()
             result = one.function(*args, **named)
         except Unforeseen:
             result, ended = one.stand(sizes), False
@@ -139,6 +141,7 @@ class Price(Asked):
     def repeat(self, step: Callable[[int, Any], Any], state: Any, rounds: Optional[int], least: int) -> Any:
         """Foresees rounds one by one, as long as each can come to more than the one before it; the others take as much as the last of them. Of
         rounds that end by what they come to some are made twice, where the state is wanted."""
+        state = {name: stand_for(matrix) for name, matrix in state.items()}
         if self.is_inside:                         # what follows depends on what the first round comes to
             step(1, state)
             raise Unforeseen()

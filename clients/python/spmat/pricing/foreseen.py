@@ -2,97 +2,16 @@
 from __future__ import annotations
 
 import contextlib
-import threading
-from typing import TYPE_CHECKING, Any, Callable, Dict, Iterator, NoReturn, Optional, Sequence, Tuple
+from typing import TYPE_CHECKING, Any, Callable, Dict, Iterator, NoReturn, Optional, Tuple
 
 from .. import metadata
 from .._client.handles import Handle
+from ..mask import Mask
 from ..matrix import Matrix
-from ..operators import Operator
+from .unread import Asked, Unforeseen, Unread, asked, asking, reading
 
 if TYPE_CHECKING:
     from ..session import Session
-
-_here = threading.local()
-
-
-class Unforeseen(Exception):
-    """A result is wanted that isn't made."""
-
-
-def _refuse(*_: Any, **__: Any) -> NoReturn:
-    raise Unforeseen()
-
-
-class Unread:
-    """What stands for what only a result would tell. Whoever looks at it ends what can be foreseen of a call."""
-
-    def __getattr__(self, name: str) -> Any:
-        if name.startswith('__'):
-            raise Unforeseen()
-        return Unread()
-
-
-for _name in ('bool int index float len iter getitem contains call eq ne lt le gt ge hash neg abs round add radd sub rsub mul rmul floordiv '
-              'rfloordiv truediv rtruediv mod rmod lshift rlshift rshift rrshift and rand or ror pow rpow str format').split():
-    setattr(Unread, '__%s__' % _name, _refuse)
-
-
-class Asked:
-    """What is asked of a call that does nothing meanwhile. Facts of its graphs that it finds out are found once, as in earnest."""
-
-    sends = True                                   # whether matrices go to the server, and entries come from there
-
-    def __init__(self) -> None:
-        self._taken: Dict[Tuple[int, str], Tuple[Any, Any]] = {}       # graphs, which keep their numbers meanwhile, and facts
-        self._granted: Dict[str, Any] = {}
-        self.loops: Dict[int, Tuple[Any, Any]] = {}                    # loops, and the states that they would have
-
-    def foresee(self, session: Session, form: str, ops: Sequence[Operator], operands: Sequence[Matrix], mask: Optional[Matrix],
-                shape: Tuple[int, int]) -> Matrix:
-        """Notes a job, and gives what stands for its result."""
-        raise NotImplementedError
-
-    def call(self, name: str, args: Sequence[Any], named: Dict[str, Any]) -> Any:
-        """Notes a call of an algorithm, and gives what stands for its result."""
-        raise NotImplementedError
-
-    def repeat(self, step: Callable[[int, Any], Any], state: Any, rounds: Optional[int], least: int) -> Any:
-        """Notes so many rounds, or fewer but so many at the least, and gives what stands for the state behind them."""
-        raise NotImplementedError
-
-    def knows(self, graph: Any, name: str) -> bool:
-        """Whether a fact of a graph is known, or was found out by what was foreseen."""
-        return name in graph.kept or (id(graph.kept), name) in self._taken
-
-    def taken(self, graph: Any, name: str) -> Any:
-        """A fact that was found out by what was foreseen; None where none was."""
-        return self._taken.get((id(graph.kept), name), (graph, None))[1]
-
-    def fact(self, graph: Any, name: str, find: Callable[[], Any]) -> Any:
-        """A fact of a graph that isn't known yet. The jobs that find it out are counted; what only their result would tell is looked up, or
-        granted, or ends what is foreseen."""
-        key = (id(graph.kept), name)
-        if key not in self._taken:
-            try:
-                found = find()
-                found = self.look_up(graph, name) if isinstance(found, Unread) else found
-            except Unforeseen:
-                found = self.look_up(graph, name)
-            self._taken[key] = graph, found
-        return self._taken[key][1]
-
-    def look_up(self, graph: Any, name: str) -> Any:
-        """What a graph that passes an algorithm's checks has to be; a call on any other ends in an error."""
-        _ = graph
-        if name not in self._granted:
-            raise Unforeseen()
-        return self._granted[name]
-
-    def grant(self, facts: Dict[str, Any]) -> Dict[str, Any]:
-        """Takes these facts for what they have to be, and gives those that were taken before."""
-        before, self._granted = self._granted, facts
-        return before
 
 
 class Foretold(Handle):
@@ -120,42 +39,46 @@ class Stand(Matrix):
 
     new = wait
 
+    def to_text(self) -> bytes:
+        """Nothing is there to be read."""
+        raise Unforeseen()
+
     @property
     def nvals(self) -> Any:
         """The number of entries, which isn't known."""
         return Unread()
 
 
+METHODS = ('apply', 'dup', 'ewise_add', 'ewise_mult', 'isequal', 'mxm', 'mxv', 'reduce_columnwise', 'reduce_rowwise', 'reduce_scalar', 'select', 'update',
+           'vxm', 'without', '__getitem__')
+"""What asks for jobs."""
+
+
+def stand_for(one: Any) -> Any:
+    """What stands for a matrix in row blocks, or for one in a mask: entries, prices and steps of all blocks together are those of one
+    session's job. All else as it is."""
+    if isinstance(one, Mask):
+        return one._replace(matrix=stand_for(one.matrix))
+    if not hasattr(type(one), 'in_sessions'):
+        return one
+    made = stand(one.session, one.shape, one.nvals)
+    made.kept, made.notes = one.kept, one.notes
+    return made
+
+
 def _unread(name: str) -> Callable[..., Any]:
-    """A method that reads a matrix. That it is called isn't unforeseen yet: what it gives may be the last that is wanted."""
+    """A method of what stands for a matrix."""
+    @reading
     def read(self: Stand, *args: Any, **named: Any) -> Any:
-        try:
-            return getattr(Matrix, name)(self, *args, **named)
-        except Unforeseen:
-            return Unread()
+        return getattr(Matrix, name)(self, *map(stand_for, args), **{word: stand_for(one) for word, one in named.items()})
     return read
 
 
-for _name in ('by_node isequal mmwrite reduce_scalar to_coo to_csv to_dense to_dict to_edgelist to_list to_networkx to_pandas '
+for _name in METHODS:
+    setattr(Stand, _name, _unread(_name))
+for _name in ('by_node mmwrite to_coo to_csv to_dense to_dict to_edgelist to_list to_networkx to_pandas '
               'to_pandas_edgelist to_parquet to_scipy_sparse to_triples top write_edgelist').split():
     setattr(Stand, _name, _unread(_name))
-
-
-@contextlib.contextmanager
-def asking(what: Optional[Asked]) -> Iterator[None]:
-    """Jobs of this thread are foreseen in place of queued."""
-    before = asked()
-    _here.asked = what
-    try:
-        yield
-    finally:
-        _here.asked = before
-
-
-def asked() -> Optional[Asked]:
-    """What is asked in this thread, if anything is."""
-    found: Optional[Asked] = getattr(_here, 'asked', None)
-    return found
 
 
 def stays_here() -> bool:
@@ -178,6 +101,12 @@ def check_read() -> None:
 def check_made(handle: Handle) -> None:
     """Raises Unforeseen where the result of a job is wanted that hasn't run: a price makes no job run."""
     if handle.waits and asked() is not None:
+        raise Unforeseen()
+
+
+def check_queued() -> None:
+    """Raises Unforeseen where jobs would be queued that aren't told to who asks."""
+    if asked() is not None:
         raise Unforeseen()
 
 
@@ -217,3 +146,7 @@ def root(matrix: Matrix) -> Matrix:
     while isinstance(matrix, Stand) and matrix.whole and matrix.within is not None:
         matrix = matrix.within
     return matrix
+
+
+__all__ = ['METHODS', 'Asked', 'Stand', 'Unforeseen', 'Unread', 'asked', 'asking', 'check_made', 'check_queued', 'check_read', 'granted', 'least_entries',
+           'root', 'stand', 'stand_for', 'stays_here', 'stood', 'turn']
