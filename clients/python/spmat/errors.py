@@ -268,11 +268,10 @@ class Busy(Refused):
 class BudgetExceeded(Refused):
     """A job's price is above what is left, also after the queue was run. `algorithm` is the function of `spmat.algorithms` that wants it, or
     empty. `partial` is what that function had found by then, where that means something: a result of the same kind, as the function's
-    docstring says, else None. `error` is how far off it may be, where that is known. Reading it takes no steps."""
+    docstring says, else None. Reading it takes no steps."""
 
     algorithm = ''
     partial: Any = None
-    error: Optional[float] = None
 
     def __init__(self, rule: str, numbers: Sequence[int] = (), command: str = '', line: str = '', detail: str = '') -> None:
         detail = detail or ('the price is %d, and %d are left' % tuple(numbers[:2]) if len(numbers) >= 2 else '')
@@ -298,7 +297,7 @@ class BudgetExceeded(Refused):
         """This refusal, with another way to more steps."""
         out = type(self)(self.rule, self.numbers, self.command, self.line, self.detail.replace(MORE_STEPS, way))
         out.algorithm, out.said = self.algorithm, self.said
-        out.partial, out.error = self.partial, self.error
+        out.partial = self.partial
         out.args = (out.message(),)
         return out
 

@@ -35,7 +35,7 @@ DIRECTED = [
     graphs.directed('turned', 80, {(j, i) for i, j in _random_pairs(6, 80, 320, True)}), graphs.directed('in', 40, {(i, 0) for i in range(1, 40)}),
     graphs.directed('forward', 60, {(min(pair), max(pair)) for pair in _random_pairs(7, 60, 180)}),
     graphs.directed('loops', 40, _random_pairs(8, 40, 120) | {(i, i) for i in range(0, 40, 3)})]
-# The options of calls, and of each how many times what is spent the most may be on a graph that is none of the ODD, if that is more than 20.
+# The options of calls.
 OPTIONS = {
     'all_pairs': [{}], 'betweenness': [{}, {'sources': [0]}, {'weighted': True}],
     'bfs_levels': [{'source': 0}, {'source': 0, 'depth': 2}, {'source': 0, 'target': 5}, {'source': [0, 3]}],
@@ -55,6 +55,18 @@ OPTIONS = {
     'shortest_paths': [{'source': 0}, {'source': 0, 'weighted': True}, {'source': 0, 'cutoff': 3}], 'squares': [{}],
     'sssp': [{'source': 0}, {'source': 0, 'cutoff': 20}, {'source': 0, 'target': 5}], 'strongly_connected_components': [{}],
     'topological_levels': [{}], 'transitive_closure': [{}], 'triangle_count': [{}], 'triangles': [{}], 'undirected': [{}]}
+
+
+# Where the most is more than 20 times what is spent on graphs that are none of the odd ones, and why.
+LOOSE = {
+    'all_pairs': 'a pair of vertices may change in as many rounds as there are vertices', 'path_lengths': 'as for all_pairs',
+    'transitive_closure': 'there may be as many rounds as vertices, and all pairs may be looked at in each', 'closeness': 'weighted as all_pairs',
+    'betweenness': 'with weights as for path_lengths', 'diameter': 'more searches are allowed than are wanted',
+    'sssp': 'lengths of vertices within a band may change as often as light edges make a path', 'shortest_path': 'as for sssp',
+    'shortest_paths': 'as for sssp', 'k_shortest_paths': 'as for sssp', 'k_truss': 'edges may fall one after the other',
+    'louvain': '16 levels of 20 sweeps are allowed', 'hits': 'as many rounds as rounds= are allowed', 'eigenvector': 'as for hits',
+    'katz': 'as for hits, where alpha times the most edges of a vertex is 1 or more', 'has_path': 'the target may be the last to be found',
+    'maximal_independent_set': 'the seed may have vertices decided one after the other'}
 
 
 def arguments(G, options):
@@ -116,6 +128,203 @@ class Algorithms(support.InSession):
     def test_directed(self):
         """And on directed ones, where it gives an answer."""
         self.on(DIRECTED)
+
+
+class Nearness(support.InSession):
+    def test_near(self):
+        """No bound is twenty times too high on common graphs, but for those that say why."""
+        for name in sorted(set(OPTIONS) - set(LOOSE)):
+            for graph in (graphs.UNDIRECTED[3], UNDIRECTED[3]):
+                with self.subTest(algorithm=name, graph=graph.name):
+                    G, named = graph.matrix(self.s), OPTIONS[name][0]
+                    priced = spmat.price(lambda: getattr(algorithms, name)(G, **arguments(G, named)))
+                    spent, ended = called(self.s, lambda: getattr(algorithms, name)(G, **arguments(G, named)))
+                    if ended and spent:
+                        self.assertLessEqual(priced.most, 20 * spent)
+
+    def test_rounds(self):
+        """Where rounds are bounded by the caller, the bound is near."""
+        G = graphs.UNDIRECTED[3].matrix(self.s)
+        for name in ('hits', 'eigenvector'):
+            priced = spmat.price(lambda: getattr(algorithms, name)(G, rounds=60, tolerance=1e-4))
+            spent, _ = called(self.s, lambda: getattr(algorithms, name)(G, rounds=60, tolerance=1e-4))
+            self.assertTrue(spent <= priced.most <= 20 * spent, name)
+            self.assertIn('up to 60 rounds', repr(priced))
+
+
+class Directed(unittest.TestCase):
+    def test_facts_are_looked_up(self):
+        """A directed graph isn't taken for an undirected one: what is priced is spent at the most, and is enough as a budget."""
+        for seed in range(12):
+            graph = graphs.directed('skewed', 60, {(j, i) for i, j in _random_pairs(seed, 60, 150, True)})
+            for function in (algorithms.common_neighbours, algorithms.jaccard):
+                with spmat.Session() as session:
+                    G = graph.matrix(session)
+                    priced = spmat.price(lambda: function(G))
+                    self.assertLessEqual(called(session, lambda: function(G))[0], priced.most)
+                with spmat.Session(steps=priced.steps) as session:
+                    self.assertTrue(called(session, lambda: function(graph.matrix(session)))[1])
+
+
+class Compositions(support.InSession):
+    def setUp(self):
+        super().setUp()
+        self.G = graphs.UNDIRECTED[3].matrix(self.s)
+
+    def test_sums(self):
+        """Calls add up, and what is found out once is counted once."""
+        G = self.G
+        one, two = (spmat.price(lambda: algorithms.bfs_levels(G, 0)), spmat.price(lambda: algorithms.pagerank(G)))
+        both = spmat.price(lambda: (algorithms.bfs_levels(G, 0), algorithms.pagerank(G)))
+        self.assertLessEqual(both.most, one.most + two.most)
+        self.assertGreater(both.most, max(one.most, two.most))
+        twice = spmat.price(lambda: (algorithms.degrees(G), algorithms.degrees(G)))
+        self.assertEqual((twice.least, twice.most), (2 * spmat.price(lambda: algorithms.degrees(G)).least, 10 * G.nvals))
+
+    def test_reads(self):
+        """What is read last doesn't matter; what the caller's code goes on by ends what is known."""
+        G = self.G
+        for call in (lambda: G.apply('one').to_dict(), lambda: G.mxm(G).nvals, lambda: G.reduce_scalar(), lambda: G[0, 1],
+                     lambda: algorithms.bfs_levels(G, 0).to_list(), lambda: algorithms.louvain(G).modularity, lambda: G.mxm(G).wait()):
+            priced = spmat.price(call)
+            spent, _ = called(self.s, call)
+            self.assertTrue(priced.least <= spent <= priced.most, priced)
+        for call in (lambda: [1] if G.apply('one').nvals > 3 else [], lambda: list(algorithms.degrees(G).to_list()),
+                     lambda: range(algorithms.triangle_count(G))):
+            priced = spmat.price(call)
+            self.assertEqual((priced.most, priced.complete), (None, False))
+            self.assertIn('at least', repr(priced))
+            self.assertNotIn('at most', repr(priced))
+            with self.assertRaisesRegex(ValueError, 'no bound is known'):
+                priced.steps  # pylint: disable=pointless-statement
+
+    def test_methods(self):
+        """Of the methods of matrices, alone and under masks."""
+        G, half = self.G, self.G.select('tril').wait()
+        for call in (lambda: G.mxm(G.T, mask=G.S), lambda: G.without(half), lambda: G.update(half, mask=~half.S), lambda: G[3, :],
+                     lambda: G.apply('one', mask=~half.S), lambda: G.reduce_rowwise('max').ewise_add(G.reduce_rowwise('min')),
+                     lambda: G.dup(mask=half.V), lambda: half.mxm(half, 'plus_pair', mask=half.S), lambda: G.mxm(G, parts=True)):
+            priced = spmat.price(call)
+            spent, ended = called(self.s, call)
+            self.assertTrue(ended and priced.least <= spent <= priced.most, priced)
+
+    def test_loops(self):
+        """Of loops and fixed points, whose state a price leaves as it is."""
+        G, F = self.G, self.s.from_coo([0], [0], [1], 1, self.G.nrows)
+
+        def step(state):
+            return {'front': state.front.mxm(G, 'any_pair'), 'seen': state.seen.ewise_add(state.front, 'first')}
+        for run in (lambda loop: loop.advance(3), lambda loop: (loop.advance(3), loop.state.seen.apply('one').wait()),
+                    lambda loop: loop.run(spmat.steady('seen')), lambda loop: (loop.run(spmat.steady('seen')), loop.state), lambda loop: loop.advance(90)):
+            loop = spmat.loop(step, {'front': F, 'seen': F})
+            before = self.s.budget().spent
+            priced = spmat.price(lambda: run(loop))
+            self.assertEqual((self.s.budget().spent, loop.number), (before, 0))
+            run(loop)
+            loop.state.seen.wait()
+            self.assertTrue(priced.least <= self.s.budget().spent - before <= priced.most, priced)
+
+        def fixed(most=None):
+            return spmat.fixpoint(F, lambda now: now.ewise_add(now.mxm(G, 'any_pair'), 'first'), most)
+        for most in (None, 9):
+            priced = spmat.price(lambda most=most: fixed(most))
+            self.assertTrue(priced.least <= called(self.s, lambda most=most: fixed(most))[0] <= priced.most)
+
+
+class Blocks(unittest.TestCase):
+    def test_blocks(self):
+        """Prices of matrices in row blocks ask for no job, and bound what all blocks take."""
+        graph = graphs.UNDIRECTED[3]
+        rows, columns = zip(*graph.edges)
+        with spmat.blocks.Sessions(spmat.blocks.Threads(2)) as session:
+            G = session.from_coo(rows, columns, list(graph.edges.values()), graph.count, graph.count)
+            for call in (lambda: G.mxm(G), lambda: G.mxm(G, mask=G.S).reduce_rowwise(), lambda: G.mxm(G).ewise_add(G), lambda: algorithms.pagerank(G),
+                         lambda: algorithms.bfs_levels(G, 0), lambda: algorithms.triangle_count(G), lambda: algorithms.connected_components(G)):
+                before = session.budget().spent
+                priced = spmat.price(call)
+                self.assertEqual(session.budget().spent, before)
+                made = call()
+                if hasattr(made, 'wait'):
+                    made.wait()
+                self.assertTrue(priced.least <= session.budget().spent - before <= priced.most, priced)
+
+
+class Warnings(unittest.TestCase):
+    def test_warned(self):
+        """A call that may need more than is left says so before it begins, once; on an ample budget nobody looks."""
+        graph = graphs.UNDIRECTED[3]
+        for steps, warned in ((20000, 1), (10 ** 9, 0), (1 << 62, 0)):
+            with spmat.Session(steps=steps) as session, warnings.catch_warnings(record=True) as caught:
+                warnings.simplefilter('always')
+                with self.subTest(steps=steps):
+                    try:
+                        algorithms.pagerank(graph.matrix(session))
+                    except spmat.BudgetExceeded:
+                        pass
+                    told = [one for one in caught if issubclass(one.category, spmat.BudgetWarning)]
+                    self.assertEqual(len(told), warned)
+                    if told:
+                        self.assertRegex(str(told[0].message), 'pagerank may take up to [0-9,]+ steps, and 20,000 are left')
+                        self.assertEqual(told[0].filename, __file__)
+
+
+class Partial(unittest.TestCase):
+    """What a call has found that is refused amid its work."""
+
+    def refused(self, name, share, *more):
+        """The result of a call, and the partial one of the same call with a share of the steps that it takes."""
+        graph = graphs.UNDIRECTED[3]
+        with spmat.Session() as session:
+            whole = getattr(algorithms, name)(graph.matrix(session), *more)
+            spent = session.budget().spent
+        session = spmat.Session(steps=int(spent * share))
+        self.addCleanup(session.close)
+        with warnings.catch_warnings(), self.assertRaises(spmat.BudgetExceeded) as caught:
+            warnings.simplefilter('ignore')
+            getattr(algorithms, name)(graph.matrix(session), *more)
+        return whole, caught.exception.partial
+
+    def test_communities(self):
+        _, partial = self.refused('louvain', .6)
+        self.assertIsInstance(partial, algorithms.Communities)
+        with spmat.Session() as session:
+            found = algorithms.modularity(graphs.UNDIRECTED[3].matrix(session), session.from_coo(range(34), [0] * 34, partial.to_list()))
+        self.assertAlmostEqual(found, partial.modularity)
+        self.assertGreater(found, 0)
+
+    def test_ranks(self):
+        """Each is as near as it says."""
+        _, partial = self.refused('pagerank', .8)
+        with spmat.Session() as session:
+            whole = algorithms.pagerank(graphs.UNDIRECTED[3].matrix(session), tolerance=1e-9)
+        one = sum(whole.to_list())
+        self.assertLessEqual(sum(abs(a - b) for a, b in zip(whole.to_list(), partial.to_list())) / one, partial.error)
+        self.assertLess(partial.error, .2)
+        for name, more in (('eigenvector', ()), ('katz', (.05,))):
+            self.assertLess(self.refused(name, .8, *more)[1].error, .2)
+        hubs, authorities = self.refused('hits', .8)[1]
+        self.assertEqual((hubs.nvals, authorities.nvals), (34, 34))
+
+    def test_others(self):
+        _, partial = self.refused('label_propagation', .7)
+        self.assertEqual(partial.nvals, 34)
+        for name in ('bfs_levels', 'bfs_parents'):
+            graph = graphs.UNDIRECTED[3]
+            with spmat.Session(steps=150) as session, warnings.catch_warnings(), self.assertRaises(spmat.BudgetExceeded) as caught:
+                warnings.simplefilter('ignore')
+                getattr(algorithms, name)(graph.matrix(session), 0)
+            found = caught.exception.partial.to_dict()
+            with spmat.Session() as session:
+                whole = getattr(algorithms, name)(graph.matrix(session), 0).to_dict()
+            self.assertTrue(0 < len(found) < 34 and found.items() <= whole.items())
+        whole, partial = self.refused('sssp', .9, 0)
+        self.assertTrue(all(partial.to_dict().get(at, length) >= length for at, length in whole_of('sssp', 0).items()))
+        self.assertIsNone(self.refused('triangle_count', .97)[1])
+
+
+def whole_of(name, *more):
+    with spmat.Session() as session:
+        return getattr(algorithms, name)(graphs.UNDIRECTED[3].matrix(session), *more).to_dict()
 
 
 if __name__ == '__main__':

@@ -185,15 +185,21 @@ def eigenvector(G: M, GT: Optional[M] = None, tolerance: Optional[float] = None,
     """The eigenvector centrality of each vertex, as a column in units of 1/scale (2^-40): numbers of which each is in proportion to the sum
     of those of the vertices that lead to it, whose squares add up to 1. Each edge counts as 1, unless `weighted=True` has values count.
 
-    `error` is the residual, and no bound: how far the vector that one more product gives, divided by the eigenvalue, is from it (2-norm). How
+    `error` is the residual, and no bound: how far the vector that one more product gives, divided by the eigenvalue, is from it
+    (2-norm). How
     far the true one is, the graph decides as well: residual by relative distance of the next eigenvalue, where each edge leads both ways.
-    Rounds end where the numbers of two that follow differ by less than `tolerance` times the vertices in all: 1e-6, or where weights are so
+    Rounds end where the numbers of two that follow differ by less than `tolerance` times the vertices in all: 1e-6, or where weights are
+    so
     great that rounding takes more the least that can be kept, as the result's `tolerance` says. `GT` is as for `pagerank`.
     `progress('round', k, 0)` is called after each round.
 
-    Runs: 1 a round, and 2. Steps: up to 5 an edge, a round. Power iteration of G + 1, in whole numbers. networkx: `eigenvector_centrality`.
-    igraph: `eigenvector_centrality`, whose greatest is 1. Raises ValueError where so many rounds don't do, the graph has no edge, a value is
-    below 0, a tolerance that is given can't be kept, and for numbers out of range.
+    Runs: 1 a round, and 2. Steps: up to 5 an edge, a round. Power iteration of G + 1, in whole numbers. networkx:
+    `eigenvector_centrality`.
+    igraph: `eigenvector_centrality`, whose greatest is 1. Raises ValueError where so many rounds don't do, the graph has no edge, a
+    value is
+    below 0, a tolerance that is given can't be kept, and for numbers out of range. Where the budget ends amid the work, `partial` of
+    BudgetExceeded has the numbers of
+    the last round; its `error` is the last change.
     """
     count = order(G, GT)
     _check(scale, rounds)
@@ -249,14 +255,18 @@ def katz(G: M, alpha: float = 0.1, beta: float = 1.0, GT: Optional[M] = None, to
     vertices that lead to it. With `normalized` divided so that the squares add up to 1. Each edge counts as 1, unless `weighted=True` has
     values count.
 
-    `error` is proved: no number is farther from the true one. Rounds end as soon as each is known to `tolerance` times itself: 1e-9, or where
-    sums are so great that rounding takes more the least that can be kept, as the result's `tolerance` says. alpha is less than 1 divided by
-    the greatest eigenvalue, or the call is refused, as numbers grow on. `GT` is as for `pagerank`. `progress('round', k, 0)` is called after
+    `error` is proved: no number is farther from the true one. Rounds end as soon as each is known to `tolerance` times itself: 1e-9, or
+    where
+    sums are so great that rounding takes more the least that can be kept, as the result's `tolerance` says. alpha is less than 1 divided
+    by
+    the greatest eigenvalue, or the call is refused, as numbers grow on. `GT` is as for `pagerank`. `progress('round', k, 0)` is called
+    after
     each round.
 
     Runs: 1 a round, and 1; some rounds again where numbers grow by more than 2^16. Steps: up to 5 an edge, a round. networkx:
     `katz_centrality`. Raises ValueError where alpha is too great, so many rounds don't do, a value is below 0, a tolerance that is given
-    can't be kept, and for numbers out of range.
+    can't be kept, and for numbers out of range. Where the budget ends amid the work, `partial` of BudgetExceeded has the numbers of the
+    last round with a known `error`.
     """
     count = order(G, GT)
     _check(scale, rounds)
@@ -339,14 +349,19 @@ def hits(G: M, GT: Optional[M] = None, tolerance: Optional[float] = None, scale:
     that lead to it, and a hub's to those of the authorities that it leads to. Each kind adds up to 1. Each edge counts as 1, unless
     `weighted=True` has values count.
 
-    `error` is the last change, and no bound: how far the numbers of hubs still moved in the last round, all together. Rounds end where that
+    `error` is the last change, and no bound: how far the numbers of hubs still moved in the last round, all together. Rounds end where
+    that
     is less than `tolerance`: 1e-8, or where weights are so great that rounding takes more the least that can be kept, as the result's
-    `tolerance` says. The graph decides how far the true ones are. `GT` is as for `pagerank`. `progress('round', k, 0)` is called after each
+    `tolerance` says. The graph decides how far the true ones are. `GT` is as for `pagerank`. `progress('round', k, 0)` is called after
+    each
     round.
 
-    Runs: 2 a round, and 3. Steps: up to 10 an edge, a round. Kleinberg's algorithm, in whole numbers. networkx: `hits`. igraph: `hub_score`,
-    `authority_score`. Raises ValueError where so many rounds don't do, the graph has no edge, a value is below 0, a tolerance that is given
-    can't be kept, and for numbers out of range.
+    Runs: 2 a round, and 3. Steps: up to 10 an edge, a round. Kleinberg's algorithm, in whole numbers. networkx: `hits`. igraph:
+    `hub_score`,
+    `authority_score`. Raises ValueError where so many rounds don't do, the graph has no edge, a value is below 0, a tolerance that is
+    given
+    can't be kept, and for numbers out of range. Where the budget ends amid the work, `partial` of BudgetExceeded has the hubs of the
+    last round, and the authorities that they come from.
     """
     count = order(G, GT)
     _check(scale, rounds)

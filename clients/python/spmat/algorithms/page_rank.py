@@ -271,9 +271,12 @@ def pagerank(G: M, GT: Optional[M] = None, damping: float = 0.85, tolerance: Opt
              progress: Progress = None, *, weighted: bool = False, personalization: Optional[Weights] = None,
              dangling: Optional[Weights] = None, check: bool = True) -> Centrality:
     """The PageRank of each vertex, as a column in units of 1/scale. Each edge counts as 1, unless `weighted=True` has values count: then a
-    vertex divides its rank among its edges in proportion to them. The ranks' distances from the true ones add up to at most `tolerance`, all
-    rounding included, or the call is refused: 1e-6, or where weights are so great that rounding takes more the least that can be kept, as the
-    result's `tolerance` says. `error` bounds their sum, and so each of them. Without `scale` a rank of 1 is 2^40 units; with more vertices
+    vertex divides its rank among its edges in proportion to them. The ranks' distances from the true ones add up to at most `tolerance`,
+    all
+    rounding included, or the call is refused: 1e-6, or where weights are so great that rounding takes more the least that can be kept,
+    as the
+    result's `tolerance` says. `error` bounds their sum, and so each of them. Without `scale` a rank of 1 is 2^40 units; with more
+    vertices
     than 549,755 (at the usual tolerance) the least power of two above that keeps the tolerance: all ranks add up to it.
 
     `personalization` has a weight for each vertex (0 where it says nothing): the share of what is given anew in each round; else all
@@ -281,15 +284,22 @@ def pagerank(G: M, GT: Optional[M] = None, damping: float = 0.85, tolerance: Opt
     anew: as in networkx.
 
     The damping has at most six decimals. `GT` serves blocks, and large graphs in a session of three workers or more; without it it
-    is made there. `progress('round', k, n)` is called after each round, of which there are at most n, log(tolerance / 2) / log(damping) (90),
-    but for graphs with many vertices that no edge leaves. Rounds end as soon as the change of the last one shows that the tolerance is kept,
+    is made there. `progress('round', k, n)` is called after each round, of which there are at most n, log(tolerance / 2) / log(damping)
+    (90),
+    but for graphs with many vertices that no edge leaves. Rounds end as soon as the change of the last one shows that the tolerance is
+    kept,
     which is asked every few rounds.
 
-    Runs: 2 a round, 3 where something else than one number is given, or some vertex that edges leave has none that come, and for such a large
-    graph where no edge leaves some; 3 each time that is asked; 8 more; all of it twice where `dangling` differs. Steps: up to 5 an edge and
-    10 a vertex, a round (6 an edge with weights; 15 a vertex); 5 an edge, and 10 a vertex each time that is asked. GraphBLAS: `vxm` over plus and first, damped. LAGraph:
+    Runs: 2 a round, 3 where something else than one number is given, or some vertex that edges leave has none that come, and for such a
+    large
+    graph where no edge leaves some; 3 each time that is asked; 8 more; all of it twice where `dangling` differs. Steps: up to 5 an edge
+    and
+    10 a vertex, a round (6 an edge with weights; 15 a vertex); 5 an edge, and 10 a vertex each time that is asked. GraphBLAS: `vxm` over
+    plus and first, damped. LAGraph:
     `LAGr_PageRank`. networkx: `pagerank`. Raises ValueError where damping, tolerance, scale (1 to 2^52) or weights are out of range, and
-    where values are negative (4 jobs, once), and where GT isn't the transpose (`check=False` leaves these out).
+    where values are negative (4 jobs, once), and where GT isn't the transpose (`check=False` leaves these out). Where the budget ends
+    amid the work, `partial` of BudgetExceeded has the ranks of the last
+    round with their `error`, but with `dangling`.
     """
     count = order(G, GT)
     if not (tolerance is None or 0 < tolerance < 1) or not (scale is None or 1 <= scale <= 1 << MOST_SCALE):

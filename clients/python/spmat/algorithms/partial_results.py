@@ -14,14 +14,12 @@ def unless_empty(column: M) -> Optional[M]:
 
 
 @contextlib.contextmanager
-def keep_partial(find: Callable[[], Any], error: Optional[Callable[[], float]] = None) -> Iterator[None]:
-    """Where a job is refused for want of steps, the refusal has what was found by then as its `partial`, and how far off that may be as
-    its `error`. It is made of what the client has, or of matrices that are there: neither takes a step."""
+def keep_partial(find: Callable[[], Any]) -> Iterator[None]:
+    """Where a job is refused for want of steps, the refusal has what was found by then as its `partial`. It is made of what the client has,
+    or of matrices that are there: neither takes a step."""
     try:
         yield
     except BudgetExceeded as fault:
         with contextlib.suppress(SpmatError):
             fault.partial = find()
-            if fault.partial is not None and error is not None:
-                fault.error = error()
         raise
