@@ -162,7 +162,8 @@ class Directed(unittest.TestCase):
                     G = graph.matrix(session)
                     priced = spmat.price(lambda: function(G))
                     self.assertLessEqual(called(session, lambda: function(G))[0], priced.most)
-                with spmat.Session(steps=priced.steps) as session:
+                with spmat.Session(steps=priced.steps) as session, warnings.catch_warnings():
+                    warnings.simplefilter('error', spmat.BudgetWarning)
                     self.assertTrue(called(session, lambda: function(graph.matrix(session)))[1])
 
 

@@ -10,9 +10,9 @@ from typing import Any, Callable, Iterator, Optional, Tuple, TypeVar, cast
 from .._client.pending_jobs import AMPLE
 from ..errors import MORE_STEPS, BudgetExceeded, BudgetWarning
 from ..matrix import Matrix
-from .call_price import bound_of, needed_by
+from .call_price import Price, bound_of, needed_by
 from .call_sizes import CallSizes
-from .foreseen import asked
+from .foreseen import asked, asking
 
 AN_ENTRY = 1 << 14                                 # steps for each entry of a graph, which no call is certain to take
 F = TypeVar('F', bound=Callable[..., Any])
@@ -70,20 +70,21 @@ def _check_budget(function: Callable[..., Any], args: Tuple[Any, ...], named: An
 
 
 def _most(function: Callable[..., Any], args: Tuple[Any, ...], named: Any, left: int) -> Optional[int]:
-    """The most that has to be left, by the sizes of the graph; where that may be too much, by its entries."""
+    """The most that has to be left, by the sizes of the graph; where that may be too much, what `price` tells by its entries. None where that
+    isn't known, or the call itself raises an error."""
     from ..algorithms.registry import ALGORITHMS  # which want matrices
     steps = ALGORITHMS[function.__name__].steps
-    most: Optional[int] = None
-    for reads in (False, True):
-        try:
-            sizes = CallSizes.of(function, args, named, lambda graph, name: name in graph.kept, reads)
-            bound = None if steps is None else bound_of(steps, sizes)
-        except TypeError:                          # the call itself raises it
-            return None
-        most = None if bound is None else bound.reserved
-        if most is None or most <= left:
-            break
-    return most
+    try:
+        sizes = CallSizes.of(function, args, named, lambda graph, name: name in graph.kept, False)
+        bound = None if steps is None else bound_of(steps, sizes)
+        if bound is not None and bound.reserved <= left:
+            return bound.reserved
+        priced = Price()
+        with asking(priced):
+            priced.call(function.__name__, args, named)
+        return None if priced.most is None else priced.steps
+    except Exception:                              # pylint: disable=broad-exception-caught  # the call itself raises it
+        return None
 
 
 @contextlib.contextmanager
