@@ -68,7 +68,7 @@ def whole(number: Any, what: str = 'value') -> int:
         pass
     if not isinstance(number, numbers.Real):
         raise TypeError('a %s is a whole number, not %r' % (what, number))
-    if number != number:
+    if math.isnan(number):
         raise ValueError('a %s is missing: it is nan' % what)
     if not math.isfinite(number) or number != int(number):
         raise ValueError('a %s is a whole number, not %r%s' % (what, number, _mend(what)))
