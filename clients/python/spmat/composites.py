@@ -10,7 +10,7 @@ from typing import TYPE_CHECKING, Any, Dict, List, Optional, Tuple, TypeVar
 from . import assignment, tiles, units
 from .errors import refusal
 from .indexing import gather, picked
-from .metadata import BY_POSITIONS, COLUMNS, NOTHING, ROWS, check_same_names, on_diagonal
+from .metadata import BY_POSITIONS, COLUMNS, NOTHING, ROWS, check_equal, check_same_names, on_diagonal
 from .operators import Op
 from .pricing.unread import reading
 from .signs import Signs
@@ -169,6 +169,17 @@ class Composites(Signs, metaclass=MatrixType):
         By the client, like `T`. In the GraphBLAS GxB_Matrix_reshape, in numpy `reshape`. Raises DimensionMismatch for another number
         of places."""
         return tiles.reshaped(self, nrows, ncols, order, name)  # type: ignore[arg-type, return-value]
+
+
+def have_same_entries(first: Any, second: Any) -> bool:
+    """Whether two matrices have the same sizes, positions and values. NamesDiffer or UnitsDiffer where they can't be compared."""
+    if first.shape != second.shape:
+        return False
+    check_equal(first.notes, second.notes)
+    if first.nvals != second.nvals:
+        return False
+    differ = first.ewise_mult(second, 'ne')
+    return bool(differ.nvals == first.nvals and differ.select('nonzero').nvals == 0)
 
 
 def filled(pattern: Any, number: Any, unit: units.Unit) -> Any:

@@ -7,7 +7,7 @@ import weakref
 from typing import TYPE_CHECKING, Any, NamedTuple, Optional, Sequence, Tuple, Union, cast
 
 from . import aggregators, metadata, oversized_jobs, units
-from .composites import Composites
+from .composites import Composites, have_same_entries
 from .display import html
 from .errors import TooLarge, refusal
 from .job_operators import Number, applied, of_form
@@ -341,13 +341,7 @@ class Matrix(Composites):
         and 2 runs."""
         if not isinstance(other, Matrix):
             raise TypeError('expected a matrix, got %r' % (other,))
-        if self.shape != other.shape:
-            return False
-        metadata.check_equal(self.notes, other.notes)
-        if self.nvals != other.nvals:
-            return False
-        differ = self.ewise_mult(other, binary.ne)
-        return differ.nvals == self.nvals and differ.select(indexunary.nonzero).nvals == 0
+        return have_same_entries(self, other)
 
     def to_text(self) -> bytes:
         """The canonical Matrix Market text: coordinate integer general, entries by ascending row and column. Runs the queue where

@@ -5,6 +5,9 @@ knows numbers.
 """
 from __future__ import annotations
 
+# pylint finds neither the members of a named tuple with methods, nor how many values a list has
+# pylint: disable=unsubscriptable-object,no-member,no-value-for-parameter
+
 import enum
 import functools
 import itertools
@@ -373,14 +376,25 @@ def _met(op: Operator, first: Notes, second: Notes) -> Optional[Nodes]:
 def _of_pair(first: Notes, second: Notes, unit: Unit, value_names: Optional[Nodes] = None) -> Notes:
     if first is NOTHING and second is NOTHING:
         return NOTHING
-    return Notes(directed=_even(first, second), unit=unit, value_names=value_names).with_axes(*joined(first, second, ELEMENTWISE))
+    return _elementwise(first, second, ELEMENTWISE)._replace(directed=_even(first, second), weighted=None, source='', unit=unit,
+                                                             value_names=value_names)
+
+
+def _elementwise(first: Notes, second: Notes, pairs: Pairs) -> Notes:
+    """The notes of the first with what the rows and columns of both are called. Where these are the same, or one has none, nothing is compared."""
+    alike = first.rows is second.rows and first.columns is second.columns and first[-2:] == second[-2:]
+    if second is NOTHING or alike:
+        return first
+    if first is NOTHING:
+        return second._replace(weighted=None)
+    return first.with_axes(*joined(first, second, pairs))
 
 
 def of_product(first: Notes, second: Notes, ring: Semiring, same: bool) -> Notes:
     """What is known of a product; `same` says that both operands are one matrix."""
     if first is NOTHING and second is NOTHING:
         return NOTHING
-    inner, = joined(first, second, PRODUCT)
+    inner = joined(first, second, PRODUCT)[0]
     rows, columns = (inner if _are_alike(one) else one.axis(axis) for one, axis in ((first, ROWS), (second, COLUMNS)))
     if not (_are_alike(first) and _are_alike(second)):
         rows, columns = rows.alone(), columns.alone()
@@ -405,8 +419,7 @@ def masked(result: Notes, mask: Notes) -> Notes:
     """What is known of a result that is cut to the structure of a mask."""
     if result is NOTHING and mask is NOTHING:
         return NOTHING
-    return Notes(directed=_even(result, mask), weighted=result.weighted, unit=result.unit,
-                 value_names=result.value_names).with_axes(*joined(result, mask, MASK))
+    return _elementwise(result, mask, MASK)._replace(directed=_even(result, mask), source='', unit=result.unit, value_names=result.value_names)
 
 
 def of_structure(mask: Notes, value: bool) -> Notes:

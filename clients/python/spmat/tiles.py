@@ -82,7 +82,7 @@ def _band_axis(band: Sequence[Any], axis: int, at: int) -> Axis:
     notes = NOTHING
     for tile in band:
         if tile is not None:
-            one, = joined(notes, tile.notes, ((axis, axis, words),))
+            one = joined(notes, tile.notes, ((axis, axis, words),))[0]
             notes = NOTHING.with_axes(one, one)
     return notes.axis(axis)
 

@@ -8,13 +8,13 @@ from typing import TYPE_CHECKING, Any, Dict, Iterable, List, Optional, Sequence,
 
 from .. import aggregators, metadata, units
 from .._client.protocol import FORMS
-from ..composites import Composites
+from ..composites import Composites, have_same_entries
 from ..aliases import alias, is_same
 from ..errors import SpmatError, refusal
 from ..mask import Mask, as_mask
 from ..job_operators import Number, applied, of_form
 from ..matrix import Ring
-from ..operators import Op, Semiring, binary, find_semiring, indexunary
+from ..operators import Op, Semiring, binary, find_semiring
 from . import composite_methods, foreseen_methods, frontier, html, matrix_products, repartition, row_partition, unsupported, worker_tasks
 from .row_partition import Cut
 from .shared_budget import Work
@@ -203,13 +203,7 @@ class BlockMatrix(Composites):
         """Whether both have the same sizes, positions and values. No job where sizes or numbers of entries differ; else 2 jobs at
         each block."""
         self._check_sessions(other)
-        if self.shape != other.shape:
-            return False
-        metadata.check_equal(self.notes, other.notes)
-        if self.nvals != other.nvals:
-            return False
-        differ = self.ewise_mult(other, binary.ne)
-        return differ.nvals == self.nvals and differ.select(indexunary.nonzero).nvals == 0
+        return have_same_entries(self, other)
 
     def job(self, method: str, others: Sequence['BlockMatrix'], args: Sequence[Any], ncols: Optional[int] = None, *,
             told: metadata.Notes, mask: MaskLike = None, name: Optional[str] = None, **options: Any) -> 'BlockMatrix':
