@@ -299,7 +299,7 @@ class Known(unittest.TestCase):
 class Fixpoints(unittest.TestCase):
     def cycle(self, s, ends):
         W = s.from_edgelist([('a', 'b', 2), ('b', 'c', -3), ('c', 'a', 0)] + [(chr(99 + k), chr(100 + k), 1) for k in range(ends)])
-        start = s.from_coo([0], [W.index('a')], [0], 1, W.ncols)
+        start = s.from_coo([0], [W.index('a')], [0], 1, W.ncols, nodes=W.nodes)
         return lambda now: now.ewise_add(now.mxm(W, 'min_plus'), 'min'), start
 
     def test_no_round_without_end(self):
