@@ -226,7 +226,7 @@ class Left(Case):
     """What is left to networkx, and the reason."""
 
     def reason(self, name, *args, **kwargs):
-        return Backend.can_run(name, args, kwargs)
+        return Backend.reason(name, args, kwargs)
 
     def test_reasons(self):
         path, digraph = networkx.path_graph(4), networkx.DiGraph([(0, 1)])
@@ -252,11 +252,24 @@ class Left(Case):
                 ('no graph', 'triangles', ({},), {})):
             with self.subTest(name=name, words=words):
                 self.assertIn(words, str(self.reason(name, *args, **kwargs)))
-        self.assertIs(self.reason('single_source_bellman_ford_path_length', below, 0), True)
-        self.assertIs(self.reason('single_source_dijkstra_path_length', half, 0), True)
-        self.assertIs(self.reason('single_source_dijkstra_path_length', uneven, 0, weight=None), True)
-        self.assertIs(self.reason('triangles', path), True)
-        self.assertIs(self.reason('triangles'), True)          # networkx says better what is missing
+        self.assertIsNone(self.reason('single_source_bellman_ford_path_length', below, 0))
+        self.assertIsNone(self.reason('single_source_dijkstra_path_length', half, 0))
+        self.assertIsNone(self.reason('single_source_dijkstra_path_length', uneven, 0, weight=None))
+        self.assertIsNone(self.reason('triangles', path))
+        self.assertIsNone(self.reason('triangles'))            # networkx says better what is missing
+
+    def test_the_reason_is_told(self):
+        """Where backend= asks for spmat the error says why it doesn't do it, and with a priority networkx does it."""
+        uneven = networkx.Graph([(0, 1, {'weight': 1 / 3}), (1, 2, {'weight': 1.0})])
+        for function, words in ((networkx.dijkstra_path, 'power of ten or two'), (networkx.shortest_path_length, 'power of ten or two')):
+            with self.assertRaises(NotImplementedError) as caught:
+                function(uneven, 0, 2, weight='weight', backend='spmat')
+            told = '%s %s' % (caught.exception, caught.exception.__cause__)
+            self.assertIn(words, told)
+            self.assertIn('scale = 1e6', told)
+        with self.assertRaises(NotImplementedError) as caught:
+            networkx.clustering(uneven, weight='weight', backend='spmat')
+        self.assertIn('clustering is left to networkx: weights are folded by cube roots', str(caught.exception.__cause__))
 
     def test_networkx_does_it(self):
         """With a priority, a call that is left is done by networkx; with backend= it is refused."""

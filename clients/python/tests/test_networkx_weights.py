@@ -86,7 +86,7 @@ class Weights(unittest.TestCase):
         graph = nx.Graph([(0, 1, {'weight': math.pi}), (1, 2, {'weight': 1e-12})])
         with self.assertRaises(NotImplementedError):
             nx.dijkstra_path_length(graph, 0, 2, backend='spmat')
-        self.assertIn('scale = 1e6 rounds them', str(nx.utils.backends._load_backend('spmat').can_run('dijkstra_path_length', (graph, 0, 2), {})))
+        self.assertIn('scale = 1e6 rounds them', str(nx.utils.backends._load_backend('spmat').reason('dijkstra_path_length', (graph, 0, 2), {})))
         nx.config.backends.spmat.scale = 1000
         self.assertEqual(nx.dijkstra_path_length(graph, 0, 2, backend='spmat'), 3.142)
         nx.config.backends.spmat.scale = '1e4'
@@ -95,10 +95,50 @@ class Weights(unittest.TestCase):
             with self.assertRaises(ValueError):
                 nx.config.backends.spmat.scale = wrong
 
-    def test_functions_that_have_not_learnt_it(self):
-        graph = nx.Graph([(0, 1, {'weight': .5}), (1, 2, {'weight': .25})])
-        said = nx.utils.backends._load_backend('spmat').can_run('closeness_centrality', (graph,), {'distance': 'weight'})
-        self.assertIn('not whole', str(said))
+    def test_paths(self):
+        """Powers of two are exact in floats, so every path is networkx'; of tenths lengths are the true sums."""
+        for kind in (nx.Graph, nx.DiGraph, nx.MultiGraph):
+            graph = weighted(kind, (.5, .25, 1.75, 3, 4.0, 2 ** -10))
+            for function, args in ((nx.dijkstra_path, (0, 7)), (nx.shortest_path, (0, 9)), (nx.single_source_dijkstra, (0,)),
+                                   (nx.single_source_dijkstra_path, (0,)), (nx.multi_source_dijkstra, ([0, 5],)),
+                                   (nx.multi_source_dijkstra_path, ([0, 5],)), (nx.single_source_bellman_ford, (0,)),
+                                   (nx.single_source_bellman_ford_path, (0,)), (nx.bellman_ford_path, (0, 7)), (nx.bidirectional_dijkstra, (0, 7)),
+                                   (nx.dijkstra_predecessor_and_distance, (0,)), (nx.bellman_ford_predecessor_and_distance, (0,))):
+                if kind is nx.MultiGraph and 'bellman' in function.__name__:
+                    continue                       # of parallel edges it may take another of two equal paths, also with whole weights
+                more = {'weight': 'weight'}
+                got, want = function(graph, *args, **more, backend='spmat'), function(graph, *args, **more)
+                if function in (nx.bidirectional_dijkstra,):
+                    got, want = got[0], want[0]
+                self.assertEqual(got, want, (kind, function))
+            for cutoff in (2.25, 2.2, 0):
+                self.assertEqual(nx.single_source_dijkstra(graph, 0, cutoff=cutoff, backend='spmat'),
+                                 nx.single_source_dijkstra(graph, 0, cutoff=cutoff), (kind, cutoff))
+            self.assertEqual(list(nx.all_shortest_paths(graph, 0, 7, weight='weight', backend='spmat')),
+                             list(nx.all_shortest_paths(graph, 0, 7, weight='weight')))
+
+    def test_tenths(self):
+        graph = weighted(nx.DiGraph, (.1, .3, .7, 1.2))
+        true = self.exact(graph, 10)
+        for target in (5, 9, 17):
+            length, path = nx.single_source_dijkstra(graph, 0, target, backend='spmat')
+            self.assertEqual(length, float(nx.dijkstra_path_length(true, 0, target)))
+            self.assertEqual(nx.path_weight(true, path, 'weight'), nx.dijkstra_path_length(true, 0, target))
+
+    def test_centralities(self):
+        for kind in (nx.Graph, nx.DiGraph):
+            for choices in ((.5, .25, 1.75, 3), (.1, .3, 1.2)):
+                graph = weighted(kind, choices)
+                for function, name in ((nx.closeness_centrality, 'distance'), (nx.betweenness_centrality, 'weight'), (nx.harmonic_centrality, 'distance')):
+                    if function is nx.betweenness_centrality and .1 in choices:
+                        graph = self.exact(graph, 10)          # where sums of floats part paths that are equally long
+                        got = function(weighted(kind, choices), **{name: 'weight'}, backend='spmat')
+                    else:
+                        got = function(graph, **{name: 'weight'}, backend='spmat')
+                    for node, value in function(graph, **{name: 'weight'}).items():
+                        self.assertAlmostEqual(got[node], float(value), 6, (kind, function))
+                self.assertEqual(nx.center(weighted(kind, (.5, .25)), weight='weight', backend='spmat'),
+                                 nx.center(weighted(kind, (.5, .25)), weight='weight'))
 
     def test_units(self):
         for found, unit, values in (([.5, 1, 2.25], 100, [50, 100, 225]), ([1e-9, 3.0], 10 ** 9, [1, 3 * 10 ** 9]), ([2.0 ** -30], 1 << 30, [1]),

@@ -102,9 +102,12 @@ def shortest_path_length(G: SpmatGraph, source: Any = None, target: Any = None, 
                          method: str = 'dijkstra') -> Any:
     check_method(method)
     signed = method == 'bellman-ford'
-    for node in (source, target):
+    known = signed and weight is not None and source is not None     # of these networkx looks at the target last
+    for node in (source,) if known else (source, target):
         if node is not None:
-            need(G, node, 'Node %s is not in G')
+            need(G, node, 'Source %s not in G' if known else 'Node %s is not in G')
+    if known and target is not None and target not in G:
+        raise nx.NetworkXNoPath('node %s not reachable from %s' % (target, source))
     if source is None and target is None:
         return pairs(G, weight, signed=signed)
     return from_one(G, source, target, weight, signed)
@@ -185,7 +188,8 @@ def closeness_centrality(G: SpmatGraph, u: Any = None, distance: Any = None, wf_
         far = lengths(G, [u], distance, back=True)
         return _closeness(len(far), sum(far.values()), len(G), wf_improved)
     many, total = distance_sums(G) if distance is None else length_sums(G, distance)
-    return {node: _closeness(m, t, len(G), wf_improved) for node, m, t in zip(G, many, total)}
+    unit = (None if distance is None else G.values(distance).unit) or 1
+    return {node: _closeness(m, t / unit, len(G), wf_improved) for node, m, t in zip(G, many, total)}
 
 
 def _closeness(reached: int, total: float, count: int, wf_improved: bool) -> float:

@@ -6,12 +6,14 @@ import os
 import re
 from typing import Any, Dict, NamedTuple
 
-DEFAULTS: Dict[str, Any] = {'program': '', 'connect': '', 'steps': 0, 'workers': 0, 'least_edges': -1, 'scale': 0}
+DEFAULTS: Dict[str, Any] = {'program': '', 'connect': '', 'steps': 0, 'workers': 0, 'least_edges': -1, 'scale': 0,
+                            'compare_weights': True}
 """`nx.config.backends.spmat`: the words that start the program (empty: the variable SPMAT, the one that this package carries, or
 `spmat` on the PATH), or
 `HOST:PORT` or the socket file of a server; the session's budget of steps (0: 2^62) and its threads (0: one for each processor, 8 at most); from how
 many edges on networkx hands work over by itself (-1: a number for each function); what weights that are no whole numbers are multiplied by
-before they are rounded (0: they have to be whole multiples of a power of ten or two, and then nothing is rounded)."""
+before they are rounded (0: they have to be whole multiples of a power of ten or two, and then nothing is rounded); whether weights of a graph
+that was converted are compared at each call, since `G[u][v]['weight'] = 5` leaves no trace that networkx would see."""
 
 NEVER = 1 << 62
 

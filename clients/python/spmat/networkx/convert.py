@@ -4,12 +4,13 @@ from __future__ import annotations
 # networkx calls these by the names of its own arguments, served or not
 # pylint: disable=unused-argument
 
+import contextlib
 from typing import Any, Dict, Iterator, List, Optional, Set, Tuple
 
 import networkx as nx
 
 from ..io import matrix_text
-from . import graph_arrays
+from . import graph_arrays, process_session
 from .graph_arrays import Values
 from .spmat_graph import SpmatGraph
 
@@ -34,9 +35,14 @@ def odd_graph(graph: Any) -> Optional[str]:
     return None
 
 
+def is_view(graph: Any) -> bool:
+    """Whether a graph shows another one, whose changes clear nothing that networkx keeps with this one."""
+    return '_graph' in getattr(graph, '__dict__', {})
+
+
 def held(graph: Any) -> Optional[SpmatGraph]:
-    """The conversion of a graph that networkx keeps with it, whatever attributes it was for."""
-    if not nx.config.cache_converted_graphs:
+    """The conversion of a graph that networkx keeps with it, whatever attributes it was for. None of a view."""
+    if not nx.config.cache_converted_graphs or is_view(graph):
         return None
     kept = (getattr(graph, '__networkx_cache__', None) or {}).get('backends', {}).get('spmat', {})
     return next((found for found in list(kept.values()) if isinstance(found, SpmatGraph)), None)
@@ -44,8 +50,23 @@ def held(graph: Any) -> Optional[SpmatGraph]:
 
 def _cache(graph: Any) -> Dict[Any, Any]:
     """Where networkx keeps what was made of a graph until it is changed; a dict of one's own where it keeps nothing."""
-    kept: Optional[Dict[Any, Any]] = getattr(graph, '__networkx_cache__', None) if nx.config.cache_converted_graphs else None
+    keeps = nx.config.cache_converted_graphs and not is_view(graph)
+    kept: Optional[Dict[Any, Any]] = getattr(graph, '__networkx_cache__', None) if keeps else None
     return {} if kept is None else kept
+
+
+def forget_changed(graph: Any, attributes: List[Any]) -> None:
+    """Has networkx forget what was made of a graph if the values of an edge attribute have changed since, as by `G[u][v]["weight"] = 5`,
+    of which networkx notices nothing. Views are never kept."""
+    if isinstance(graph, SpmatGraph) or not hasattr(graph, 'adjacency'):
+        return
+    if is_view(graph):
+        graph.__networkx_cache__ = None            # networkx keeps nothing with it then
+        return
+    _cache(graph).pop(WAITING, None)
+    made = held(graph)
+    if made is not None and process_session.setting('compare_weights') and not made.has_values_of(graph, attributes):
+        graph.__networkx_cache__.clear()
 
 
 def read_values(graph: Any, attribute: Any, default: Any, fold: str) -> Values:
@@ -67,7 +88,7 @@ def convert_from_nx(graph: Any, *, edge_attrs: Optional[Dict[str, Any]] = None, 
                     preserve_edge_attrs: bool = False, preserve_node_attrs: bool = False, preserve_graph_attrs: bool = False,
                     name: Optional[str] = None, graph_name: Optional[str] = None) -> SpmatGraph:
     """A networkx graph as a SpmatGraph: the one that networkx keeps with the graph, where it has one, with what is asked for
-    added to it. NotImplementedError, upon which networkx does the work itself, for weights that aren't whole."""
+    added to it. NotImplementedError, upon which networkx does the work itself, for what isn't networkx' own kind of graph."""
     if isinstance(graph, SpmatGraph):
         return graph
     made = held(graph)
@@ -79,7 +100,8 @@ def convert_from_nx(graph: Any, *, edge_attrs: Optional[Dict[str, Any]] = None, 
     made.take(_cache(graph).pop(WAITING, {}))
     made.keep(graph, preserve_node_attrs or bool(node_attrs), preserve_edge_attrs or bool(edge_attrs), preserve_graph_attrs)
     for attribute, default in (edge_attrs or {}).items():
-        made.values(attribute, default, fold_of(name))
+        with contextlib.suppress(NotImplementedError):     # the function says why; networkx would keep it as a graph that can't be converted
+            made.values(attribute, default, fold_of(name))
     return made
 
 

@@ -32,11 +32,12 @@ def key_of(name: Any, default: Any, fold: Optional[str]) -> Key:
 
 class Values(NamedTuple):
     """An edge attribute at each entry: whole numbers as an array of numpy or a list, the least and the greatest of them, and how many
-    of them are 1: None where all were whole numbers, 1 where one was a float."""
+    of them are 1: None where all were whole numbers, 1 where one was a float. `read` is what stood in the graph."""
     many: Any
     least: int
     most: int
     unit: Optional[int]
+    read: List[Any]
 
 
 def sequence(items: Iterable[int], count: int) -> Any:
@@ -73,6 +74,12 @@ def edge_data(graph: Any) -> List[Any]:
     return [data for near in neighbourhoods(graph).values() for data in near.values()]
 
 
+def attribute_values(data: List[Any], name: str, default: Any, fold: Optional[str]) -> List[Any]:
+    """An edge attribute as it stands in the graph, `default` where an edge has none."""
+    held = data if fold is None else [had for keys in data for had in keys.values()]
+    return [had.get(name, default) for had in held]
+
+
 FOLDS: Dict[str, Any] = {'min': min, 'max': max, 'plus': sum}
 
 
@@ -80,8 +87,7 @@ def values(data: List[Any], name: str, default: Any, fold: Optional[str], scale:
     """The values of an edge attribute, `default` where an edge has none; those of parallel edges folded by 'min', 'max' or 'plus'.
     `fold` is None of a graph without such. With a scale they are multiplied by it and rounded. Raises NotImplementedError for one that is
     no whole multiple of a power of ten or two."""
-    held = data if fold is None else [had for keys in data for had in keys.values()]
-    found = [had.get(name, default) for had in held]
+    found = attribute_values(data, name, default, fold)
     kinds = set(map(type, found))
     try:
         whole, unit = (found, None) if kinds <= {int} else _whole(found, name, scale, any(issubclass(kind, float) for kind in kinds))
@@ -95,7 +101,7 @@ def values(data: List[Any], name: str, default: Any, fold: Optional[str], scale:
             raise ValueError('a weight beyond 64 bits')
     except (TypeError, ValueError, OverflowError) as fault:
         raise NotImplementedError('the edge attribute %r: %s' % (name, fault)) from None
-    return Values(many, least, most, unit)
+    return Values(many, least, most, unit, found)
 
 
 def _whole(found: List[Any], name: str, scale: float, floats: bool) -> Tuple[List[int], Optional[int]]:

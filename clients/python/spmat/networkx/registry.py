@@ -6,6 +6,7 @@ from __future__ import annotations
 
 import functools
 import inspect
+import os
 import threading
 from typing import Any, Callable, Dict, Mapping, NamedTuple, Optional, TypeVar, Union
 
@@ -14,9 +15,8 @@ import networkx as nx
 from .. import errors
 from . import process_session
 from .backend_info import NEVER, Pays
-from .convert import convert_from_nx, convert_to_nx, fold_of, held, odd_graph, read_values
+from .convert import convert_from_nx, convert_to_nx, fold_of, forget_changed, held, odd_graph, read_values
 from .spmat_graph import BOUND, SpmatGraph
-from .weight_scaling import FRACTIONS
 
 MORE_STEPS = 'a greater nx.config.backends.spmat.steps opens another session, and 0 gives the most that there are'
 FALLS_BACK = (errors.TooLarge, errors.OutOfMemory, errors.NoThread)
@@ -57,22 +57,28 @@ class Backend:
 
     @staticmethod
     def can_run(name: str, args: Any, kwargs: Dict[str, Any]) -> Union[bool, str]:
-        """True, or why this call is left to networkx: arguments, kinds of graphs and weights for which the answer would differ."""
+        """True: a call that has to be left to networkx is told so by `should_run`, or by the function, whose words networkx shows. (Of what
+        this says networkx shows nothing; its own tests alone ask for it.) Forgets what was made of a graph whose weights changed since."""
         _handed.over = False
-        try:
-            bound = _signature(name).bind(*args, **kwargs)
-        except TypeError:
-            return True                            # networkx says it better
-        bound.apply_defaults()
-        return _reason(name, bound.arguments) or True
+        arguments = _bound(name, args, kwargs)
+        if arguments is not None:
+            forget_changed(next(iter(arguments.values())), [arguments[key] for key in WEIGHTS if arguments.get(key) is not None])
+        return (_is_tested() and Backend.reason(name, args, kwargs)) or True
+
+    @staticmethod
+    def reason(name: str, args: Any, kwargs: Mapping[str, Any]) -> Optional[str]:
+        """Why a call is left to networkx, in words: arguments, kinds of graphs and weights for which the answer would differ. None where it is
+        not, or its arguments don't fit, which networkx says better."""
+        arguments = _bound(name, args, kwargs)
+        return None if arguments is None else _reason(name, arguments)
 
     @staticmethod
     def should_run(name: str, args: Any, kwargs: Dict[str, Any]) -> Union[bool, str]:
-        """True where the graph has so many edges that it pays, or is on the server, and a session can be had; else why not, in words.
-        networkx asks this only of calls that it hands over by itself."""
+        """True where the graph has so many edges that it pays, or is on the server, where the answer is networkx', and a session can be had;
+        else why not, in words. networkx asks this only of calls that it hands over by itself."""
         graph = args[0] if args else next(iter(kwargs.values()))
         said = None if isinstance(graph, SpmatGraph) else _little(name, graph)
-        said = said or process_session.missing()
+        said = said or Backend.reason(name, args, kwargs) or process_session.missing()
         _handed.over = said is None
         return said or True
 
@@ -98,6 +104,9 @@ def serves(terms: Terms = ANY, *, pays: Pays) -> Callable[[Function], Function]:
         def served(*args: Any, **kwargs: Any) -> Any:
             def call() -> Any:
                 return function(*args, **kwargs)
+            said = Backend.reason(name, args, kwargs)
+            if said:
+                raise NotImplementedError('%s is left to networkx: %s' % (name, said))
             try:
                 return _answer(name, call)
             except process_session.NoSession as fault:
@@ -140,6 +149,21 @@ def _little(name: str, graph: Any) -> Optional[str]:
         return 'networkx has it at hand, or ends early'
     many = _edges(graph, least)
     return None if many >= least else 'only %d edges' % many
+
+
+def _is_tested() -> bool:
+    """Whether networkx' own tests run with this backend."""
+    return bool(os.environ.get('NETWORKX_TEST_BACKEND'))
+
+
+def _bound(name: str, args: Any, kwargs: Mapping[str, Any]) -> Optional[Arguments]:
+    """The arguments of a call by their names; None where they don't fit, which networkx says better."""
+    try:
+        bound = _signature(name).bind(*args, **kwargs)
+    except TypeError:
+        return None
+    bound.apply_defaults()
+    return bound.arguments
 
 
 @functools.lru_cache(maxsize=None)
@@ -191,8 +215,6 @@ def _weights(name: str, graph: Any, arguments: Arguments, key: str, negative: bo
         found = read_values(graph, attribute, default, fold_of(name))
     except NotImplementedError as fault:
         return str(fault)
-    if found.unit not in (None, 1) and name not in FRACTIONS:
-        return 'the edge attribute %r has values that are not whole' % attribute
     if not negative and found.least < 0:
         return 'the edge attribute %r has values below 0' % attribute
     if max(found.most, -found.least) * (len(graph) + 1) >= BOUND:

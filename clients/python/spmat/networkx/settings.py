@@ -18,6 +18,7 @@ class Settings(Config):                             # type: ignore[misc]  # netw
     workers: int
     least_edges: int
     scale: Any
+    compare_weights: bool
 
     def _on_setattr(self, key: str, value: Any) -> Any:
         return checked(key, value)
@@ -66,6 +67,14 @@ def _scale(value: Any) -> int:
     return _within('scale', value, 0, 1 << 62, '0 (weights are whole multiples of a power of ten or two) or more, also 1e6')
 
 
+def _compare_weights(value: Any) -> bool:
+    if isinstance(value, str) and value.lower() in ('true', 'false'):
+        return value.lower() == 'true'
+    if value in (True, False):
+        return bool(value)
+    raise ValueError('compare_weights is True or False, not %r' % (value,))
+
+
 def _within(name: str, value: Any, least: int, most: int, said: str) -> int:
     """A whole number, also as a word as the command line takes it."""
     from ..io.coo import whole, whole_of_word
@@ -80,4 +89,4 @@ def _within(name: str, value: Any, least: int, most: int, said: str) -> int:
 
 CHECKS: Dict[str, Callable[[Any], Any]] = {
     'program': _program, 'connect': _connect, 'steps': _steps, 'workers': _workers, 'least_edges': _least_edges,
-    'scale': _scale}
+    'scale': _scale, 'compare_weights': _compare_weights}

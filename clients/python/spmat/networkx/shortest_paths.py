@@ -14,6 +14,7 @@ from networkx import NetworkXNoPath, NetworkXUnbounded
 
 from ..io import matrix_text
 from ..matrix import Matrix
+from . import weight_scaling
 from .backend_info import KNOWN, LITTLE, WEIGHTS
 from .registry import SIGNED, Terms, serves
 from .single_source_lengths import NEGATIVE, check_method, check_weights, level_column, need, need_some, shortest
@@ -27,10 +28,10 @@ class Found(NamedTuple):
     that a shortest path comes by, in the order in which these were found."""
     far: Dict[int, int]
     before: Dict[int, List[int]]
-    floats: bool
+    unit: Optional[int]
 
     def length(self, at: int) -> Any:
-        return float(self.far[at]) if self.floats else self.far[at]
+        return weight_scaling.told(self.far[at], self.unit)
 
 
 class Query(NamedTuple):
@@ -47,7 +48,8 @@ def search(G: SpmatGraph, sources: Sequence[Any], query: Query) -> Found:
     far = _lengths(G, sources, query).by_node()
     starts = [G.index[source] for source in sources]
     if query.weight is not None and query.cutoff is not None:
-        far = {at: x for at, x in far.items() if x <= query.cutoff or at in starts}
+        most = weight_scaling.limit(query.cutoff, G.values(query.weight).unit)
+        far = {at: x for at, x in far.items() if x <= most or at in starts}
     near = _tight(G, far, query)
     order, before, seen = {}, {at: [] for at in starts}, set(starts)  # type: Dict[int, int], Dict[int, List[int]], Any
     number = itertools.count()
@@ -60,7 +62,7 @@ def search(G: SpmatGraph, sources: Sequence[Any], query: Query) -> Found:
             if to not in seen:
                 seen.add(to)
                 heapq.heappush(heap, (0 if query.signed else far[to], next(number), to))
-    return Found(order, before, query.weight is not None and G.values(query.weight).unit is not None)
+    return Found(order, before, None if query.weight is None else G.values(query.weight).unit)
 
 
 def _lengths(G: SpmatGraph, sources: Sequence[Any], query: Query) -> Matrix:
@@ -258,10 +260,15 @@ def _one_target(arguments: Mapping[str, Any]) -> Optional[str]:
 def bellman_ford_predecessor_and_distance(G: SpmatGraph, source: Any, target: Any = None, weight: Any = 'weight',
                                           heuristic: bool = False) -> Any:
     need(G, source, 'Node %s is not found in the graph')
-    if weight is not None and any(i == j and x < 0 for i, j, x in zip(G.at.rows, G.at.columns, G.values(weight).many)):
-        raise NetworkXUnbounded(NEGATIVE)
+    _check_loops(G, weight)
     found = search(G, [source], Query(weight, True))
     return predecessors_of(G, found), lengths_of(G, found)
+
+
+def _check_loops(G: SpmatGraph, weight: Any) -> None:
+    """NetworkXUnbounded for an edge of negative length from a node to itself, wherever it is."""
+    if weight is not None and any(i == j and x < 0 for i, j, x in zip(G.at.rows, G.at.columns, G.values(weight).many)):
+        raise NetworkXUnbounded(NEGATIVE)
 
 
 # -- by either
@@ -294,7 +301,10 @@ def _all_paths(G: SpmatGraph, source: Any, target: Any, weight: Any, method: str
     if weight is not None:
         check_method(method)
     need(G, source, 'Source %s not in G' if weight is None else 'Node %s is not found in the graph')
-    found = search(G, [source], Query(weight, weight is not None and method == 'bellman-ford'))
+    signed = weight is not None and method == 'bellman-ford'
+    if signed:
+        _check_loops(G, weight)
+    found = search(G, [source], Query(weight, signed))
     start, end = G.index[source], G.index[target] if target in G else -1
     if end not in found.far:
         raise NetworkXNoPath('Target %s cannot be reached from given sources' % (target,))

@@ -114,6 +114,12 @@ class SpmatGraph:
         if of_graph:
             self.graph = dict(graph.graph)
 
+    def has_values_of(self, graph: Any, names: List[Any]) -> bool:
+        """Whether the graph that this one was made of has the values of these edge attributes that it had then."""
+        known = {key: values.read for key, values in self._values.items() if key[0] in names}
+        data = graph_arrays.edge_data(graph) if known else []
+        return all(graph_arrays.attribute_values(data, *key[:3]) == read for key, read in known.items())
+
     def take(self, values: Dict[Key, Values]) -> None:
         """Values of edge attributes that were read already."""
         self._values.update(values)

@@ -2,8 +2,9 @@
 divided again.
 
 Weights that are whole multiples of a power of ten, as 0.25 is of 0.01, or of a power of two, are computed with exactly. Lengths of paths
-are then the floats nearest to the true sums, where networkx adds floats one by one. With the setting `scale` all weights are multiplied
-by it and rounded.
+are then the floats nearest to the true sums, where networkx adds floats one by one. Of paths that are equally long it takes the one that
+networkx takes; where floats that are added one by one differ in the last bit, networkx may take another of them. With the setting `scale`
+all weights are multiplied by it and rounded.
 """
 from __future__ import annotations
 
@@ -16,13 +17,6 @@ from ..io.edge_values import Rounding, check_scale, scaled_one
 
 MOST_DIGITS = 9                                    # behind the point
 MOST_BITS = 40
-# Functions that are served with such weights: lengths are divided, and a tree or a share doesn't depend on the unit. Paths and centers are
-# not among them: where floats are added one by one, other lengths may be equal.
-FRACTIONS = frozenset('''
-    all_pairs_bellman_ford_path_length all_pairs_dijkstra_path_length average_neighbor_degree average_shortest_path_length
-    bellman_ford_path_length dag_longest_path_length diameter dijkstra_path_length eccentricity floyd_warshall maximum_spanning_edges
-    maximum_spanning_tree minimum_spanning_edges minimum_spanning_tree multi_source_dijkstra_path_length negative_edge_cycle pagerank
-    radius shortest_path_length single_source_bellman_ford_path_length single_source_dijkstra_path_length wiener_index'''.split())
 UNEVEN = 'the edge attribute %r has values that are no whole multiples of a power of ten or two: nx.config.backends.spmat.scale = 1e6 rounds them'
 
 
@@ -43,8 +37,11 @@ def whole_multiples(found: List[Any], name: Any, scale: float) -> Whole:
         exact, rounding = check_scale(scale), Rounding(scale)
         known = {value: scaled_one(value, exact, rounding, 'weight') for value in several}
     else:
-        if not all(math.isfinite(value) for value in several):
-            raise ValueError('a weight is a finite number')
+        for value in several:
+            if not hasattr(value, '__float__') and not hasattr(value, '__index__'):
+                raise TypeError('a weight is a whole number, or a float, not %r' % (value,))
+            if not math.isfinite(value):
+                raise ValueError('a weight is a finite number, not %r' % (value,))
         found_unit = _unit(several)
         if found_unit is None:
             raise NotImplementedError(UNEVEN % (name,))
