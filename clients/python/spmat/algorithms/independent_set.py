@@ -7,7 +7,7 @@ from .bfs import lines_of
 from .cached_properties import check_undirected
 from .frontier import Columns, Lines, Vector, ones_like
 from .protocols import M
-from .random_vector import drawn
+from .random_vector import Seed, drawn
 from .registry import BOTH_WAYS, algorithm
 from .utils import Progress, beside, order, tell
 
@@ -17,7 +17,7 @@ GREATEST = Semiring(binary.max, binary.first)
 
 @algorithm('vertices of which no two are neighbours', 'seed', wanted=BOTH_WAYS,
            runs=lambda g: 7 * g.rounds + 3, steps=step_bounds.maximal_independent_set)
-def maximal_independent_set(G: M, seed: int = 0, progress: Progress = None, *, check: bool = True) -> M:
+def maximal_independent_set(G: M, seed: Seed = 0, progress: Progress = None, *, check: bool = True) -> M:
     """Vertices of which no two are neighbours, and to which no other can be added, as a column of ones. The graph is undirected;
     loops don't count. The seed decides which of the sets it is.
 

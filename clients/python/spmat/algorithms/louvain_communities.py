@@ -12,6 +12,7 @@ from .community_labels import Partition, number_communities
 from .frontier import column_of
 from .partial_results import keep_partial
 from .protocols import M
+from .random_vector import Seed, generator_of
 from .registry import BOTH_WAYS, algorithm
 from .results import Communities, as_result
 from .utils import Progress, beside, order, product, tell
@@ -174,7 +175,7 @@ def _settled(level: _Level, graph: Any, note: Callable[[List[int], float], None]
            wanted=BOTH_WAYS,
            says='Communities by Louvain\'s method; their modularity is told on standard error.',
            steps=step_bounds.louvain)
-def louvain(G: M, resolution: float = 1.0, seed: int = 0, progress: Progress = None, *, weighted: bool = False,
+def louvain(G: M, resolution: float = 1.0, seed: Seed = 0, progress: Progress = None, *, weighted: bool = False,
             check: bool = True) -> Communities:
     """Communities of an undirected graph whose modularity is great, by Louvain's method, as a column of labels with that modularity; a label
     is the least vertex of its community, and `.sets()` has the communities. Each edge counts as 1, unless `weighted=True` has values count,
@@ -195,7 +196,7 @@ def louvain(G: M, resolution: float = 1.0, seed: int = 0, progress: Progress = N
     least, most = extremes(G) if weighted else (1, 1)
     if least < 0 or most * max(1, G.nvals) >= MOST_WEIGHT:
         raise ValueError('weights are 0 or more, and add up to less than 2^53: here they are %d to %d' % (least, most))
-    graph, chance = _doubled(G, weighted), random.Random(seed)
+    graph, chance = _doubled(G, weighted), generator_of(seed)
     now = best = _Reached(list(range(count)), _modularity(graph, resolution), 0)
 
     def note(numbers: List[int], found: float) -> None:

@@ -2,6 +2,7 @@
 from __future__ import annotations
 
 import random
+from typing import Any, Optional, Union
 
 from ..operators import asm
 from .protocols import M
@@ -29,7 +30,23 @@ exit
 ''', 'drawn')
 
 
-def drawn(vector: M, seed: int) -> M:
+Seed = Union[None, int, random.Random, Any]
+"""As networkx has it: a whole number, None for another draw at each call, a `random.Random`, or a `RandomState` or `Generator` of numpy."""
+
+
+def generator_of(seed: Seed) -> random.Random:
+    """What a seed draws from. TypeError for what is no seed."""
+    if isinstance(seed, random.Random):
+        return seed
+    if seed is None or (hasattr(seed, '__index__') and not isinstance(seed, bool)):
+        return random.Random(None if seed is None else int(seed))
+    draw: Optional[Any] = getattr(seed, 'integers', None) or getattr(seed, 'randint', None)      # of numpy, new and old
+    if draw is None:
+        raise TypeError('a seed is a whole number, None, a random.Random, or a generator of numpy, not %r' % (seed,))
+    return random.Random(int(draw(1 << 62)))
+
+
+def drawn(vector: M, seed: Seed) -> M:
     """A number from 1 to 2^32 - 1 in place of each value of a row or a column, by the seed and its place. No two places have the same. 1 job,
     18 steps an entry."""
-    return vector.apply(_MIXED, right=random.Random(seed).getrandbits(62) | 1)
+    return vector.apply(_MIXED, right=generator_of(seed).getrandbits(62) | 1)

@@ -1,0 +1,45 @@
+"""Seeds of algorithms that draw: what networkx takes for one."""
+import importlib.util
+import random
+import unittest
+
+import support
+from spmat import algorithms
+
+
+class Seeds(support.InSession):
+    def setUp(self):
+        edges = [(i, (i * k) % 41) for i in range(1, 41) for k in (2, 3, 7) if i != (i * k) % 41]
+        self.G = algorithms.undirected(self.s.from_edgelist(edges, nodelist=range(41), dup_op='first'))
+
+    def calls(self, seed):
+        return (algorithms.louvain(self.G, seed=seed).labels.to_list(), algorithms.maximal_independent_set(self.G, seed).to_list())
+
+    def test_the_same_seed_draws_the_same(self):
+        self.assertEqual(self.calls(7), self.calls(7))
+        self.assertEqual(self.calls(random.Random(7)), self.calls(random.Random(7)))
+        self.assertEqual(algorithms.maximal_independent_set(self.G, 7).to_list(), algorithms.maximal_independent_set(self.G, random.Random(7)).to_list())
+
+    def test_a_generator_goes_on(self):
+        chance = random.Random(3)
+        self.assertGreater(len({tuple(algorithms.maximal_independent_set(self.G, chance).to_list()) for _ in range(6)}), 1)
+
+    def test_none_draws_anew(self):
+        self.assertGreater(len({tuple(algorithms.maximal_independent_set(self.G, None).to_list()) for _ in range(8)}), 1)
+
+    @unittest.skipIf(importlib.util.find_spec('numpy') is None, 'no numpy')
+    def test_numpy(self):
+        import numpy
+        for make in (numpy.random.default_rng, numpy.random.RandomState):
+            self.assertEqual(self.calls(make(5)), self.calls(make(5)))
+        self.assertEqual(self.calls(numpy.int64(7)), self.calls(7))
+
+    def test_what_is_no_seed(self):
+        for wrong in ('x', 1.5, True, [1]):
+            for function in (algorithms.louvain, algorithms.maximal_independent_set):
+                with self.assertRaisesRegex(TypeError, 'a seed is a whole number'):
+                    function(self.G, seed=wrong)
+
+
+if __name__ == '__main__':
+    unittest.main()
