@@ -17,7 +17,7 @@ from .graph_units import unit_of
 from .partial_results import keep_partial
 from .protocols import M, Numbers
 from .registry import algorithm
-from .results import BOUND, CHANGE, Centrality, RESIDUAL, as_centrality
+from .results import CHANGE, Centrality, RESIDUAL, as_centrality
 from .utils import Progress, beside, order, tell
 
 ONE = 1 << 40
@@ -255,12 +255,9 @@ def katz(G: M, alpha: float = 0.1, beta: float = 1.0, GT: Optional[M] = None, to
     vertices that lead to it. With `normalized` divided so that the squares add up to 1. Each edge counts as 1, unless `weighted=True` has
     values count.
 
-    `error` is proved: no number is farther from the true one. Rounds end as soon as each is known to `tolerance` times itself: 1e-9, or
-    where
-    sums are so great that rounding takes more the least that can be kept, as the result's `tolerance` says. alpha is less than 1 divided
-    by
-    the greatest eigenvalue, or the call is refused, as numbers grow on. `GT` is as for `pagerank`. `progress('round', k, 0)` is called
-    after
+    `error` is proved: no number is farther from the true one. Rounds end as soon as each is known to `tolerance` times itself: 1e-9, or where
+    sums are so great that rounding takes more the least that can be kept, as the result's `tolerance` says. alpha is less than 1 divided by
+    the greatest eigenvalue, or the call is refused, as numbers grow on. `GT` is as for `pagerank`. `progress('round', k, 0)` is called after
     each round.
 
     Runs: 1 a round, and 1; some rounds again where numbers grow by more than 2^16. Steps: up to 5 an edge, a round. networkx:

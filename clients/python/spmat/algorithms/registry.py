@@ -83,12 +83,12 @@ class Algorithm(NamedTuple):
         found = re.search(r'LAGraph:\s+`(\w+)`', inspect.getdoc(self.function) or '')
         return found.group(1) if found else ''
 
-
     def stand(self, sizes: CallSizes) -> Any:
         """What stands for the result of a call, which isn't made."""
         kind = self.function.__annotations__.get('return')
         if self.shape is None and kind not in ('M', 'Matrix', *RESULTS):
             return Unread()
+        # pylint: disable-next=not-callable  # of a field that is None by default it thinks so
         shape = (sizes.vertices, 1) if self.shape is None else self.shape(sizes)
         made = stand(sizes.graph.session, shape, 0, shape[0] * shape[1])
         if shape[0] == sizes.vertices:
