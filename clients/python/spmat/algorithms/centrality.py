@@ -7,7 +7,7 @@ from typing import Any, Callable, Generic, List, NamedTuple, Optional, Tuple, Un
 
 from ..io.coo import whole
 from ..io.matrix_text import find_numpy, is_array
-from ..operators import Semiring, binary
+from ..operators import Semiring, asm, binary
 from ..units import exact_number
 from . import step_bounds
 from .bfs import flow_lines
@@ -28,6 +28,26 @@ LEAST_BITS = 16
 MOST_DENOMINATOR = 1 << 30                         # of alpha: twice as many bits have room in a word
 FLOATS = 2.0 ** -50                                # what a few operations on floats take, as a share
 MOST_NUMBER = 1 << 60
+HALF, HEAVY = 32, 20                               # bits that a product of great weights leaves out, and that sums of great weights have
+# x y / 2^32, rounded down, of numbers from 0 on whose product may have more than 64 bits
+HIGH = asm('binary', '''mov64 r3, r1
+rsh64 r3, 32
+mov64 r4, r2
+rsh64 r4, 32
+mov32 r1, r1
+mov32 r2, r2
+mov64 r0, r3
+mul64 r0, r4
+lsh64 r0, 32
+mul64 r3, r2
+add64 r0, r3
+mul64 r4, r1
+add64 r0, r4
+mul64 r1, r2
+rsh64 r1, 32
+add64 r0, r1
+exit
+''', 'high_product')
 
 
 class _Steps(Generic[M]):
@@ -45,9 +65,9 @@ class _Steps(Generic[M]):
         """The same number for each vertex."""
         return [value] * self.count if self.numpy is None else self.numpy.full(self.count, value)
 
-    def comes(self, numbers: Numbers) -> Numbers:
-        """The sum over the edges that lead to each vertex."""
-        return self._dense(self.lines.get(self.lines.step(self.lines.put(self._vector(numbers)), self._comes)))
+    def comes(self, numbers: Numbers, ring: Optional[Semiring] = None) -> Numbers:
+        """The sum over the edges that lead to each vertex, or what another semiring makes of them."""
+        return self._dense(self.lines.get(self.lines.step(self.lines.put(self._vector(numbers)), ring or self._comes)))
 
     def leads(self, numbers: Numbers) -> Numbers:
         """The sum over the edges that leave each vertex."""
@@ -79,19 +99,19 @@ def _steps(G: M, GT: Optional[M], weighted: bool, check: bool) -> _Steps[M]:
     return _Steps(flow_lines(G, GT, check, weighted), weighted)
 
 
-def _bits(heaviest: int, growth: int = 0) -> int:
+def _bits(heaviest: int) -> int:
     """How many bits a number may have so that no sum of them passes 62, where the edges of no vertex weigh more than so much. ValueError
     where these are too few."""
-    bits = min(BITS, 60 - growth - heaviest.bit_length())
+    bits = min(BITS, 60 - heaviest.bit_length())
     if bits < LEAST_BITS:
         raise ValueError('edges of one vertex that weigh %d leave no room for fixed point: divide the weights' % heaviest)
     return bits
 
 
-def _kept(tolerance: Optional[float], usual: float, bits: int) -> float:
-    """The tolerance of a caller; without one the usual one, or where rounding takes more the least that can be kept. ValueError where that of
-    the caller can't be."""
-    least = 8 / (1 << bits)
+def _kept(tolerance: Optional[float], usual: float, bits: int, rounding: float = 1) -> float:
+    """The tolerance of a caller; without one the usual one, or where rounding takes more, which is so much of a number's last bit, the least
+    that can be kept. ValueError where that of the caller can't be."""
+    least = 8 * rounding / (1 << bits)
     if tolerance is None:
         return max(usual, least)
     if not tolerance >= least:
@@ -229,21 +249,46 @@ def _dot(first: Numbers, second: Numbers) -> float:
 
 
 class _Handed(NamedTuple):
-    """What Katz' numbers hand on along an edge: a fraction in whole numbers, and as a share of it how far it is from what was asked for."""
+    """What Katz' numbers hand on along an edge: a fraction in whole numbers, as a share of it how far it is from what was asked for, what
+    rounding takes of a number, and the semiring. `spare` are the bits that sums don't have, as products leave them out."""
     share: Fraction
     drift: float
+    rounding: float
+    ring: Optional[Semiring] = None
+    spare: int = 0
+
+    def bits(self, heaviest: int, room: int) -> int:
+        """How many bits the least number has, where others have so many more."""
+        return min(BITS, 60 - room - max(0, heaviest.bit_length() - self.spare))
+
+    def least(self, heaviest: int) -> float:
+        """The least distance that is told, where numbers are about one."""
+        return self.rounding / 2.0 ** self.bits(heaviest, ROOM) + self.drift
 
 
-def _handed(alpha: float, beta: float, unit: Fraction) -> _Handed:
-    """The fraction that is handed on by an edge of one unit. ValueError where it is out of range."""
+def _exact_alpha(alpha: float, beta: float, unit: Fraction) -> Fraction:
+    """What is handed on along an edge of one unit. ValueError where it, or beta, is out of range."""
     try:
         exact = exact_number(alpha) / unit
     except (TypeError, ValueError):
         exact = Fraction(0)
-    share = exact.limit_denominator(MOST_DENOMINATOR)
-    if not 0 < share < 1 << 20 or not beta > 0 or beta == math.inf:
-        raise ValueError('alpha lies between 2^-30 and 2^20, by the unit of the weights, and beta is above 0: not %r and %r' % (alpha, beta))
-    return _Handed(share, float(abs(exact / share - 1)))
+    if not 1 << 20 > exact > Fraction(1, 1 << 62) or not beta > 0 or beta == math.inf:
+        raise ValueError('alpha lies between 2^-62 and 2^20, by the unit of the weights, and beta is above 0: not %r and %r' % (alpha, beta))
+    return exact
+
+
+def _handed(steps: _Steps[M], exact: Fraction, heaviest: int) -> _Handed:
+    """How so much is handed on along an edge: by plain products, or where weights are so great that sums of these leave few bits by products
+    that leave out 32 bits, whichever keeps more."""
+    ways = []
+    if exact.limit_denominator(MOST_DENOMINATOR):
+        share = exact.limit_denominator(MOST_DENOMINATOR)
+        ways.append(_Handed(share, float(abs(exact / share - 1)), 1))
+    if not ways or heaviest >> HEAVY:
+        share = (exact * (1 << HALF)).limit_denominator(MOST_DENOMINATOR)
+        many = _most(steps.comes(steps.all(1), Semiring(binary.plus, binary.oneb)))
+        ways.append(_Handed(share, float(abs(exact * (1 << HALF) / share - 1)), 1 + float(share) * many, Semiring(binary.plus, HIGH), HALF))
+    return min(ways, key=lambda way: way.least(heaviest))
 
 
 @algorithm('Katz centrality', 'alpha', 'weighted', scale=ONE, ranked=True, reads_unit=True,
@@ -260,55 +305,59 @@ def katz(G: M, alpha: float = 0.1, beta: float = 1.0, GT: Optional[M] = None, to
     the greatest eigenvalue, or the call is refused, as numbers grow on. `GT` is as for `pagerank`. `progress('round', k, 0)` is called after
     each round.
 
-    Runs: 1 a round, and 1; some rounds again where numbers grow by more than 2^16. Steps: up to 5 an edge, a round. networkx:
-    `katz_centrality`. Raises ValueError where alpha is too great, so many rounds don't do, a value is below 0, a tolerance that is given
-    can't be kept, and for numbers out of range. Where the budget ends amid the work, `partial` of BudgetExceeded has the numbers of the
-    last round with a known `error`.
+    Runs: 1 a round, and 1, or 2 with great weights; some rounds again where numbers grow by more than 2^16. Steps: up to 5 an edge, a round, and
+    20 where weights at a vertex add up to 2^20 or more. networkx: `katz_centrality`. Raises ValueError where alpha is too great, so many rounds
+    don't do, a value is below 0, a tolerance that is given can't be kept, and for numbers out of range. Where the budget ends amid the work,
+    `partial` of BudgetExceeded has the numbers of the last round with a known `error`.
     """
     count = order(G, GT)
     _check(scale, rounds)
-    handed = _handed(alpha, beta, unit_of(G, GT) if weighted else Fraction(1))
+    exact = _exact_alpha(alpha, beta, unit_of(G, GT) if weighted else Fraction(1))
     steps = _steps(G, GT, weighted, check)
     heaviest = _most(steps.comes(steps.all(1))) if count else 0
-    room = ROOM
+    handed, room = _handed(steps, exact, heaviest), ROOM
+    if handed.bits(heaviest, room) < LEAST_BITS:
+        raise ValueError('edges of one vertex that weigh %d leave no room for fixed point: divide the weights' % heaviest)
     while True:
-        bits = _bits(heaviest, room)
-        kept = _kept(tolerance, 1e-9, bits)
+        bits = handed.bits(heaviest, room)
+        kept = _kept(tolerance, 1e-9, bits, handed.rounding)
 
         def show(last: _Settled, bits: int = bits, kept: float = kept) -> Centrality:
             found = _divided(last.numbers, _norm(last.numbers) if normalized else (1 << bits) / beta)
             share = 2 * last.moved / max(1 - last.moved, FLOATS) if normalized else last.moved
-            return as_centrality(_column(G, found, scale), scale, (share + FLOATS) * _most_of(found) + .5 / scale, tolerance=kept, rounds=last.rounds)
-        settled = _spread(steps, handed, (bits, room), kept / (2 + kept if normalized else 1), (rounds, progress), show)
+            return as_centrality(_column(G, found, scale), scale, (share + FLOATS) * _most_of(found) + .5 / scale, tolerance=max(kept, share),
+                                 rounds=last.rounds)
+        settled = _spread(steps, handed, (bits, room), kept / (2 + kept if normalized else 1), tolerance is None, (rounds, progress), show)
         if isinstance(settled, _Settled):
             break
         room += MORE_ROOM
-        if 60 - room - heaviest.bit_length() < LEAST_BITS:
+        if handed.bits(heaviest, room) < LEAST_BITS:
             raise ValueError('alpha=%g is too great for this graph: numbers grow on and on. It has to be less than 1 divided by the greatest '
                              'eigenvalue%s, and by their growth that is near %.3g'
                              % (alpha, ' of the weights' if weighted else '', alpha / max(1.0, settled)))
     return show(settled)
 
 
-def _spread(steps: _Steps[M], handed: _Handed, room: Tuple[int, int], aim: float, most: Tuple[int, Progress],
+def _spread(steps: _Steps[M], handed: _Handed, room: Tuple[int, int], aim: float, settles: bool, most: Tuple[int, Progress],
             show: Callable[[_Settled], Any]) -> Union[_Settled, float]:
-    """Katz' numbers, where the least is 2^bits, with how far they are from the true ones at most, as a share of each; or, where they leave the
-    room, by how much they grew in the last round. One more step takes each number nearer to the true ones, by the norm in which these are
-    one: so its change, divided by 1 less itself, bounds the distance. ValueError where rounds don't do."""
+    """Katz' numbers, where the least is 2^bits, once they are near enough, or where that `settles` it change no more; with how far they are
+    from the true ones at most, as a share of each. Or, where they leave the room, by how much they grew in the last round. One more step takes
+    each number nearer to the true ones, by the norm in which these are one: so its change, divided by 1 less itself, bounds the distance.
+    ValueError where rounds don't do."""
     (bits, more), (rounds, progress) = room, most
     unit, numbers, off = 1 << bits, steps.all(1 << bits), math.inf
     before = numbers
     for number in range(1, rounds + 1):
         with keep_partial(lambda: show(_Settled(before, number - 1, off / (1 - off))) if off < 1 else None):  # pylint: disable=cell-var-from-loop
-            before, numbers = numbers, _times(steps.comes(numbers), handed.share, unit)
+            before, numbers = numbers, _times(steps.comes(numbers, handed.ring), handed.share, unit)
         tell(progress, 'round', number)
-        off = (_farthest(numbers, before) + 1 + handed.drift * _most(numbers)) / unit if steps.count else 0
-        if off < 1 and off / (1 - off) <= aim:
+        off = (_farthest(numbers, before) + handed.rounding + handed.drift * _most(numbers)) / unit if steps.count else 0
+        if off < 1 and (off / (1 - off) <= aim or (settles and off < .25 and not _farthest(numbers, before))):
             return _Settled(before, number, off / (1 - off))
         if _most(numbers) >> (bits + more):
             return _sum(numbers) / _sum(before)
-    raise ValueError('%d rounds are too few for alpha=%g, which is near 1 divided by the greatest eigenvalue or above it: give a smaller alpha, '
-                     'a greater tolerance=, or more rounds=' % (rounds, float(handed.share)))
+    raise ValueError('%d rounds are too few for this alpha, which is near 1 divided by the greatest eigenvalue or above it: give a smaller one, '
+                     'a greater tolerance=, or more rounds=' % rounds)
 
 
 def _sum(numbers: Numbers) -> float:

@@ -12,10 +12,10 @@ from .cached_properties import extremes, transpose_of
 from .distance_measures import distance_counts
 from .frontier import Columns, Tally, column_of, plus_times
 from .graph_units import unit_of
-from .protocols import Numbers
+from .protocols import Numbers, Place
 from .registry import algorithm
 from .results import Centrality, as_centrality
-from .utils import Progress, beside, order, tell
+from .utils import Progress, beside, mark_rows, order, tell
 
 ONE = 1 << 40
 MOST_AT_ONCE = 1 << 22                             # lengths of a batch
@@ -77,8 +77,8 @@ def _by_lengths(G: Matrix, GT: Optional[Matrix], progress: Progress, check: bool
     total: List[int] = []
     size = max(1, MOST_AT_ONCE // max(1, count))
     for first in range(0, count, size):
-        many = min(size, count - first)
-        lengths = lengths_from(G.session.from_coo(range(many), range(first, first + many), 0, many, count), reach)
+        some = [Place(row) for row in range(first, min(first + size, count))]
+        lengths = lengths_from(mark_rows(G, some, 0), reach)
         if most * count ** 2 >= MOST_SUM and (lengths.reduce_scalar('max') or 0) * count >= MOST_SUM:
             raise ValueError('lengths to one vertex could add up to more than 2^62: divide the values')
         others += [value - 1 for value in lengths.apply('one').reduce_rowwise('plus').to_list(1)]

@@ -404,8 +404,8 @@ def pagerank(g: CallSizes) -> Bound:
     return Bound(steps, steps, 'up to %d rounds of %d an edge' % (rounds, edge))
 
 
-def _flow(g: CallSizes, rounds: int, times: int, more: int) -> Bound:
-    edge = (6 if g.given['weighted'] else 5) * times
+def _flow(g: CallSizes, rounds: int, times: int, more: int, dear: int = 0) -> Bound:
+    edge = (dear or (6 if g.given['weighted'] else 5)) * times
     checks = g.check_transpose(bool(g.given['weighted'])) + g.check_both_ways + (g.find_extremes if g.given['weighted'] else 0)
     steps = checks + edge * g.entries * rounds + 6 * more * g.entries
     return Bound(steps, steps, 'up to %d rounds of %d an edge' % (rounds, edge))
@@ -426,10 +426,11 @@ def katz(g: CallSizes) -> Bound:
     may grow beyond their room, and all is done again with more."""
     rounds, tolerance = 4 * int(g.given['rounds']), float(g.given['tolerance'] or 1e-9)
     heaviest = 1 if not g.given['weighted'] else max(0, _extremes_of(g)[1])
-    rate = float(g.given['alpha']) * heaviest * (max(g.degrees.entering, default=0) if g.degrees else g.vertices)
+    entering = max(g.degrees.entering, default=0) if g.degrees else g.vertices
+    rate = float(g.given['alpha']) * heaviest * entering
     if 0 < rate < .99 and not (g.given['weighted'] and getattr(g.graph, 'unit', None)):
         rounds = min(int(g.given['rounds']), rounds_to(tolerance * (1 - rate) / 8, rate) + 2)
-    return _flow(g, 1 if rate == 0 else rounds, 1, 1)
+    return _flow(g, 1 if rate == 0 else rounds, 1, 2, 20 if heaviest * entering >> 20 else 0)
 
 
 def label_propagation(g: CallSizes) -> Bound:
