@@ -137,7 +137,7 @@ class Squares(support.InSession):
 
 class Drawn(support.InSession):
     def test_each_once(self):
-        for seed in (0, 1, 'x', 1 << 70):
+        for seed in (0, 1, -5, 1 << 70):
             values = random_vector.drawn(self.s.ones(5000), seed).to_list()
             self.assertEqual(len(set(values)), 5000)
             self.assertTrue(0 < min(values) and max(values) < 1 << 32)
@@ -145,6 +145,10 @@ class Drawn(support.InSession):
             self.assertLess(abs(sum(values) / 5000 / (1 << 31) - 1), .05)
             up = sum(a < b for a, b in zip(values, values[1:]))
             self.assertLess(abs(up - 2500), 200)                           # no more than by chance
+
+    def test_a_text_is_no_seed(self):
+        with self.assertRaisesRegex(TypeError, "a seed is a whole number, .*, not 'x'"):
+            random_vector.drawn(self.s.ones(5), 'x')
 
     def test_seeds(self):
         first, second = (random_vector.drawn(self.s.ones(2000), seed).to_list() for seed in (1, 2))
