@@ -228,9 +228,7 @@ class Matrix(Composites):
 
     def _under(self, where: Mask, shape: Tuple[int, int], told: metadata.Notes) -> metadata.Notes:
         """What is known of a result under a mask. DimensionMismatch where the mask has another shape, NamesDiffer where it has other names."""
-        if where.matrix.shape != shape:
-            raise refusal('J9', detail='the result is %dx%d, the mask %dx%d%s' % (
-                *shape, *where.matrix.shape, metadata.hint_of(told, where.matrix.notes)))
+        _check_mask(where, shape, told)
         return metadata.under(told, where.matrix.notes, where.value, where.complement)
 
     def _check_shape(self, form: str, other: 'Matrix', shape: Tuple[int, Optional[int]]) -> None:
@@ -319,7 +317,7 @@ class Matrix(Composites):
         self._check_shape('union', other, self.shape)
         where = as_mask(mask)
         if where is not None:
-            self._under(where, self.shape, self.notes)
+            _check_mask(where, self.shape, self.notes)
         op = None if accum is None else of_form('union', accum)
         told = metadata.of_update(self.notes, other.notes, op, where, replace)
         made = self._updated(other, accum, where, replace, name)
@@ -348,6 +346,12 @@ class Matrix(Composites):
         """The canonical Matrix Market text: coordinate integer general, entries by ascending row and column. Runs the queue where
         this matrix waits, as all else does that tells what it holds."""
         return self.session.backend.read(self)
+
+
+def _check_mask(where: Mask, shape: Tuple[int, int], told: metadata.Notes) -> None:
+    if where.matrix.shape != shape:
+        raise refusal('J9', detail='the result is %dx%d, the mask %dx%d%s' % (
+            *shape, *where.matrix.shape, metadata.hint_of(told, where.matrix.notes)))
 
 
 class _Job(NamedTuple):

@@ -119,7 +119,7 @@ class Checks(support.InSession):
         G.nodes = ['a', 'b', 'c', 'd']
         self.assertEqual(algorithms.bfs_levels(G, 'b').by_node(), {'b': 0, 'c': 1, 'd': 2})
         self.assertEqual(algorithms.sssp(G, 'c', target='d').by_node(), {'c': 0, 'd': 6})
-        self.assertEqual(algorithms.connected_components(G).by_node(), dict.fromkeys('abcd', 0))
+        self.assertEqual(algorithms.connected_components(G).by_node(), dict.fromkeys('abcd', 'a'))      # each value is a vertex
         self.assertEqual(algorithms.pagerank(G).nodes, G.nodes)
 
 
