@@ -39,7 +39,7 @@ class Nodes(List[Any]):
         self._places: Optional[Dict[Any, int]] = None
         self._numbered: Optional[bool] = None
         self._are_counted: Optional[bool] = None
-        self._list: object = self                  # one object for all lists that were found equal to this one
+        self.equal_lists: object = self            # one object for all lists that were found equal to this one
 
     @property
     def places(self) -> Dict[Any, int]:
@@ -65,11 +65,11 @@ class Nodes(List[Any]):
 
     def equals(self, other: 'Nodes') -> bool:
         """Whether two lists have the same names in the same order. Two that have are compared once: both know it from then on."""
-        mine, theirs = self._list, other._list
+        mine, theirs = self.equal_lists, other.equal_lists
         if mine is not theirs:
             if len(self) != len(other) or list.__eq__(self, other) is not True:
                 return False
-            other._list = mine
+            other.equal_lists = mine
         return True
 
     def at(self, name: Any) -> int:

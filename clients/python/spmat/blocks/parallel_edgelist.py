@@ -7,7 +7,7 @@ from __future__ import annotations
 
 import functools
 import os
-from typing import TYPE_CHECKING, Any, List, NamedTuple, Optional, Sequence, Tuple
+from typing import TYPE_CHECKING, Any, List, NamedTuple, Optional, Sequence
 
 from .. import limits, units
 from ..errors import ReadError, Refused, refusal
@@ -55,7 +55,8 @@ def of_file(sessions: 'Inputs', path: Any, request: Request, asked: Asked) -> Op
         return of_sources(sessions, _in_folder(os.fspath(path), request), asked)
     file = parallel_read.seen(sessions, path)
     layout = request.layout
-    if file is None or request.nodelist is not None or layout.scale is not None or layout.nodetype or layout.unit or layout.comments not in (True, None):
+    converts = layout.scale is not None or layout.nodetype or layout.unit
+    if file is None or converts or request.nodelist is not None or layout.comments not in (True, None):
         return None
     try:
         table = _table(file.path, request)

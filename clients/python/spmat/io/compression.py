@@ -14,7 +14,7 @@ import lzma
 import os
 import zipfile
 import zlib
-from typing import IO, Any, Callable, Iterator, NamedTuple, Optional
+from typing import IO, Any, Callable, Iterator, List, NamedTuple, Optional
 
 from ..errors import ReadError
 
@@ -41,18 +41,23 @@ def _open_zstd(file: IO[bytes]) -> IO[bytes]:
     raise ImportError('it is packed by zstd, which Python has from 3.14 on: install the package zstandard, or unpack it by `zstd -d`')
 
 
+def _names_in(whole: IO[bytes]) -> List[str]:
+    """The files of a zip archive, but for folders and what macOS adds; none where it isn't one."""
+    try:
+        with zipfile.ZipFile(whole) as archive:
+            return [name for name in archive.namelist() if not name.endswith('/') and not name.startswith('__MACOSX/')]
+    except zipfile.BadZipFile:
+        return []
+
+
 def _open_zip(file: IO[bytes]) -> IO[bytes]:
     """The one file of a zip archive, as pandas reads it. Any other archive is given as it is, and refused by what it is."""
     whole = io.BytesIO(file.read())
-    try:
-        archive = zipfile.ZipFile(whole)
-    except zipfile.BadZipFile:
-        names = []
-    else:
-        names = [name for name in archive.namelist() if not name.endswith('/') and not name.startswith('__MACOSX/')]
+    names = _names_in(whole)
     if len(names) == 1 and not names[0].endswith('.npy'):
         try:
-            return archive.open(names[0])
+            with zipfile.ZipFile(whole) as archive:
+                return archive.open(names[0])      # which is read when the archive is closed: the bytes are held here
         except (RuntimeError, NotImplementedError) as fault:       # a password, or a way of packing that Python has not
             raise OSError(str(fault)) from None
     whole.seek(0)

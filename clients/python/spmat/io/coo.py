@@ -4,7 +4,7 @@ from __future__ import annotations
 import math
 import numbers
 import operator
-from typing import Any, Callable, Dict, Iterable, List, NamedTuple, Optional, Sequence, Tuple
+from typing import Any, Callable, Dict, Iterable, List, Optional, Sequence, Tuple
 
 from ..errors import Refused, refusal
 from ..limits import MOST_SIDE
@@ -174,16 +174,7 @@ def whole_array(many: Any, what: str) -> Any:
     return array.astype(numpy.int64, copy=False)
 
 
-class Cells(NamedTuple):
-    """The cells of a table that are entries: rows, columns and values, and the table's sizes."""
-    rows: Any
-    columns: Any
-    values: Any
-    nrows: int
-    ncols: int
-
-
-def from_dense(cells: Any, missing: Any = None) -> Cells:
+def from_dense(cells: Any, missing: Any = None) -> Triples:
     """The cells of a table, an array of two dimensions or a list of lists, but for those that are `missing` (None: no cell), and masked
     ones. ValueError with its row and column for a cell that holds no value."""
     if is_array(cells) and cells.dtype.kind != 'O':
@@ -198,7 +189,7 @@ def from_dense(cells: Any, missing: Any = None) -> Cells:
         if is_gap(cell):
             raise _gap(i, j, cell)
     at, columns, values = zip(*chosen) if chosen else ((), (), ())
-    return Cells(at, columns, values, len(rows), ncols)
+    return Triples(at, columns, values, len(rows), ncols)
 
 
 MASKED = object()                                  # what stands in a cell that an array masks
@@ -221,7 +212,7 @@ def _gap(i: int, j: int, cell: Any) -> ValueError:
                       % (i, j, 'nan' if isinstance(cell, float) else repr(cell)))
 
 
-def _from_array(table: Any, missing: Any) -> Cells:
+def _from_array(table: Any, missing: Any) -> Triples:
     import numpy
     hidden: Any = numpy.ma.getmaskarray(table)                         # type: ignore[no-untyped-call]
     values, chosen = numpy.asarray(table), ~hidden
@@ -233,7 +224,7 @@ def _from_array(table: Any, missing: Any) -> Cells:
     if wrong.any():
         at = int(wrong.argmax())
         raise _gap(int(i[at]), int(j[at]), float('nan'))
-    return Cells(i, j, values[i, j], *values.shape)
+    return Triples(i, j, values[i, j], *values.shape)
 
 
 def indices(n: int) -> Any:

@@ -185,7 +185,8 @@ class Sources(abc.ABC, Generic[Made]):
                    directed: Optional[bool] = None, bipartite: Optional[bool] = None, dup_op: DupOp = None, name: Optional[str] = None,
                    **layout: Any) -> Made:
         """The matrix of a file of any format: 'mtx' (Matrix Market, see `mmread`), 'edges', 'csv' or 'tsv' (see `read_edgelist`, whose
-        `delimiter`, `header`, `columns`, `comments`, `missing`, `nodetype`, `unit`, `date_format` and `nodelist` it takes), 'dimacs' (.gr, .max, .col; vertices are named from 1), 'graphml', 'gexf'
+        `delimiter`, `header`, `columns`, `comments`, `missing`, `nodetype`, `unit`, `date_format` and `nodelist` it takes),
+        'dimacs' (.gr, .max, .col; vertices are named from 1), 'graphml', 'gexf'
         and 'gml' by networkx, 'parquet' by pandas. Without a format the content says. `directed` None is as the file
         has it: a DIMACS graph of edges `e` is undirected, the edges of a list lead one way. `values`, `scale`, `bipartite` and `dup_op` are as for `read_edgelist`."""
         nodelist = layout.pop('nodelist', None)

@@ -1,7 +1,10 @@
 """What reading leaves out, counted: comments, and rows with a missing name or value. `notes.source` says it, so that nothing is lost in silence."""
 from __future__ import annotations
 
+import operator
 from typing import Any, List, NamedTuple, Optional, Sequence
+
+from .arrays import is_gap
 
 RAISE, SKIP = 'raise', 'skip'
 # What pandas takes for a missing value where a column has text, in just these letters.
@@ -41,5 +44,5 @@ def absent_from(many: Sequence[Any]) -> List[int]:
     """The places of None, NaN and what pandas and numpy have in their place."""
     if set(map(type, many)) <= {int, str, tuple, bool}:
         return []
-    return [at for at, one in enumerate(many) if one is None or type(one).__name__ in ('NAType', 'NaTType')
-            or ((isinstance(one, float) or hasattr(one, 'dtype')) and bool(one != one))]
+    # numpy's NaN of any width and its NaT differ from themselves
+    return [at for at, one in enumerate(many) if is_gap(one) or (hasattr(one, 'dtype') and bool(operator.ne(one, one)))]
