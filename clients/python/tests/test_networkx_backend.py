@@ -179,9 +179,18 @@ class Conversion(Case):
                              for which in ('spmat', 'networkx'))
                 self.assertEqual(list(got), list(want))
                 self.assertLess(max(abs(got[node] - want[node]) for node in want), 1e-7)
-        for length in (0, -1, .5):
+        for length in (0, -1, 1 / 3):
             with self.assertRaises(NotImplementedError):
                 networkx.betweenness_centrality(networkx.Graph([(0, 1), (1, 2, {'weight': length})]), weight='weight', backend='spmat')
+
+    def test_betweenness_by_fractions(self):
+        """The two ways round a square are equally long, and a quarter more or less makes one of them the shorter."""
+        for last, shares in ((.5, [1 / 6, 1 / 6, 1 / 6, 1 / 6]), (.25, [1 / 3, 0, 0, 1 / 3]), (.75, [0, 1 / 3, 1 / 3, 0])):
+            square = networkx.Graph()
+            square.add_weighted_edges_from([(0, 1, .5), (1, 2, .5), (2, 3, .5), (3, 0, last)])
+            for backend in ('spmat', 'networkx'):
+                got = networkx.betweenness_centrality(square, weight='weight', backend=backend)
+                self.assertEqual([round(got[node], 6) for node in square], [round(share, 6) for share in shares], (backend, last))
 
     def test_once(self):
         """Ten calls convert a graph once, whatever attributes they ask for, until it is changed."""
