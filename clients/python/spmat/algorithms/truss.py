@@ -69,7 +69,7 @@ def _falls(falling: M, left: M, k: int, number: int, progress: Progress) -> Tupl
             tell(progress, 'round', number + at)
     now = State({'falling': falling, 'left': left})
     if left.in_one_place:
-        loop = Loop(lambda s: next_(s, _product), now)
+        loop = Loop(lambda s: next_(s, _product), now, alike=True)
         end = Until(('falling', 'left'), lambda counts, _: not counts['falling'] or _many(counts['falling'], counts['left']))
         try:
             loop.rounds(end, left.nvals + 1, heard)
