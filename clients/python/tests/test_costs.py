@@ -153,11 +153,15 @@ class Costs(unittest.TestCase):
         self.assertLessEqual(self.spent(algorithms.core_numbers, path, check=False), 10 * path.nvals)
 
     def test_what_is_made_once(self):
-        """Loops and a column of one value are sent once for a graph, and a column without entries when a job wants it."""
+        """Loops and a column of one value are sent once for a graph, and a column without entries when a job wants it. Each caller
+        has a matrix of its own, whose names the next one doesn't see."""
         for make in (loops, column):
             first = make(self.G, 3)
             sent = self.session.connection.sent
-            self.assertIs(make(self.G, 3), first)
+            again = make(self.G, 3)
+            self.assertIs(again.handle, first.handle)
+            again.row_nodes = list(map(str, range(self.G.nrows)))
+            self.assertEqual((first.row_nodes, make(self.G, 3).row_nodes), (None, None))
             self.assertEqual(self.session.connection.sent, sent)
             self.assertEqual(first.reduce_scalar('plus'), 3 * self.G.nrows)
         commands = self.session.connection.commands
