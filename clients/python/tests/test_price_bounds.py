@@ -23,18 +23,25 @@ def _grid(side):
             if (c if step == 1 else r) < side - 1]
 
 
+# Small ones: all algorithms are tried on each, and a long path or many pairs of vertices take thousands of jobs.
 UNDIRECTED = [
-    graphs.undirected('path', 60, [(i, i + 1) for i in range(59)]), graphs.undirected('star', 40, [(0, i) for i in range(1, 40)]),
-    graphs.undirected('grid', 64, _grid(8)), graphs.undirected('sparse', 100, _random_pairs(1, 100, 300)),
-    graphs.undirected('skewed', 100, _random_pairs(2, 100, 400, True)), graphs.UNDIRECTED[3],
-    graphs.undirected('complete', 10, itertools.combinations(range(10), 2)),
-    graphs.undirected('apart', 60, [(i + at, j + at) for at in (0, 30) for i, j in _random_pairs(3, 30, 60)]),
+    graphs.undirected('path', 16, [(i, i + 1) for i in range(15)]), graphs.undirected('star', 12, [(0, i) for i in range(1, 12)]),
+    graphs.undirected('grid', 16, _grid(4)), graphs.undirected('sparse', 30, _random_pairs(1, 30, 90)),
+    graphs.undirected('skewed', 30, _random_pairs(2, 30, 120, True)), graphs.UNDIRECTED[3],
+    graphs.undirected('complete', 8, itertools.combinations(range(8), 2)),
+    graphs.undirected('apart', 24, [(i + at, j + at) for at in (0, 12) for i, j in _random_pairs(3, 12, 24)]),
     graphs.undirected('no edge', 9, []), graphs.undirected('one vertex', 1, []), graphs.undirected('no vertex', 0, [])]
 DIRECTED = [
-    graphs.directed('sparse', 80, _random_pairs(4, 80, 240)), graphs.directed('skewed', 80, _random_pairs(5, 80, 320, True)),
-    graphs.directed('turned', 80, {(j, i) for i, j in _random_pairs(6, 80, 320, True)}), graphs.directed('in', 40, {(i, 0) for i in range(1, 40)}),
-    graphs.directed('forward', 60, {(min(pair), max(pair)) for pair in _random_pairs(7, 60, 180)}),
-    graphs.directed('loops', 40, _random_pairs(8, 40, 120) | {(i, i) for i in range(0, 40, 3)})]
+    graphs.directed('sparse', 24, _random_pairs(4, 24, 72)), graphs.directed('skewed', 24, _random_pairs(5, 24, 96, True)),
+    graphs.directed('turned', 24, {(j, i) for i, j in _random_pairs(6, 24, 96, True)}), graphs.directed('in', 12, {(i, 0) for i in range(1, 12)}),
+    graphs.directed('forward', 20, {(min(pair), max(pair)) for pair in _random_pairs(7, 20, 60)}),
+    graphs.directed('loops', 16, _random_pairs(8, 16, 48) | {(i, i) for i in range(0, 16, 3)})]
+LONG_PATHS = [
+    graphs.undirected('long path', 50, [(i, i + 1) for i in range(49)]),
+    graphs.undirected('long ladder', 120, [(i, i + step) for i in range(120) for step in (1, 2, 3) if i + step < 120]),
+    graphs.undirected('wide, then long', 80, [(i, j) for i in range(40) for j in range(i)] + [(i, i + 1) for i in range(39, 79)])]
+WITH_ALL_OPTIONS = ('skewed', 'karate', 'no edge', 'loops', 'long path', 'wide, then long')         # others with the first alone
+COMMON = [graphs.UNDIRECTED[3], graphs.undirected('sparse', 100, _random_pairs(1, 100, 300))]
 # The options of calls.
 OPTIONS = {
     'all_pairs': [{}], 'betweenness': [{}, {'sources': [0]}, {'weighted': True}],
@@ -113,17 +120,22 @@ class Algorithms(support.InSession):
         if ended:
             self.assertLessEqual(priced.least, spent)
 
-    def on(self, some):
-        for name, graph in itertools.product(OPTIONS, some):
-            parameters = ALGORITHMS[name].parameters
-            for options in OPTIONS[name]:
-                for transposed in {None, *({'GT', 'WT'} & set(parameters) if options is OPTIONS[name][0] else ())}:
-                    with self.subTest(algorithm=name, graph=graph.name, transposed=transposed, **options):
-                        self.look(name, graph, options, transposed)
+    def on(self, some, names=tuple(OPTIONS)):
+        for name, graph in itertools.product(names, some):
+            every = graph.name in WITH_ALL_OPTIONS
+            transposes = {'GT', 'WT'} & set(ALGORITHMS[name].parameters) if every else ()
+            tries = [(options, None) for options in (OPTIONS[name] if every else OPTIONS[name][:1])]
+            for options, transposed in tries + [(OPTIONS[name][0], transpose) for transpose in sorted(transposes)]:
+                with self.subTest(algorithm=name, graph=graph.name, transposed=transposed, **options):
+                    self.look(name, graph, options, transposed)
 
     def test_undirected(self):
         """On each kind of undirected graph a call takes between the least and the most."""
         self.on(UNDIRECTED)
+
+    def test_long_paths(self):
+        """And of searches through so many levels that they stay at the server, where a few levels or many are large."""
+        self.on(LONG_PATHS, [name for name in OPTIONS if name.startswith(('bfs', 'has_path', 'shortest_path', 'sssp'))])
 
     def test_directed(self):
         """And on directed ones, where it gives an answer."""
@@ -134,7 +146,7 @@ class Nearness(support.InSession):
     def test_near(self):
         """No bound is twenty times too high on common graphs, but for those that say why."""
         for name in sorted(set(OPTIONS) - set(LOOSE)):
-            for graph in (graphs.UNDIRECTED[3], UNDIRECTED[3]):
+            for graph in COMMON:
                 with self.subTest(algorithm=name, graph=graph.name):
                     G, named = graph.matrix(self.s), OPTIONS[name][0]
                     priced = spmat.price(lambda: getattr(algorithms, name)(G, **arguments(G, named)))

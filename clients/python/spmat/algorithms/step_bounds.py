@@ -46,7 +46,7 @@ def triangle_count(g: CallSizes) -> Bound:
 
 def _triangles(g: CallSizes, rest: int) -> Bound:
     rest += g.check_undirected() + 3 * g.entries + g.halved(g.paths, 5)
-    return Bound(rest + 5 * min(g.triangles, g.paths), rest + 5 * g.paths)
+    return Bound(rest + 5 * g.triangles, rest + 5 * g.paths)
 
 
 def triangles(g: CallSizes) -> Bound:
@@ -118,11 +118,23 @@ def _large_levels(g: CallSizes, part: int = 4) -> int:
 def _search(g: CallSizes, edge: int, vertex: int, loop: Tuple[int, int], sources: str = 'source') -> int:
     depth = g.given.get('depth')
     vertices, edges = g.within(g.sources(sources), depth)
-    steps = g.check_transpose() + edge * edges + (vertex + 4) * vertices
-    steps += 4 * g.vertices * min(_large_levels(g), g.vertices if depth is None else depth)
+    found, level = (vertex + 4) * vertices, 4 * g.vertices
+    steps = edge * edges + found + level * min(_large_levels(g), g.vertices if depth is None else depth)
     if g.is_ample and g.given.get('target') is None and g.vertices > LONG and (depth is None or depth > LONG):
-        steps += g.check_both_ways + (loop[0] * g.entries + loop[1] * g.vertices if g.both_ways is not False else 0)
-    return steps
+        if not g.both_ways:
+            steps += g.check_both_ways
+        if g.both_ways is not False:
+            looped = max(edge, loop[0]) * g.entries + loop[1] * g.vertices
+            steps = max(steps, g.check_both_ways + found + looped + level * _large_levels_of_long(g))
+    return g.check_transpose() + steps
+
+
+def _large_levels_of_long(g: CallSizes) -> int:
+    """The most large levels of a search before it is a loop at the server. There are LONG levels by then, and one to go on from; each has
+    a vertex, so few are left for large ones where these have many."""
+    least = -(-g.vertices * g.vertices // (4 * max(1, g.entries)))  # vertices of a large front
+    spare = (g.vertices - LONG - 1) // (least - 1) if least > 1 else LONG
+    return min(_large_levels(g), LONG, spare)
 
 
 def bfs_levels(g: CallSizes) -> int:

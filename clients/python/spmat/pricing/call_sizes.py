@@ -85,15 +85,16 @@ class CallSizes:
 
     @property
     def triangles(self) -> int:
-        """Edges with a third vertex beside them, each as often as triangles have it: six times the triangles of an undirected graph, or more."""
-        most = int(self.entries ** 1.5) + 1
-        return min(self.degrees.triangles, most) if self.degrees else min(most, self.entries * self.vertices)
+        """Edges with a third vertex beside them, each as often as triangles have it: six times the triangles of an undirected graph, or more.
+        No more than `paths`, of which a product under the graph shows a part."""
+        most = min(int(self.entries ** 1.5) + 1, self.paths)
+        return min(self.degrees.triangles, most) if self.degrees else most
 
     @property
     def lower_triangles(self) -> int:
         """Triangles of an undirected graph, or more."""
-        most = int((self.entries / 2) ** 1.5) + 1
-        return min(self.degrees.lower, most) if self.degrees else min(most, self.entries * self.vertices)
+        most = min(int((self.entries / 2) ** 1.5) + 1, self.lower_paths)
+        return min(self.degrees.lower, most) if self.degrees else most
 
     @property
     def lower_paths(self) -> int:
