@@ -191,9 +191,10 @@ class Parts(graphs.OnGraphs):
     def test_values_of_betweenness(self):
         """Names; lengths that differ by direction; and values that are no lengths."""
         G = self.session.from_edgelist([('a', 'b', 4), ('a', 'c', 1), ('c', 'd', 2), ('d', 'b', 1), ('b', 'e', 1)])
-        half = 1 << 19                                     # a to b, and a to e, by b itself and by c and d
-        self.assertEqual(algorithms.betweenness(G, weighted=True).by_node(), {'a': 0, 'b': 6 * half, 'c': 4 * half, 'd': 6 * half, 'e': 0})
-        self.assertEqual(algorithms.betweenness(G, ['c'], weighted=True).by_node(), {'a': 0, 'b': 2 * half, 'c': 0, 'd': 4 * half, 'e': 0})
+        for sources, want in ((None, {'a': 0, 'b': 3, 'c': 2, 'd': 3, 'e': 0}), (['c'], {'a': 0, 'b': 1, 'c': 0, 'd': 2, 'e': 0})):
+            found = algorithms.betweenness(G, sources, weighted=True)      # a to b, and a to e, by b itself and by c and d
+            self.assertEqual(found.by_node(), want)
+            self.assertEqual(dict(zip(G.nodes, found.to_list())), {node: value << 20 for node, value in want.items()})
         edges = {(0, 1): 1, (1, 0): 1, (1, 2): 1, (2, 1): 1, (0, 2): 1, (2, 0): 5}
         self.assertEqual(algorithms.betweenness(graphs.Graph('uneven', 3, edges, True).matrix(self.session), weighted=True).to_list(), [0, 1 << 20, 0])
         loop = self.session.from_triples([(0, 0, 1), (0, 1, 2), (1, 2, 2)], 3, 3)
@@ -249,7 +250,7 @@ class Parts(graphs.OnGraphs):
         self.assertEqual(algorithms.core_numbers(G).by_node(), networkx.core_number(karate))
         want = networkx.betweenness_centrality(karate, normalized=False)
         for node, value in algorithms.betweenness(G).by_node().items():
-            self.assertAlmostEqual(value / 2 ** 20, want[node], places=2)
+            self.assertAlmostEqual(value, want[node], places=2)
         W = self.session.from_networkx(karate)
         forest = sum(data['weight'] for _, _, data in networkx.minimum_spanning_edges(karate))
         self.assertEqual(algorithms.minimum_spanning_forest(W).reduce_scalar('plus'), 2 * forest)

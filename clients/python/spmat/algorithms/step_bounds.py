@@ -119,7 +119,7 @@ def _search(g: CallSizes, edge: int, vertex: int, loop: Tuple[int, int], sources
     depth = g.given.get('depth')
     vertices, edges = g.within(g.sources(sources), depth)
     found, level = (vertex + 4) * vertices, 4 * g.vertices
-    steps = edge * edges + found + level * min(_large_levels(g), g.vertices if depth is None else depth)
+    steps: int = edge * edges + found + level * min(_large_levels(g), g.vertices if depth is None else depth)
     if g.is_ample and g.given.get('target') is None and g.vertices > LONG and (depth is None or depth > LONG):
         if not g.both_ways:
             steps += g.check_both_ways
