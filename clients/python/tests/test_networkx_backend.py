@@ -280,6 +280,14 @@ class Left(Case):
             networkx.clustering(uneven, weight='weight', backend='spmat')
         self.assertIn('clustering is left to networkx: weights are folded by cube roots', str(caught.exception.__cause__))
 
+    def test_a_distance_may_be_a_number(self):
+        tree = networkx.balanced_tree(2, 4)
+        networkx.set_edge_attributes(tree, 'far', 2)           # an attribute named as the distance is no weight
+        for distance in range(6):
+            got, want = (networkx.descendants_at_distance(tree, 0, distance, backend=which) for which in ('spmat', 'networkx'))
+            self.assertEqual(got, want)
+            self.assertEqual(len(got), 2 ** distance if distance < 5 else 0)
+
     def test_networkx_does_it(self):
         """With a priority, a call that is left is done by networkx; with backend= it is refused."""
         uneven = networkx.Graph([(0, 1, {'weight': 1 / 3})])

@@ -8,7 +8,7 @@ import functools
 import inspect
 import os
 import threading
-from typing import Any, Callable, Dict, Mapping, NamedTuple, Optional, TypeVar, Union
+from typing import Any, Callable, Dict, Mapping, NamedTuple, Optional, Tuple, TypeVar, Union
 
 import networkx as nx
 
@@ -20,7 +20,7 @@ from .spmat_graph import BOUND, SpmatGraph
 
 MORE_STEPS = 'a greater nx.config.backends.spmat.steps opens another session, and 0 gives the most that there are'
 FALLS_BACK = (errors.TooLarge, errors.OutOfMemory, errors.NoThread)
-WEIGHTS = ('weight', 'distance')                   # names of arguments that name an edge attribute
+WEIGHTS = ('weight', 'distance')                   # arguments that name an edge attribute where a function reads any
 
 _handed = threading.local()                        # whether networkx hands this thread's call over by itself
 
@@ -62,7 +62,7 @@ class Backend:
         _handed.over = False
         arguments = _bound(name, args, kwargs)
         if arguments is not None:
-            forget_changed(next(iter(arguments.values())), [arguments[key] for key in WEIGHTS if arguments.get(key) is not None])
+            forget_changed(next(iter(arguments.values())), [arguments[key] for key in _weight_arguments(name) if arguments[key] is not None])
         return (_is_tested() and Backend.reason(name, args, kwargs)) or True
 
     @staticmethod
@@ -166,10 +166,23 @@ def _bound(name: str, args: Any, kwargs: Mapping[str, Any]) -> Optional[Argument
     return bound.arguments
 
 
+def _dispatched(name: str) -> Any:
+    """networkx' function, with what it says of its arguments."""
+    places = (nx, nx.algorithms.bipartite, nx.algorithms.dag)
+    return next(vars(place)[name] for place in places if hasattr(vars(place).get(name), 'orig_func'))
+
+
 @functools.lru_cache(maxsize=None)
 def _signature(name: str) -> inspect.Signature:
-    places = (nx, nx.algorithms.bipartite, nx.algorithms.dag)
-    return inspect.signature(next(vars(place)[name].orig_func for place in places if hasattr(vars(place).get(name), 'orig_func')))
+    return inspect.signature(_dispatched(name).orig_func)
+
+
+@functools.lru_cache(maxsize=None)
+def _weight_arguments(name: str) -> Tuple[str, ...]:
+    """The arguments that name an edge attribute. The distance of `descendants_at_distance` is a number."""
+    function = _dispatched(name)
+    reads = function.edge_attrs is not None or function.preserve_edge_attrs
+    return tuple(key for key in WEIGHTS if reads and key in _signature(name).parameters)
 
 
 def _edges(graph: Any, enough: int) -> int:
@@ -197,8 +210,8 @@ def _reason(name: str, arguments: Arguments) -> Optional[str]:
     said = terms.unless(arguments) if terms.unless else None
     if said:
         return said
-    for key in WEIGHTS:
-        if key in arguments and arguments[key] is not None:
+    for key in _weight_arguments(name):
+        if arguments[key] is not None:
             said = _weights(name, graph, arguments, key, terms.negative)
             if said:
                 return said
