@@ -78,6 +78,9 @@ class Weights(unittest.TestCase):
         self.assertEqual(same(nx.minimum_spanning_edges(graph, backend='spmat')), same(nx.minimum_spanning_edges(graph)))
         dag = nx.DiGraph((u, v, {'weight': data}) for u, v, data in graph.edges(data='weight') if u < v)
         self.assertEqual(nx.dag_longest_path_length(dag, backend='spmat'), nx.dag_longest_path_length(dag))
+        for default in (1, 2, .5, 0, -3, 1 << 70):             # without weights each edge is so long
+            got, want = (nx.dag_longest_path_length(dag, None, default, backend=which) for which in ('spmat', 'networkx'))
+            self.assertEqual(got, want)
         ranks = nx.pagerank(graph, backend='spmat', tol=1e-9)
         scaled = nx.Graph((u, v, {'weight': int(data * 8)}) for u, v, data in graph.edges(data='weight'))
         self.assertTrue(all(abs(ranks[node] - rank) < 1e-7 for node, rank in nx.pagerank(scaled, backend='spmat', tol=1e-9).items()))

@@ -110,4 +110,6 @@ def dag_longest_path_length(G: SpmatGraph, weight: Any = 'weight', default_weigh
         far = algorithms.longest_paths(G.matrix(weight, default_weight, 'max')).reduce_scalar('max') or 0
     except algorithms.CycleError:
         raise NetworkXUnfeasible(UNFEASIBLE) from None
-    return far if weight is None else told(far, G.values(weight, default_weight, 'max').unit)
+    if weight is None:                             # then each edge is as long as one without the attribute
+        return far * default_weight if far and default_weight > 0 else 0
+    return told(far, G.values(weight, default_weight, 'max').unit)
