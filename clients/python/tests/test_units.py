@@ -431,6 +431,7 @@ class OutAndIn(Case):
         G.to_parquet(self.path, raw=True)
         self.assertEqual(self.s.read_graph(self.path).to_edgelist(), G.to_edgelist(raw=True))
 
+    @support.needs('numpy')
     def test_folders(self):
         """Of a folder each file is read by a worker."""
         folder = os.path.join(os.path.dirname(self.path), 'lists')
