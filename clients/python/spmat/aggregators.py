@@ -48,6 +48,7 @@ FOLDS: Dict[str, Fold] = {
     'last_index': Fold(lambda A, axis: A.apply(_index(axis)), 'second'),
     'argmin': Fold(_extremes('min'), 'first'),
     'argmax': Fold(_extremes('max'), 'first')}
+INDEXES = ('argmin', 'argmax', 'first_index', 'last_index')      # whose results are places of columns, or of rows
 NAMES = frozenset((*OPERATORS, *FOLDS, 'mean', 'peak_to_peak'))
 
 
@@ -71,7 +72,11 @@ def _aggregated(matrix: Any, op: str, axis: int, where: Optional[Mask], name: Op
     if op in OPERATORS:
         return folded(matrix, OPERATORS[op], axis, where, name)
     if op in FOLDS:
-        return folded(FOLDS[op].of(matrix, axis), FOLDS[op].op, axis, where, name)
+        made = folded(FOLDS[op].of(matrix, axis), FOLDS[op].op, axis, where, name)
+        names = matrix.notes.names(axis)
+        if op in INDEXES and names is not None:    # a place is shown by the name that stands there
+            made.notes = made.notes._replace(value_names=names)
+        return made
     if op == 'peak_to_peak':
         return folded(matrix, 'max', axis).ewise_mult(folded(matrix, 'min', axis), 'minus', mask=where, name=name)
     return _means(folded(matrix, 'plus', axis, where), folded(matrix.apply('one'), 'plus', axis, where), name)
@@ -91,7 +96,7 @@ def _means(sums: Any, counts: Any, name: Optional[str]) -> Any:
 
 def aggregate_all(matrix: Any, op: str, raw: bool) -> Any:
     """One number for all entries, None where there are none. TypeError for an aggregator of positions, which a matrix has two of."""
-    if op in ('argmin', 'argmax', 'first_index', 'last_index'):
+    if op in INDEXES:
         raise TypeError('%r is of rows or columns: A.reduce_rowwise(%r), or A.top(1) for the greatest entry of all' % (op, op))
     if op == 'count':
         return matrix.nvals

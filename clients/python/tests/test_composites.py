@@ -211,7 +211,7 @@ class Aggregators(Composites):
         W = self.s.from_edgelist([('a', 'b', 1.25), ('a', 'c', 2.5), ('b', 'c', 4)], scale=100)
         self.assertEqual(W.reduce_rowwise('mean').by_node(), {'a': 1.875, 'b': 4.0})
         self.assertEqual(W.reduce_rowwise('count').by_node(), {'a': 2, 'b': 1})
-        self.assertEqual(W.reduce_rowwise('argmax').by_node(), {'a': 2, 'b': 2})
+        self.assertEqual(W.reduce_rowwise('argmax').by_node(), {'a': 'c', 'b': 'c'})
         self.assertEqual(W.reduce_columnwise('argmin').by_node(), {'b': 0, 'c': 0})
         self.assertEqual((W.reduce_scalar('mean'), W.reduce_scalar('mean', raw=True)), (7.75 / 3, 775 / 3))
         huge = self.made({(0, 0): 2 ** 62, (1, 0): 5, (1, 1): 6}, 2, 2).reduce_rowwise('mean')

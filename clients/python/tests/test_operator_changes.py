@@ -1,13 +1,16 @@
 """An operator from a function follows what the function reaches: whatever changes between two uses changes the operator."""
 import builtins
 import dataclasses
+import decimal
 import enum
+import fractions
 import functools
 import sys
 import types
 import unittest
 
 import support
+from spmat import CompileError
 
 TOLL = 5
 
@@ -149,6 +152,55 @@ class Changes(support.InSession):
                 for _ in range(3):
                     self.A.apply(function)
             self.assertEqual(made.call_count, times)
+
+
+class Comparisons(support.InSession):
+    """An operand beside what is no plain number: what Python says of it, or an error; never unequal without a word."""
+
+    def setUp(self):
+        self.A = self.s.from_triples([(0, 0, 77), (1, 1, 3)], 2, 2)
+
+    def test_other_kinds_of_numbers(self):
+        for number in (decimal.Decimal(77), fractions.Fraction(77)):
+            self.assertEqual(self.A.select(lambda x: x == number).nvals, 1)
+            self.assertEqual(self.A.select(lambda x: x != number).nvals, 1)
+            self.assertEqual(self.A.select(lambda x: x in [number]).nvals, 1)
+        self.assertEqual(self.A.select(lambda x: x != decimal.Decimal('1.5')).nvals, 2)
+        self.assertEqual(self.A.select(lambda x: x != None).nvals, 2)     # noqa: E711
+
+    def test_several_numbers(self):
+        for several in ([77], (77,), {77}, {77: 1}):
+            for function in (lambda x: x == several, lambda x: x != several):
+                with self.assertRaisesRegex(CompileError, r'x in list\(values\)'):
+                    self.A.select(function)
+        self.assertEqual(self.A.select(lambda x: x in (77, 5)).nvals, 1)
+
+    @support.needs('numpy', 'pandas')
+    def test_arrays(self):
+        import numpy
+        import pandas
+        for several in (numpy.array([77, 88]), numpy.array([20]), pandas.Series([77]), pandas.Index([77]), numpy.timedelta64(77, 's')):
+            for function in (lambda x: x == several, lambda x: x != several):
+                with self.assertRaises((CompileError, TypeError)):
+                    self.A.select(function)
+        for several in (numpy.array([77, 88]), pandas.Series([77]).unique()):
+            with self.assertRaises((CompileError, TypeError)):
+                self.A.select(lambda x: x in several)
+            with self.assertRaises((CompileError, TypeError)):
+                self.A.select(lambda x, i: i in several)
+            self.assertEqual(self.A.select(lambda x: x in list(several)).nvals, 1)
+        self.assertEqual(self.A.select(lambda x: x == numpy.int64(77)).nvals, 1)
+
+    def test_abs_keeps_the_unit(self):
+        P = self.s.from_edgelist([('a', 'b', -1.5), ('a', 'c', 2.5)], scale=10)
+        self.assertEqual(P.apply(abs).to_edgelist(), [('a', 'b', 1.5), ('a', 'c', 2.5)])
+        self.assertEqual(self.A.apply('ainv').apply(abs).to_triples(), self.A.to_triples())
+
+    def test_names_of_the_greatest(self):
+        G = self.s.from_edgelist([(1, 2, 5), (1, 3, 7), (2, 3, 2), (3, 1, 4)])
+        self.assertEqual(G.reduce_rowwise('argmax').by_node(), {1: 3, 2: 3, 3: 1})
+        self.assertEqual(G.reduce_columnwise('argmin').by_node(), {1: 3, 2: 1, 3: 2})
+        self.assertEqual(G.reduce_rowwise('argmax').to_list(), [2, 2, 0])
 
 
 if __name__ == '__main__':

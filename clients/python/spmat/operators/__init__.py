@@ -294,6 +294,8 @@ def find(kind: str, op: Op) -> Operator:
         if other_names.is_ufunc(op):
             named = other_names.ready_of(kind, op)
             return READY[named.kind][named.name]
+        if op is abs and kind == 'unary':          # of which what is known of "abs" is known, such as the unit of its result
+            return unary.abs
         return READY[kind](op)
     name = _SIGNS.get(op, op) if kind == 'index' else op
     if name not in READY[kind]:

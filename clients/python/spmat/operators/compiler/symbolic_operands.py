@@ -5,6 +5,8 @@ an operator's words do. `where`, `cdiv` and the other functions take plain numbe
 """
 from __future__ import annotations
 
+import decimal
+import fractions
 import operator
 from typing import Any, NoReturn, Optional, Tuple
 
@@ -14,6 +16,7 @@ DIVIDED = 'x / y is a float in Python: x // y rounds down, cdiv(x, y) toward 0'
 POWER = 'a power wants a whole number that is known beforehand, at least 0, and no modulus'
 POWER_OF_OPERAND = 'a power of an operand has no code, but 2 ** x is 1 << x'
 NO_TEXT = 'an operand has no text (str, print, f-strings): it is no number yet when the function is looked at'
+NO_SEVERAL = 'an operand is one number, and a %s holds several (compared by %s): x in list(values) looks for it among them'
 NO_SEQUENCE = 'an operand is one number: it has no length and no items, and numpy makes no array of it (spmat.where, min and max take it)'
 
 
@@ -23,7 +26,7 @@ def _both(name: str) -> Tuple[Any, Any]:
 
 
 def _comparison(name: str) -> Any:
-    return lambda self, other: self.compare(name, other)
+    return lambda self, other: self.compare(name, self.comparable(name, other))
 
 
 def _refused(text: str) -> Any:
@@ -46,6 +49,17 @@ class Operand:
     def compare(self, name: str, other: Any) -> Any:
         """A comparison with another operand or a number: 1 or 0."""
         raise NotImplementedError
+
+    def comparable(self, name: str, other: Any) -> Any:
+        """What an operand is compared with: of another kind of number that is whole the int, so that 77 is Decimal(77) here, too. What holds
+        several values is refused: Python would call it unequal without a word."""
+        if isinstance(other, Operand) or whole(other) is not None:
+            return other
+        if isinstance(other, (list, tuple, set, frozenset, dict)) or (hasattr(other, '__array__') and not isinstance(other, float)):
+            raise self.fault(NO_SEVERAL % (type(other).__name__, name))
+        if isinstance(other, decimal.Decimal) and other.is_finite():
+            other = fractions.Fraction(other)
+        return int(other) if isinstance(other, fractions.Fraction) and other.denominator == 1 else other
 
     def choose(self, condition: Any, a: Any, b: Any) -> Any:
         """a where the condition holds, else b."""
