@@ -212,7 +212,7 @@ class Aggregators(Composites):
         self.assertEqual(W.reduce_rowwise('mean').by_node(), {'a': 1.875, 'b': 4.0})
         self.assertEqual(W.reduce_rowwise('count').by_node(), {'a': 2, 'b': 1})
         self.assertEqual(W.reduce_rowwise('argmax').by_node(), {'a': 'c', 'b': 'c'})
-        self.assertEqual(W.reduce_columnwise('argmin').by_node(), {'b': 0, 'c': 0})
+        self.assertEqual(W.reduce_columnwise('argmin').by_node(), {'b': 'a', 'c': 'a'})
         self.assertEqual((W.reduce_scalar('mean'), W.reduce_scalar('mean', raw=True)), (7.75 / 3, 775 / 3))
         huge = self.made({(0, 0): 2 ** 62, (1, 0): 5, (1, 1): 6}, 2, 2).reduce_rowwise('mean')
         self.assertEqual((huge.unit, huge.to_list()), (1, [2 ** 62, 6]))         # halves to the even number
