@@ -84,7 +84,7 @@ class Commands(CommandLine):
                 (['sssp', 'weights.mtx', '--pattern', '--source', '2'], ['1 1', '2 0', '3 1']),
                 (['transitive-closure', 'roads.gr'], ['1 2 1', '1 3 1', '1 4 1', '1 5 1', '2 4 1', '2 5 1', '3 2 1', '3 4 1', '3 5 1', '4 5 1']),
                 (['degrees', 'clubs.csv', '--header', '--bipartite'], ['ann 2', 'bob 2', 'cid 1', 'chess 2', 'rowing 3']),
-                (['degrees', 'clubs.csv', '--header'], ['ann 2', 'bob 2', 'cid 1']),
+                (['degrees', 'clubs.csv', '--header', '--one-kind'], ['ann 2', 'bob 2', 'cid 1']),
                 (['degrees', 'people.csv', '--columns', 'to,from'], ['Béla\t1', 'Anna\t1', 'Clara\t1', 'Dvořák, Emil\t2', 'Flora\t1', 'Gustav\t1']),
                 (['degrees', 'people.csv', '--columns', '1,0', '--no-header'], ['to\t1', 'from\t0'][:1] + ['Béla\t1', 'Anna\t1', 'Clara\t1',
                  'Dvořák, Emil\t2', 'Flora\t1', 'Gustav\t1'])):

@@ -75,14 +75,15 @@ class Test(support.InSession):
         self.assertGreater(len(told), 2)
 
     def test_cost(self):
-        """6 runs a round, and 2; 9 steps for each event that leaves a vertex whose time changed, and 8 a vertex."""
+        """6 runs a round, and 2; 9 steps for each event that leaves a vertex whose time changed, and 8 a vertex; up to 128 rounds are sent
+        beyond the end, as time has it, with 8 steps each."""
         events = [(at, at + 1, at) for at in range(300)] + [(at, at + 1, 0) for at in range(300)]
         made, told = spmat.events(self.s, events), []
         runs, spent = self.s.runs, self.s.budget().spent
         self.assertEqual(len(made.earliest_arrival(0, progress=lambda *now: told.append(now))), 301)
         self.assertEqual(len(told), 300)
         self.assertLessEqual(self.s.runs - runs, 6 * (len(told) + 128) + 2)
-        self.assertLessEqual(self.s.budget().spent - spent, 9 * len(events) + 8 * 301)
+        self.assertLessEqual(self.s.budget().spent - spent, 9 * len(events) + 8 * (301 + 128))
 
     def test_no_event(self):
         made = spmat.events(self.s, [])
