@@ -49,10 +49,10 @@ plain_value (b ∷ bs) p l = let minus : nat_eq b 45 ≡ false = grind (arith, n
 abbrev pub value_for : ℕ → Value
 value_for w = cond (nat_lt w (2 ^ 63)) (false, w) (true, 2 ^ 64 - w)
 
-value_text_low : (w : ℕ) → w < 2 ^ 63 → value_text w ≡ decimal w
+pub value_text_low : (w : ℕ) → w < 2 ^ 63 → value_text w ≡ decimal w
 value_text_low w h = rw (lt-ltb w (2 ^ 63) h) refl
 
-value_text_high : (w : ℕ) → 2 ^ 63 ≤ w → w < 2 ^ 64 → value_text w ≡ 45 ∷ decimal (2 ^ 64 - w)
+pub value_text_high : (w : ℕ) → 2 ^ 63 ≤ w → w < 2 ^ 64 → value_text w ≡ 45 ∷ decimal (2 ^ 64 - w)
 value_text_high w h l =
     let e : suc (2 ^ 64 - suc w) ≡ 2 ^ 64 - w = omega arith in
     rw (le-ltb w (2 ^ 63) h) (ap (λ n. 45 ∷ decimal n) e)

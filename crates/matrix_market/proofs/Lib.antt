@@ -1,3 +1,4 @@
+pub mod LineParts
 pub mod Numbers
 pub mod Passing
 pub mod Puts

@@ -2,6 +2,7 @@
 pub mod Answers
 pub mod Filling
 pub mod Gathering
+pub mod Labels
 pub mod Refusal
 pub mod Repeating
 pub mod Usual

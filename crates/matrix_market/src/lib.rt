@@ -5,7 +5,7 @@
 //! text. `write` gives the canonical text of a matrix (`specs/CanonicalText.antt`), which is a text of it
 //! and of no other, so what is written is read back.
 //!
-//! Read `rule` first (what can be wrong with a text), then `writer`; of the reader first `reader`, over `kinds`
+//! Read `rule` first (what can be wrong with a text), then `writer`, over `line_writer`; of the reader first `reader`, over `kinds`
 //! (what a line of each kind says), `lines` and `words`; then `gather`, which reads entries in any order, up to the
 //! first line that breaks a rule, over `usual`, which reads entry lines in their usual form fast; then `repeat`,
 //! which tells the line that gives a position again.
@@ -14,6 +14,7 @@
 mod cursor;
 mod gather;
 mod kinds;
+mod line_writer;
 mod lines;
 mod reader;
 mod repeat;

@@ -1,10 +1,11 @@
 //! Matrices to text.
 ghost use Rattle.std.specs.Prelude.{◌≡◌, ◌<◌, ◌≤◌, ◌+◌, ◌++◌, All, IfOk, OnOk};
 ghost use Rattle.csr_store.specs.Grid.{Cell, at_row, limit};
-ghost use Rattle.matrix_market.specs.CanonicalText.{canonical_text, entry_line, entry_lines, size_line};
+ghost use Rattle.matrix_market.specs.CanonicalText.{canonical_text, entry_lines, size_line};
 ghost use Rattle.matrix_market.specs.Market.{IsTextOf};
 ghost use Rattle.matrix_market.specs.Refusal.{IsOnlyMatrix};
 
+use crate::line_writer::{MOST_LINES, ROOM, label_of, write_lines};
 use csr_store::Matrix;
 use csr_store::matrix::Cell;
 use itoa::Buffer;
@@ -27,30 +28,28 @@ fn push_sizes(out: &mut Vec<u8>, rows: u64, columns: u64, entries: u64) -> Resul
     Ok(())
 }
 
-/// Adds the line of an entry.
-fn push_entry(out: &mut Vec<u8>, row: u64, column: u64, word: u64) -> Result<(), AllocError>
-    requires row { row < limit }
-    requires column { column < limit }
-    ensures { OnOk result (out.new.items ≡ out.old.items ++ entry_line ((row, column), word)) }
-{
-    let mut buffer = Buffer::new();
-    out.extend_from_slice(buffer.format(row + 1).as_bytes())?;
-    out.push(b' ')?;
-    out.extend_from_slice(buffer.format(column + 1).as_bytes())?;
-    out.push(b' ')?;
-    out.extend_from_slice(buffer.format(word.cast_signed()).as_bytes())?;
-    out.push(b'\n')?;
-    Ok(())
-}
-
-/// Adds the lines of the entries of a row.
-fn push_row(out: &mut Vec<u8>, row: u64, cells: &[Cell]) -> Result<(), AllocError>
+/// Adds the lines of the entries of a row. `room` is scratch, kept from row to row.
+fn push_row(
+    out: &mut Vec<u8>,
+    room: &mut [u8; ROOM],
+    row: u64,
+    cells: &[Cell],
+) -> Result<(), AllocError>
     requires row { row < limit }
     requires columns { All (λ (c : Cell). c.0 < limit) cells.now }
     ensures { OnOk result (out.new.items ≡ out.old.items ++ entry_lines (at_row row cells.now)) }
 {
-    for (column, word) in cells {
-        push_entry(out, row, *column, *word)?;
+    // most rows of a sparse column have no entry, and a label takes some time
+    if cells.is_empty() {
+        return Ok(());
+    }
+    let label = label_of(row);
+    let mut left = cells;
+    while left.len() > 0 {
+        let (now, later) = left.split_at(left.len().min(MOST_LINES));
+        let start = write_lines(&label, now, room);
+        out.extend_from_slice(&room[start..])?;
+        left = later;
     }
     Ok(())
 }
@@ -64,8 +63,9 @@ pub fn write(alloc: Global, matrix: &Matrix) -> Result<Vec<u8>, AllocError>
 {
     let mut out = Vec::from_slice(alloc, BANNER)?;
     push_sizes(&mut out, matrix.rows(), matrix.columns(), matrix.entries())?;
+    let mut room = [0; ROOM];
     for row in 0..matrix.rows() {
-        push_row(&mut out, row, matrix.row(row))?;
+        push_row(&mut out, &mut room, row, matrix.row(row))?;
     }
     Ok(out)
 }

@@ -1,4 +1,4 @@
-use Rattle.std.proofs.Common.{◌+◌, length, ap, ◌∙◌, arith, length-append}
+use Rattle.std.proofs.Common.{length, ap, ◌∙◌, arith, length-append}
 use Rattle.csr_store.specs.Listed.{Listed}
 use Rattle.matrix_market.proofs.Gathering.{no_fault, width_two, width_some}
 use Rattle.matrix_market.proofs.gather.push_entry.Goals as goal

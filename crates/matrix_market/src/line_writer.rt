@@ -1,0 +1,96 @@
+//! Lines of entries, written from the last to the first, so that each digit is written once and in its place.
+ghost use Rattle.std.specs.Prelude.{◌≡◌, ◌<◌, ◌≤◌, ◌+◌, ◌++◌, ◌∷◌, [], All, decimal, drop, length};
+ghost use Rattle.csr_store.specs.Grid.{Cell, at_row, limit};
+ghost use Rattle.matrix_market.specs.CanonicalText.{entry_lines, value_text};
+ghost use Rattle.matrix_market.specs.inner.Labels.{label_text, rest_of_line};
+
+use csr_store::matrix::Cell;
+use itoa::write_digits;
+
+/// How many lines are written at a time.
+pub const MOST_LINES: usize = 64;
+
+/// The room for these lines: 40 bytes hold any line, and a label is copied whole.
+pub const ROOM: usize = MOST_LINES * 40 + LABEL;
+
+/// The bytes of a label: a row has at most eight digits.
+const LABEL: usize = 16;
+
+/// What each line of a row begins with: the row's number, which counts from 1, and a space. They end the bytes.
+#[derive(Clone, Copy)]
+pub struct Label {
+    row: u64,
+    bytes: [u8; LABEL],
+    start: usize,
+    ghost within: { (start ≤ 15) × (6 ≤ start) },
+    ghost text: { drop start bytes ≡ decimal (row + 1) ++ 32 ∷ [] },
+}
+
+/// The label of a row.
+#[inline(always)]
+pub fn label_of(row: u64) -> Label
+    requires { row < limit }
+    ensures { result.row ≡ row }
+{
+    let mut bytes = [b' '; LABEL];
+    let start = write_digits(row + 1, &mut bytes, LABEL - 1);
+    Label { row, bytes, start }
+}
+
+/// Writes a label so that it ends at `end`. What stands before it is overwritten too.
+#[inline(always)]
+fn write_label(label: &Label, room: &mut [u8], end: usize) -> usize
+    requires { (16 ≤ end) × (end ≤ length room.old) }
+    ensures start { (result ≤ end) × (end ≤ result + 10) }
+    ensures written { drop result room.new ≡ label_text label.now.row ++ drop end room.old }
+{
+    room[end - LABEL..end].copy_from_slice(&label.bytes);
+    end - LABEL + label.start
+}
+
+/// Writes a value so that it ends at `end`, and says where it starts.
+#[inline(always)]
+fn write_value(word: u64, room: &mut [u8], end: usize) -> usize
+    requires { (20 ≤ end) × (end ≤ length room.old) }
+    ensures start { (result ≤ end) × (end ≤ result + 20) }
+    ensures written { drop result room.new ≡ value_text word ++ drop end room.old }
+{
+    if word < 1 << 63 {
+        return write_digits(word, room, end);
+    }
+    let start = write_digits(word.wrapping_neg(), room, end);
+    room[start - 1] = b'-';
+    start - 1
+}
+
+/// Writes what follows the label in an entry's line, and says where it starts.
+#[inline(always)]
+fn write_rest(column: u64, word: u64, room: &mut [u8], end: usize) -> usize
+    requires column { column < limit }
+    requires room { (40 ≤ end) × (end ≤ length room.old) }
+    ensures start { (result ≤ end) × (end ≤ result + 30) }
+    ensures written { drop result room.new ≡ rest_of_line column word ++ drop end room.old }
+{
+    room[end - 1] = b'\n';
+    let space = write_value(word, room, end - 1) - 1;
+    room[space] = b' ';
+    write_digits(column + 1, room, space)
+}
+
+/// Writes the lines of some cells of a row so that they end with the room, and says where they start.
+pub fn write_lines(label: &Label, cells: &[Cell], room: &mut [u8; ROOM]) -> usize
+    requires few { length cells.now ≤ 64 }
+    requires columns { All (λ (c : Cell). c.0 < limit) cells.now }
+    ensures within { result ≤ 2576 }
+    ensures written { drop result room.new ≡ entry_lines (at_row label.now.row cells.now) }
+{
+    let mut start = ROOM;
+    let mut left = cells.len();
+    while left > 0 {
+        left -= 1;
+        let (column, word) = cells[left];
+        let end = write_rest(column, word, room, start);
+        start = write_label(label, room, end);
+    }
+    start
+}
