@@ -2,6 +2,7 @@ pub mod Standing
 pub mod Placing
 pub mod Following
 pub mod SelectBuffer
+pub mod Keeping
 pub mod Nexts
 pub mod Masks
 pub mod Merging
@@ -21,6 +22,7 @@ pub mod Singly
 pub mod Folding
 pub mod InOrder
 pub mod Reducing
+pub mod Columns
 pub mod IndexCalls
 pub mod Answering
 pub mod Beside

@@ -66,6 +66,10 @@ module _ (marks : List Mark) (values : List ℕ) (start : Run) (i next : ℕ) (n
     left_values : drop next values ≡ get_or values next 0 ∷ drop (next + 1) values
     left_values = drop_more values next 0 ll
 
+    pub keep-fits : (c w : ℕ) → get_or marks i d ≡ Kept c w → CanPush c now
+    keep-fits c w here = (subst (λ vs. Fits (Kept c w ∷ drop (i + 1) marks) vs now) left_values
+        (subst (λ ms. Fits ms (drop next values) now) (left_marks (Kept c w) here) h.fits)).0
+
     pub keep-placed : (c w : ℕ) → get_or marks i d ≡ Kept c w → (new : Run) → new ≡ with_kept c w (get_or values next 0) now
         → IsSifting marks values start (i + 1) (next + 1) new
     keep-placed c w here new is = record {

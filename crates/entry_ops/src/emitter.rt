@@ -160,7 +160,7 @@ fn put_values(indices: &[usize], values: &[u64], rows: &mut Rows)
 }
 
 /// Adds cells to an open row.
-fn push_all(rows: &mut Rows, cells: &[Cell]) -> Result<(), AllocError>
+pub fn push_all(rows: &mut Rows, cells: &[Cell]) -> Result<(), AllocError>
     requires { FollowIn cells.now rows.old }
     ensures { OnOk result (rows.new ≡ with_cells cells.now rows.old) }
 {

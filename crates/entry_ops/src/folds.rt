@@ -208,7 +208,7 @@ pub fn add_row(rows: &mut Rows, value: Option<u64>) -> Result<(), AllocError>
 }
 
 /// Whether row `row` of a mask of one column lets the result's value pass, if there is a mask.
-fn row_shown(mask: Option<&Matrix>, row: u64) -> bool
+pub fn row_shown(mask: Option<&Matrix>, row: u64) -> bool
     ensures { result ≡ passes (mask_of mask.entry) (row, 0) }
 {
     match mask {

@@ -1,11 +1,12 @@
 //! Rows folded one after the other, call after call.
-ghost use Rattle.std.specs.Prelude.{◌≡◌, ◌<◌, ◌^◌};
+ghost use Rattle.std.specs.Prelude.{◌≡◌, ◌<◌, ◌^◌, [], if◌then◌else◌};
 ghost use Rattle.bpf_insn.specs.declared.operands.Kind.TheVariants as kinds;
 ghost use Rattle.bpf_run.specs.Calls.{steps_of};
 ghost use Rattle.bpf_run.specs.Fold as folds;
+ghost use Rattle.csr_store.specs.Mask.{mask_of, passes};
 ghost use Rattle.entry_ops.specs.inner.Folding.{words, CanReduce, AddsReduced};
 
-use crate::folds::{add_row, shown_cells};
+use crate::folds::{add_row, row_shown};
 use crate::operand_rows::{Cell, entries_between};
 use bpf_run::fold;
 use bpf_verify::Operator;
@@ -46,6 +47,14 @@ fn fold_row(operator: &Operator, cells: &[Cell]) -> Folded
     }
 }
 
+/// The cells of a row that are folded: none where the mask doesn't show the row.
+#[inline(always)]
+fn shown<'m>(cells: &'m [Cell], mask: Option<&'m Matrix>, row: u64) -> &'m [Cell]
+    ensures { result.now ≡ (if passes (mask_of mask.entry) (row, 0) then cells.now else []) }
+{
+    if row_shown(mask, row) { cells } else { &[] }
+}
+
 /// Adds the reductions of the rows of a region, row by row.
 pub fn fill_in_order(
     a: &Matrix,
@@ -63,8 +72,10 @@ pub fn fill_in_order(
     making
         .rows
         .reserve(many.min(entries_between(a, first, end)))?;
+    let mut reader = a.rows_from(first);
     for row in first..end {
-        let folded = fold_row(operator, shown_cells(a, region.mask, row));
+        let cells = reader.next_row();
+        let folded = fold_row(operator, shown(cells, region.mask, row));
         making.steps += folded.steps;
         add_row(&mut making.rows, folded.value)?;
     }

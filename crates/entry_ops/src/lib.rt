@@ -8,19 +8,21 @@
 //! the same positions (`pairs`). Select without a mask makes all calls first (`select_unmasked`). Otherwise rows are filled cell by
 //! cell (`rows`): by two rows read side by side (`merge`), or along the row of a mask (`masked`); `form` says what a form makes of
 //! a position, and `emitter` puts values in their places. Under a mask select's last cells wait for their answers (`select`, over
-//! `select_buffer`). Rows are reduced one after the other by a short operator (`in_order`), many at once by a longer one (`folds`,
-//! over `open_rows`).
+//! `select_buffer` and `kept_cells`). A column is reduced by copying it (`column`). Other rows are reduced one after the other by a
+//! short operator (`in_order`), many at once by a longer one (`folds`, over `open_rows`).
 //!
 //! Read `ranges`, `apply`, `union` and `reduce` first, then `rows` with `specs/inner/Walking.antt` and `specs/inner/Placing.antt`.
 #![tactic(auto)]
 
 mod apply;
 mod blank;
+mod column;
 mod emitter;
 mod folds;
 mod form;
 mod in_order;
 mod index_calls;
+mod kept_cells;
 mod mapping;
 mod masked;
 mod merge;

@@ -4,9 +4,11 @@ ghost use Rattle.bpf_insn.specs.Machine.{kind_of};
 ghost use Rattle.bpf_run.specs.Meaning.{value_of};
 ghost use Rattle.bpf_run.specs.Calls.{call_of, calls_on, steps_of};
 ghost use Rattle.job_forms.specs.Region.{finished};
-ghost use Rattle.entry_ops.specs.inner.Standing.{CanPush, with_end};
+ghost use Rattle.entry_ops.specs.inner.Standing.{with_end};
 ghost use Rattle.entry_ops.specs.inner.SelectBuffer.{placed, Fits, Holds, with_kept, CanAdd, Puts, IsFlushed};
 
+use crate::emitter::push_all;
+use crate::kept_cells::{MOST_KEPT, end_kept, keep_if, make_place};
 use bpf_insn::Operands;
 use bpf_run::{Calls, MOST_CALLS};
 use bpf_verify::Operator;
@@ -131,33 +133,27 @@ impl SelectBuffer {
     }
 }
 
-/// Adds a cell where an answer is not 0.
-#[inline(always)]
-fn push_kept(rows: &mut Rows, column: u64, word: u64, answer: u64) -> Result<(), AllocError>
-    requires { CanPush column rows.old }
-    ensures { OnOk result (rows.new ≡ with_kept column word answer rows.old) }
-{
-    if answer == 0 {
-        return Ok(());
-    }
-    rows.push(column, word)
-}
-
-/// Adds what is marked to rows, each call with its value.
+/// Adds what is marked to rows, each call with its value. Cells that are kept wait for the end of their row.
 fn put_values(marks: &[Mark], values: &[u64], rows: &mut Rows) -> Result<(), AllocError>
     requires fits { Fits marks.now values.now rows.old }
     requires few { length marks.now ≤ 256 }
     ensures { OnOk result (rows.new ≡ placed marks.now values.now rows.old) }
 {
+    let mut kept = [(0, 0); MOST_KEPT];
+    let mut many = 0;
     let mut next: usize = 0;
     for mark in marks {
         match *mark {
-            Mark::End => rows.end_row()?,
+            Mark::End => {
+                end_kept(rows, &kept[..many])?;
+                many = 0;
+            }
             Mark::Kept { column, word } => {
-                push_kept(rows, column, word, values[next])?;
+                many = make_place(rows, &kept, many)?;
+                many = keep_if(&mut kept, many, (column, word), values[next]);
                 next += 1;
             }
         }
     }
-    Ok(())
+    push_all(rows, &kept[..many])
 }

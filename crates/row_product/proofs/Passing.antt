@@ -1,6 +1,8 @@
 -- A row of B read beside the mask's row: the cells that pass.
-use Rattle.std.proofs.Common.{◌≡◌, ℕ, suc, ◌≤◌, Bool, true, false, if◌then◌else◌}
-use Rattle.std.proofs.Common.{List, [], ◌∷◌, ◌++◌, is_some, refl, sym, ap, ◌∙◌, subst, append_assoc, arith}
+use Rattle.std.proofs.Common.{◌≡◌, ℕ, suc, ◌+◌, ◌≤◌, ◌<◌, Bool, true, false, if◌then◌else◌}
+use Rattle.std.proofs.Common.{List, [], ◌∷◌, ◌++◌, length, take, set, is_some, refl, sym, ap, ◌∙◌, subst, append_assoc, arith}
+use Rattle.std.proofs.lemmas.List.{take-set, take_more_set}
+use mir.Val.{bool_byte}
 use Rattle.csr_store.specs.Grid.{Cell}
 use Rattle.csr_store.proofs.Along.{Ascends, at, ascends-weaken}
 use Rattle.row_product.specs.inner.Adding.{taking}
@@ -27,7 +29,7 @@ beside_further whole n cells mask c more left b e o s =
     }
 
 -- and whether it is taken
-taken_so : (whole : List Cell) (n : ℕ) (cells mask : List Cell) (c : Cell) (more left : List Cell) → IsRowUnderMask whole n cells mask
+pub taken_so : (whole : List Cell) (n : ℕ) (cells mask : List Cell) (c : Cell) (more left : List Cell) → IsRowUnderMask whole n cells mask
     → cells ≡ c ∷ more → ((j : ℕ) → c.0 ≤ j → at mask j ≡ at left j) → (b : Bool) → b ≡ stores left c.0
     → taking (stores whole) cells ≡ (if b then c ∷ taking (stores whole) more else taking (stores whole) more)
 taken_so whole n cells mask c more left b e s t h =
@@ -36,16 +38,16 @@ taken_so whole n cells mask c more left b e s t h =
     ∙ ap (λ q. if q then c ∷ taking (stores whole) more else taking (stores whole) more)
     (sym (h ∙ ap is_some (sym (s c.0 (omega arith)) ∙ b.same c.0 a.0)))
 
-pub passing_more : (whole : List Cell) (n : ℕ) (cells mask : List Cell) (c : Cell) (more left from : List Cell) (ps : List Cell)
-    → IsRowUnderMask whole n cells mask → cells ≡ c ∷ more → ((j : ℕ) → c.0 ≤ j → at mask j ≡ at left j) → true ≡ stores left c.0
-    → ps ++ taking (stores whole) cells ≡ taking (stores whole) from
-    → (ps ++ c ∷ []) ++ taking (stores whole) more ≡ taking (stores whole) from
-passing_more whole n cells mask c more left from ps b e s t h =
-    append_assoc ps (c ∷ []) (taking (stores whole) more)
-    ∙ (ap (λ us. ps ++ us) (sym (taken_so whole n cells mask c more left b e s true t)) ∙ h)
+-- a cell is put behind those that passed, and counted if it passes
+pub put_next : (ps : List Cell) (n m : ℕ) (c : Cell) (all rest whole : List Cell) (b : Bool) → m ≡ n + bool_byte b → n < length ps
+    → all ≡ (if b then c ∷ rest else rest) → take n ps ++ all ≡ whole → take m (set ps n c) ++ rest ≡ whole
+put_next ps n m c all rest whole true p f k h =
+    ap (λ us. us ++ rest) (ap (λ q. take q (set ps n c)) p ∙ take_more_set ps n c f)
+    ∙ (append_assoc (take n ps) (c ∷ []) rest ∙ (ap (λ us. take n ps ++ us) (sym k) ∙ h))
+put_next ps n m c all rest whole false p f k h =
+    let q : m ≡ n = omega (arith, p) in
+    ap (λ us. us ++ rest) (ap (λ q. take q (set ps n c)) q ∙ take-set ps n c) ∙ (ap (λ us. take n ps ++ us) (sym k) ∙ h)
 
-pub passing_less : (whole : List Cell) (n : ℕ) (cells mask : List Cell) (c : Cell) (more left from : List Cell) (ps : List Cell)
-    → IsRowUnderMask whole n cells mask → cells ≡ c ∷ more → ((j : ℕ) → c.0 ≤ j → at mask j ≡ at left j) → false ≡ stores left c.0
-    → ps ++ taking (stores whole) cells ≡ taking (stores whole) from → ps ++ taking (stores whole) more ≡ taking (stores whole) from
-passing_less whole n cells mask c more left from ps b e s t h =
-    ap (λ us. ps ++ us) (sym (taken_so whole n cells mask c more left b e s false t)) ∙ h
+pub byte_few : (b : Bool) → bool_byte b ≤ 1
+byte_few true = omega arith
+byte_few false = omega arith

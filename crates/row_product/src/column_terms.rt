@@ -25,7 +25,7 @@ pub(crate) struct ColumnTerms<'c> {
 
 /// The word at row `k` of a column, and whether there is one: by its copy, if there is one. Where there is no word it is any.
 #[inline(always)]
-fn word_at(b: &Matrix, column: Option<&Column>, k: u64) -> (u64, bool)
+pub(crate) fn word_at(b: &Matrix, column: Option<&Column>, k: u64) -> (u64, bool)
     requires column { b.now.columns ≡ 1 }
     requires copy { IsCopyOf b.now column }
     requires row { k < b.now.rows }
@@ -38,7 +38,7 @@ fn word_at(b: &Matrix, column: Option<&Column>, k: u64) -> (u64, bool)
 }
 
 /// Lists the terms of cells, each at column 0, by an operator that computes a function. Answers the steps. A term is listed before
-/// it is known whether there is a word for it, and taken back where there is none: which cells name a word can't be foretold.
+/// it is known whether there is a word for it, and taken back where there is none: a branch here would be mispredicted.
 #[inline(always)]
 fn multiply<F: Function>(
     mul: &Operator,

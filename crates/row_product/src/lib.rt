@@ -15,9 +15,10 @@
 //! cleared. A row of A with one entry is not summed at all: it makes the row of B that it names, each word multiplied, and where
 //! there is a mask it is read beside the mask's row, for the cells that pass.
 //!
-//! A product of one column is summed without any of this: the terms of a row are one list, which is folded (`one_column`, over
-//! `specs/inner/Column.antt`). Those of up to 64 cells of a row of A are listed in one loop (`column_terms`), in which no jump
-//! waits for whether B has a word.
+//! A product of one column is summed without any of this. By a usual ADD (`usual`) and a MUL that is known by its program all rows of
+//! a range are made in one loop, in which both are compiled (`fused`, over `specs/inner/Column.antt`). By others the terms of a row
+//! are one list, which is folded (`one_column`): those of up to 64 cells of a row of A are listed in one loop (`column_terms`). In
+//! neither does a jump wait for whether B has a word.
 //!
 //! The sums have their room when a range has a term, never before, and not while the terms so far are few beside many columns. The
 //! terms of each row are then listed (`listing`), put in order by their columns, those of one column as they were listed
@@ -31,7 +32,7 @@
 //! into the result, over `specs/inner/Emitting.antt`) and `mask_flags` (the mask's row), over `specs/inner/Sums.antt`,
 //! `specs/inner/Adding.antt` and `specs/inner/DenseSums.antt`; `sorted_accumulator` (rows of few terms) with `listing`, `ordering`,
 //! `folding` and `calling` (how a loop makes its calls), over `specs/inner/SortedAccumulator.antt`; and `one_column` with
-//! `column_terms`.
+//! `column_terms`, and `fused` with `usual`.
 #![tactic(auto)]
 
 mod additions;
@@ -43,6 +44,7 @@ mod dense_sums;
 mod emit;
 mod factors;
 mod folding;
+mod fused;
 mod listing;
 mod mask_flags;
 mod one_column;
@@ -57,6 +59,7 @@ mod single;
 mod sorted_accumulator;
 mod sums;
 mod terms;
+mod usual;
 
 pub use factors::Factors;
 pub use job_forms::{Chunk, mult_count};

@@ -4,6 +4,7 @@ ghost use Rattle.bpf_insn.specs.declared.operands.Kind.TheVariants as kinds;
 ghost use Rattle.bpf_run.specs.Calls.{steps_of};
 ghost use Rattle.bpf_run.specs.Fold.{terms_of, fold_from, fold_calls_from};
 ghost use Rattle.csr_store.specs.Along.{cell_at};
+ghost use Rattle.csr_store.specs.Grid.{row_of};
 ghost use Rattle.csr_store.specs.Mask.{mask_of, passes};
 ghost use Rattle.row_product.specs.inner.Column.{MayMultiply, AreMultiplied, AddsListed, MaySum, IsSummed, IsNextOpen, HasRoom};
 ghost use Rattle.row_product.specs.inner.Masked.{AddsCharged};
@@ -34,7 +35,7 @@ pub(crate) struct Summed {
 
 /// Whether a mask lets the one position of a row pass, or there is none.
 #[inline(always)]
-fn lets_pass(mask: Option<&Matrix>, i: u64) -> bool
+pub(crate) fn lets_pass(mask: Option<&Matrix>, i: u64) -> bool
     requires row { IfSome mask (λ m. i < m.now.rows) }
     requires column { IfSome mask (λ m. m.now.columns ≡ 1) }
     ensures { result ≡ passes (mask_of mask.entry) (i, 0) }
@@ -146,10 +147,26 @@ impl Summing {
         ensures room { HasRoom self.new.terms }
     {
         let summed = self.sum_cells(factors, factors.a.row(i));
-        making.steps += summed.steps;
-        put_sum(summed.sum, &mut making.rows)?;
-        making.rows.end_row()
+        end_summed(factors, i, &summed, making)
     }
+}
+
+/// Adds row `i` of the product, whose one position passes, once its terms are summed. All its calls are charged before memory may be
+/// wanting.
+#[inline(always)]
+pub(crate) fn end_summed(
+    factors: &MaskedFactors,
+    i: u64,
+    summed: &Summed,
+    making: &mut Making,
+) -> Result<(), AllocError>
+    requires next { IsNextOpen factors.now i making.old }
+    requires summed { IsSummed factors.now (row_of factors.now.a.now i) summed.now.sum summed.now.steps }
+    ensures { AddsCharged factors.now i making.old making.new result }
+{
+    making.steps += summed.steps;
+    put_sum(summed.sum, &mut making.rows)?;
+    making.rows.end_row()
 }
 
 /// Puts the sum of a row's one column, if there is one, into the open row.

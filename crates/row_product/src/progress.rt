@@ -1,5 +1,5 @@
 //! A row of the product in progress: rows of B, each times a word, added to its sums.
-ghost use Rattle.std.specs.Prelude.{◌≡◌, ◌≤◌, [], length, vec_capacity, IfOk, OnOk};
+ghost use Rattle.std.specs.Prelude.{◌≡◌, ◌≤◌, [], length, take, IfOk, OnOk};
 ghost use Rattle.csr_store.specs.Ascending.{Ascends};
 ghost use Rattle.row_product.specs.inner.Adding.{taking};
 ghost use Rattle.row_product.specs.inner.Progress.{IsReady, stands, AllForbidden};
@@ -16,7 +16,7 @@ use std::alloc::{AllocError, Global};
 pub(crate) struct Progress {
     pub(crate) sums: DenseAccumulator,
     pub(crate) allowed: Vec<bool>,
-    /// Cells of a part of a row of B whose columns are allowed.
+    /// Room for 64 cells. The first are those of a part of a row of B whose columns are allowed.
     pub(crate) passing: Vec<(u64, u64)>,
 }
 
@@ -28,7 +28,7 @@ impl Progress {
         Ok(Progress {
             sums: DenseAccumulator::new(alloc)?,
             allowed: Vec::new(alloc),
-            passing: Vec::with_capacity(alloc, MOST_CALLS)?,
+            passing: vec![in alloc; (0, 0); MOST_CALLS]?,
         })
     }
 
@@ -61,8 +61,8 @@ impl Progress {
         if !masked {
             return self.sums.add_cells(factors, x, cells);
         }
-        choose(cells, &self.allowed, &mut self.passing);
-        self.sums.add_cells(factors, x, &self.passing)
+        let count = choose(cells, &self.allowed, &mut self.passing);
+        self.sums.add_cells(factors, x, &self.passing[..count])
     }
 
     /// Adds a word times row `k` of B to the sums: where it is masked, at the allowed columns. Answers the steps.
@@ -101,17 +101,19 @@ impl Progress {
     }
 }
 
-/// Lists the cells whose columns are allowed.
-fn choose(cells: &[(u64, u64)], allowed: &[bool], passing: &mut Vec<(u64, u64)>)
-    requires room { length cells.now ≤ vec_capacity passing.old }
+/// Puts the cells whose columns are allowed into the first places. Answers how many they are. Each cell is put, allowed or not, and
+/// the next goes over one that isn't: which are allowed can't be foretold, so no jump waits for it.
+fn choose(cells: &[(u64, u64)], allowed: &[bool], passing: &mut [(u64, u64)]) -> usize
+    requires room { length cells.now ≤ length passing.old }
     requires within { Ascends 0 (length allowed.now) cells.now }
-    ensures taking { passing.new.items ≡ taking (flag allowed.now) cells.now }
-    ensures room { vec_capacity passing.old ≤ vec_capacity passing.new }
+    ensures taking { take result passing.new ≡ taking (flag allowed.now) cells.now }
+    ensures few { result ≤ length cells.now }
+    ensures room { length passing.new ≡ length passing.old }
 {
-    passing.clear();
+    let mut count = 0;
     for cell in cells {
-        if allowed[cell.0 as usize] {
-            passing.push_reserved(*cell);
-        }
+        passing[count] = *cell;
+        count += usize::from(allowed[cell.0 as usize]);
     }
+    count
 }

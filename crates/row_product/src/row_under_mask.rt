@@ -1,5 +1,5 @@
 //! A row of B read beside the mask's row, for the cells that pass.
-ghost use Rattle.std.specs.Prelude.{◌≡◌, ◌≤◌, ◌<◌, ◌++◌, ℕ, List, length, vec_capacity};
+ghost use Rattle.std.specs.Prelude.{◌≡◌, ◌≤◌, ◌<◌, ◌++◌, ℕ, List, length, take};
 ghost use Rattle.csr_store.specs.Grid.{Cell};
 ghost use Rattle.row_product.specs.inner.Adding.{taking};
 ghost use Rattle.row_product.specs.inner.RowUnderMask.{stores, IsRowUnderMask};
@@ -14,32 +14,33 @@ pub(crate) struct RowUnderMask<'r> {
     pub(crate) mask: RowCursor<'r>,
 }
 
-/// Lists the next cells that pass, up to 64. Answers what is left.
+/// Puts the next cells that pass, up to 64, into the first places. Answers what is left, and how many they are. Each cell is put, and
+/// the next goes over one that doesn't pass.
 pub(crate) fn list_passing<'r>(
     row: RowUnderMask<'r>,
-    passing: &mut Vec<(u64, u64)>,
-) -> RowUnderMask<'r>
-    requires { 64 ≤ vec_capacity passing.old }
+    passing: &mut [(u64, u64)],
+) -> (RowUnderMask<'r>, usize)
+    requires { 64 ≤ length passing.old }
     ensures listed { (whole : List Cell) (n : ℕ) → IsRowUnderMask whole n row.entry.cells.now row.entry.mask
-        → IsRowUnderMask whole n result.cells.now result.mask
-        × (passing.new.items ++ taking (stores whole) result.cells.now ≡ taking (stores whole) row.entry.cells.now) }
-    ensures room { (length passing.new.items ≤ 64) × (64 ≤ vec_capacity passing.new) }
-    ensures fewer { 0 < length row.entry.cells.now → length result.cells.now < length row.entry.cells.now }
+        → IsRowUnderMask whole n result.0.cells.now result.0.mask
+        × (take result.1 passing.new ++ taking (stores whole) result.0.cells.now ≡ taking (stores whole) row.entry.cells.now) }
+    ensures few { result.1 ≤ 64 }
+    ensures room { length passing.new ≡ length passing.old }
+    ensures fewer { 0 < length row.entry.cells.now → length result.0.cells.now < length row.entry.cells.now }
 {
-    passing.clear();
     let RowUnderMask {
         mut cells,
         mut mask,
     } = row;
-    while passing.len() < MOST_CALLS {
+    let mut count = 0;
+    while count < MOST_CALLS {
         let Some((cell, more)) = cells.split_first() else {
             break;
         };
         mask.advance_to(cell.0);
-        if mask.word_at(cell.0).is_some() {
-            passing.push_reserved(*cell);
-        }
+        passing[count] = *cell;
+        count += usize::from(mask.word_at(cell.0).is_some());
         cells = more;
     }
-    RowUnderMask { cells, mask }
+    (RowUnderMask { cells, mask }, count)
 }

@@ -1,6 +1,6 @@
 //! Rows of A with one entry: a row of B, as far as it passes, each word multiplied. There is nothing to sum, nor to put in order.
 ghost use Rattle.std.specs.Prelude.{◌≡◌, ◌≤◌, ◌+◌, ◌*◌, ◌++◌, ◌∷◌, []};
-ghost use Rattle.std.specs.Prelude.{length, vec_capacity, IfSome, OnOk};
+ghost use Rattle.std.specs.Prelude.{length, IfSome, OnOk};
 ghost use Rattle.bpf_run.specs.Calls.{calls_on, pairs_with};
 ghost use Rattle.csr_store.specs.Grid.{limit, row_of};
 ghost use Rattle.job_forms.specs.Region.{Adds};
@@ -60,7 +60,7 @@ fn push_row(
     ensures sums { sums.new ≡ sums.old }
 {
     let mut cells = factors.b.row(k);
-    // no want of memory once calls are made
+    // Reserve first: once calls are made, nothing may fail for want of memory.
     making.rows.reserve(cells.len())?;
     while !cells.is_empty() {
         let (now, rest) = cells.split_at(cells.len().min(MOST_CALLS));
@@ -84,21 +84,22 @@ fn push_row_under(
         making.old making.new result }
     ensures little { making.new.steps ≤ making.old.steps + 8192 * limit }
     ensures kept { (progress.new.sums ≡ progress.old.sums) × (progress.new.allowed ≡ progress.old.allowed)
-        × (64 ≤ vec_capacity progress.new.passing) }
+        × (64 ≤ length progress.new.passing.items) }
 {
     let (k, x) = cell;
     let cells = factors.b.row(k);
-    // no want of memory once calls are made
+    // Reserve first: once calls are made, nothing may fail for want of memory.
     making.rows.reserve(cells.len().min(stored.len()))?;
     let mut row = RowUnderMask {
         cells,
         mask: RowCursor::new(stored),
     };
     while !row.cells.is_empty() {
-        row = list_passing(row, &mut progress.passing);
+        let (rest, count) = list_passing(row, &mut progress.passing);
+        row = rest;
         progress
             .sums
-            .push_products(factors, x, &progress.passing, making)?;
+            .push_products(factors, x, &progress.passing[..count], making)?;
     }
     making.rows.end_row()
 }

@@ -1,6 +1,6 @@
 -- A row of A with one entry: the row of B that it names, as far as it passes, each word multiplied. This project's own.
 use Rattle.std.specs.Prelude.{◌≡◌, ◌≤◌, ◌<◌, ◌+◌, ◌*◌, ◌^◌, [], ◌∷◌}
-use Rattle.std.specs.Prelude.{ℕ, List, length, vec_capacity}
+use Rattle.std.specs.Prelude.{ℕ, List, length}
 use Rattle.std.specs.List.{AllByRecursion}
 use Rattle.bpf_insn.specs.declared.operands.Operands.TheVariants.{Binary}
 use Rattle.bpf_verify.specs.Accepted.{Accepted}
@@ -65,4 +65,4 @@ pub record MayPushUnder (f : MaskedFactors) (k : ℕ) (stored : List Cell) (prog
     : Type 0 where
   pub push : MayPush f k making
   pub order : Ascends 0 f.b.now.columns stored
-  pub room : 64 ≤ vec_capacity progress.passing
+  pub room : 64 ≤ length progress.passing.items

@@ -1,15 +1,30 @@
-use Rattle.std.proofs.Common.{◌∙◌}
-use Rattle.entry_ops.proofs.SelectBuffer.{placing-at, keep-within, end-placed, keep-placed}
+use Rattle.std.proofs.Common.{take, arith}
+use Rattle.entry_ops.proofs.Keeping.{keeping-start, keeping-as, end-kept, one-kept}
 use Rattle.entry_ops.proofs.select_buffer.put_values.Goals as goal
 use Rattle.entry_ops.proofs.select_buffer.put_values.Goals.{
-  in-End+in_ok-end_row-in-End,
-  in-Kept+in_ok-push_kept-in-Kept,
+  in-End+in_ok-end_kept-in-End,
+  in-Kept+in_ok-many-in-Kept,
 }
+
+pub loop-mark-init : goal.loop-mark-init
+loop-mark-init c = record { few = omega arith; keeping = keeping-start c.args.marks.now c.args.values.now c.args.rows.now c.requires.fits }
 
 pub loop-mark-preserved : goal.loop-mark-preserved
 loop-mark-preserved c = elim c.match-mark.branch [
-  | in-End+in_ok-end_row-in-End w ↦ placing-at _ _ _ _ _ _ _ w.next-is
-      (end-placed c.args.marks.now c.args.values.now c.args.rows.now c.loop-mark.mark-index c.loop-mark.next c.loop-mark.rows _ c.loop-mark.invariant c.loop-mark-test.true w.in-End.is c.match-mark.rows (w.rows-is ∙ w.in_ok-end_row-in-End.ensures.ended))
-  | in-Kept+in_ok-push_kept-in-Kept w ↦ placing-at _ _ _ _ _ _ _ w.next-is
-      (keep-placed c.args.marks.now c.args.values.now c.args.rows.now c.loop-mark.mark-index c.loop-mark.next c.loop-mark.rows _ c.loop-mark.invariant c.loop-mark-test.true (keep-within c.args.marks.now c.args.values.now c.args.rows.now c.loop-mark.mark-index c.loop-mark.next c.loop-mark.rows _ c.loop-mark.invariant c.loop-mark-test.true _ _ w.in-Kept.is) _ _ w.in-Kept.is c.match-mark.rows (w.rows-is ∙ w.in_ok-push_kept-in-Kept.ensures))
+  | in-End+in_ok-end_kept-in-End w ↦ record {
+    few = let m = w.many-is in omega arith;
+    keeping = keeping-as c.args.marks.now c.args.values.now c.args.rows.now _ _ _ _ _ _ _ w.next-is
+        (λ t. take (w.many-is t) c.match-mark.kept) w.rows-is
+        (end-kept c.args.marks.now c.args.values.now c.args.rows.now c.loop-mark.mark-index c.loop-mark.next
+        (take c.loop-mark.many c.loop-mark.kept) c.loop-mark.rows _ c.loop-mark.invariant.keeping c.loop-mark-test.true w.in-End.is _
+        w.in_ok-end_kept-in-End.ensures);
+  }
+  | in-Kept+in_ok-many-in-Kept w ↦ record {
+    few = let m = w.many-is in let f = w.keep_if-many.ensures.few in omega arith;
+    keeping = keeping-as c.args.marks.now c.args.values.now c.args.rows.now _ _ _ _ _ _ _ w.next-is
+        (λ t. take (w.many-is t) (w.kept-is t)) w.rows-is
+        (one-kept c.args.marks.now c.args.values.now c.args.rows.now c.loop-mark.mark-index c.loop-mark.next
+        (take c.loop-mark.many c.loop-mark.kept) c.loop-mark.rows _ c.loop-mark.invariant.keeping c.loop-mark-test.true _ _ w.in-Kept.is _ _ _
+        w.in_ok-many-in-Kept.ensures.follow w.in_ok-many-in-Kept.ensures.same w.keep_if-many.ensures.kept);
+  }
 ]

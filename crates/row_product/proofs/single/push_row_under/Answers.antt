@@ -1,5 +1,5 @@
-use Rattle.std.proofs.Common.{◌≡◌, ◌<◌, ◌++◌, length, subst, sym, ap, ◌∙◌, refl, arith, rules}
-use Rattle.std.proofs.lemmas.List.{length-append}
+use Rattle.std.proofs.Common.{◌≡◌, ◌<◌, ◌++◌, length, take, length-take, subst, sym, ap, ◌∙◌, refl, arith, rules}
+use Rattle.std.proofs.lemmas.List.{length-append, with_items_is}
 use Rattle.std.specs.List.{AllByRecursion}
 use Rattle.bpf_run.specs.Calls.{calls_on, pairs_with}
 use Rattle.bpf_run.proofs.Charging.{Spends, charges-none, charges-all, spends-start, spends-step, spends-stop}
@@ -65,10 +65,14 @@ returns-in_err-push_products-clause-row c =
     let mul = c.args.factors.now.mul.now in
     let x = c.args.cell.1 in
     let t = stores c.args.stored.now in
-    let cs = c.deref.result.now in
-    let ds = taking t c.list_passing-row.result.cells.now in
-    let next = c.list_passing-row.ensures.listed c.args.stored.now c.args.factors.now.b.now.columns c.loop-row.invariant.beside in
-    let parts : taking t c.loop-row.row.cells.now ≡ cs ++ ds = sym (ap (λ us. us ++ ds) c.deref.ensures.value ∙ next.1) in
+    let listed = c.list_passing-rest in
+    let n = listed.result.1 in
+    let cs = take n c.deref.result.now in
+    let ds = taking t listed.result.0.cells.now in
+    let next = listed.ensures.listed c.args.stored.now c.args.factors.now.b.now.columns c.loop-row.invariant.beside in
+    let put = c.deref.ensures.value ∙ with_items_is c.loop-row.progress.passing listed.new.passing
+    (listed.ensures.room ∙ c.deref_mut.ensures.len) in
+    let parts : taking t c.loop-row.row.cells.now ≡ cs ++ ds = sym (ap (λ us. take n us ++ ds) put ∙ next.1) in
     record {
       rows = search rules;
       steps = search rules;
@@ -81,25 +85,33 @@ returns-in_err-push_products-clause-row c =
 pub returns-in_err-push_products-clause-little : goal.returns-in_err-push_products-clause-little
 returns-in_err-push_products-clause-little c =
     let t = stores c.args.stored.now in
-    let cs = c.deref.result.now in
-    let ds = taking t c.list_passing-row.result.cells.now in
-    let next = c.list_passing-row.ensures.listed c.args.stored.now c.args.factors.now.b.now.columns c.loop-row.invariant.beside in
-    let parts : taking t c.loop-row.row.cells.now ≡ cs ++ ds = sym (ap (λ us. us ++ ds) c.deref.ensures.value ∙ next.1) in
+    let listed = c.list_passing-rest in
+    let n = listed.result.1 in
+    let cs = take n c.deref.result.now in
+    let ds = taking t listed.result.0.cells.now in
+    let next = listed.ensures.listed c.args.stored.now c.args.factors.now.b.now.columns c.loop-row.invariant.beside in
+    let put = c.deref.ensures.value ∙ with_items_is c.loop-row.progress.passing listed.new.passing
+    (listed.ensures.room ∙ c.deref_mut.ensures.len) in
+    let parts : taking t c.loop-row.row.cells.now ≡ cs ++ ds = sym (ap (λ us. take n us ++ ds) put ∙ next.1) in
     let p = ap length parts in
     let a = length-append cs ds in
-    let n = c.push_products.ensures.charged.little in
+    let k = c.push_products.ensures.charged.little in
     let f = c.loop-row.invariant.few in
     let w = taking_few (stores c.args.stored.now) (row_of c.args.factors.now.b.now c.args.cell.0) in
     let r = row_few c.args.factors.now.b.now c.args.cell.0 c.requires.push.factors.b_grid in
-    omega (arith, p, a, n, f, w, r)
+    omega (arith, p, a, k, f, w, r)
 
 pub push_products-requires : goal.push_products-requires
 push_products-requires c =
     let t = stores c.args.stored.now in
-    let cs = c.deref.result.now in
-    let ds = taking t c.list_passing-row.result.cells.now in
-    let next = c.list_passing-row.ensures.listed c.args.stored.now c.args.factors.now.b.now.columns c.loop-row.invariant.beside in
-    let parts : taking t c.loop-row.row.cells.now ≡ cs ++ ds = sym (ap (λ us. us ++ ds) c.deref.ensures.value ∙ next.1) in
+    let listed = c.list_passing-rest in
+    let n = listed.result.1 in
+    let cs = take n c.deref.result.now in
+    let ds = taking t listed.result.0.cells.now in
+    let next = listed.ensures.listed c.args.stored.now c.args.factors.now.b.now.columns c.loop-row.invariant.beside in
+    let put = c.deref.ensures.value ∙ with_items_is c.loop-row.progress.passing listed.new.passing
+    (listed.ensures.room ∙ c.deref_mut.ensures.len) in
+    let parts : taking t c.loop-row.row.cells.now ≡ cs ++ ds = sym (ap (λ us. take n us ++ ds) put ∙ next.1) in
     let p = ap length parts in
     let a = length-append cs ds in
     let f = c.loop-row.invariant.few in
@@ -108,13 +120,14 @@ push_products-requires c =
     let left = c.requires.push.room in
     let now = c.loop-row.making.rows in
     let m = c.loop-row.invariant.pushing in
-    let n = c.args.making.now.rows.columns in
+    let columns = c.args.making.now.rows.columns in
+    let most = listed.ensures.few in
     record {
       factors = c.requires.push.factors;
-      few = search rules;
+      few = omega (arith, length-take n c.deref.result.now, most);
       room = omega (arith, p, a, f, w, r, left);
       behind = subst (λ w. IsBehind w now.opened cs) (sym (ap (λ (u : Run). u.columns) m.run))
-          (behind_first n now.opened cs ds (subst (IsBehind n now.opened) parts m.behind));
+          (behind_first columns now.opened cs ds (subst (IsBehind columns now.opened) parts m.behind));
     }
 
 pub loop-row-preserved : goal.loop-row-preserved
@@ -122,15 +135,22 @@ loop-row-preserved c =
     let mul = c.args.factors.now.mul.now in
     let x = c.args.cell.1 in
     let t = stores c.args.stored.now in
-    let cs = c.deref.result.now in
-    let ds = taking t c.list_passing-row.result.cells.now in
-    let next = c.list_passing-row.ensures.listed c.args.stored.now c.args.factors.now.b.now.columns c.loop-row.invariant.beside in
-    let parts : taking t c.loop-row.row.cells.now ≡ cs ++ ds = sym (ap (λ us. us ++ ds) c.deref.ensures.value ∙ next.1) in
+    let listed = c.list_passing-rest in
+    let n = listed.result.1 in
+    let cs = take n c.deref.result.now in
+    let ds = taking t listed.result.0.cells.now in
+    let next = listed.ensures.listed c.args.stored.now c.args.factors.now.b.now.columns c.loop-row.invariant.beside in
+    let put = c.deref.ensures.value ∙ with_items_is c.loop-row.progress.passing listed.new.passing
+    (listed.ensures.room ∙ c.deref_mut.ensures.len) in
+    let parts : taking t c.loop-row.row.cells.now ≡ cs ++ ds = sym (ap (λ us. take n us ++ ds) put ∙ next.1) in
     let p = ap length parts in
     let a = length-append cs ds in
     let i = c.loop-row.invariant in
     let f = i.few in
     let l = c.push_products.ensures.charged.little in
+    let many = ap length (with_items_is c.loop-row.progress.passing listed.new.passing (listed.ensures.room ∙ c.deref_mut.ensures.len)) in
+    let same = listed.ensures.room ∙ ap length c.deref_mut.ensures.value in
+    let room = i.room in
     record {
       pushing = pushing_part mul x c.args.making.now.rows (multiplied mul x (taking t
           (row_of c.args.factors.now.b.now c.args.cell.0)))
@@ -142,7 +162,7 @@ loop-row-preserved c =
       beside = next.0;
       sums = c.push_products.ensures.sums ∙ i.sums;
       allowed = i.allowed;
-      room = c.list_passing-row.ensures.room.1;
+      room = omega (arith, many, same, room);
     }
 
 pub returns-clause-little : goal.returns-clause-little

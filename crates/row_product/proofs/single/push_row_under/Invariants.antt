@@ -1,4 +1,4 @@
-use Rattle.std.proofs.Common.{◌≡◌, ◌≤◌, ◌+◌, ◌*◌, length, vec_capacity}
+use Rattle.std.proofs.Common.{◌≡◌, ◌≤◌, ◌+◌, ◌*◌, length}
 use Rattle.bpf_run.specs.Calls.{calls_on, pairs_with}
 use Rattle.bpf_run.proofs.Charging.{Spends}
 use Rattle.csr_store.specs.Grid.{row_of}
@@ -23,5 +23,5 @@ invariant-loop-row l = record {
   beside : IsRowUnderMask l.stored l.factors.b.now.columns l.row.cells.now l.row.mask;
   sums : l.progress.sums ≡ l.fn.progress.sums;
   allowed : l.progress.allowed ≡ l.fn.progress.allowed;
-  room : 64 ≤ vec_capacity l.progress.passing;
+  room : 64 ≤ length l.progress.passing.items;
 }

@@ -1,0 +1,199 @@
+//! Rows of a product of one column by a usual ADD and a MUL that is known by its program: all rows of a range are made in one loop, in
+//! which both are compiled. A term goes into its sum as it is made, and nothing is listed.
+ghost use Rattle.std.specs.Prelude.{◌≡◌, ◌≤◌, ◌+◌, None, Some, IfSome, if◌then◌else◌};
+ghost use Rattle.bpf_insn.specs.declared.operands.Kind.TheVariants as kinds;
+ghost use Rattle.bpf_run.specs.Calls.{steps_of};
+ghost use Rattle.bpf_run.specs.Known.{Computes};
+ghost use Rattle.bpf_verify.specs.Accepted.{IsAccepted};
+ghost use Rattle.csr_store.specs.Column.{IsCopyOf};
+ghost use Rattle.row_product.specs.inner.Column.{MaySum, IsSummed, IsBegunInColumn};
+ghost use Rattle.row_product.specs.inner.Masked.{AddsRows};
+ghost use Rattle.row_product.specs.inner.Sums.{added, added_calls};
+
+use crate::column_terms::word_at;
+use crate::factors::MaskedFactors;
+use crate::one_column::{Summed, end_summed, lets_pass};
+use crate::row_accumulator::{RowAccumulator, fill_rows};
+use crate::usual::run_usual;
+use bpf_run::{Function, Loop, Outcome, call_by, run_known};
+use bpf_verify::Operator;
+use csr_store::Column;
+use job_forms::Making;
+use std::alloc::{AllocError, Global};
+use std::marker::PhantomData;
+use std::mem::replace;
+use std::ops::Range;
+
+/// What a term makes of a sum so far, or begins it, by an operator that computes a function.
+#[inline(always)]
+fn with_term<A: Function>(add: &Operator, so_far: Option<u64>, term: u64) -> Outcome
+    requires { Computes add.now A.meaning A.price }
+    ensures value { result.value ≡ added add.now so_far term }
+    ensures steps { result.steps ≡ steps_of (added_calls add.now so_far term) }
+{
+    match so_far {
+        Some(so_far) => call_by::<A>(add, so_far, term),
+        None => Outcome {
+            value: term,
+            steps: 0,
+        },
+    }
+}
+
+/// Adds a term to a sum, or begins it, if there is a word for it. Answers the steps. The addition is made before it is known whether
+/// there is: which cells name a word can't be foretold.
+#[inline(always)]
+fn add_if<A: Function>(add: &Operator, sum: &mut Option<u64>, term: Outcome, stands: bool) -> u64
+    requires computes { Computes add.now A.meaning A.price }
+    requires add { IsAccepted add.now × (add.now.kind ≡ kinds.Binary) }
+    requires few { term.steps ≤ 4096 }
+    ensures sum { sum.new ≡ (if stands then Some (added add.now sum.old term.value) else sum.old) }
+    ensures steps { result ≡ (if stands then term.steps + steps_of (added_calls add.now sum.old term.value) else 0) }
+{
+    let with = with_term::<A>(add, *sum, term.value);
+    if !stands {
+        return 0;
+    }
+    *sum = Some(with.value);
+    term.steps + with.steps
+}
+
+/// Sums the terms of cells of a row of A.
+#[inline(always)]
+fn sum_cells<A: Function, M: Function>(
+    factors: &MaskedFactors,
+    column: Option<&Column>,
+    row: &[(u64, u64)],
+) -> Summed
+    requires add { Computes factors.now.add.now A.meaning A.price }
+    requires mul { Computes factors.now.mul.now M.meaning M.price }
+    requires copy { IsCopyOf factors.now.b.now column }
+    requires row { MaySum factors.now row.now }
+    ensures { IsSummed factors.now row.now result.sum result.steps }
+{
+    let mut sum = None;
+    let mut steps = 0;
+    for (k, x) in row {
+        let (word, stands) = word_at(factors.b, column, *k);
+        let term = call_by::<M>(factors.mul, *x, word);
+        steps += add_if::<A>(factors.add, &mut sum, term, stands);
+    }
+    Summed { sum, steps }
+}
+
+/// Rows by operators that compute two functions, as types. It keeps nothing.
+struct Fused<A, M>(PhantomData<(A, M)>);
+
+impl<A: Function, M: Function> RowAccumulator for Fused<A, M> {
+    ghost is_ready = { λ columns s. columns ≡ 1 };
+
+    ghost may_fill = { λ f i. Computes f.add.now A.meaning A.price × Computes f.mul.now M.meaning M.price };
+
+    /// Work linear in the words of A's row. Of a row that doesn't pass the mask nothing is read.
+    #[inline(always)]
+    fn fill_row(
+        &mut self,
+        factors: &MaskedFactors,
+        i: u64,
+        making: &mut Making,
+    ) -> Result<(), AllocError> {
+        if !lets_pass(factors.mask, i) {
+            return making.rows.end_row();
+        }
+        let row = factors.a.row(i);
+        // a loop for each: none asks at every cell whether there is a copy
+        let summed = match factors.column {
+            Some(column) => sum_cells::<A, M>(factors, Some(column), row),
+            None => sum_cells::<A, M>(factors, None, row),
+        };
+        end_summed(factors, i, &summed, making)
+    }
+}
+
+/// Rows that are being made, and whether memory was wanting, once they are.
+#[derive(Drop)]
+struct Filling {
+    making: Making,
+    filled: Option<Result<(), AllocError>>,
+}
+
+/// Rows of a product of one column, for which an ADD is to be found.
+#[derive(Drop)]
+struct ColumnRows<'f, 'm> {
+    factors: &'f MaskedFactors<'m>,
+    range: Range<u64>,
+}
+
+/// These rows by an ADD that computes a function, for which a MUL is to be found.
+struct RowsBy<'r, 'f, 'm, A> {
+    rows: &'r ColumnRows<'f, 'm>,
+    add: PhantomData<A>,
+}
+
+impl<'f, 'm> Loop for ColumnRows<'f, 'm> {
+    type State = Filling;
+
+    ghost may_run = { λ r add filling. (add ≡ r.factors.now.add.now) × (filling.filled ≡ None)
+        × IsBegunInColumn r.factors.now r.range.start r.range.end filling.making };
+
+    ghost gives = { λ r add old new answer. IfSome new.filled (λ filled. AddsRows r.factors.now r.range.start r.range.end old.making new.making filled)
+        × (new.filled ≡ None → new.making ≡ old.making) };
+
+    fn run<A: Function>(&self, add: &Operator, filling: &mut Filling) -> u64 {
+        let rows = RowsBy::<A> {
+            rows: self,
+            add: PhantomData,
+        };
+        let answer = run_known(&rows, self.factors.mul, filling);
+        let RowsBy { rows: _, add: _ } = rows;
+        match answer {
+            Some(answer) => answer,
+            None => 0,
+        }
+    }
+}
+
+impl<'r, 'f, 'm, A: Function> Loop for RowsBy<'r, 'f, 'm, A> {
+    type State = Filling;
+
+    ghost may_run = { λ r mul filling. Computes r.rows.now.factors.now.add.now A.meaning A.price × (mul ≡ r.rows.now.factors.now.mul.now)
+        × IsBegunInColumn r.rows.now.factors.now r.rows.now.range.start r.rows.now.range.end filling.making };
+
+    ghost gives = { λ r mul old new answer. IfSome new.filled (λ filled. AddsRows r.rows.now.factors.now r.rows.now.range.start r.rows.now.range.end
+        old.making new.making filled) × (new.filled ≡ None → new.making ≡ old.making) };
+
+    #[inline(never)]
+    fn run<M: Function>(&self, mul: &Operator, filling: &mut Filling) -> u64 {
+        let rows = self.rows;
+        let mut room = Fused::<A, M>(PhantomData);
+        let range = rows.range.start..rows.range.end;
+        filling.filled = Some(fill_rows(rows.factors, range, &mut room, &mut filling.making));
+        let Fused(_) = room;
+        0
+    }
+}
+
+/// Adds the rows of a range in one loop, in which both operators are compiled, if they are known so. Else it adds none.
+pub(crate) fn fill_fused(
+    alloc: Global,
+    factors: &MaskedFactors,
+    range: Range<u64>,
+    making: &mut Making,
+) -> Option<Result<(), AllocError>>
+    requires { IsBegunInColumn factors.now range.start range.end making.old }
+    ensures known { IfSome result (λ filled. AddsRows factors.now range.start range.end making.old making.new filled) }
+    ensures unknown { result ≡ None → making.new ≡ making.old }
+{
+    let none = Making::begin(alloc, range.start, factors.b.columns());
+    let mut filling = Filling {
+        making: replace(making, none),
+        filled: None,
+    };
+    let _ = run_usual(&ColumnRows { factors, range }, factors.add, &mut filling);
+    let Filling {
+        making: made,
+        filled,
+    } = filling;
+    *making = made;
+    filled
+}
