@@ -17,7 +17,7 @@ use std::alloc::{AllocError, Global};
 use std::marker::Model;
 use std::ops::Range;
 
-/// The rows of a chunk, of a job that is told by its place among the jobs.
+/// The rows of a chunk, and the number of its job in the plan.
 #[derive(Clone, Copy)]
 pub struct ChunkRows {
     pub job: u64,

@@ -1,6 +1,7 @@
 -- What a batch answers, from what its workers did.
 use Rattle.std.proofs.Common.{◌≡◌, ◌<◌, ◌≤◌, ℕ, List, Ok, Err, map, arith}
 use Rattle.std.specs.List.{AllByRecursion}
+use Rattle.bpf_run.specs.Calls.{Charges}
 use Rattle.job_plan.specs.Job.{Job}
 use Rattle.job_plan.specs.Price.{IsWithinPrice}
 use Rattle.job_plan.specs.Refusal.{IsPriced}
@@ -8,7 +9,7 @@ use Rattle.job_runner.specs.declared.answer.BatchAnswer.{BatchAnswer}
 use Rattle.job_runner.specs.declared.answer.BatchFault.{BatchFault}
 use Rattle.job_runner.specs.declared.answer.Cause.TheVariants.{Thread}
 use Rattle.job_runner.specs.Answers.{IsBatch, gave, broke}
-use Rattle.job_runner.specs.Batch.{AreResultsOf, result_of, total_steps}
+use Rattle.job_runner.specs.Batch.{AreResultsOf, result_of, all_calls}
 use Rattle.job_runner.specs.Crew.{crew_of}
 use Rattle.job_runner.specs.Whole.{IsRaced}
 use Rattle.job_runner.proofs.Theorem.{theorem_of}
@@ -25,7 +26,7 @@ batch_gave workers jobs a priced within are by = record {
   told = gave workers jobs (map result_of a.results.items) by;
 }
 
-pub batch_broke : (workers count : ℕ) (jobs : List Job) (f : BatchFault) → count ≤ workers → f.spent ≤ total_steps jobs
+pub batch_broke : (workers count : ℕ) (jobs : List Job) (f : BatchFault) → count ≤ workers → Charges (all_calls jobs) 0 f.spent
     → (f.cause ≡ Thread → 1 < count) → IsBatch workers jobs (Err f)
 batch_broke workers count jobs f few spent thread =
     let several : f.cause ≡ Thread → 1 < workers = λ e. let m = thread e in omega arith in

@@ -8,70 +8,77 @@ use Rattle.race_board.specs.declared.worker_state.WorkerState.{WorkerState}
 use Rattle.race_board.specs.declared.worker_state.WorkerState.TheVariants.{Drained}
 use Rattle.race_board.specs.Race.{Worker, BoardState, SeatState, IsDrained, total_of, times_completed, times_drawn}
 use Rattle.race_board.specs.Race.{one_if_same, one_if_below, steps_of, workers_of, IsFinished}
-use Rattle.race_board.specs.Chunks.{CostAtMost, CostJust, completed_by, recorded_by, failed_chunk, sum_below, times_in}
+use Rattle.race_board.specs.Chunks.{CostJust, completed_by, recorded_by, failed_chunk, sum_below, times_in}
 use Rattle.race_board.proofs.Sums.{sum_append}
 use Rattle.race_board.proofs.Elements.{all_snoc}
 use Rattle.race_board.proofs.Seats.{workers_snoc}
-use Rattle.race_board.proofs.Chunks.{cost_append as just_append, completed_snoc, recorded_steps, recorded_at_most, closed_recorded, closed_completed, below_one}
+use Rattle.race_board.proofs.Chunks.{cost_append as just_append, completed_snoc, recorded_steps, closed_recorded, closed_completed, below_one}
+use Rattle.bpf_run.specs.Calls.{Charges}
+use Rattle.bpf_run.proofs.Charging.{charges-all}
 use Rattle.job_plan.specs.Job.{Job}
 use Rattle.job_runner.specs.declared.piece.Piece.{Piece}
 use Rattle.job_runner.specs.declared.worker_outputs.Ended.{Ended}
 use Rattle.job_runner.specs.declared.worker_outputs.WorkerOutputs.{WorkerOutputs}
 use Rattle.job_plan.specs.Chunks.{Cover, prices_of}
-use Rattle.job_runner.specs.Batch.{total_steps}
+use Rattle.job_runner.specs.Batch.{all_calls}
 use Rattle.race_board.proofs.Finishing.{all_drained, drained_finished}
-use Rattle.job_runner.specs.Chunk.{chunk_total, chunk_steps}
+use Rattle.job_runner.specs.Chunk.{calls_of, chunk_total, chunk_steps}
 use Rattle.job_runner.specs.inner.CompletedPieces.{IsFull}
 use Rattle.job_runner.specs.Worked.{recorded, IsPieceOf, StandsAfter}
+use Rattle.job_runner.specs.inner.Charged.{IsCharged}
 use Rattle.job_runner.specs.inner.Crew.{IsEnded, AreWorkerOutputs}
 use Rattle.job_runner.proofs.Listed.{summed-split}
-use Rattle.job_runner.proofs.Joined.{total_of_jobs}
+use Rattle.job_runner.proofs.Charged.{charged_all}
+use Rattle.job_runner.proofs.Joined.{steps-of-chunk}
 use Rattle.job_runner.proofs.Costs.{all_listed}
 
-cost_append : (g : ℕ → ℕ) (ds es : List (ℕ × ℕ)) → CostAtMost g ds → CostAtMost g es → CostAtMost g (ds ++ es)
-cost_append g [] es h k = k
-cost_append g (d ∷ ds) es h k = (h.0, cost_append g ds es h.1 k)
+all_append : {X : Type 0} (P : X → Type 0) (xs ys : List X) → AllByRecursion P xs → AllByRecursion P ys → AllByRecursion P (xs ++ ys)
+all_append P [] ys h k = k
+all_append P (x ∷ xs) ys h k = (h.0, all_append P xs ys h.1 k)
 
-cost_first : (g : ℕ → ℕ) (ds es : List (ℕ × ℕ)) → CostAtMost g (ds ++ es) → CostAtMost g ds
-cost_first g [] es h = tt
-cost_first g (d ∷ ds) es h = (h.0, cost_first g ds es h.1)
+all_before : {X : Type 0} (P : X → Type 0) (xs ys : List X) → AllByRecursion P (xs ++ ys) → AllByRecursion P xs
+all_before P [] ys h = tt
+all_before P (x ∷ xs) ys h = (h.0, all_before P xs ys h.1)
 
-cost_rest : (g : ℕ → ℕ) (ds es : List (ℕ × ℕ)) → CostAtMost g (ds ++ es) → CostAtMost g es
-cost_rest g [] es h = h
-cost_rest g (d ∷ ds) es h = cost_rest g ds es h.1
+all_behind : {X : Type 0} (P : X → Type 0) (xs ys : List X) → AllByRecursion P (xs ++ ys) → AllByRecursion P ys
+all_behind P [] ys h = h
+all_behind P (x ∷ xs) ys h = all_behind P xs ys h.1
 
-cost_pieces : (jobs : List Job) (ps : List Piece) → AllByRecursion (IsPieceOf jobs) ps → CostAtMost (chunk_steps jobs) (recorded ps)
+cost_pieces : (jobs : List Job) (ps : List Piece) → AllByRecursion (IsPieceOf jobs) ps → AllByRecursion (IsCharged jobs) (recorded ps)
 cost_pieces jobs [] h = tt
-cost_pieces jobs (p ∷ ps) h = (let e = h.0.steps in omega (arith, e), cost_pieces jobs ps h.1)
+cost_pieces jobs (p ∷ ps) h =
+    let e = h.0.steps in
+    let s = steps-of-chunk jobs p.chunk in
+    (charges-all (calls_of jobs p.chunk) 0 p.steps (omega (arith, e, s)), cost_pieces jobs ps h.1)
 
 cost_failed : (jobs : List Job) (failed : Bool) (state : WorkerState) → StandsAfter jobs failed state
-    → CostAtMost (chunk_steps jobs) (failed_chunk state)
-cost_failed jobs false state h = subst (λ (t : WorkerState). CostAtMost (chunk_steps jobs) (failed_chunk t)) (sym h) tt
-cost_failed jobs true state h = subst (λ (t : WorkerState). CostAtMost (chunk_steps jobs) (failed_chunk t)) (sym h.2) (h.4, tt)
+    → AllByRecursion (IsCharged jobs) (failed_chunk state)
+cost_failed jobs false state h = subst (λ (t : WorkerState). AllByRecursion (IsCharged jobs) (failed_chunk t)) (sym h) tt
+cost_failed jobs true state h = subst (λ (t : WorkerState). AllByRecursion (IsCharged jobs) (failed_chunk t)) (sym h.2) (h.4, tt)
 
 -- the steps of a worker that has ended
 cost_ended : (board : BoardState) (jobs : List Job) (e : Ended) → IsEnded board jobs e
-    → CostAtMost (chunk_steps jobs) (e.seat.worker.done ++ failed_chunk e.seat.worker.state)
+    → AllByRecursion (IsCharged jobs) (e.seat.worker.done ++ failed_chunk e.seat.worker.state)
 cost_ended board jobs e h =
-    cost_append (chunk_steps jobs) e.seat.worker.done (failed_chunk e.seat.worker.state)
-    (subst (CostAtMost (chunk_steps jobs)) (sym h.done) (cost_pieces jobs e.worked.pieces.items h.pieces))
+    all_append (IsCharged jobs) e.seat.worker.done (failed_chunk e.seat.worker.state)
+    (subst (AllByRecursion (IsCharged jobs)) (sym h.done) (cost_pieces jobs e.worked.pieces.items h.pieces))
     (cost_failed jobs e.worked.failed e.seat.worker.state h.stands)
 
-cost_more : (g : ℕ → ℕ) (ws : List Worker) (w : Worker) → CostAtMost g (recorded_by ws)
-    → CostAtMost g (w.done ++ failed_chunk w.state)
-    → CostAtMost g (recorded_by (ws ++ w ∷ []))
-cost_more g [] w h k = cost_append g (w.done ++ failed_chunk w.state) [] k tt
-cost_more g (v ∷ ws) w h k =
-    cost_append g (v.done ++ failed_chunk v.state) (recorded_by (ws ++ w ∷ []))
-    (cost_first g (v.done ++ failed_chunk v.state) (recorded_by ws) h)
-    (cost_more g ws w (cost_rest g (v.done ++ failed_chunk v.state) (recorded_by ws) h) k)
+cost_more : (P : ℕ × ℕ → Type 0) (ws : List Worker) (w : Worker) → AllByRecursion P (recorded_by ws)
+    → AllByRecursion P (w.done ++ failed_chunk w.state)
+    → AllByRecursion P (recorded_by (ws ++ w ∷ []))
+cost_more P [] w h k = all_append P (w.done ++ failed_chunk w.state) [] k tt
+cost_more P (v ∷ ws) w h k =
+    all_append P (v.done ++ failed_chunk v.state) (recorded_by (ws ++ w ∷ []))
+    (all_before P (v.done ++ failed_chunk v.state) (recorded_by ws) h)
+    (cost_more P ws w (all_behind P (v.done ++ failed_chunk v.state) (recorded_by ws) h) k)
 
 pub gathered_cost : (board : BoardState) (jobs : List Job) (seats : List SeatState) (e : Ended) → IsEnded board jobs e
-    → CostAtMost (chunk_steps jobs) (recorded_by (workers_of seats))
-    → CostAtMost (chunk_steps jobs) (recorded_by (workers_of (seats ++ e.seat ∷ [])))
+    → AllByRecursion (IsCharged jobs) (recorded_by (workers_of seats))
+    → AllByRecursion (IsCharged jobs) (recorded_by (workers_of (seats ++ e.seat ∷ [])))
 gathered_cost board jobs seats e h k =
-    subst (λ (ws : List Worker). CostAtMost (chunk_steps jobs) (recorded_by ws)) (sym (workers_snoc seats e.seat))
-    (cost_more (chunk_steps jobs) (workers_of seats) e.seat.worker k (cost_ended board jobs e h))
+    subst (λ (ws : List Worker). AllByRecursion (IsCharged jobs) (recorded_by ws)) (sym (workers_snoc seats e.seat))
+    (cost_more (IsCharged jobs) (workers_of seats) e.seat.worker k (cost_ended board jobs e h))
 
 just_pieces : (jobs : List Job) (ps : List Piece) → AllByRecursion (IsPieceOf jobs) ps → CostJust (chunk_steps jobs) (recorded ps)
 just_pieces jobs [] h = tt
@@ -129,19 +136,6 @@ below_summed g (suc n) =
     let a = ap (λ k. summed g k 1) z in
     omega (arith, h, s, f, a)
 
--- what workers recorded, whatever became of them, is at most the steps of all chunks
-pub closed_spent : (board : BoardState) (jobs : List Job) (workers : List Worker) (n spent : ℕ) → length board.prices ≡ n
-    → ((c : ℕ) → total_of (times_drawn c) workers ≤ one_if_below c (length board.prices))
-    → CostAtMost (chunk_steps jobs) (recorded_by workers) → spent ≡ total_of steps_of workers
-    → spent ≤ summed (chunk_steps jobs) 0 n
-closed_spent board jobs workers n spent e once cost s =
-    let few = closed_recorded (length board.prices) workers once in
-    let most = recorded_at_most (chunk_steps jobs) (length board.prices) (recorded_by workers) few cost in
-    let all = recorded_steps workers in
-    let b = below_summed (chunk_steps jobs) (length board.prices) in
-    let f = ap (summed (chunk_steps jobs) 0) e in
-    omega (arith, most, all, s, b, f)
-
 -- where all were told the end, each chunk was completed
 pub all_completed : (board : BoardState) (workers : List Worker) (n c : ℕ) → length board.prices ≡ n
     → ((c : ℕ) → total_of (times_completed c) workers ≡ one_if_below c (length board.prices))
@@ -151,17 +145,16 @@ all_completed board workers n c e done l =
     let one = below_one c (length board.prices) (omega (arith, l, e)) in
     omega (arith, each, one)
 
--- what closing the board tells was spent is at most the steps of all jobs
+-- what closing the board tells was spent are the steps of some of the calls, each taken at most once
 pub gathered_spent : (board : BoardState) (jobs : List Job) (g : WorkerOutputs) (spent : ℕ) → AreWorkerOutputs board jobs g
     → ((c : ℕ) → total_of (times_drawn c) (workers_of g.seats.items) ≤ one_if_below c (length board.prices))
     → spent ≡ total_of steps_of (workers_of g.seats.items) → board.prices ≡ prices_of jobs → ((k : ℕ) (job : Job) → Cover k job)
-    → spent ≤ total_steps jobs
+    → Charges (all_calls jobs) 0 spent
 gathered_spent board jobs g spent h once s prices cover =
-    let most = closed_spent board jobs (workers_of g.seats.items) (chunk_total jobs) spent
-    (all_listed jobs board.prices prices) once
-    h.cost s in
-    let all = total_of_jobs cover jobs in
-    omega (arith, most, all)
+    let workers = workers_of g.seats.items in
+    subst (λ n. Charges (all_calls jobs) 0 n) (recorded_steps workers ∙ sym s)
+    (charged_all jobs (length board.prices) (recorded_by workers) cover (all_listed jobs board.prices prices)
+    (closed_recorded (length board.prices) workers once) h.cost)
 
 -- where all workers are here and none failed, each chunk has its piece
 pub gathered_full : (board : BoardState) (jobs : List Job) (g : WorkerOutputs) → AreWorkerOutputs board jobs g

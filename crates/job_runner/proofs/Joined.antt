@@ -113,12 +113,12 @@ joined_matrix k job runs rows columns g c r a b e within =
 -- ---- the first job, and those behind it
 
 module _ {T : Type 0} where
-  at-first : (said : Job → ℕ → T) (none : T) (job : Job) (jobs : List Job) (c : ℕ) → c < chunks_in job
+  pub at-first : (said : Job → ℕ → T) (none : T) (job : Job) (jobs : List Job) (c : ℕ) → c < chunks_in job
       → at_chunk said none (job ∷ jobs) c ≡ said job c
   at-first said none job jobs c l =
       ap (λ b. cond b (said job c) (at_chunk said none jobs (c - chunks_in job))) (lt-ltb c (chunks_in job) l)
 
-  at-behind : (said : Job → ℕ → T) (none : T) (job : Job) (jobs : List Job) (c : ℕ)
+  pub at-behind : (said : Job → ℕ → T) (none : T) (job : Job) (jobs : List Job) (c : ℕ)
       → at_chunk said none (job ∷ jobs) (chunks_in job + c) ≡ at_chunk said none jobs c
   at-behind said none job jobs c =
       let e : chunks_in job + c - chunks_in job ≡ c = omega arith in

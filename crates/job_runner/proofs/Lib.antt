@@ -12,3 +12,4 @@ pub mod Gathering
 pub mod Racing
 pub mod Crews
 pub mod Answering
+pub mod Charged

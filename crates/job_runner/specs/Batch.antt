@@ -1,9 +1,10 @@
 -- What a batch of jobs gives: for each job, in order of submission, its matrix and its steps. This project's own.
-use Rattle.std.specs.Prelude.{◌≡◌, ℕ, ◌+◌, List, [], ◌∷◌}
+use Rattle.std.specs.Prelude.{◌≡◌, ℕ, ◌+◌, List, [], ◌∷◌, ◌++◌}
 use Rattle.std.specs.Arc.{arc_value}
 use Rattle.csr_store.specs.Grid.{Grid}
 use Rattle.job_plan.specs.Job.{Job}
-use Rattle.job_plan.specs.Meaning.{IsMatrixOf, steps_of_job}
+use Rattle.bpf_run.specs.Calls.{Call}
+use Rattle.job_plan.specs.Meaning.{IsMatrixOf, row_count, calls_in, steps_of_job}
 use Rattle.job_runner.specs.declared.answer.JobResult.{JobResult}
 
 pub record Result : Type 0 where
@@ -26,6 +27,11 @@ AreResultsOf (job ∷ jobs) (r ∷ rs) = IsResultOf job r × AreResultsOf jobs r
 abbrev pub total_steps : List Job → ℕ
 total_steps [] = 0
 total_steps (job ∷ jobs) = steps_of_job job + total_steps jobs
+
+-- these calls
+abbrev pub all_calls : List Job → List Call
+all_calls [] = []
+all_calls (job ∷ jobs) = calls_in job 0 (row_count job) ++ all_calls jobs
 
 -- how an answer is read
 abbrev pub result_of : JobResult → Result

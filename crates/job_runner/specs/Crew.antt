@@ -1,13 +1,18 @@
 -- On how many workers a batch runs that may have so many. This project's own.
-use Rattle.std.specs.Prelude.{ℕ, ◌+◌, ◌/◌, max, min, List, length}
+use Rattle.std.specs.Prelude.{ℕ, ◌+◌, ◌*◌, ◌/◌, max, min, List, [], ◌∷◌}
 use Rattle.job_plan.specs.Job.{Job}
-use Rattle.job_plan.specs.Chunks.{plan_chunks}
-use Rattle.job_plan.specs.Price.{total_price}
+use Rattle.job_plan.specs.Price.{price_of}
+use Rattle.job_runner.specs.Chunk.{chunks_in}
 
--- one, and one more for each 200,000 steps of the price and for each 781 chunks, whose rows take about as long
-abbrev pub fed_by : List Job → ℕ
-fed_by jobs = 1 + total_price jobs / 200000 + length (plan_chunks jobs) / 781
+-- the work of a job, in steps: its price, and 512 for the rows of each chunk; but a chunk has one worker, and counts for no more
+-- than one
+abbrev pub work_of : Job → ℕ
+work_of job = min (price_of job + 512 * chunks_in job) (200000 * chunks_in job)
 
--- as many as it may have, but no more than it has chunks, nor than its work feeds; and one at least
+abbrev pub total_work : List Job → ℕ
+total_work [] = 0
+total_work (job ∷ jobs) = work_of job + total_work jobs
+
+-- one for each 200,000 steps of the work, but no more than it may have; and one at least
 abbrev pub crew_of : ℕ → List Job → ℕ
-crew_of workers jobs = max (min (min workers (length (plan_chunks jobs))) (fed_by jobs)) 1
+crew_of workers jobs = max (min workers (total_work jobs / 200000)) 1

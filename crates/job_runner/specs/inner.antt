@@ -3,3 +3,4 @@ pub mod Crew
 pub mod Pieces
 pub mod CompletedPieces
 pub mod Worked
+pub mod Charged

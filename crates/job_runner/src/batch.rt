@@ -1,6 +1,7 @@
 //! A batch on workers.
 ghost use Rattle.std.specs.Prelude.{◌≡◌, ◌<◌, ◌≤◌, map, IfOk, IfErr};
-ghost use Rattle.job_runner.specs.Batch.{AreResultsOf, result_of, total_steps};
+ghost use Rattle.bpf_run.specs.Calls.{Charges};
+ghost use Rattle.job_runner.specs.Batch.{AreResultsOf, all_calls, result_of};
 ghost use Rattle.job_runner.specs.Answers.{IsBatch, MaySay, said_of};
 ghost use Rattle.job_runner.specs.Crew.{crew_of};
 ghost use Rattle.job_runner.specs.Theorem.{BatchTheorem};
@@ -26,8 +27,8 @@ use std::thread::Threads;
 ///
 /// # Errors
 ///
-/// There is no memory; or, of more than one worker, a thread could not be started, which is told where a worker wants memory too.
-/// The workers that had started go on to their ends; the steps are those of all their calls.
+/// There is no memory; or, with more than one worker, a thread could not be started, which takes precedence if a worker also ran
+/// out of memory. The workers that had started run to their ends; the steps are those of all their calls, each made once.
 pub fn run_batch<H: Threads + Wait, G: Gate + Sync>(
     rt: &H,
     alloc: Global,
@@ -40,7 +41,7 @@ pub fn run_batch<H: Threads + Wait, G: Gate + Sync>(
     ensures theorem { IfOk result (λ a. BatchTheorem plan.now (map result_of a.results.items)) }
     ensures results { IfOk result (λ a. AreResultsOf plan.now (map result_of a.results.items)) }
     ensures raced { IfOk result (λ a. IsRaced (crew_of workers plan.now) plan.now (map result_of a.results.items)) }
-    ensures spent { IfErr result (λ f. f.spent ≤ total_steps plan.now) }
+    ensures spent { IfErr result (λ f. Charges (all_calls plan.now) 0 f.spent) }
     ensures thread { IfErr result (λ f. f.cause ≡ Cause.Thread → 1 < workers) }
     ensures told { MaySay workers plan.now (said_of result) }
 {
@@ -104,7 +105,7 @@ fn results<H: Threads + Wait, G: Gate + Sync>(
     requires { (1 ≤ count) × (count ≤ 64) }
     ensures results { IfOk result (λ rs. AreResultsOf plan.now (map result_of rs.items)
         × IsRaced count plan.now (map result_of rs.items)) }
-    ensures spent { spent.new ≤ total_steps plan.now }
+    ensures spent { Charges (all_calls plan.now) 0 spent.new }
     ensures thread { IfErr result (λ why. why ≡ Cause.Thread → 1 < count) }
 {
     plan.recall();

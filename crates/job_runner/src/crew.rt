@@ -115,24 +115,27 @@ fn join_all<H: Threads>(
     }
 }
 
-/// A worker at each of these seats in a thread of its own, and one at the calling thread's own seat. Answers what they did, and
-/// what was refused: the start of a thread, or memory for the threads' handles. Then the workers that had started went on to their
-/// ends, and the calling thread's did nothing.
+/// A worker at each of these seats: the last on the calling thread, with what is kept, the others in threads of their own. Answers
+/// what they did, and what was refused: the start of a thread, or memory for the threads' handles. Then the workers that had started
+/// went on to their ends, and the calling thread's did nothing.
 fn work_beside<'s, 'a, H: Threads, G: Gate + Sync>(
     context: BatchContext<'a, H, G>,
     scope: &Scope<'s, &'a ()>,
     task: Task<'a>,
-    own: BoardSeat,
     seats: Vec<BoardSeat>,
     outputs: WorkerOutputs,
+    kept: &mut SpareScratch,
 ) -> (WorkerOutputs, Option<Cause>)
-    requires own { MayDrawAt task.board.now own × (own.worker.done ≡ []) }
     requires fresh { AreFresh task.board.now task.plan.now seats.items }
-    requires room { IsRoomFor task.board.now task.plan.now (vec_len seats + 1) outputs }
-    ensures { IsWorked task.entry.board.now task.entry.plan.now (vec_len seats + 1) result.0 result.1 }
+    requires room { IsRoomFor task.board.now task.plan.now (vec_len seats) outputs }
+    ensures { IsWorked task.entry.board.now task.entry.plan.now (vec_len seats) result.0 result.1 }
 {
     let BatchContext { rt, alloc, gate } = context;
     let mut outputs = outputs;
+    let mut seats = seats;
+    let Some(own) = seats.pop() else {
+        return (outputs, None);
+    };
     let Ok(mut handles) = Vec::with_capacity(alloc, seats.len()) else {
         return (outputs, Some(Cause::Memory));
     };
@@ -147,13 +150,13 @@ fn work_beside<'s, 'a, H: Threads, G: Gate + Sync>(
         join_all(rt, task, handles, &mut outputs);
         return (outputs, Some(Cause::Thread));
     }
-    outputs.add(task, work_once(alloc, task, own, gate));
+    outputs.add(task, work_at(alloc, kept, task, own, gate));
     join_all(rt, task, handles, &mut outputs);
     (outputs, None)
 }
 
 /// A worker at each of these seats: the last on the calling thread, the others in threads of their own. Answers what they did, and
-/// what was refused, as `work_beside` does. One worker starts no thread, and works with what is kept.
+/// what was refused, as `work_beside` does. One worker starts no thread.
 pub(crate) fn work_all<H: Threads + Wait, G: Gate + Sync>(
     context: BatchContext<'_, H, G>,
     task: Task<'_>,
@@ -166,28 +169,27 @@ pub(crate) fn work_all<H: Threads + Wait, G: Gate + Sync>(
     ensures { IsWorked task.entry.board.now task.entry.plan.now (vec_len seats) result.0 result.1 }
 {
     let BatchContext { rt, alloc, gate } = context;
-    let Task { plan, board } = task;
+    if seats.len() > 1 {
+        let Task { plan, board } = task;
+        return thread::scope(
+            thread::scope_env(),
+            rt,
+            move |scope| -> (WorkerOutputs, Option<Cause>)
+                requires fresh { AreFresh board.now plan.now seats.items }
+                requires room { IsRoomFor board.now plan.now (vec_len seats) outputs }
+                ensures { IsWorked board.entry.now plan.entry.now (vec_len seats) result.0 result.1 }
+            {
+                let context = BatchContext { rt, alloc, gate };
+                let task = Task { plan, board };
+                work_beside(context, scope, task, seats, outputs, kept)
+            },
+        );
+    }
     let mut seats = seats;
     let Some(own) = seats.pop() else {
         return (outputs, None);
     };
-    if seats.is_empty() {
-        let mut outputs = outputs;
-        outputs.add(task, work_at(alloc, kept, task, own, gate));
-        return (outputs, None);
-    }
-    thread::scope(
-        thread::scope_env(),
-        rt,
-        move |scope| -> (WorkerOutputs, Option<Cause>)
-            requires own { MayDrawAt board.now own × (own.worker.done ≡ []) }
-            requires fresh { AreFresh board.now plan.now seats.items }
-            requires room { IsRoomFor board.now plan.now (vec_len seats + 1) outputs }
-            ensures { IsWorked board.entry.now plan.entry.now (vec_len seats + 1) result.0 result.1 }
-        {
-            let context = BatchContext { rt, alloc, gate };
-            let task = Task { plan, board };
-            work_beside(context, scope, task, own, seats, outputs)
-        },
-    )
+    let mut outputs = outputs;
+    outputs.add(task, work_at(alloc, kept, task, own, gate));
+    (outputs, None)
 }

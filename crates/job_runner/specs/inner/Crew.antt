@@ -5,13 +5,14 @@ use Rattle.std.specs.List.{AllByRecursion}
 use Rattle.job_plan.specs.Job.{Job}
 use Rattle.job_plan.specs.Chunks.{prices_of}
 use Rattle.race_board.specs.Race.{BoardState, SeatState, IsSeatOf, IsDrained, MayDrawAt, workers_of}
-use Rattle.race_board.specs.Chunks.{CostAtMost, CostJust, completed_by, recorded_by, times_in}
+use Rattle.race_board.specs.Chunks.{CostJust, completed_by, recorded_by, times_in}
 use Rattle.job_runner.specs.declared.answer.Cause.{Cause}
 use Rattle.job_runner.specs.declared.answer.Cause.TheVariants.{Thread}
 use Rattle.job_runner.specs.declared.worker_outputs.Ended.{Ended}
 use Rattle.job_runner.specs.declared.worker_outputs.WorkerOutputs.{WorkerOutputs}
 use Rattle.job_runner.specs.Chunk.{chunk_steps}
 use Rattle.job_runner.specs.Worked.{IsPieceOf, StandsAfter, recorded}
+use Rattle.job_runner.specs.inner.Charged.{IsCharged}
 use Rattle.job_runner.specs.inner.CompletedPieces.{AreCompletedPieces, IsFull}
 
 -- a worker of this board that has ended: its pieces are right, and are what its seat tells
@@ -21,12 +22,12 @@ pub record IsEnded (board : BoardState) (jobs : List Job) (e : Ended) : Type 0 w
   pub pieces : AllByRecursion (IsPieceOf jobs) e.worked.pieces.items
   pub stands : StandsAfter jobs e.worked.failed e.seat.worker.state
 
--- of some workers that have ended: each chunk that they completed has its piece at its place, and took just its steps; and no chunk
--- that they recorded took more
+-- of some workers that have ended: each chunk that they completed has its piece at its place, and took just its steps; and each
+-- that they recorded took those of some of its calls
 pub record AreWorkerOutputs (board : BoardState) (jobs : List Job) (g : WorkerOutputs) : Type 0 where
   pub own : All (IsSeatOf board) g.seats.items
   pub just : CostJust (chunk_steps jobs) (completed_by (workers_of g.seats.items))
-  pub cost : CostAtMost (chunk_steps jobs) (recorded_by (workers_of g.seats.items))
+  pub cost : AllByRecursion (IsCharged jobs) (recorded_by (workers_of g.seats.items))
   pub completed_pieces : AreCompletedPieces jobs g.completed_pieces.items
   pub there : (c : ℕ) → 0 < times_in c (completed_by (workers_of g.seats.items)) → IsFull g.completed_pieces.items c
   -- where none failed, all were told the end

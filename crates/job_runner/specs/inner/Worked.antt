@@ -1,7 +1,8 @@
 -- What stands beside specs/Worked.antt for this crate's own modules and proofs.
-use Rattle.std.specs.Prelude.{◌≡◌, ℕ, ◌<◌, ◌≤◌, List, [], ◌∷◌, ◌++◌, length}
+use Rattle.std.specs.Prelude.{◌≡◌, ℕ, ◌<◌, List, [], ◌∷◌, ◌++◌, length}
 use Rattle.race_board.specs.declared.worker_state.WorkerState.TheVariants.{Holds}
 use Rattle.race_board.specs.Race.{BoardState, SeatState, IsSeatOf, completed, failed}
+use Rattle.bpf_run.specs.Calls.{Charges}
 use Rattle.job_forms.specs.declared.region.Chunk.{Chunk}
 use Rattle.job_forms.specs.Region.{IsMade}
 use Rattle.job_plan.specs.Job.{Job}
@@ -42,7 +43,7 @@ pub record IsFailed (board : BoardState) (jobs : List Job) (chunk steps : ℕ) (
   pub own : IsSeatOf board new
   pub recorded : new.worker ≡ failed chunk steps old.worker
   pub kept : after ≡ before
-  pub most : steps ≤ chunk_steps jobs chunk
+  pub charged : Charges (calls_of jobs chunk) 0 steps
 
 -- a turn that ends so
 abbrev pub IsRecorded : BoardState → List Job → ℕ → ChunkEnd → (old new : SeatState) (before after : List Piece) → Type 0

@@ -2,7 +2,8 @@ use Rattle.std.proofs.Common.{◌≡◌, ◌<◌, ℕ, List, length, map, subst,
 use Rattle.std.proofs.lemmas.List.{length-map}
 use Rattle.race_board.specs.Race.{AreNumbersBelow, IsLawful, SeatState, workers_of}
 use Rattle.job_runner.specs.Whole.{IsRaced}
-use Rattle.job_runner.specs.Batch.{result_of}
+use Rattle.bpf_run.proofs.Charging.{charges-none}
+use Rattle.job_runner.specs.Batch.{all_calls, result_of}
 use Rattle.job_runner.proofs.Gathering.{gathered_spent, gathered_full}
 use Rattle.job_runner.proofs.Placing.{all_given}
 use Rattle.job_runner.proofs.Racing.{gathered_whole, one_race, whole_rows, whole_spent}
@@ -35,6 +36,12 @@ join_jobs-requires g c =
           (gathered_full board c.args.plan.now outputs c.work_all-outputs.ensures.outputs c.close.ensures.completed
           c.in_ok-board.ensures.board.0 some whole c.if-failed.false);
     }
+
+pub returns-in_err-outputs-clause-spent : goal.returns-in_err-outputs-clause-spent
+returns-in_err-outputs-clause-spent g c = charges-none (all_calls c.args.plan.now) 0
+
+pub returns-in_err-board-clause-spent : goal.returns-in_err-board-clause-spent
+returns-in_err-board-clause-spent g c = charges-none (all_calls c.args.plan.now) 0
 
 pub returns-in-Some-clause-spent : goal.returns-in-Some-clause-spent
 returns-in-Some-clause-spent g c =

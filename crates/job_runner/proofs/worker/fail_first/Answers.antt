@@ -1,6 +1,8 @@
-use Rattle.std.proofs.Common.{◌++◌, ap, sym, ◌∙◌, subst, append-nil, arith}
+use Rattle.std.proofs.Common.{◌++◌, ap, sym, ◌∙◌, subst, append-nil}
 use Rattle.std.specs.List.{AllByRecursion}
 use Rattle.race_board.specs.Race.{Worker}
+use Rattle.bpf_run.proofs.Charging.{charges-none}
+use Rattle.job_runner.specs.Chunk.{calls_of}
 use Rattle.job_runner.specs.Worked.{recorded, IsPieceOf}
 use Rattle.job_runner.proofs.Costs.{chunk_listed, chunk_there}
 use Rattle.job_runner.proofs.Working.{fail_steps}
@@ -21,6 +23,6 @@ returns g c =
           ∙ sym (append-nil c.args.seat.now.worker.done)
           ∙ ap (λ ps. c.args.seat.now.worker.done ++ recorded ps) (sym none.items);
       pieces = subst (AllByRecursion (IsPieceOf jobs)) (sym none.items) tt;
-      stands = (chunk, 0, ap (λ (w : Worker). w.state) fails, chunk_there jobs chunk listed, omega arith);
+      stands = (chunk, 0, ap (λ (w : Worker). w.state) fails, chunk_there jobs chunk listed, charges-none (calls_of jobs chunk) 0);
       spent = fail_steps c.args.seat.now.worker c.draw.new.seat.worker c.fail.new.seat.worker chunk 0 c.requires.ready.1 drew fails;
     }

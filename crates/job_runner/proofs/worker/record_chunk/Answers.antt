@@ -1,4 +1,6 @@
 use Rattle.std.proofs.Common.{◌∙◌, refl}
+use Rattle.job_runner.specs.Chunk.{calls_of}
+use Rattle.job_runner.proofs.Charged.{charged_chunk}
 use Rattle.job_runner.proofs.Costs.{chunk_there, price_there}
 use Rattle.job_runner.proofs.Joined.{steps-of-chunk, chunk_at_most}
 use Rattle.job_runner.proofs.worker.record_chunk.Goals as goal
@@ -52,5 +54,5 @@ returns-in-Err c =
       own = c.fail.ensures.own;
       recorded = c.fail.ensures.failed;
       kept = c.in-Err.ensures.kept;
-      most = chunk_at_most jobs chunk c.args.made.steps c.args.made.result made.steps made.spent;
+      charged = charged_chunk (calls_of jobs chunk) c.args.made.steps c.args.made.result made.steps made.spent;
     }

@@ -4,6 +4,7 @@ use Rattle.race_board.specs.Race.{Worker}
 use Rattle.job_runner.specs.Chunk.{chunk_steps}
 use Rattle.job_runner.specs.Worked.{recorded, IsPieceOf}
 use Rattle.job_runner.proofs.Costs.{chunk_listed, chunk_there, room_of}
+use Rattle.job_runner.proofs.Joined.{charged-chunk}
 use Rattle.job_runner.proofs.Working.{spent_room, above_next, turn_steps, fail_steps, turn_drawn, right_more}
 use Rattle.job_runner.proofs.Working.{gained_more}
 use Rattle.job_runner.proofs.worker.work_with.Goals as goal
@@ -56,7 +57,7 @@ overflow_add-result g c =
     let chunk = c.in-Some.chunk in
     let i = c.loop-chunk.invariant in
     let plan = c.recall.ensures in
-    let most = c.in-Failed.ensures.most in
+    let most = charged-chunk jobs chunk c.in-Failed.steps c.in-Failed.ensures.charged in
     let listed = chunk_listed jobs chunk c.args.task.board.now.prices c.requires.prices c.in-Some.ensures.chunk.0 in
     let below = above_next c.loop-chunk.seat.worker c.loop-chunk.for_proof_next chunk i.drawn c.in-Some.ensures.above in
     let room = room_of jobs c.loop-chunk.for_proof_next chunk c.loop-chunk.spent c.in-Failed.steps plan.cover plan.priced
@@ -79,7 +80,7 @@ returns-in-Failed g c =
       gained = ap (λ (w : Worker). w.done) fails ∙ ap (λ (w : Worker). w.done) drew ∙ i.gained
           ∙ ap (λ ps. c.args.seat.now.worker.done ++ recorded ps) (sym record_chunk.kept);
       pieces = subst (AllByRecursion (IsPieceOf jobs)) (sym record_chunk.kept) i.right;
-      stands = (chunk, steps, ap (λ (w : Worker). w.state) fails, chunk_there jobs chunk listed, record_chunk.most);
+      stands = (chunk, steps, ap (λ (w : Worker). w.state) fails, chunk_there jobs chunk listed, record_chunk.charged);
       spent =
           let s = fail_steps c.loop-chunk.seat.worker c.draw.new.seat.worker c.record_chunk.new.seat.worker chunk steps i.free drew fails in
           let t = i.sum in omega (arith, s, t);

@@ -1,9 +1,11 @@
 use Rattle.std.proofs.Common.{◌<◌, inl, inr, List, sym, subst}
 use Rattle.std.specs.Prelude.{All}
+use Rattle.std.specs.List.{AllByRecursion}
 use Rattle.race_board.specs.Race.{SeatState, IsSeatOf, IsDrained, workers_of}
-use Rattle.race_board.specs.Chunks.{CostAtMost, CostJust, completed_by, recorded_by, times_in}
+use Rattle.race_board.specs.Chunks.{CostJust, completed_by, recorded_by, times_in}
 use Rattle.race_board.proofs.Elements.{all_snoc}
 use Rattle.job_runner.specs.Chunk.{chunk_steps}
+use Rattle.job_runner.specs.inner.Charged.{IsCharged}
 use Rattle.job_runner.proofs.Gathering.{gathered_cost, gathered_just, gathered_told, completed_or, neither}
 use Rattle.job_runner.proofs.worker_outputs.WorkerOutputs.add.Goals as goal
 
@@ -20,7 +22,7 @@ returns-clause-outputs c =
       own = subst (All (IsSeatOf board)) (sym items) (all_snoc (IsSeatOf board) old ended.seat was.own is.own);
       just = subst (λ (ss : List SeatState). CostJust (chunk_steps jobs) (completed_by (workers_of ss))) (sym items)
           (gathered_just board jobs old ended is was.just);
-      cost = subst (λ (ss : List SeatState). CostAtMost (chunk_steps jobs) (recorded_by (workers_of ss))) (sym items)
+      cost = subst (λ (ss : List SeatState). AllByRecursion (IsCharged jobs) (recorded_by (workers_of ss))) (sym items)
           (gathered_cost board jobs old ended is was.cost);
       completed_pieces = c.put.ensures.completed_pieces;
       there = λ k l. elim (completed_or board jobs old ended k is
