@@ -7,8 +7,8 @@ use Rattle.std.proofs.lemmas.Bool.Decides.{nat_tests}
 use Rattle.atomic_table.proofs.Lists.{at_set, at_snoc}
 use Rattle.step_purse.specs.declared.dealings.Dealing.{Dealing}
 use Rattle.step_purse.specs.declared.views.View.{View}
-use Rattle.step_purse.specs.Histories.{total_of, Begins, Stand, times_at, once_below}
-use Rattle.step_purse.specs.inner.Rule.{AreSeen, Knows}
+use Rattle.step_purse.specs.Histories.{total_of, Begins, Stand, times_at}
+use Rattle.step_purse.specs.inner.Rule.{once_below, left_behind, AreSeen, Knows, Fits}
 
 -- the sum after a change of one
 pub sum_set : {A : Type 0} (f : A → ℕ) (xs : List A) (i : ℕ) (v w : A) → get_elem? xs i ≡ some v → total_of f (set xs i w) + f v ≡ total_of f xs + f w
@@ -67,13 +67,16 @@ begins_none history = (history, refl)
 pub knows_more : (allowance : ℕ) (history rest : List Dealing) (v : View) → Knows allowance history v → Knows allowance (history ++ rest) v
 knows_more allowance history rest v k = record {
   opened = k.opened;
+  part = k.part;
   agrees = k.agrees;
   seen = begins_more v.known.seen history rest k.seen;
   beside = begins_more v.beside history rest k.beside;
   calls = stand_more history rest v.known.calls k.calls;
   own_seen = k.own_seen;
-  fair = k.fair;
 }
+
+pub fits_more : (allowance : ℕ) (history rest : List Dealing) (v : View) → Fits allowance history v → Fits allowance (history ++ rest) v
+fits_more allowance history rest v f = ⊎_elim (λ (l : v ≡ left_behind). inl l) (λ (k : Knows allowance history v). inr (knows_more allowance history rest v k)) f
 
 -- a place at which a call stands is below the length
 get_below : (xs : List Dealing) (k : ℕ) (d : Dealing) → slice_get xs k ≡ Some d → k < length xs

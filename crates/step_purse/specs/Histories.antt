@@ -1,12 +1,12 @@
 -- What a pass knows of the one history of its purse, and what each call adds to it. This project's own.
-use Rattle.std.specs.Prelude.{◌≡◌, ◌⊎◌, ℕ, ◌+◌, ◌≤◌, ◌==◌, nat_lt, List, [], ◌∷◌, ◌++◌}
+use Rattle.std.specs.Prelude.{◌≡◌, ◌⊎◌, ℕ, ◌+◌, ◌≤◌, ◌==◌, List, [], ◌∷◌, ◌++◌}
 use Rattle.std.specs.Prelude.{length, map, Some, slice_get, if◌then◌else◌}
 use Rattle.step_purse.specs.declared.dealings.Totals.{Totals}
 use Rattle.step_purse.specs.declared.dealings.Dealing.{Dealing}
 use Rattle.step_purse.specs.declared.views.Share.{Share}
-use Rattle.step_purse.specs.declared.views.Known.{Known}
+use Rattle.step_purse.specs.declared.views.Books.{Books}
 use Rattle.step_purse.specs.Plain.{opened, after_all, IsLegal, owed_after, MayMake}
-use Rattle.step_purse.specs.Shares.{less_one, both_shares, IsWhole}
+use Rattle.step_purse.specs.Shares.{half, both_shares, IsWhole}
 
 -- the history begins with what was seen
 abbrev pub Begins : List Dealing → List Dealing → Type 0
@@ -27,32 +27,23 @@ abbrev pub times_at : ℕ → List (ℕ × Dealing) → ℕ
 times_at k calls = total_of (λ c. if c.0 == k then 1 else 0) calls
 
 -- one who has seen this much, made no call and owes nothing
-abbrev pub newcomer : List Dealing → Share → Known
+abbrev pub newcomer : List Dealing → Share → Books
 newcomer seen share = record { seen = seen; calls = []; owes = 0; share = share }
 
--- one who has given one part of the share
-abbrev pub gives_one : Known → Known
-gives_one k = record { seen = k.seen; calls = k.calls; owes = k.owes; share = less_one k.share }
+-- one who has given half of the share
+abbrev pub gives_half : Books → Books
+gives_half k = record { seen = k.seen; calls = k.calls; owes = k.owes; share = half k.share }
 
--- 1 below n, and else 0
-abbrev pub once_below : ℕ → ℕ → ℕ
-once_below k n = if nat_lt k n then 1 else 0
-
--- What was seen is a legal history from the allowance. The own calls stand in it, each once. What is owed is reserved at its
--- end, and is at most the allowance. Where the share is the whole, all calls of the history are own ones, and what is owed is
--- all that is reserved
-pub record IsSound (allowance : ℕ) (k : Known) : Type 0 where
+-- What was seen is a legal history from the allowance. The own calls stand in it, each once. What is owed is reserved at its end
+pub record IsSound (allowance : ℕ) (k : Books) : Type 0 where
   pub legal : IsLegal (opened allowance) k.seen
   pub stand : Stand k.seen k.calls
   pub once : (place : ℕ) → times_at place k.calls ≤ 1
   pub reserved : k.owes ≤ (after_all (opened allowance) k.seen).reserved
-  pub bounded : k.owes ≤ allowance
-  pub made_all : IsWhole k.share → (place : ℕ) → times_at place k.calls ≡ once_below place (length k.seen)
-  pub owes_all : IsWhole k.share → k.owes ≡ (after_all (opened allowance) k.seen).reserved
 
 -- A call: the history now seen begins with all that was seen before, and ends with the call, which is one more of the pass's
 -- own. The share stays, and where it is the whole, nothing came between
-pub record Makes (allowance : ℕ) (before : Known) (call : Dealing) (now : Known) : Type 0 where
+pub record Makes (allowance : ℕ) (before : Books) (call : Dealing) (now : Books) : Type 0 where
   pub between : List Dealing
   pub seen : now.seen ≡ (before.seen ++ between) ++ call ∷ []
   pub calls : now.calls ≡ before.calls ++ (length (before.seen ++ between), call) ∷ []
@@ -64,7 +55,7 @@ pub record Makes (allowance : ℕ) (before : Known) (call : Dealing) (now : Know
 
 -- A join: the history now seen begins with all that each had seen, and the calls, the debts and the shares of both are the
 -- pass's own. Where these are the whole, it is what one of the two had seen
-pub record Joins (allowance : ℕ) (first second now : Known) : Type 0 where
+pub record Joins (allowance : ℕ) (first second now : Books) : Type 0 where
   pub first_seen : Begins first.seen now.seen
   pub second_seen : Begins second.seen now.seen
   pub calls : now.calls ≡ first.calls ++ second.calls
@@ -74,14 +65,14 @@ pub record Joins (allowance : ℕ) (first second now : Known) : Type 0 where
   pub sound : IsSound allowance now
 
 -- These calls, in this order, led a pass from what it knew before to what it knows now
-abbrev pub Leads : ℕ → Known → List Dealing → Known → Type 0
+abbrev pub Leads : ℕ → Books → List Dealing → Books → Type 0
 Leads allowance before [] now = now ≡ before
-Leads allowance before (d ∷ ds) now = (next : Known) × Makes allowance before d next × Leads allowance next ds now
+Leads allowance before (d ∷ ds) now = (next : Books) × Makes allowance before d next × Leads allowance next ds now
 
 -- the totals as the pass last saw them
-abbrev pub totals_seen : ℕ → Known → Totals
+abbrev pub totals_seen : ℕ → Books → Totals
 totals_seen allowance k = after_all (opened allowance) k.seen
 
 -- the pass's own calls, without their places
-abbrev pub own_calls : Known → List Dealing
+abbrev pub own_calls : Books → List Dealing
 own_calls k = map (λ (c : ℕ × Dealing). c.1) k.calls

@@ -2,7 +2,7 @@
 use Rattle.std.specs.Prelude.{◌≡◌, ℕ}
 use Rattle.atomic_table.specs.Seated.{TableId}
 use Rattle.step_purse.specs.declared.dealings.Dealing.{Dealing}
-use Rattle.step_purse.specs.declared.views.Known.{Known}
+use Rattle.step_purse.specs.declared.views.Books.{Books}
 use Rattle.step_purse.specs.Histories.{Makes}
 
 -- A purse: its name, which no other purse has, and what it was opened with
@@ -14,7 +14,7 @@ pub record PurseState : Type 0 where
 pub record PassState : Type 0 where
   pub purse : TableId
   pub allowance : ℕ
-  pub known : Known
+  pub known : Books
 
 -- the pass is one of this purse
 abbrev pub IsPassOf : PurseState → PassState → Type 0

@@ -4,7 +4,7 @@
 ghost use Rattle.std.specs.Prelude.{◌≡◌, ◌+◌, ◌^◌, ◌≤◌, [], nat_le, slice_index, true, MatchBool, IfOk};
 ghost use Rattle.crossbeam_utils.specs.Seq.{cell_view};
 ghost use Rattle.step_purse.specs.Plain.{total, IsReplyTo, PlainlyLeads, MayMake};
-ghost use Rattle.step_purse.specs.Shares.{whole, one_part, less_one, has_part, IsWhole};
+ghost use Rattle.step_purse.specs.Shares.{whole, half, IsWhole};
 ghost use Rattle.step_purse.specs.Histories.{Makes};
 ghost use Rattle.step_purse.specs.Rule.{blank, idle};
 ghost use Rattle.step_purse.specs.inner.Rule.{AddsUp, SeesBoth, giving, joined, words_of, totals_in, withheld};
@@ -186,28 +186,26 @@ impl Account {
             .is_ok()
     }
 
-    /// A new seat that has seen the same, with one part of the share.
+    /// A new seat that has seen the same, with half of the share.
     pub fn tell(&self, seat: &mut Seat) -> Seat
-        requires seat { IsSeatOf self.now seat.old }
-        requires part { has_part (less_one (cell_view seat.old).known.share) ≡ true }
+        requires { IsSeatOf self.now seat.old }
         ensures own { IsSeatOf self.now seat.new × IsSeatOf self.now result }
-        ensures views { (cell_view seat.new ≡ giving (cell_view seat.old)) ×
-            (cell_view result ≡ idle self.now.allowance (cell_view seat.old).known.seen one_part) }
+        ensures views { (let v = cell_view seat.old in (cell_view seat.new ≡ giving v) ×
+            (cell_view result ≡ idle self.now.allowance v.known.seen (half v.known.share))) }
     {
         self.cell.split_pass::<Tells>(seat)
     }
 
     /// One seat of two, which has looked.
-    pub fn gather<S: Allowed, R: Wait>(&self, rt: &R, first: Seat, second: Seat) -> Seat
-        requires pick { S.allowance ≡ self.now.allowance }
-        requires seats { IsSeatOf self.now first × IsSeatOf self.now second }
+    pub fn gather<R: Wait>(&self, rt: &R, first: Seat, second: Seat) -> Seat
+        requires { IsSeatOf self.now first × IsSeatOf self.now second }
         ensures own { IsSeatOf self.now result }
         ensures learned { SeesBoth (joined (cell_view first) (cell_view second)) (cell_view result) }
     {
         let mut first = first;
         let mut second = second;
         let moved = self.cell.split_pass::<Moves>(&mut second);
-        self.cell.join_pass::<Both<S>>(&mut first, moved);
+        self.cell.join_pass::<Both>(&mut first, moved);
         self.cell.load_as::<Learns, R>(rt, &mut first);
         first
     }

@@ -23,4 +23,4 @@ mod views;
 pub use dealings::{Dealing, Reply, Totals};
 pub use plain::{GREATEST_ALLOWANCE, PlainPurse};
 pub use purse::{Pass, Purse};
-pub use views::{Known, Share};
+pub use views::{Books, Share};

@@ -1,7 +1,7 @@
 //! The purse that threads share, and its passes.
-ghost use Rattle.std.specs.Prelude.{◌≡◌, ◌≤◌, ◌^◌, [], true, IfOk};
-ghost use Rattle.step_purse.specs.Shares.{whole, one_part, less_one, has_part, IsWhole};
-ghost use Rattle.step_purse.specs.Histories.{newcomer, gives_one, Joins};
+ghost use Rattle.std.specs.Prelude.{◌≡◌, ◌≤◌, ◌^◌, [], IfOk};
+ghost use Rattle.step_purse.specs.Shares.{whole, half, IsWhole};
+ghost use Rattle.step_purse.specs.Histories.{newcomer, gives_half, Joins};
 ghost use Rattle.step_purse.specs.Plain.{total, IsReplyTo};
 ghost use Rattle.step_purse.specs.Passes.{IsPassOf, Calls};
 ghost use Rattle.step_purse.specs.declared.dealings.Dealing.TheVariants.{Reserved, Settled, Told};
@@ -10,7 +10,7 @@ use crate::account::Account;
 use crate::dealings::{Reply, Totals};
 use crate::rule::Seat;
 use std::alloc::{AllocError, Global};
-use std::marker::{Brand, Model};
+use std::marker::Model;
 use std::sync::Wait;
 
 /// A right to call one purse, for one caller at a time. Contracts see it as a `PassState` of `specs/Passes.antt`: it knows
@@ -74,13 +74,13 @@ impl Purse {
         Ok((Purse { account }, Pass { seat, owed: 0 }))
     }
 
-    /// Two passes of one, which gives one part of its share. The first keeps its calls and what it owes. The second has
-    /// seen the same, made no call and owes nothing. It takes `rt` as all steps of a purse do, and never tries twice.
+    /// Two passes of one, each with half of its share. The first keeps its calls and what it owes. The second has seen the
+    /// same, made no call and owes nothing. It takes `rt` as all steps of a purse do, and never tries twice.
     pub fn split<R: Wait>(&self, _rt: &R, pass: Pass) -> (Pass, Pass)
-        requires own { IsPassOf self.now pass }
-        requires part { has_part (less_one pass.known.share) ≡ true }
+        requires { IsPassOf self.now pass }
         ensures own { IsPassOf self.now result.0 × IsPassOf self.now result.1 }
-        ensures known { (result.0.known ≡ gives_one pass.known) × (result.1.known ≡ newcomer pass.known.seen one_part) }
+        ensures first { result.0.known ≡ gives_half pass.known }
+        ensures second { result.1.known ≡ newcomer pass.known.seen (half pass.known.share) }
     {
         let Pass { mut seat, owed } = pass;
         let given = self.account.tell(&mut seat);
@@ -106,7 +106,7 @@ impl Purse {
             seat: other,
             owed: more,
         } = second;
-        let seat = self.account.gather::<Brand, R>(rt, seat, other);
+        let seat = self.account.gather(rt, seat, other);
         Pass {
             seat,
             owed: owed + more,

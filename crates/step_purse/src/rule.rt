@@ -1,8 +1,8 @@
 //! The cell of a purse, its rule, and what each kind of step tells.
 ghost use Rattle.std.specs.Prelude.{[]};
-ghost use Rattle.step_purse.specs.Shares.{whole, one_part};
+ghost use Rattle.step_purse.specs.Shares.{whole, half};
 ghost use Rattle.step_purse.specs.Rule.{blank, idle};
-ghost use Rattle.step_purse.specs.inner.Rule.{Kept, spent, giving, asked, exchanged, counted, peeked, learned, joined};
+ghost use Rattle.step_purse.specs.inner.Rule.{Kept, left_behind, giving, asked, exchanged, counted, peeked, learned, joined};
 
 use crate::views::View;
 use atomic_table::{Join, Split};
@@ -25,7 +25,7 @@ pub type PurseCell = seq_cell::RuledSeqCell<[u64; 3], View, OneHistory, 3>;
 /// A right to take steps at a cell.
 pub type Seat = seq_cell::Pass<[u64; 3], View>;
 
-/// What the purse was opened with. Its first step and a join pick this, since a step can't look into the cell.
+/// What the purse was opened with. Its first step picks this, since a step can't look into the cell.
 pub trait Allowed {
     ghost use Rattle.std.specs.Prelude.{ℕ};
 
@@ -105,34 +105,34 @@ impl Outcome<[u64; 3], View> for Learns {
 pub struct Opens<S: Allowed>(PhantomData<S>);
 
 impl<S: Allowed> Split<View> for Opens<S> {
-    ghost left = { λ v. spent S.allowance };
+    ghost left = { λ v. left_behind };
 
     ghost right = { λ v. idle S.allowance [] whole };
 }
 
-/// Split: a new pass has seen the same, and has one part of the share.
+/// Split: a new pass has seen the same, and has half of the share.
 pub struct Tells;
 
 impl Split<View> for Tells {
     ghost left = { giving };
 
-    ghost right = { λ v. idle v.allowance v.known.seen one_part };
+    ghost right = { λ v. idle v.allowance v.known.seen (half v.known.share) };
 }
 
 /// The start of Join: all of a view goes to a new pass, which has not stepped yet.
 pub struct Moves;
 
 impl Split<View> for Moves {
-    ghost left = { λ v. spent v.allowance };
+    ghost left = { λ v. left_behind };
 
     ghost right = { λ v. v };
 }
 
 /// Join: one pass has the calls of both, and the other is left with nothing.
-pub struct Both<S: Allowed>(PhantomData<S>);
+pub struct Both;
 
-impl<S: Allowed> Join<View> for Both<S> {
+impl Join<View> for Both {
     ghost both = { joined };
 
-    ghost spent = { spent S.allowance };
+    ghost spent = { left_behind };
 }

@@ -2,16 +2,14 @@
 use crate::dealings::Dealing;
 use std::collections::LinkedList;
 
-/// A pass's share in its purse. It is some wholes, of which there is one, and the parts that the pass got, less those that
-/// it gave. A whole is more than any number of parts.
+/// A pass's share in its purse: some parts, each of them the whole halved so many times.
 pub struct Share {
-    pub wholes: u64,
-    pub got: u64,
-    pub gave: u64,
+    pub parts: u64,
+    pub halvings: u64,
 }
 
 /// What a pass knows of the one history of its purse.
-pub struct Known {
+pub struct Books {
     /// The history as the pass last saw it.
     pub seen: LinkedList<Dealing>,
     /// The calls that were made by this pass, each with its place in the history.
@@ -28,7 +26,7 @@ pub struct View {
     pub opened: bool,
     /// What the purse was opened with.
     pub allowance: u64,
-    pub known: Known,
+    pub known: Books,
     /// What another pass had seen that was joined to this one, until a look at the cell shows both.
     pub beside: LinkedList<Dealing>,
 }

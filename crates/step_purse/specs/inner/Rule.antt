@@ -1,8 +1,8 @@
 -- The rule that a purse's cell is kept by: what its three words say, what each pass knows, and the seven kinds of step. This
 -- project's own. The words are what is left, reserved and spent. The first counts what the purse withholds too: the greatest
 -- allowance less its own. So the three add up to 2^62 in every purse, and every cell begins with the same words.
-use Rattle.std.specs.Prelude.{◌≡◌, ◌⊎◌, ℕ, ◌+◌, ◌-◌, ◌^◌, ◌≤◌, ◌<◌, nat_le, nat_eq}
-use Rattle.std.specs.Prelude.{List, [], ◌∷◌, ◌++◌, length, slice_index, MatchBool, true, false}
+use Rattle.std.specs.Prelude.{◌≡◌, ◌⊎◌, ℕ, ◌+◌, ◌-◌, ◌*◌, ◌^◌, ◌≤◌, ◌<◌, nat_lt, nat_le, nat_eq, if◌then◌else◌}
+use Rattle.std.specs.Prelude.{List, [], ◌∷◌, ◌++◌, length, slice_index, MatchBool, true}
 use mathlib.Core.Option.{some}
 use lib.ListN.{get_elem?}
 use lib.Pointwise.{pointwise}
@@ -10,11 +10,10 @@ use Rattle.step_purse.specs.declared.dealings.Totals.{Totals}
 use Rattle.step_purse.specs.declared.dealings.Reply.TheVariants.{NotEnough}
 use Rattle.step_purse.specs.declared.dealings.Dealing.{Dealing}
 use Rattle.step_purse.specs.declared.dealings.Dealing.TheVariants.{Reserved, Told}
-use Rattle.step_purse.specs.declared.views.Known.{Known}
 use Rattle.step_purse.specs.declared.views.View.{View}
 use Rattle.step_purse.specs.Plain.{opened, total, after_all, IsLegal}
-use Rattle.step_purse.specs.Shares.{no_share, both_shares, has_part, IsWhole}
-use Rattle.step_purse.specs.Histories.{Begins, Stand, total_of, times_at, once_below, gives_one, IsSound, Makes}
+use Rattle.step_purse.specs.Shares.{no_share, both_shares, IsWhole}
+use Rattle.step_purse.specs.Histories.{Begins, Stand, total_of, times_at, gives_half, IsSound, Makes}
 use Rattle.step_purse.specs.Rule.{blank, idle}
 
 -- what a purse of this allowance never gives out
@@ -33,28 +32,45 @@ pub record AddsUp (allowance : ℕ) (words : List ℕ) : Type 0 where
   pub held : withheld allowance ≤ slice_index words 0
   pub total : total (totals_in allowance words) ≡ allowance
 
+-- 1 below n, and else 0
+abbrev pub once_below : ℕ → ℕ → ℕ
+once_below k n = if nat_lt k n then 1 else 0
+
 -- each of these calls stands in one of two beginnings of the history
 abbrev pub AreSeen : List Dealing → List Dealing → List (ℕ × Dealing) → Type 0
 AreSeen seen beside [] = Unit {0}
 AreSeen seen beside (c ∷ cs) = ((c.0 < length seen) ⊎ (c.0 < length beside)) × AreSeen seen beside cs
 
--- a share is no less than nothing, and who has none has made no call and owes nothing
-pub record IsFair (k : Known) : Type 0 where
-  pub least : k.share.wholes ≡ 0 → k.share.gave ≤ k.share.got
-  pub none : has_part k.share ≡ false → (k.calls ≡ []) × (k.owes ≡ 0)
+-- the one view that a pass leaves when it is joined to another: it has made no call, owes nothing and has no share
+abbrev pub left_behind : View
+left_behind = idle 0 [] no_share
 
 -- what a pass knows is true of the history
 pub record Knows (allowance : ℕ) (history : List Dealing) (v : View) : Type 0 where
   pub opened : v.opened ≡ true
+  pub part : 0 < v.known.share.parts
   pub agrees : v.allowance ≡ allowance
   pub seen : Begins v.known.seen history
   pub beside : Begins v.beside history
   pub calls : Stand history v.known.calls
   pub own_seen : AreSeen v.known.seen v.beside v.known.calls
-  pub fair : IsFair v.known
+
+-- the view is the one that joined passes leave, or what it knows is true
+abbrev pub Fits : ℕ → List Dealing → View → Type 0
+Fits allowance history v = (v ≡ left_behind) ⊎ Knows allowance history v
+
+-- how many parts a view has, each of them the whole halved so many times
+abbrev pub parts_of : ℕ → View → ℕ
+parts_of halvings v = v.known.share.parts * 2 ^ (halvings - v.known.share.halvings)
+
+-- the shares of all views are the whole: of parts that divide each share
+pub record AreWhole (views : List View) : Type 0 where
+  pub halvings : ℕ
+  pub divides : (id : ℕ) (v : View) → get_elem? views id ≡ some v → v.known.share.halvings ≤ halvings
+  pub one : total_of (parts_of halvings) views ≡ 2 ^ halvings
 
 -- A legal history from the allowance leads to the words. Each of its calls is one pass's own, and what the passes owe is what is
--- reserved. Their shares are one whole
+-- reserved. Their shares are the whole. Each view knows what is true, but the one that joined passes leave
 pub record IsOpened (allowance : ℕ) (words : List ℕ) (views : List View) : Type 0 where
   pub history : List Dealing
   pub small : allowance ≤ 2 ^ 62
@@ -62,13 +78,8 @@ pub record IsOpened (allowance : ℕ) (words : List ℕ) (views : List View) : T
   pub now : words ≡ words_of allowance (after_all (opened allowance) history)
   pub once : (place : ℕ) → total_of (λ (v : View). times_at place v.known.calls) views ≡ once_below place (length history)
   pub owed : total_of (λ (v : View). v.known.owes) views ≡ (after_all (opened allowance) history).reserved
-  pub one : total_of (λ (v : View). v.known.share.wholes) views ≡ 1
-  pub parts : total_of (λ (v : View). v.known.share.got) views ≡ total_of (λ (v : View). v.known.share.gave) views
-  pub knows : (id : ℕ) (v : View) → get_elem? views id ≡ some v → Knows allowance history v
-
--- a view of which nothing is left
-abbrev pub spent : ℕ → View
-spent allowance = idle allowance [] no_share
+  pub shares : AreWhole views
+  pub knows : (id : ℕ) (v : View) → get_elem? views id ≡ some v → Fits allowance history v
 
 abbrev pub IsUnopened : List ℕ → List View → Type 0
 IsUnopened words views = (words ≡ 2 ^ 62 ∷ 0 ∷ 0 ∷ []) × (views ≡ blank ∷ [])
@@ -94,9 +105,11 @@ abbrev pub exchanged : List ℕ → Dealing → View → List ℕ → List ℕ �
 exchanged expected call v x y w =
     SameBut v w × MatchBool (pointwise nat_eq x expected) (Makes v.allowance v.known call w.known) (w.known ≡ v.known)
 
--- Read: a load is a call of `totals`
+-- Read: a load is a call of `totals`. Where the pass has the whole share, it owes what is reserved
 abbrev pub counted : View → List ℕ → List ℕ → View → Type 0
-counted v x y w = AddsUp v.allowance x × SameBut v w × Makes v.allowance v.known (Told (totals_in v.allowance x)) w.known
+counted v x y w =
+    AddsUp v.allowance x × SameBut v w × Makes v.allowance v.known (Told (totals_in v.allowance x)) w.known
+    × (IsWhole v.known.share → slice_index x 1 ≡ v.known.owes)
 
 -- Look: a load before a try of `settle`
 abbrev pub peeked : View → List ℕ → List ℕ → View → Type 0
@@ -118,9 +131,9 @@ pub record SeesBoth (v w : View) : Type 0 where
 abbrev pub learned : View → List ℕ → List ℕ → View → Type 0
 learned v x y w = SeesBoth v w
 
--- a view that gave one part of its share
+-- a view that gave half of its share
 abbrev pub giving : View → View
-giving v = record { opened = v.opened; allowance = v.allowance; known = gives_one v.known; beside = v.beside }
+giving v = record { opened = v.opened; allowance = v.allowance; known = gives_half v.known; beside = v.beside }
 
 -- two views made one
 abbrev pub joined : View → View → View
