@@ -14,7 +14,7 @@ use Rattle.bpf_insn.proofs.Slots.{begins_first}
 use Rattle.bpf_verify.specs.declared.tag.Tag.{Tag}
 use Rattle.bpf_verify.specs.declared.tag.Tag.TheVariants.{Unset, Number, Place, Mixed}
 use Rattle.bpf_verify.specs.declared.facts.Facts.{Facts}
-use Rattle.bpf_verify.specs.Tags.{Known, tag, after}
+use Rattle.bpf_verify.specs.Tags.{Types, tag, after}
 use Rattle.bpf_verify.specs.Table.{known_at}
 use Rattle.bpf_verify.specs.Slots.{HasNoSlotFault}
 use Rattle.bpf_verify.specs.Paths.{IsIn, targets, IsPath, IsKnown, IsWay, TellsTag, TellsByte, Tells}
@@ -34,7 +34,7 @@ use Rattle.bpf_verify.proofs.Sound.{NeverBreaks, way_of, tags_long, begins_some,
 
 -- each path has something known along it
 known_along : (insns : List Insn) (entry : List Tag) (path : List ℕ) (slot : ℕ) → NeverBreaks insns entry
-    → IsPath insns path slot → (k : Known) × IsKnown insns entry path k
+    → IsPath insns path slot → (k : Types) × IsKnown insns entry path k
 known_along insns entry [] slot never h = (record { tags = entry; stored = λ byte. false }, refl)
 known_along insns entry (from ∷ path) slot never (h, m) =
     let w = known_along insns entry path from never h in
@@ -45,7 +45,7 @@ leads_to_insn : (insns : List Insn) (path : List ℕ) (slot : ℕ) → IsClean i
 leads_to_insn insns [] slot clean some h = ap (begins insns) h ∙ begins_first insns some
 leads_to_insn insns (from ∷ path) slot clean some h = (target_of insns from slot clean h.1).1
 
-typing_is : (insns : List Insn) (entry : List Tag) (slot : ℕ) (o : Option Known) → IsClean insns → 1 ≤ slot_count insns
+typing_is : (insns : List Insn) (entry : List Tag) (slot : ℕ) (o : Option Types) → IsClean insns → 1 ≤ slot_count insns
     → NeverBreaks insns entry → TellsSlot o (IsWay insns entry slot) → IsTyping insns entry slot o
 typing_is insns entry slot None clean some never h =
     λ path l. let w = known_along insns entry path slot never l in h w.0 (record { path = path; leads = l; known = w.1 })
@@ -62,12 +62,12 @@ tells_agrees Number t P c h p g = subst (λ u. Agrees u c) (h.1 t p) g
 tells_agrees (Place o) t P c h p g = subst (λ u. Agrees u c) (h.1 t p) g
 tells_agrees Mixed t P c h p g = set_of t c g (λ e. h.0 (subst P e p))
 
-byte_holds : (b : Bool) (W : Known → Type 0) (byte : ℕ) (w : Known) → TellsByte b (Marks W byte) → W w → b ≡ true
+byte_holds : (b : Bool) (W : Types → Type 0) (byte : ℕ) (w : Types) → TellsByte b (Marks W byte) → W w → b ≡ true
     → w.stored byte ≡ true
 byte_holds true W byte w h v e = h.1 (w.stored byte) (w, v, refl)
 byte_holds false W byte w h v e = absurd (cc)
 
-holds_of_all : (W : Known → Type 0) (k w : Known) (f : Frame) → Tells k W → W w → HoldsOf w f → HoldsOf k f
+holds_of_all : (W : Types → Type 0) (k w : Types) (f : Frame) → Tells k W → W w → HoldsOf w f → HoldsOf k f
 holds_of_all W k w f h v a = record {
   registers = λ r. tells_agrees (tag k.tags r) (tag w.tags r) (Leaves W r) (content f.registers r) (h.each r) (w, v, refl) (a.registers r);
   bytes = λ byte s. a.bytes byte (byte_holds (k.stored byte) W byte w (h.bytes byte) v s);
@@ -75,8 +75,8 @@ holds_of_all W k w f h v a = record {
   whole = a.whole;
 }
 
-holds_at : (W : Known → Type 0) (w : Known) (f : Frame) (o : Option Known) → TellsSlot o W → W w → HoldsOf w f
-    → (k : Known) × (o ≡ Some k) × HoldsOf k f
+holds_at : (W : Types → Type 0) (w : Types) (f : Frame) (o : Option Types) → TellsSlot o W → W w → HoldsOf w f
+    → (k : Types) × (o ≡ Some k) × HoldsOf k f
 holds_at W w f None h v a = absurd (h w v)
 holds_at W w f (Some k) h v a = (k, refl, holds_of_all W k w f h v a)
 
@@ -104,7 +104,7 @@ covered_byte true b P Q h l f e = refl
 covered_byte false true P Q h l f e = l.1 false (f false h)
 covered_byte false false P Q h l f e = e
 
-covered : (W V : Known → Type 0) (k there : Known) → Tells k W → Tells there V → ((w : Known) → W w → V w)
+covered : (W V : Types → Type 0) (k there : Types) → Tells k W → Tells there V → ((w : Types) → W w → V w)
     → IsCovered k there
 covered W V k there h l f = record {
   tags = λ r c g. covered_tag (tag k.tags r) (tag there.tags r) (Leaves W r) (Leaves V r) (h.each r) (l.each r) (λ t x. (x.0, f x.0 x.1, x.2)) c g;
@@ -113,7 +113,7 @@ covered W V k there h l f = record {
 
 -- a way, one instruction on
 way_on : (insns : List Insn) (entry : List Tag) (slot to : ℕ) (i : Insn) → NeverBreaks insns entry
-    → insn_at insns slot ≡ Some i → IsIn (pos to) (targets slot i) → (w : Known) → After i (IsWay insns entry slot) w
+    → insn_at insns slot ≡ Some i → IsIn (pos to) (targets slot i) → (w : Types) → After i (IsWay insns entry slot) w
     → IsWay insns entry to w
 way_on insns entry slot to i never at target w (old, y, same) = record {
   path = slot ∷ y.path;
@@ -121,18 +121,18 @@ way_on insns entry slot to i never at target w (old, y, same) = record {
   known = (old, y.known, record { insn = i; here = at; unbroken = never slot i old at y; same = same });
 }
 
-covered_at : (W V : Known → Type 0) (k : Known) (o : Option Known) → Tells k W → TellsSlot o V
-    → ((w : Known) → W w → V w) → (there : Known) × (o ≡ Some there) × IsCovered k there
+covered_at : (W V : Types → Type 0) (k : Types) (o : Option Types) → Tells k W → TellsSlot o V
+    → ((w : Types) → W w → V w) → (there : Types) × (o ≡ Some there) × IsCovered k there
 covered_at W V k None h l f = absurd (l h.some.0 (f h.some.0 h.some.1))
 covered_at W V k (Some there) h l f = (there, refl, covered W V k there h l f)
 
 -- ---- accepted
 
-long_ways : (insns : List Insn) (kind : Kind) (slot : ℕ) (w : Known) → IsWay insns (entry_tags kind) slot w
+long_ways : (insns : List Insn) (kind : Kind) (slot : ℕ) (w : Types) → IsWay insns (entry_tags kind) slot w
     → length w.tags ≡ 11
 long_ways insns kind slot w y = eleven_on insns (entry_tags kind) y.path w (tags_long kind) y.known
 
-told_at : (insns : List Insn) (entry : List Tag) (table : List (Option Facts)) (slot : ℕ) (k : Known)
+told_at : (insns : List Insn) (entry : List Tag) (table : List (Option Facts)) (slot : ℕ) (k : Types)
     → IsExact insns entry table → known_at table slot ≡ Some k → Tells k (IsWay insns entry slot)
 told_at insns entry table slot k x e = subst (λ o. TellsSlot o (IsWay insns entry slot)) e (x.tells slot)
 

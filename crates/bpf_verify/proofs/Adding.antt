@@ -3,7 +3,7 @@ use Rattle.std.proofs.Common.{◌≡◌, ℕ, List, [], ◌∷◌, sym, ◌∙�
 use Rattle.std.specs.Prelude.{Option, ℤ, pos}
 use Rattle.std.proofs.lemmas.Bool.{cases_eq}
 use Rattle.bpf_verify.specs.declared.facts.Facts.{Facts}
-use Rattle.bpf_verify.specs.Tags.{Known}
+use Rattle.bpf_verify.specs.Tags.{Types}
 use Rattle.bpf_verify.specs.Paths.{IsIn, Tells}
 use Rattle.bpf_verify.specs.Table.{known_at}
 use Rattle.bpf_verify.specs.inner.Pass.{IsMerged, Adds, AddsAll, TellsSlot}
@@ -12,7 +12,7 @@ use Rattle.bpf_verify.proofs.Telling.{all_same, slot_same, merged_slot}
 same_place : (m n : ℕ) → pos m ≡ pos n → m ≡ n
 same_place m n e = cc
 
-adds_one : (F : ℕ → Known → Type 0) (V : Known → Type 0) (to : ℤ) (k : Known) (old new : List (Option Facts))
+adds_one : (F : ℕ → Types → Type 0) (V : Types → Type 0) (to : ℤ) (k : Types) (old new : List (Option Facts))
     → ((n : ℕ) → TellsSlot (known_at old n) (F n)) → Tells k V → Adds to k old new → (n : ℕ)
     → TellsSlot (known_at new n) (λ w. F n w ⊎ ((pos n ≡ to) × V w))
 adds_one F V to k old new h v a n = elim (cases_eq n a.place) [
@@ -30,7 +30,7 @@ adds_one F V to k old new h v a n = elim (cases_eq n a.place) [
       (known_at old n) (h n))
 ]
 
-pub adds_all : (tos : List ℤ) (F : ℕ → Known → Type 0) (V : Known → Type 0) (k : Known) (old new : List (Option Facts))
+pub adds_all : (tos : List ℤ) (F : ℕ → Types → Type 0) (V : Types → Type 0) (k : Types) (old new : List (Option Facts))
     → ((n : ℕ) → TellsSlot (known_at old n) (F n)) → Tells k V → AddsAll tos k old new → (n : ℕ)
     → TellsSlot (known_at new n) (λ w. F n w ⊎ (IsIn (pos n) tos × V w))
 adds_all [] F V k old new h v a n =

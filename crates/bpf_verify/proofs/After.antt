@@ -17,7 +17,7 @@ use Rattle.bpf_insn.specs.Reads.{written_reg, all_reads, number_reads, content_r
 use Rattle.bpf_insn.specs.Reads.{byte_count, signed_byte_count}
 use Rattle.bpf_verify.specs.declared.tag.Tag.{Tag}
 use Rattle.bpf_verify.specs.declared.tag.Tag.TheVariants.{Unset, Number, Place, Mixed}
-use Rattle.bpf_verify.specs.Tags.{Known, tag, is_unset_tag, is_mixed_tag, breaks, moved_tag, written_tag, new_tags, bytes_of}
+use Rattle.bpf_verify.specs.Tags.{Types, tag, is_unset_tag, is_mixed_tag, breaks, moved_tag, written_tag, new_tags, bytes_of}
 use Rattle.bpf_verify.specs.Tags.{bytes_from, first_byte, stores, after}
 use Rattle.bpf_verify.specs.Paths.{IsIn, TellsTag, TellsByte, Tells}
 use Rattle.bpf_verify.specs.inner.Pass.{IsAfter}
@@ -70,11 +70,11 @@ place_read r i h = in_right r (number_reads i) (content_reads i ++ place_reads i
 
 -- ---- the same tags where the instruction reads
 
-abbrev pub SameReads : Known → Known → Insn → Type 0
+abbrev pub SameReads : Types → Types → Insn → Type 0
 SameReads w k i = (r : Reg) → IsIn r (all_reads i) → tag w.tags r ≡ tag k.tags r
 
 -- nothing that is read is unset or mixed
-pub record IsSettled (k : Known) (i : Insn) : Type 0 where
+pub record IsSettled (k : Types) (i : Insn) : Type 0 where
   pub set : breaks k i UnsetRead ≡ false
   pub one : breaks k i MixedRead ≡ false
 
@@ -85,22 +85,22 @@ settled_tag (Place o) P e f h t p = h.1 t p
 settled_tag Unset P e f h t p = absurd (cc)
 settled_tag Mixed P e f h t p = absurd (cc)
 
-pub same_reads : (W : Known → Type 0) (k w : Known) (i : Insn) → IsSettled k i → Tells k W → W w → SameReads w k i
+pub same_reads : (W : Types → Type 0) (k w : Types) (i : Insn) → IsSettled k i → Tells k W → W w → SameReads w k i
 same_reads W k w i s h v = λ r read. settled_tag (tag k.tags r) (Leaves W r) (none_in (λ q. is_unset_tag (tag k.tags q)) r (all_reads i) s.set read) (none_in (λ q. is_mixed_tag (tag k.tags q)) r (all_reads i) s.one read) (h.each r) (tag w.tags r) (w, v, refl)
 
 -- the bytes of loads and stores are the same
-pub same_loads : (w k : Known) (i : Insn) → SameReads w k i
+pub same_loads : (w k : Types) (i : Insn) → SameReads w k i
     → bytes_of w.tags (load_access i) ≡ bytes_of k.tags (load_access i)
 same_loads w k (Ldx z d b off) s = ap (λ t. bytes_from (first_byte t off) (byte_count z)) (s b (inl refl))
 same_loads w k (Ldsx z d b off) s = ap (λ t. bytes_from (first_byte t off) (signed_byte_count z)) (s b (inl refl))
 same_loads w k _ s = refl
 
-same_stored : (w k : Known) (i : Insn) → SameReads w k i → bytes_of w.tags (store_access i) ≡ bytes_of k.tags (store_access i)
+same_stored : (w k : Types) (i : Insn) → SameReads w k i → bytes_of w.tags (store_access i) ≡ bytes_of k.tags (store_access i)
 same_stored w k (Stx z b off q) s = ap (λ t. bytes_from (first_byte t off) (byte_count z)) (s b (inr (inl refl)))
 same_stored w k (St z b off n) s = ap (λ t. bytes_from (first_byte t off) (byte_count z)) (s b (inl refl))
 same_stored w k _ s = refl
 
-pub same_stores : (w k : Known) (i : Insn) (byte : ℕ) → SameReads w k i → stores w.tags i byte ≡ stores k.tags i byte
+pub same_stores : (w k : Types) (i : Insn) (byte : ℕ) → SameReads w k i → stores w.tags i byte ≡ stores k.tags i byte
 same_stores w k i byte s = ap (list_any (nat_eq byte)) (same_stored w k i s)
 
 -- ---- registers
@@ -128,33 +128,33 @@ pub length_new : (ts : List Tag) (o : Option Reg) (t : Tag) → length (new_tags
 length_new ts None t = refl
 length_new ts (Some d) t = length-set ts (number_of_reg d) t
 
-moved_tells : (W : Known → Type 0) (d : Reg) (n : ℤ) (a : Tag) → is_unset_tag a ≡ false → is_mixed_tag a ≡ false
-    → TellsTag a (Leaves W d) → TellsTag (moved_tag a n) (λ t. (w : Known) × W w × (moved_tag (tag w.tags d) n ≡ t))
+moved_tells : (W : Types → Type 0) (d : Reg) (n : ℤ) (a : Tag) → is_unset_tag a ≡ false → is_mixed_tag a ≡ false
+    → TellsTag a (Leaves W d) → TellsTag (moved_tag a n) (λ t. (w : Types) × W w × (moved_tag (tag w.tags d) n ≡ t))
 moved_tells W d n Number e f h = ((h.0.0, h.0.1, ap (λ s. moved_tag s n) h.0.2), λ t x. sym x.2 ∙ ap (λ s. moved_tag s n) (h.1 (tag x.0.tags d) (x.0, x.1, refl)))
 moved_tells W d n (Place o) e f h = ((h.0.0, h.0.1, ap (λ s. moved_tag s n) h.0.2), λ t x. sym x.2 ∙ ap (λ s. moved_tag s n) (h.1 (tag x.0.tags d) (x.0, x.1, refl)))
 moved_tells W d n Unset e f h = absurd (cc)
 moved_tells W d n Mixed e f h = absurd (cc)
 
 -- the tag of what is written
-written_tells : (i : Insn) (k : Known) (W : Known → Type 0) → Tells k W → IsSettled k i
-    → TellsTag (written_tag k.tags i) (λ t. (w : Known) × W w × (written_tag w.tags i ≡ t))
+written_tells : (i : Insn) (k : Types) (W : Types → Type 0) → Tells k W → IsSettled k i
+    → TellsTag (written_tag k.tags i) (λ t. (w : Types) × W w × (written_tag w.tags i ≡ t))
 written_tells (Alu W64 Add d (Imm n)) k W h s = moved_tells W d n (tag k.tags d) (none_in (λ q. is_unset_tag (tag k.tags q)) d (d ∷ []) s.set (inl refl)) (none_in (λ q. is_mixed_tag (tag k.tags q)) d (d ∷ []) s.one (inl refl)) (h.each d)
 written_tells (Alu W64 Mov d (Register q)) k W h s = h.each q
 written_tells _ k W h s = ((h.some.0, h.some.1, refl), λ t x. sym x.2)
 
 -- the tag of a register, after a write of f's tag
-new_tells : (o : Option Reg) (f : List Tag → Tag) (k : Known) (W : Known → Type 0) (r : Reg) → Tells k W
-    → ((w : Known) → W w → length w.tags ≡ 11) → TellsTag (f k.tags) (λ t. (w : Known) × W w × (f w.tags ≡ t))
-    → TellsTag (tag (new_tags k.tags o (f k.tags)) r) (λ t. (w : Known) × W w × (tag (new_tags w.tags o (f w.tags)) r ≡ t))
+new_tells : (o : Option Reg) (f : List Tag → Tag) (k : Types) (W : Types → Type 0) (r : Reg) → Tells k W
+    → ((w : Types) → W w → length w.tags ≡ 11) → TellsTag (f k.tags) (λ t. (w : Types) × W w × (f w.tags ≡ t))
+    → TellsTag (tag (new_tags k.tags o (f k.tags)) r) (λ t. (w : Types) × W w × (tag (new_tags w.tags o (f w.tags)) r ≡ t))
 new_tells None f k W r h long u = h.each r
 new_tells (Some d) f k W r h long u = elim (same_or_not r d) [
-  | inl e ↦ subst (λ a. TellsTag a (λ t. (w : Known) × W w × (tag (new_tags w.tags (Some d) (f w.tags)) r ≡ t))) (sym (set_here k.tags d r (f k.tags) h.eleven e))
-      (tag_same (λ t. (w : Known) × W w × (f w.tags ≡ t)) (λ t. (w : Known) × W w × (tag (new_tags w.tags (Some d) (f w.tags)) r ≡ t))
+  | inl e ↦ subst (λ a. TellsTag a (λ t. (w : Types) × W w × (tag (new_tags w.tags (Some d) (f w.tags)) r ≡ t))) (sym (set_here k.tags d r (f k.tags) h.eleven e))
+      (tag_same (λ t. (w : Types) × W w × (f w.tags ≡ t)) (λ t. (w : Types) × W w × (tag (new_tags w.tags (Some d) (f w.tags)) r ≡ t))
       (λ t x. (x.0, x.1, set_here x.0.tags d r (f x.0.tags) (long x.0 x.1) e ∙ x.2))
       (λ t x. (x.0, x.1, sym (set_here x.0.tags d r (f x.0.tags) (long x.0 x.1) e) ∙ x.2))
       (f k.tags) u)
-  | inr n ↦ subst (λ a. TellsTag a (λ t. (w : Known) × W w × (tag (new_tags w.tags (Some d) (f w.tags)) r ≡ t))) (sym (set_there k.tags d r (f k.tags) n))
-      (tag_same (Leaves W r) (λ t. (w : Known) × W w × (tag (new_tags w.tags (Some d) (f w.tags)) r ≡ t))
+  | inr n ↦ subst (λ a. TellsTag a (λ t. (w : Types) × W w × (tag (new_tags w.tags (Some d) (f w.tags)) r ≡ t))) (sym (set_there k.tags d r (f k.tags) n))
+      (tag_same (Leaves W r) (λ t. (w : Types) × W w × (tag (new_tags w.tags (Some d) (f w.tags)) r ≡ t))
       (λ t x. (x.0, x.1, set_there x.0.tags d r (f x.0.tags) n ∙ x.2))
       (λ t x. (x.0, x.1, sym (set_there x.0.tags d r (f x.0.tags) n) ∙ x.2))
       (tag k.tags r) (h.each r))
@@ -169,36 +169,36 @@ or_none true = refl
 or_none false = refl
 
 -- the mark of a byte, after a store that all ways make alike
-byte_tells : (k : Known) (W : Known → Type 0) (g : Known → Bool) (byte : ℕ) (b : Bool) → Tells k W
-    → ((w : Known) → W w → g w ≡ b)
-    → TellsByte (k.stored byte || b) (λ t. (w : Known) × W w × ((w.stored byte || g w) ≡ t))
+byte_tells : (k : Types) (W : Types → Type 0) (g : Types → Bool) (byte : ℕ) (b : Bool) → Tells k W
+    → ((w : Types) → W w → g w ≡ b)
+    → TellsByte (k.stored byte || b) (λ t. (w : Types) × W w × ((w.stored byte || g w) ≡ t))
 byte_tells k W g byte true h e =
-    subst (λ a. TellsByte a (λ t. (w : Known) × W w × ((w.stored byte || g w) ≡ t))) (sym (or_true (k.stored byte)))
+    subst (λ a. TellsByte a (λ t. (w : Types) × W w × ((w.stored byte || g w) ≡ t))) (sym (or_true (k.stored byte)))
     ((h.some.0, h.some.1, ap (λ b. h.some.0.stored byte || b) (e h.some.0 h.some.1) ∙ or_true (h.some.0.stored byte)), λ t x. sym x.2 ∙ ap (λ b. x.0.stored byte || b) (e x.0 x.1) ∙ or_true (x.0.stored byte))
 byte_tells k W g byte false h e =
-    subst (λ a. TellsByte a (λ t. (w : Known) × W w × ((w.stored byte || g w) ≡ t))) (sym (or_none (k.stored byte)))
-    (byte_same (Marks W byte) (λ t. (w : Known) × W w × ((w.stored byte || g w) ≡ t))
+    subst (λ a. TellsByte a (λ t. (w : Types) × W w × ((w.stored byte || g w) ≡ t))) (sym (or_none (k.stored byte)))
+    (byte_same (Marks W byte) (λ t. (w : Types) × W w × ((w.stored byte || g w) ≡ t))
     (λ t x. (x.0, x.1, ap (λ b. x.0.stored byte || b) (e x.0 x.1) ∙ or_none (x.0.stored byte) ∙ x.2))
     (λ t x. (x.0, x.1, sym (ap (λ b. x.0.stored byte || b) (e x.0 x.1) ∙ or_none (x.0.stored byte)) ∙ x.2))
     (k.stored byte) (h.bytes byte))
 
 -- the ways, one instruction on
-abbrev pub After : Insn → (Known → Type 0) → Known → Type 0
-After i W k = (old : Known) × W old × (k ≡ after old i)
+abbrev pub After : Insn → (Types → Type 0) → Types → Type 0
+After i W k = (old : Types) × W old × (k ≡ after old i)
 
-pub after_all : (i : Insn) (k new : Known) (W : Known → Type 0) → Tells k W → ((w : Known) → W w → length w.tags ≡ 11)
+pub after_all : (i : Insn) (k new : Types) (W : Types → Type 0) → Tells k W → ((w : Types) → W w → length w.tags ≡ 11)
     → IsSettled k i → IsAfter k i new → Tells new (After i W)
 after_all i k new W h long s e = record {
   eleven = ap length e.tags ∙ length_new k.tags (written_reg i) (written_tag k.tags i) ∙ h.eleven;
   some = (after h.some.0 i, (h.some.0, h.some.1, refl));
   each = λ r. subst (λ ts. TellsTag (tag ts r) (Leaves (After i W) r)) (sym e.tags)
-      (tag_same (λ t. (w : Known) × W w × (tag (new_tags w.tags (written_reg i) (written_tag w.tags i)) r ≡ t)) (Leaves (After i W) r)
+      (tag_same (λ t. (w : Types) × W w × (tag (new_tags w.tags (written_reg i) (written_tag w.tags i)) r ≡ t)) (Leaves (After i W) r)
       (λ t x. (after x.0 i, (x.0, x.1, refl), x.2))
       (λ t x. (x.1.0, x.1.1, ap (λ y. tag y.tags r) (sym x.1.2) ∙ x.2))
       (tag (new_tags k.tags (written_reg i) (written_tag k.tags i)) r)
       (new_tells (written_reg i) (λ ts. written_tag ts i) k W r h long (written_tells i k W h s)));
   bytes = λ byte. subst (λ a. TellsByte a (Marks (After i W) byte)) (sym (e.bytes byte))
-      (byte_same (λ t. (w : Known) × W w × ((w.stored byte || stores w.tags i byte) ≡ t)) (Marks (After i W) byte)
+      (byte_same (λ t. (w : Types) × W w × ((w.stored byte || stores w.tags i byte) ≡ t)) (Marks (After i W) byte)
       (λ t x. (after x.0 i, (x.0, x.1, refl), x.2))
       (λ t x. (x.1.0, x.1.1, ap (λ y. y.stored byte) (sym x.1.2) ∙ x.2))
       (k.stored byte || stores k.tags i byte)

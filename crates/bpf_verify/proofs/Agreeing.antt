@@ -29,7 +29,7 @@ use Rattle.bpf_insn.specs.Effects.{width_of}
 use Rattle.bpf_verify.specs.declared.tag.Tag.{Tag}
 use Rattle.bpf_verify.specs.declared.tag.Tag.TheVariants.{Unset, Number, Place, Mixed}
 use Rattle.bpf_verify.specs.Tags as tags
-use Rattle.bpf_verify.specs.Tags.{Known, tag, is_unset_tag, is_number_tag, is_place_tag, is_mixed_tag, breaks, BreaksNone}
+use Rattle.bpf_verify.specs.Tags.{Types, tag, is_unset_tag, is_number_tag, is_place_tag, is_mixed_tag, breaks, BreaksNone}
 use Rattle.bpf_verify.specs.Tags.{moved_tag, written_tag, new_tags, first_byte, bytes_from, stores, after}
 use Rattle.bpf_verify.specs.Paths.{IsIn}
 use Rattle.bpf_verify.specs.Holds.{Agrees, HoldsOf}
@@ -74,7 +74,7 @@ none_of : (p : Reg → Bool) (rs : List Reg) → ((r : Reg) → IsIn r rs → p 
 none_of p [] f = refl
 none_of p (x ∷ rs) f = rw (f x (inl refl)) (none_of p rs (λ r h. f r (inr h)))
 
-module _ (k : Known) (f : Frame) (i : Insn) (h : HoldsOf k f) (e : BreaksNone k i) where
+module _ (k : Types) (f : Frame) (i : Insn) (h : HoldsOf k f) (e : BreaksNone k i) where
   set_read : (r : Reg) → IsIn r (all_reads i) → is_unset_tag (tag k.tags r) ≡ false
   set_read r read = none_in (λ q. is_unset_tag (tag k.tags q)) r (all_reads i) (e UnsetRead) read
 
@@ -98,7 +98,7 @@ module _ (k : Known) (f : Frame) (i : Insn) (h : HoldsOf k f) (e : BreaksNone k 
 
 -- ---- the stack
 
-pub stays_inside : (k : Known) (f : Frame) (i : Insn) → HoldsOf k f → BreaksNone k i → leaves_stack f.registers i ≡ false
+pub stays_inside : (k : Types) (f : Frame) (i : Insn) → HoldsOf k f → BreaksNone k i → leaves_stack f.registers i ≡ false
 stays_inside k f (Alu W64 Add d (Imm n)) h e = move_alike (tag k.tags d) (content f.registers d) n (h.registers d) (set_read k f (Alu W64 Add d (Imm n)) h e d (inl refl)) (one_read k f (Alu W64 Add d (Imm n)) h e d (inl refl)) ∙ e OutsideStack
 stays_inside k f (Ldx z d b off) h e = access_alike (tag k.tags b) (content f.registers b) off (byte_count z) (h.registers b) (a_place k f (Ldx z d b off) h e b (inl refl)) ∙ e OutsideStack
 stays_inside k f (Ldsx z d b off) h e = access_alike (tag k.tags b) (content f.registers b) off (signed_byte_count z) (h.registers b) (a_place k f (Ldsx z d b off) h e b (inl refl)) ∙ e OutsideStack
@@ -106,12 +106,12 @@ stays_inside k f (Stx z b off q) h e = access_alike (tag k.tags b) (content f.re
 stays_inside k f (St z b off n) h e = access_alike (tag k.tags b) (content f.registers b) off (byte_count z) (h.registers b) (a_place k f (St z b off n) h e b (inl refl)) ∙ e OutsideStack
 stays_inside k f _ h e = refl
 
-finds_all : (k : Known) (f : Frame) (b : Reg) (off : ℤ) (n : ℕ) → HoldsOf k f → is_place_tag (tag k.tags b) ≡ true
+finds_all : (k : Types) (f : Frame) (b : Reg) (off : ℤ) (n : ℕ) → HoldsOf k f → is_place_tag (tag k.tags b) ≡ true
     → list_any (λ x. not (k.stored x)) (bytes_from (first_byte (tag k.tags b) off) n) ≡ false
     → list_any is_none (bytes_at f.stack (stack_index (content f.registers b) off) n) ≡ false
 finds_all k f b off n h p e = ap (λ x. list_any is_none (bytes_at f.stack x n)) (index_alike (tag k.tags b) (content f.registers b) off (h.registers b) p) ∙ load_finds f.stack (first_byte (tag k.tags b) off) n k.stored h.bytes e
 
-pub loads_stored : (k : Known) (f : Frame) (i : Insn) → HoldsOf k f → BreaksNone k i
+pub loads_stored : (k : Types) (f : Frame) (i : Insn) → HoldsOf k f → BreaksNone k i
     → is_unstored f.registers f.stack (load_access i) ≡ false
 loads_stored k f (Ldx z d b off) h e =
     finds_all k f b off (byte_count z) h (a_place k f (Ldx z d b off) h e b (inl refl)) (e UnstoredRead)
@@ -138,7 +138,7 @@ moved_agree (Place o) (contents.Number m) n a e g = absurd a
 moved_agree Unset c n a e g = absurd (cc)
 moved_agree Mixed c n a e g = absurd (cc)
 
-written_agree : (k : Known) (f : Frame) (i : Insn) → HoldsOf k f → BreaksNone k i
+written_agree : (k : Types) (f : Frame) (i : Insn) → HoldsOf k f → BreaksNone k i
     → WrittenAgree (written_reg i) (written_tag k.tags i) (written f.registers f.stack i)
 written_agree k f (Alu W64 Add d (Imm n)) h e = (refl, moved_agree (tag k.tags d) (content f.registers d) n (h.registers d) (set_read k f (Alu W64 Add d (Imm n)) h e d (inl refl)) (one_read k f (Alu W64 Add d (Imm n)) h e d (inl refl)))
 written_agree k f (Alu W64 Mov d (Register q)) h e = (refl, h.registers q)
@@ -187,7 +187,7 @@ pub ends_within : (t : Tag) (off : ℤ) (n : ℕ) → is_place_tag t ≡ true �
     → first_byte t off + n ≤ 512
 ends_within t off n p e = grind arith
 
-stored_after : (k : Known) (f : Frame) (z : Size) (b : Reg) (off : ℤ) (n : ℕ) → HoldsOf k f → is_place_tag (tag k.tags b) ≡ true → tags.reaches_outside (tag k.tags b) off (byte_count z) ≡ false → ((x : ℕ) → (k.stored x || list_any (nat_eq x) (bytes_from (first_byte (tag k.tags b) off) (byte_count z))) ≡ true → is_some (slice_index_or (stored z f.stack (stack_index (content f.registers b) off) n) x None) ≡ true) × (length (stored z f.stack (stack_index (content f.registers b) off) n) ≡ 512)
+stored_after : (k : Types) (f : Frame) (z : Size) (b : Reg) (off : ℤ) (n : ℕ) → HoldsOf k f → is_place_tag (tag k.tags b) ≡ true → tags.reaches_outside (tag k.tags b) off (byte_count z) ≡ false → ((x : ℕ) → (k.stored x || list_any (nat_eq x) (bytes_from (first_byte (tag k.tags b) off) (byte_count z))) ≡ true → is_some (slice_index_or (stored z f.stack (stack_index (content f.registers b) off) n) x None) ≡ true) × (length (stored z f.stack (stack_index (content f.registers b) off) n) ≡ 512)
 stored_after k f z b off n h p e =
     let at = index_alike (tag k.tags b) (content f.registers b) off (h.registers b) p in
     let first = first_byte (tag k.tags b) off in
@@ -206,7 +206,7 @@ or_none : (b : Bool) → (b || false) ≡ true → b ≡ true
 or_none true e = refl
 or_none false e = e
 
-stack_after : (k : Known) (f : Frame) (i : Insn) → HoldsOf k f → BreaksNone k i → ((x : ℕ) → (k.stored x || stores k.tags i x) ≡ true → is_some (slice_index_or (new_stack f.registers f.stack i) x None) ≡ true) × (length (new_stack f.registers f.stack i) ≡ 512)
+stack_after : (k : Types) (f : Frame) (i : Insn) → HoldsOf k f → BreaksNone k i → ((x : ℕ) → (k.stored x || stores k.tags i x) ≡ true → is_some (slice_index_or (new_stack f.registers f.stack i) x None) ≡ true) × (length (new_stack f.registers f.stack i) ≡ 512)
 stack_after k f (Stx z b off q) h e =
     stored_after k f z b off (number (content f.registers q)) h (a_place k f (Stx z b off q) h e b (inl refl)) (e OutsideStack)
 stack_after k f (St z b off n) h e =
@@ -214,7 +214,7 @@ stack_after k f (St z b off n) h e =
 stack_after k f _ h e = (λ x s. h.bytes x (or_none (k.stored x) s), h.whole)
 
 -- what is known after the instruction holds of the frame after it
-pub holds_after : (k : Known) (f g : Frame) (i : Insn) → length k.tags ≡ 11 → HoldsOf k f → BreaksNone k i
+pub holds_after : (k : Types) (f g : Frame) (i : Insn) → length k.tags ≡ 11 → HoldsOf k f → BreaksNone k i
     → g.registers ≡ new_registers f.registers (written f.registers f.stack i) → g.stack ≡ new_stack f.registers f.stack i
     → HoldsOf (after k i) g
 holds_after k f g i long h e regs mem =

@@ -16,14 +16,14 @@ use Rattle.bpf_insn.specs.Program.{insn_at}
 use Rattle.bpf_insn.specs.Reads.{all_reads, number_reads, place_reads, byte_count, signed_byte_count, load_access}
 use Rattle.bpf_verify.specs.declared.tag.Tag.{Tag}
 use Rattle.bpf_verify.specs.declared.tag.Tag.TheVariants.{Unset, Number, Place, Mixed}
-use Rattle.bpf_verify.specs.Tags.{Known, tag, is_unset_tag, is_mixed_tag, is_number_tag, is_place_tag, reaches_outside}
+use Rattle.bpf_verify.specs.Tags.{Types, tag, is_unset_tag, is_mixed_tag, is_number_tag, is_place_tag, reaches_outside}
 use Rattle.bpf_verify.specs.Tags.{leaves_stack, bytes_of, breaks, BreaksNone}
 use Rattle.bpf_verify.specs.Paths.{IsIn, TellsTag, TellsByte, Tells, IsWay, ShowsOne, ShowsTwo, IsShown}
 use Rattle.bpf_verify.proofs.Telling.{Leaves, Marks}
 use Rattle.bpf_verify.proofs.After.{any_in, in_any, none_in, any_alike, number_read, place_read, SameReads, IsSettled, same_reads}
 use Rattle.bpf_verify.proofs.After.{same_loads}
 
-stack_same : (w k : Known) (i : Insn) → SameReads w k i → leaves_stack w.tags i ≡ leaves_stack k.tags i
+stack_same : (w k : Types) (i : Insn) → SameReads w k i → leaves_stack w.tags i ≡ leaves_stack k.tags i
 stack_same w k (Alu W64 Add d (Imm n)) s = ap (λ t. reaches_outside t n 0) (s d (inl refl))
 stack_same w k (Ldx z d b off) s = ap (λ t. reaches_outside t off (byte_count z)) (s b (inl refl))
 stack_same w k (Ldsx z d b off) s = ap (λ t. reaches_outside t off (signed_byte_count z)) (s b (inl refl))
@@ -36,7 +36,7 @@ abbrev is_of_tags : CodeRule → Bool
 is_of_tags UnstoredRead = false
 is_of_tags _ = true
 
-alike : (rule : CodeRule) (w k : Known) (i : Insn) → is_of_tags rule ≡ true → SameReads w k i
+alike : (rule : CodeRule) (w k : Types) (i : Insn) → is_of_tags rule ≡ true → SameReads w k i
     → breaks w i rule ≡ breaks k i rule
 alike UnsetRead w k i o s = any_alike (λ r. is_unset_tag (tag w.tags r)) (λ r. is_unset_tag (tag k.tags r)) (all_reads i) (λ r h. ap is_unset_tag (s r h))
 alike MixedRead w k i o s = any_alike (λ r. is_mixed_tag (tag w.tags r)) (λ r. is_mixed_tag (tag k.tags r)) (all_reads i) (λ r h. ap is_mixed_tag (s r h))
@@ -48,7 +48,7 @@ alike _ w k i o s = refl
 
 -- ---- bytes
 
-byte_told : (W : Known → Type 0) (b : Bool) (byte : ℕ) → TellsByte b (Marks W byte) → b ≡ true → (w : Known) → W w
+byte_told : (W : Types → Type 0) (b : Bool) (byte : ℕ) → TellsByte b (Marks W byte) → b ≡ true → (w : Types) → W w
     → w.stored byte ≡ true
 byte_told W true byte h e w v = h.1 (w.stored byte) (w, v, refl)
 byte_told W false byte h e w v = absurd (cc)
@@ -62,17 +62,17 @@ not_true true e = absurd (cc)
 not_true false e = refl
 
 -- what all ways have stored, each has
-each_stored : (W : Known → Type 0) (k w : Known) (bytes : List ℕ) → Tells k W → W w
+each_stored : (W : Types → Type 0) (k w : Types) (bytes : List ℕ) → Tells k W → W w
     → list_any (λ b. not (k.stored b)) bytes ≡ false → list_any (λ b. not (w.stored b)) bytes ≡ false
 each_stored W k w bytes h v e = any_alike (λ b. not (w.stored b)) (λ b. not (k.stored b)) bytes (λ b here. let m : k.stored b ≡ true = not_false (k.stored b) (none_in (λ c. not (k.stored c)) b bytes e here) in ap not (byte_told W (k.stored b) b (h.bytes b) m w v ∙ sym m)) ∙ e
 
-unstored_way : (W : Known → Type 0) (b : Bool) (byte : ℕ) → TellsByte b (Marks W byte) → b ≡ false → Marks W byte false
+unstored_way : (W : Types → Type 0) (b : Bool) (byte : ℕ) → TellsByte b (Marks W byte) → b ≡ false → Marks W byte false
 unstored_way W true byte h e = absurd (cc)
 unstored_way W false byte h e = h
 
 -- ---- one way
 
-pub unbroken_way : (W : Known → Type 0) (k w : Known) (i : Insn) → Tells k W → W w → BreaksNone k i → BreaksNone w i
+pub unbroken_way : (W : Types → Type 0) (k w : Types) (i : Insn) → Tells k W → W w → BreaksNone k i → BreaksNone w i
 unbroken_way W k w i h v e = λ rule. step rule where
   same : SameReads w k i
   same = same_reads W k w i (record { set = e UnsetRead; one = e MixedRead }) h v
@@ -110,7 +110,7 @@ false_unless : (b : Bool) → (b ≡ true → ⊥) → b ≡ false
 false_unless true f = absurd (f refl)
 false_unless false f = refl
 
-module _ (insns : List Insn) (entry : List Tag) (slot : ℕ) (i : Insn) (at : insn_at insns slot ≡ Some i) (k : Known) (h : Tells k (IsWay insns entry slot)) where
+module _ (insns : List Insn) (entry : List Tag) (slot : ℕ) (i : Insn) (at : insn_at insns slot ≡ Some i) (k : Types) (h : Tells k (IsWay insns entry slot)) where
   no_unset : breaks k i UnsetRead ≡ false → ShowsOne insns entry slot UnsetRead → ⊥
   no_unset e s =
       let same : s.insn ≡ i = same_insn (insn_at insns slot) s.insn i s.here at in

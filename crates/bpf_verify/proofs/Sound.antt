@@ -31,7 +31,7 @@ use Rattle.bpf_insn.proofs.Runs.{all_within, one_outcome}
 use Rattle.bpf_insn.proofs.Slots.{begins_first}
 use Rattle.bpf_verify.specs.declared.tag.Tag.{Tag}
 use Rattle.bpf_verify.specs.Tags as tags
-use Rattle.bpf_verify.specs.Tags.{Known, tag, after}
+use Rattle.bpf_verify.specs.Tags.{Types, tag, after}
 use Rattle.bpf_verify.specs.Paths.{IsIn, targets, IsPath, IsKnown, IsWay}
 use Rattle.bpf_verify.specs.Holds.{Agrees, HoldsOf}
 use Rattle.bpf_verify.specs.Accepted.{entry_tags, IsSound}
@@ -85,13 +85,13 @@ begins_at insns slot i e = rw e refl
 -- along no way an instruction breaks a rule
 abbrev pub NeverBreaks : List Insn → List Tag → Type 0
 NeverBreaks insns entry =
-    (slot : ℕ) (i : Insn) (k : Known) → insn_at insns slot ≡ Some i → IsWay insns entry slot k → tags.BreaksNone k i
+    (slot : ℕ) (i : Insn) (k : Types) → insn_at insns slot ≡ Some i → IsWay insns entry slot k → tags.BreaksNone k i
 
 -- a running machine has come along a path, and what is known along it holds of it
 pub record IsAlong (insns : List Insn) (entry : List Tag) (f : Frame) : Type 0 where
   pub path : List ℕ
   pub leads : IsPath insns path f.slot
-  pub k : Known
+  pub k : Types
   pub known : IsKnown insns entry path k
   pub holds : HoldsOf k f
 

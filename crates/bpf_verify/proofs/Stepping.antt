@@ -22,7 +22,7 @@ use Rattle.bpf_insn.specs.Machine.{begins}
 use Rattle.bpf_verify.specs.declared.tag.Tag.{Tag}
 use Rattle.bpf_verify.specs.declared.tag.Tag.TheVariants.{Unset, Number, Place, Mixed}
 use Rattle.bpf_verify.specs.declared.facts.Facts.{Facts}
-use Rattle.bpf_verify.specs.Tags.{Known, tag, is_mixed_tag, moved_tag, breaks, BreaksNone, new_tags, written_tag, after}
+use Rattle.bpf_verify.specs.Tags.{Types, tag, is_mixed_tag, moved_tag, breaks, BreaksNone, new_tags, written_tag, after}
 use Rattle.bpf_verify.specs.Paths.{IsIn, targets, MayLead, IsPath, IsKnown, IsWay, IsShown, NothingShown, TellsTag, TellsByte}
 use Rattle.bpf_verify.specs.Paths.{Tells}
 use Rattle.bpf_verify.specs.Table.{known_at}
@@ -67,17 +67,17 @@ last_below : (insns : List Insn) (path : List ℕ) (slot : ℕ) → IsClean insn
 last_below insns [] slot clean h = tt
 last_below insns (from ∷ path) slot clean h = (target_of insns from slot clean h.1).0
 
-way_below : (insns : List Insn) (entry : List Tag) (slot : ℕ) (k : Known) → IsClean insns → IsWay insns entry slot k
+way_below : (insns : List Insn) (entry : List Tag) (slot : ℕ) (k : Types) → IsClean insns → IsWay insns entry slot k
     → IsWayBelow slot insns entry slot k
 way_below insns entry slot k clean w =
     record { path = w.path; leads = w.leads; known = w.known; last = last_below insns w.path slot clean w.leads }
 
-way_of : (n : ℕ) (insns : List Insn) (entry : List Tag) (slot : ℕ) (k : Known) → IsWayBelow n insns entry slot k
+way_of : (n : ℕ) (insns : List Insn) (entry : List Tag) (slot : ℕ) (k : Types) → IsWayBelow n insns entry slot k
     → IsWay insns entry slot k
 way_of n insns entry slot k w = record { path = w.path; leads = w.leads; known = w.known }
 
 -- eleven tags along each path
-pub eleven_on : (insns : List Insn) (entry : List Tag) (path : List ℕ) (k : Known) → length entry ≡ 11
+pub eleven_on : (insns : List Insn) (entry : List Tag) (path : List ℕ) (k : Types) → length entry ≡ 11
     → IsKnown insns entry path k → length k.tags ≡ 11
 eleven_on insns entry [] k long e = ap (λ w. length w.tags) e ∙ long
 eleven_on insns entry (from ∷ path) k long (before, h, g) = ap (λ w. length w.tags) g.same ∙ length_new before.tags (written_reg g.insn) (written_tag before.tags g.insn) ∙ eleven_on insns entry path before long h
@@ -103,7 +103,7 @@ plain_new ts (Some d) t long f n r = elim (same_or_not r d) [
   | inr d' ↦ λ m. f r (sym (set_there ts d r t d') ∙ m)
 ]
 
-plain_on : (insns : List Insn) (entry : List Tag) (path : List ℕ) (k : Known) → IsEntry entry → IsKnown insns entry path k
+plain_on : (insns : List Insn) (entry : List Tag) (path : List ℕ) (k : Types) → IsEntry entry → IsKnown insns entry path k
     → (r : Reg) → tag k.tags r ≢ Mixed
 plain_on insns entry [] k fit e r = λ m. fit.plain r (ap (λ w. tag w.tags r) (sym e) ∙ m)
 plain_on insns entry (from ∷ path) k fit (before, h, g) r =
@@ -113,7 +113,7 @@ plain_on insns entry (from ∷ path) k fit (before, h, g) r =
 is_mixed_means : (t : Tag) → is_mixed_tag t ≡ true → t ≡ Mixed
 is_mixed_means t e = grind arith
 
-plain_reads : (k : Known) (i : Insn) → ((r : Reg) → tag k.tags r ≢ Mixed) → breaks k i MixedRead ≡ true → ⊥
+plain_reads : (k : Types) (i : Insn) → ((r : Reg) → tag k.tags r ≢ Mixed) → breaks k i MixedRead ≡ true → ⊥
 plain_reads k i f b =
     let x = any_in (λ r. is_mixed_tag (tag k.tags r)) (all_reads i) b in f x.0 (is_mixed_means (tag k.tags x.0) x.2)
 
@@ -123,30 +123,30 @@ false_unless false f = refl
 
 -- the instruction at a slot where something is shown
 shown_at : (insns : List Insn) (entry : List Tag) (slot : ℕ) (rule : CodeRule) → IsShown insns entry slot rule
-    → (i : Insn) × (insn_at insns slot ≡ Some i) × (k : Known) × IsWay insns entry slot k
+    → (i : Insn) × (insn_at insns slot ≡ Some i) × (k : Types) × IsWay insns entry slot k
 shown_at insns entry slot MixedRead s = (s.insn, s.here, s.left, s.left_way)
 shown_at insns entry slot _ s = (s.insn, s.here, s.way, s.is_way)
 
 -- ---- paths from one slot more
 
 module _ (n : ℕ) (insns : List Insn) (entry : List Tag) where
-  more : (slot : ℕ) (k : Known) → IsWayBelow n insns entry slot k → IsWayBelow (n + 1) insns entry slot k
+  more : (slot : ℕ) (k : Types) → IsWayBelow n insns entry slot k → IsWayBelow (n + 1) insns entry slot k
   more slot k w = record { path = w.path; leads = w.leads; known = w.known; last = step w.path w.last } where
     step : (p : List ℕ) → IsLastBelow n p → IsLastBelow (n + 1) p
     step [] h = tt
     step (from ∷ p) h = omega arith
 
   -- ways whose latest slot is n
-  pub record IsThrough (slot : ℕ) (k : Known) : Type 0 where
+  pub record IsThrough (slot : ℕ) (k : Types) : Type 0 where
     pub insn : Insn
     pub here : insn_at insns n ≡ Some insn
-    pub old : Known
+    pub old : Types
     pub way : IsWayBelow n insns entry n old
     pub target : IsIn (pos slot) (targets n insn)
     pub unbroken : BreaksNone old insn
     pub same : k ≡ after old insn
 
-  through_last : (slot : ℕ) (k : Known) (path : List ℕ) → IsClean insns → IsPath insns (n ∷ path) slot → IsKnown insns entry (n ∷ path) k → IsThrough slot k
+  through_last : (slot : ℕ) (k : Types) (path : List ℕ) → IsClean insns → IsPath insns (n ∷ path) slot → IsKnown insns entry (n ∷ path) k → IsThrough slot k
   through_last slot k path clean (h, m) (old, w, g) =
       let same : m.insn ≡ g.insn = same_insn (insn_at insns n) m.insn g.insn m.here g.here in
       record {
@@ -159,7 +159,7 @@ module _ (n : ℕ) (insns : List Insn) (entry : List Tag) where
         same = g.same;
       }
 
-  split : (slot : ℕ) (k : Known) → IsClean insns → IsWayBelow (n + 1) insns entry slot k → IsWayBelow n insns entry slot k ⊎ IsThrough slot k
+  split : (slot : ℕ) (k : Types) → IsClean insns → IsWayBelow (n + 1) insns entry slot k → IsWayBelow n insns entry slot k ⊎ IsThrough slot k
   split slot k clean w = step w.path w.leads w.known w.last where
     step : (p : List ℕ) → IsPath insns p slot → IsKnown insns entry p k → IsLastBelow (n + 1) p → IsWayBelow n insns entry slot k ⊎ IsThrough slot k
     step [] h e l = inl (record { path = []; leads = h; known = e; last = tt })
@@ -168,7 +168,7 @@ module _ (n : ℕ) (insns : List Insn) (entry : List Tag) where
       | inr d ↦ inl (record { path = from ∷ p; leads = h; known = e; last = (let x : from < n = omega arith in x) })
     ]
 
-  join_path : (slot : ℕ) (k : Known) → IsThrough slot k → IsWayBelow (n + 1) insns entry slot k
+  join_path : (slot : ℕ) (k : Types) → IsThrough slot k → IsWayBelow (n + 1) insns entry slot k
   join_path slot k t = record {
     path = n ∷ t.way.path;
     leads = (t.way.leads, record { insn = t.insn; here = t.here; target = t.target });
@@ -177,9 +177,9 @@ module _ (n : ℕ) (insns : List Insn) (entry : List Tag) where
   }
 
   -- ---- the slot is not reached, or begins nothing
-  pub exact_skipped : (table : List (Option Facts)) → IsClean insns → ((i : Insn) (k : Known) → insn_at insns n ≡ Some i → known_at table n ≡ Some k → ⊥) → IsExactBelow n insns entry table → IsExactBelow (n + 1) insns entry table
+  pub exact_skipped : (table : List (Option Facts)) → IsClean insns → ((i : Insn) (k : Types) → insn_at insns n ≡ Some i → known_at table n ≡ Some k → ⊥) → IsExactBelow n insns entry table → IsExactBelow (n + 1) insns entry table
   exact_skipped table clean none x =
-      let nowhere : (i : Insn) (k : Known) → insn_at insns n ≡ Some i → IsWayBelow n insns entry n k → ⊥ = λ i k at w. unknown (known_at table n) i k (λ us e. none i us at e) (x.tells n) w in
+      let nowhere : (i : Insn) (k : Types) → insn_at insns n ≡ Some i → IsWayBelow n insns entry n k → ⊥ = λ i k at w. unknown (known_at table n) i k (λ us e. none i us at e) (x.tells n) w in
       record {
         tells = λ slot. slot_same (IsWayBelow n insns entry slot) (IsWayBelow (n + 1) insns entry slot) (more slot) (λ k w. elim (split slot k clean w) [ inl y ↦ y | inr t ↦ absurd (nowhere t.insn t.old t.here t.way) ]) (known_at table slot) (x.tells slot);
         nothing = λ slot rule h. elim (cases_eq slot n) [
@@ -187,25 +187,25 @@ module _ (n : ℕ) (insns : List Insn) (entry : List Tag) where
           | inr d ↦ x.nothing slot rule (omega arith)
         ];
       } where
-        unknown : (o : Option Known) (i : Insn) (k : Known) → ((us : Known) → o ≡ Some us → ⊥) → TellsSlot o (IsWayBelow n insns entry n) → IsWayBelow n insns entry n k → ⊥
+        unknown : (o : Option Types) (i : Insn) (k : Types) → ((us : Types) → o ≡ Some us → ⊥) → TellsSlot o (IsWayBelow n insns entry n) → IsWayBelow n insns entry n k → ⊥
         unknown (Some us) i k f h w = f us refl
         unknown None i k f h w = h k w
 
   -- ---- the slot is reached
-  told_here : (table : List (Option Facts)) (k : Known) → known_at table n ≡ Some k → IsExactBelow n insns entry table → Tells k (IsWayBelow n insns entry n)
+  told_here : (table : List (Option Facts)) (k : Types) → known_at table n ≡ Some k → IsExactBelow n insns entry table → Tells k (IsWayBelow n insns entry n)
   told_here table k was x = subst (λ o. TellsSlot o (IsWayBelow n insns entry n)) was (x.tells n)
 
-  told_ways : (k : Known) → IsClean insns → Tells k (IsWayBelow n insns entry n) → Tells k (IsWay insns entry n)
+  told_ways : (k : Types) → IsClean insns → Tells k (IsWayBelow n insns entry n) → Tells k (IsWay insns entry n)
   told_ways k clean h = all_same (IsWayBelow n insns entry n) (IsWay insns entry n) (way_of n insns entry n) (λ w y. way_below insns entry n w clean y) k h
 
-  pub exact_refused : (table : List (Option Facts)) (i : Insn) (k : Known) (rule : CodeRule) → IsClean insns → insn_at insns n ≡ Some i → known_at table n ≡ Some k → IsExactBelow n insns entry table → IsLowest (λ q. breaks k i q ≡ true) rule → IsLowest (IsShown insns entry n) rule
+  pub exact_refused : (table : List (Option Facts)) (i : Insn) (k : Types) (rule : CodeRule) → IsClean insns → insn_at insns n ≡ Some i → known_at table n ≡ Some k → IsExactBelow n insns entry table → IsLowest (λ q. breaks k i q ≡ true) rule → IsLowest (IsShown insns entry n) rule
   exact_refused table i k rule clean at was x l = lowest insns entry n i at k (told_ways k clean (told_here table k was x)) rule l
 
-  pub exact_step : (old new : List (Option Facts)) (i : Insn) (k next : Known) → IsClean insns → length entry ≡ 11 → insn_at insns n ≡ Some i → known_at old n ≡ Some k → IsExactBelow n insns entry old → BreaksNone k i → IsAfter k i next → AddsAll (targets n i) next old new → IsExactBelow (n + 1) insns entry new
+  pub exact_step : (old new : List (Option Facts)) (i : Insn) (k next : Types) → IsClean insns → length entry ≡ 11 → insn_at insns n ≡ Some i → known_at old n ≡ Some k → IsExactBelow n insns entry old → BreaksNone k i → IsAfter k i next → AddsAll (targets n i) next old new → IsExactBelow (n + 1) insns entry new
   exact_step old new i k next clean long at was x e a adds =
       let h = told_here old k was x in
       let told = after_all i k next (IsWayBelow n insns entry n) h (λ w y. eleven_on insns entry y.path w long y.known) (record { set = e UnsetRead; one = e MixedRead }) a in
-      let unbroken : (w : Known) → IsWayBelow n insns entry n w → BreaksNone w i = λ w y. unbroken_way (IsWayBelow n insns entry n) k w i h y e in
+      let unbroken : (w : Types) → IsWayBelow n insns entry n w → BreaksNone w i = λ w y. unbroken_way (IsWayBelow n insns entry n) k w i h y e in
       let flows = adds_all (targets n i) (λ slot. IsWayBelow n insns entry slot) (After i (IsWayBelow n insns entry n)) next old new x.tells told adds in
       record {
         tells = λ slot. slot_same (λ w. IsWayBelow n insns entry slot w ⊎ (IsIn (pos slot) (targets n i) × After i (IsWayBelow n insns entry n) w)) (IsWayBelow (n + 1) insns entry slot)
@@ -224,7 +224,7 @@ module _ (n : ℕ) (insns : List Insn) (entry : List Tag) where
 -- ---- all slots
 
 module _ (n : ℕ) (insns : List Insn) (entry : List Tag) (table : List (Option Facts)) (inside : (slot : ℕ) (i : Insn) → insn_at insns slot ≡ Some i → slot < n) (x : IsExactBelow n insns entry table) where
-  all_below : (slot : ℕ) (k : Known) → IsWay insns entry slot k → IsWayBelow n insns entry slot k
+  all_below : (slot : ℕ) (k : Types) → IsWay insns entry slot k → IsWayBelow n insns entry slot k
   all_below slot k w = record { path = w.path; leads = w.leads; known = w.known; last = step w.path w.leads } where
     step : (p : List ℕ) → IsPath insns p slot → IsLastBelow n p
     step [] h = tt
@@ -239,7 +239,7 @@ module _ (n : ℕ) (insns : List Insn) (entry : List Tag) (table : List (Option 
   -- what breaks a rule along a way is shown
   pub exact_all : IsEntry entry → IsExact insns entry table
   exact_all fit = record { tells = all_told; nothing = nothing_shown; unbroken = λ slot i k at w rule. false_unless (breaks k i rule) (λ b. step slot i k at w rule b) } where
-    step : (slot : ℕ) (i : Insn) (k : Known) → insn_at insns slot ≡ Some i → IsWay insns entry slot k → (rule : CodeRule) → breaks k i rule ≡ true → ⊥
+    step : (slot : ℕ) (i : Insn) (k : Types) → insn_at insns slot ≡ Some i → IsWay insns entry slot k → (rule : CodeRule) → breaks k i rule ≡ true → ⊥
     step slot i k at w MixedRead b = plain_reads k i (λ r. plain_on insns entry w.path k fit w.known r) b
     step slot i k at w BadLength b = cc
     step slot i k at w UnknownOpcode b = cc
@@ -259,15 +259,15 @@ module _ (n : ℕ) (insns : List Insn) (entry : List Tag) (table : List (Option 
 
 -- ---- before the first slot
 
-pub exact_start : (insns : List Insn) (entry : List Tag) (table : List (Option Facts)) (first : Known) → IsEntry entry
+pub exact_start : (insns : List Insn) (entry : List Tag) (table : List (Option Facts)) (first : Types) → IsEntry entry
     → known_at table 0 ≡ Some first → first.tags ≡ entry → ((byte : ℕ) → first.stored byte ≡ false)
-    → ((slot : ℕ) (k : Known) → slot ≢ 0 → known_at table slot ≡ Some k → ⊥) → IsExactBelow 0 insns entry table
+    → ((slot : ℕ) (k : Types) → slot ≢ 0 → known_at table slot ≡ Some k → ⊥) → IsExactBelow 0 insns entry table
 exact_start insns entry table first fit start tags bytes rest =
     record { tells = λ slot. tells_at slot (cases_eq slot 0); nothing = λ slot rule h. absurd (omega arith) } where
-      begun : Known
+      begun : Types
       begun = record { tags = entry; stored = λ byte. false }
 
-      only : (slot : ℕ) (k : Known) (w : IsWayBelow 0 insns entry slot k) → (slot ≡ 0) × (k ≡ begun)
+      only : (slot : ℕ) (k : Types) (w : IsWayBelow 0 insns entry slot k) → (slot ≡ 0) × (k ≡ begun)
       only slot k w = step w.path w.leads w.known w.last where
         step : (p : List ℕ) → IsPath insns p slot → IsKnown insns entry p k → IsLastBelow 0 p → (slot ≡ 0) × (k ≡ begun)
         step [] h e l = (h, e)
@@ -276,11 +276,11 @@ exact_start insns entry table first fit start tags bytes rest =
       starts : IsWayBelow 0 insns entry 0 begun
       starts = record { path = []; leads = refl; known = refl; last = tt }
 
-      none : (slot : ℕ) (o : Option Known) → known_at table slot ≡ o → slot ≢ 0 → TellsSlot o (IsWayBelow 0 insns entry slot)
+      none : (slot : ℕ) (o : Option Types) → known_at table slot ≡ o → slot ≢ 0 → TellsSlot o (IsWayBelow 0 insns entry slot)
       none slot (Some k) e n = absurd (rest slot k n e)
       none slot None e n = λ w y. n (only slot w y).0
 
-      W : Known → Type 0
+      W : Types → Type 0
       W = IsWayBelow 0 insns entry 0
 
       tells_entry : (a : Tag) (r : Reg) → tag entry r ≡ a → TellsTag a (Leaves W r)

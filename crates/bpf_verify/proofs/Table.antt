@@ -4,7 +4,7 @@ use Rattle.std.proofs.Common.{◌∙◌, ap, refl}
 use Rattle.std.specs.Prelude.{Option, Some, None, ℤ, pos, slice_get, slice_set, replicate}
 use Rattle.std.proofs.lemmas.Option.{slice_get-get_or}
 use Rattle.bpf_verify.specs.declared.facts.Facts.{Facts}
-use Rattle.bpf_verify.specs.Tags.{Known}
+use Rattle.bpf_verify.specs.Tags.{Types}
 use Rattle.bpf_verify.specs.Table.{known, known_in, known_at}
 use Rattle.bpf_verify.specs.inner.Pass.{IsMerged, Adds}
 
@@ -31,7 +31,7 @@ pub known_other : (table : List (Option Facts)) (k n : ℕ) (x : Option Facts) �
 known_other table k n x d = ap known_in (get_set_other table k n x d)
 
 -- a write of what is merged adds it
-pub adds_set : (table : List (Option Facts)) (to : ℤ) (place : ℕ) (k : Known) (f : Facts) → to ≡ pos place
+pub adds_set : (table : List (Option Facts)) (to : ℤ) (place : ℕ) (k : Types) (f : Facts) → to ≡ pos place
     → place < length table → IsMerged (known_at table place) k (known f) → Adds to k table (slice_set table place (Some f))
 adds_set table to place k f e h m = record {
   place = place;
@@ -42,7 +42,7 @@ adds_set table to place k f e h m = record {
   merged = m;
 }
 
-pub none_replicated : (n k : ℕ) (us : Known) → known_at (replicate n None) k ≡ Some us → ⊥
+pub none_replicated : (n k : ℕ) (us : Types) → known_at (replicate n None) k ≡ Some us → ⊥
 none_replicated zero k us e = cc
 none_replicated (suc n) zero us e = cc
 none_replicated (suc n) (suc k) us e = none_replicated n k us e

@@ -7,7 +7,7 @@ use Rattle.std.proofs.lemmas.Bool.Decides.{Decides-int_eq}
 use Rattle.bpf_insn.specs.declared.reg.Reg.{Reg}
 use Rattle.bpf_verify.specs.declared.tag.Tag.{Tag}
 use Rattle.bpf_verify.specs.declared.tag.Tag.TheVariants.{Unset, Number, Place, Mixed}
-use Rattle.bpf_verify.specs.Tags.{Known, tag}
+use Rattle.bpf_verify.specs.Tags.{Types, tag}
 use Rattle.bpf_verify.specs.Paths.{TellsTag, TellsByte, Tells}
 use Rattle.bpf_verify.specs.inner.Pass.{joined, IsJoined, IsMerged, TellsSlot}
 
@@ -62,13 +62,13 @@ byte_same P Q f g true h = (f true h.0, λ t q. h.1 t (g t q))
 byte_same P Q f g false h = f false h
 
 -- some way leaves the tag in the register, or the mark at the byte
-abbrev pub Leaves : (Known → Type 0) → Reg → Tag → Type 0
-Leaves W r t = (w : Known) × W w × (tag w.tags r ≡ t)
+abbrev pub Leaves : (Types → Type 0) → Reg → Tag → Type 0
+Leaves W r t = (w : Types) × W w × (tag w.tags r ≡ t)
 
-abbrev pub Marks : (Known → Type 0) → ℕ → Bool → Type 0
-Marks W byte b = (w : Known) × W w × (w.stored byte ≡ b)
+abbrev pub Marks : (Types → Type 0) → ℕ → Bool → Type 0
+Marks W byte b = (w : Types) × W w × (w.stored byte ≡ b)
 
-pub all_same : (W V : Known → Type 0) → ((w : Known) → W w → V w) → ((w : Known) → V w → W w) → (k : Known)
+pub all_same : (W V : Types → Type 0) → ((w : Types) → W w → V w) → ((w : Types) → V w → W w) → (k : Types)
     → Tells k W → Tells k V
 all_same W V f g k h = record {
   eleven = h.eleven;
@@ -77,14 +77,14 @@ all_same W V f g k h = record {
   bytes = λ byte. byte_same (Marks W byte) (Marks V byte) (λ t x. (x.0, f x.0 x.1, x.2)) (λ t x. (x.0, g x.0 x.1, x.2)) (k.stored byte) (h.bytes byte);
 }
 
-pub slot_same : (W V : Known → Type 0) → ((w : Known) → W w → V w) → ((w : Known) → V w → W w) → (o : Option Known)
+pub slot_same : (W V : Types → Type 0) → ((w : Types) → W w → V w) → ((w : Types) → V w → W w) → (o : Option Types)
     → TellsSlot o W → TellsSlot o V
 slot_same W V f g (Some k) h = all_same W V f g k h
 slot_same W V f g None h = λ w v. h w (g w v)
 
 -- ---- two families
 
-union_all : (W V : Known → Type 0) (j k new : Known) → Tells j W → Tells k V → IsJoined j k new
+union_all : (W V : Types → Type 0) (j k new : Types) → Tells j W → Tells k V → IsJoined j k new
     → Tells new (λ w. W w ⊎ V w)
 union_all W V j k new h l e = record {
   eleven = e.eleven;
@@ -103,11 +103,11 @@ union_all W V j k new h l e = record {
       (byte_joined (Marks W byte) (Marks V byte) (j.stored byte) (k.stored byte) (h.bytes byte) (l.bytes byte)));
 }
 
-union_none : (W V : Known → Type 0) (k : Known) → ((w : Known) → W w → ⊥) → Tells k V → Tells k (λ w. W w ⊎ V w)
+union_none : (W V : Types → Type 0) (k : Types) → ((w : Types) → W w → ⊥) → Tells k V → Tells k (λ w. W w ⊎ V w)
 union_none W V k none h =
     all_same V (λ w. W w ⊎ V w) (λ w v. inr v) (λ w x. elim x [ inl y ↦ absurd (none w y) | inr v ↦ v ]) k h
 
-pub merged_slot : (W V : Known → Type 0) (o : Option Known) (k new : Known) → TellsSlot o W → Tells k V → IsMerged o k new
+pub merged_slot : (W V : Types → Type 0) (o : Option Types) (k new : Types) → TellsSlot o W → Tells k V → IsMerged o k new
     → Tells new (λ w. W w ⊎ V w)
 merged_slot W V (Some old) k new h l m = union_all W V old k new h l m
 merged_slot W V None k new h l m = subst (λ x. Tells x (λ w. W w ⊎ V w)) (sym m) (union_none W V k h l)

@@ -13,7 +13,7 @@ use Rattle.bpf_verify.specs.declared.tag.Tag.TheVariants.{Unset, Number, Place}
 use Rattle.bpf_verify.specs.declared.error.VerifyError.{VerifyError}
 use Rattle.bpf_verify.specs.declared.error.VerifyError.TheVariants as errors
 use Rattle.bpf_verify.specs.Slots.{HasNoSlotFault, IsSlotFault}
-use Rattle.bpf_verify.specs.Tags.{Known}
+use Rattle.bpf_verify.specs.Tags.{Types}
 use Rattle.bpf_verify.specs.declared.facts.Facts.{Facts}
 use Rattle.bpf_verify.specs.Table.{known_at}
 use Rattle.bpf_verify.specs.Holds.{AllowsAll, CoversAll, HoldsOnAllRuns, BreaksNoneOnAllRuns}
@@ -53,7 +53,7 @@ IsSound kind insns =
     × ((fault : Fault) → IsStuck insns operands fault → ⊥)
 
 -- what the paths to a slot have in common; or no path leads there, as where no instruction begins
-abbrev pub IsTyping : List Insn → List Tag → ℕ → Option Known → Type 0
+abbrev pub IsTyping : List Insn → List Tag → ℕ → Option Types → Type 0
 IsTyping insns entry slot None = (path : List ℕ) → IsPath insns path slot → ⊥
 IsTyping insns entry slot (Some k) = Tells k (IsWay insns entry slot) × (begins insns slot ≡ true)
 
@@ -66,7 +66,7 @@ pub record Accepted : Type 0 where
   pub table : List (Option Facts)
 
 -- what is known at a slot
-abbrev pub typing : Accepted → ℕ → Option Known
+abbrev pub typing : Accepted → ℕ → Option Types
 typing o slot = known_at o.table slot
 
 -- The program is acceptable, and what is known at a slot is what the paths there have in common. It allows the slot's

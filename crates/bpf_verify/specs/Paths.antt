@@ -11,7 +11,7 @@ use Rattle.bpf_insn.specs.Program.{slots_of, insn_at}
 use Rattle.bpf_insn.specs.Reads.{all_reads}
 use Rattle.bpf_verify.specs.declared.tag.Tag.{Tag}
 use Rattle.bpf_verify.specs.declared.tag.Tag.TheVariants.{Unset, Number, Place, Mixed}
-use Rattle.bpf_verify.specs.Tags.{Known, tag, breaks, BreaksNone, after}
+use Rattle.bpf_verify.specs.Tags.{Types, tag, breaks, BreaksNone, after}
 
 abbrev pub IsIn : {A : Type 0} → A → List A → Type 0
 IsIn x [] = ⊥
@@ -37,19 +37,19 @@ IsPath insns [] slot = slot ≡ 0
 IsPath insns (from ∷ path) slot = IsPath insns path from × MayLead insns from slot
 
 -- from what was known before the instruction at a slot, by which it breaks no rule, to what is known after it
-pub record GoesOn (insns : List Insn) (from : ℕ) (before k : Known) : Type 0 where
+pub record GoesOn (insns : List Insn) (from : ℕ) (before k : Types) : Type 0 where
   pub insn : Insn
   pub here : insn_at insns from ≡ Some insn
   pub unbroken : BreaksNone before insn
   pub same : k ≡ after before insn
 
 -- what is known along a path, none of whose instructions breaks a rule: at first no byte is stored
-abbrev pub IsKnown : List Insn → List Tag → List ℕ → Known → Type 0
+abbrev pub IsKnown : List Insn → List Tag → List ℕ → Types → Type 0
 IsKnown insns entry [] k = k ≡ record { tags = entry; stored = λ byte. false }
-IsKnown insns entry (from ∷ path) k = (before : Known) × IsKnown insns entry path before × GoesOn insns from before k
+IsKnown insns entry (from ∷ path) k = (before : Types) × IsKnown insns entry path before × GoesOn insns from before k
 
 -- some path leads to the slot, and this is known along it
-pub record IsWay (insns : List Insn) (entry : List Tag) (slot : ℕ) (k : Known) : Type 0 where
+pub record IsWay (insns : List Insn) (entry : List Tag) (slot : ℕ) (k : Types) : Type 0 where
   pub path : List ℕ
   pub leads : IsPath insns path slot
   pub known : IsKnown insns entry path k
@@ -60,7 +60,7 @@ pub record IsWay (insns : List Insn) (entry : List Tag) (slot : ℕ) (k : Known)
 pub record ShowsOne (insns : List Insn) (entry : List Tag) (slot : ℕ) (rule : CodeRule) : Type 0 where
   pub insn : Insn
   pub here : insn_at insns slot ≡ Some insn
-  pub way : Known
+  pub way : Types
   pub is_way : IsWay insns entry slot way
   pub broken : breaks way insn rule ≡ true
 
@@ -70,8 +70,8 @@ pub record ShowsTwo (insns : List Insn) (entry : List Tag) (slot : ℕ) : Type 0
   pub here : insn_at insns slot ≡ Some insn
   pub reg : Reg
   pub read : IsIn reg (all_reads insn)
-  pub left : Known
-  pub right : Known
+  pub left : Types
+  pub right : Types
   pub left_way : IsWay insns entry slot left
   pub right_way : IsWay insns entry slot right
   pub left_set : tag left.tags reg ≢ Unset
@@ -110,8 +110,8 @@ TellsByte true P = P true × ((b : Bool) → P b → b ≡ true)
 TellsByte false P = P false
 
 -- what is known of some ways, of which there is one at least
-pub record Tells (k : Known) (W : Known → Type 0) : Type 0 where
+pub record Tells (k : Types) (W : Types → Type 0) : Type 0 where
   pub eleven : length k.tags ≡ 11
-  pub some : (w : Known) × W w
-  pub each : (r : Reg) → TellsTag (tag k.tags r) (λ t. (w : Known) × W w × (tag w.tags r ≡ t))
-  pub bytes : (byte : ℕ) → TellsByte (k.stored byte) (λ b. (w : Known) × W w × (w.stored byte ≡ b))
+  pub some : (w : Types) × W w
+  pub each : (r : Reg) → TellsTag (tag k.tags r) (λ t. (w : Types) × W w × (tag w.tags r ≡ t))
+  pub bytes : (byte : ℕ) → TellsByte (k.stored byte) (λ b. (w : Types) × W w × (w.stored byte ≡ b))

@@ -21,7 +21,7 @@ use Rattle.bpf_verify.specs.declared.tag.Tag.{Tag}
 use Rattle.bpf_verify.specs.declared.tag.Tag.TheVariants.{Unset, Number, Place, Mixed}
 
 -- what is known: a tag for each register, and which bytes of the stack were stored, byte 0 being the lowest
-pub record Known : Type 0 where
+pub record Types : Type 0 where
   pub tags : List Tag
   pub stored : ℕ → Bool
 
@@ -80,7 +80,7 @@ bytes_of ts None = []
 -- ---- rules
 
 -- by what is known, the instruction breaks the rule (a path leaves no register mixed, so that V12 is never of one path)
-abbrev pub breaks : Known → Insn → CodeRule → Bool
+abbrev pub breaks : Types → Insn → CodeRule → Bool
 breaks k i UnsetRead = any_tag is_unset_tag k.tags (all_reads i)
 breaks k i MixedRead = any_tag is_mixed_tag k.tags (all_reads i)
 breaks k i NumberWanted = any_tag is_place_tag k.tags (number_reads i)
@@ -89,7 +89,7 @@ breaks k i OutsideStack = leaves_stack k.tags i
 breaks k i UnstoredRead = list_any (λ b. not (k.stored b)) (bytes_of k.tags (load_access i))
 breaks k i _ = false
 
-abbrev pub BreaksNone : Known → Insn → Type 0
+abbrev pub BreaksNone : Types → Insn → Type 0
 BreaksNone k i = (rule : CodeRule) → breaks k i rule ≡ false
 
 -- ---- what is known after an instruction
@@ -113,7 +113,7 @@ new_tags ts (Some d) t = slice_set ts (number_of_reg d) t
 abbrev pub stores : List Tag → Insn → ℕ → Bool
 stores ts i byte = list_any (nat_eq byte) (bytes_of ts (store_access i))
 
-abbrev pub after : Known → Insn → Known
+abbrev pub after : Types → Insn → Types
 after k i = record {
   tags = new_tags k.tags (written_reg i) (written_tag k.tags i);
   stored = λ byte. k.stored byte || stores k.tags i byte;

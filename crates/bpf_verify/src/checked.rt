@@ -5,7 +5,7 @@ ghost use Rattle.bpf_insn.specs.Effects.{byte_at};
 ghost use Rattle.bpf_verify.specs.Accepted.{IsAccepted, ExplainsRefusal, IsTyping, typing};
 ghost use Rattle.bpf_verify.specs.Accepted.{entry_tags};
 ghost use Rattle.bpf_verify.specs.Table.{known_in};
-ghost use Rattle.bpf_verify.specs.Tags.{Known};
+ghost use Rattle.bpf_verify.specs.Tags.{Types};
 ghost use Rattle.bpf_verify.specs.inner.Pass.{IsEntry};
 
 use crate::error::VerifyError;
@@ -88,7 +88,7 @@ impl Checked {
 
     /// What is known of R0 to R10 at a slot, or None where no path leads.
     pub fn typing(&self, slot: u64) -> Option<[Tag; 11]>
-        ensures some { IfSome result (λ tags. (k : Known) × (typing self.now slot ≡ Some k) × (tags ≡ k.tags)) }
+        ensures some { IfSome result (λ tags. (k : Types) × (typing self.now slot ≡ Some k) × (tags ≡ k.tags)) }
         ensures none { IfNone result (typing self.now slot ≡ None) }
         ensures typed { IsTyping self.now.insns (entry_tags self.now.kind) slot (typing self.now slot) }
     {
@@ -103,7 +103,7 @@ impl Checked {
     pub fn stored(&self, slot: u64, place: i64) -> Option<bool>
         requires above { negsuc 511 ≤ℤ place }
         requires below { place <ℤ pos 0 }
-        ensures some { IfSome result (λ b. (k : Known) × (typing self.now slot ≡ Some k) × (b ≡ k.stored (byte_at place))) }
+        ensures some { IfSome result (λ b. (k : Types) × (typing self.now slot ≡ Some k) × (b ≡ k.stored (byte_at place))) }
         ensures none { IfNone result (typing self.now slot ≡ None) }
         ensures typed { IsTyping self.now.insns (entry_tags self.now.kind) slot (typing self.now slot) }
     {

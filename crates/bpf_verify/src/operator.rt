@@ -6,7 +6,7 @@ ghost use Rattle.bpf_known.specs.Known.{number_in, IsKnown};
 ghost use Rattle.bpf_verify.specs.Accepted.{IsAccepted, IsAcceptable, IsSound, ExplainsRefusal, IsTyping, typing};
 ghost use Rattle.bpf_verify.specs.Accepted.{entry_tags};
 ghost use Rattle.bpf_verify.specs.Flat.{IsFlat};
-ghost use Rattle.bpf_verify.specs.Tags.{Known};
+ghost use Rattle.bpf_verify.specs.Tags.{Types};
 
 use crate::checked::{Checked, check};
 use crate::error::VerifyError;
@@ -113,7 +113,7 @@ impl Operator {
 
     /// What is known of R0 to R10 at a slot, or None where no path leads.
     pub fn typing(&self, slot: u64) -> Option<[Tag; 11]>
-        ensures some { IfSome result (λ tags. (k : Known) × (typing self.now slot ≡ Some k) × (tags ≡ k.tags)) }
+        ensures some { IfSome result (λ tags. (k : Types) × (typing self.now slot ≡ Some k) × (tags ≡ k.tags)) }
         ensures none { IfNone result (typing self.now slot ≡ None) }
         ensures typed { IsTyping self.now.insns (entry_tags self.now.kind) slot (typing self.now slot) }
     {
@@ -125,7 +125,7 @@ impl Operator {
     pub fn stored(&self, slot: u64, place: i64) -> Option<bool>
         requires above { negsuc 511 ≤ℤ place }
         requires below { place <ℤ pos 0 }
-        ensures some { IfSome result (λ b. (k : Known) × (typing self.now slot ≡ Some k) × (b ≡ k.stored (byte_at place))) }
+        ensures some { IfSome result (λ b. (k : Types) × (typing self.now slot ≡ Some k) × (b ≡ k.stored (byte_at place))) }
         ensures none { IfNone result (typing self.now slot ≡ None) }
         ensures typed { IsTyping self.now.insns (entry_tags self.now.kind) slot (typing self.now slot) }
     {
