@@ -1,23 +1,27 @@
--- A session over devices that were made anew.
-use Rattle.std.proofs.Common.{◌≡◌, subst, Result}
-use Rattle.wire.specs.Devices.{SourceState, SinkState}
+-- The calls of a session of a server.
+use Rattle.std.proofs.Common.{◌≡◌, ◌∙◌, ◌+◌, ◌≤◌, ◌^◌, ◌-◌, List, Result, sym, ap, arith}
+use Rattle.step_budget.specs.Budget.{Deals}
+use Rattle.step_budget.specs.Drawing.{Draws}
+use Rattle.step_purse.specs.declared.dealings.Dealing.{Dealing}
 use Rattle.session.specs.Sessions.{SessionState}
-use Rattle.session.specs.Talk.{Outcome}
+use Rattle.session.specs.Talk.{Outcome, Outside}
 use Rattle.session.specs.declared.end.End.{End}
 use Rattle.session.specs.declared.end.ServeFault.{ServeFault}
 use Rattle.listener.specs.Limits.{Metered, Meters}
+use Rattle.listener.specs.Metering.{told_steps, spent_by}
+use Rattle.listener.proofs.Metering.{gained, counted}
+use Rattle.listener.proofs.Serving.{calls_in}
 
--- by what is told of the devices at their start
-pub spoke : (room : SessionState) (first last : Metered) (src src' told : SourceState) (snk snk' told' : SinkState)
-    (result : Result End ServeFault) → src ≡ told → snk ≡ told'
-    → Outcome Meters room (record { budget = first; source = src; sink = snk }) (record { budget = last; source = src'; sink = snk' }) result
-    → (x : SourceState) × (y : SinkState) × Outcome Meters room (record { budget = first; source = told; sink = told' })
-    (record { budget = last; source = x; sink = y }) result
-spoke room first last src src' told snk snk' told' result p q said = (
-  src',
-  snk',
-  subst (λ (s : SourceState). Outcome Meters room (record { budget = first; source = s; sink = told' })
-      (record { budget = last; source = src'; sink = snk' }) result) p
-      (subst (λ (k : SinkState). Outcome Meters room (record { budget = first; source = src; sink = k })
-      (record { budget = last; source = src'; sink = snk' }) result) q said),
-)
+-- a session that had spent nothing made calls of its pass, and what they spent is told
+pub called : (room : SessionState) (old new : Outside Metered) (result : Result End ServeFault) → old.budget.spent ≡ 0
+    → Outcome Meters room old new result
+    → (calls : List Dealing) × Deals Draws old.budget.pass calls new.budget.pass × (new.budget.spent ≡ told_steps (spent_by calls))
+called room old new result none said =
+    let made = calls_in room old new result said in
+    let drawn = gained old.budget made.0 new.budget made.1 in
+    let small : old.budget.spent ≤ 2 ^ 64 - 1 = omega (arith, none) in
+    let from_none : old.budget.spent + spent_by made.0 ≡ spent_by made.0 = omega (arith, none) in (
+      drawn.0,
+      drawn.1,
+      counted old.budget made.0 new.budget made.1 small ∙ ap told_steps (from_none ∙ sym drawn.2),
+    )

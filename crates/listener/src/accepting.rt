@@ -35,7 +35,7 @@ struct Ready {
 /// # Errors
 ///
 /// No connection could be accepted.
-#[tactic(auto, using(step_purse::proofs::Shares::whole_gives, crate::proofs::Metering::begins_within))]
+#[tactic(auto, using(crate::proofs::Metering::begins_within))]
 fn start_next<
     's,
     'a,
@@ -168,7 +168,6 @@ pub fn serve_acceptor<
     pass: Pass,
 ) -> (E, Result<(), ListenFault>)
     requires own { IsPassOf server.now.purse.now pass }
-    requires whole { 0 < pass.known.share.wholes }
     ensures { Listened server.now.terms.sessions (E.state acceptor) (E.state result.0) result.1 }
 {
     let room = server.room();
@@ -190,7 +189,7 @@ pub fn serve_acceptor<
     )
 }
 
-/// What sessions draw on: memory, a purse, and a pass of it that can give others.
+/// What sessions draw on: memory, a purse, and a pass of it.
 #[derive(Drop)]
 pub struct Supply<'p> {
     pub alloc: Global,
@@ -213,7 +212,7 @@ fn serve_counted<
     journal: Option<&Journal>,
     blanks: (Blank, Blank, Blank),
 ) -> Result<(), ListenFault>
-    requires supply { IsPassOf supply.purse.now supply.pass × (0 < supply.pass.known.share.wholes) }
+    requires supply { IsPassOf supply.purse.now supply.pass }
     requires seats { (blanks.0.name ≡ L.name) × (blanks.0.parts ≡ L.parts) × (blanks.0.parts ≡ 16) }
     requires counts { IsNewCount blanks.1 C.name C.parts × IsNewCount blanks.2 F.name F.parts }
     ensures { OnOk result (terms.sessions ≢ None) }
@@ -245,7 +244,6 @@ pub fn serve_listener<N: OpenListener<Stream = TcpStream>, R: Threads + Wait + C
 ) -> Result<(), ListenFault>
     requires workers { (1 ≤ workers) × (workers ≤ 64) }
     requires own { IsPassOf purse.now pass }
-    requires whole { 0 < pass.known.share.wholes }
     ensures { OnOk result (sessions ≢ None) }
 {
     let supply = Supply { alloc, purse, pass };
@@ -271,7 +269,6 @@ pub fn serve_on_terms<N: OpenListener<Stream = TcpStream>, R: Threads + Wait + C
     journal: Option<&Journal>,
 ) -> Result<(), ListenFault>
     requires own { IsPassOf supply.purse.now supply.pass }
-    requires whole { 0 < supply.pass.known.share.wholes }
     ensures { OnOk result (terms.sessions ≢ None) }
 {
     let blanks = (Blank::new(SEATS), Blank::new(1), Blank::new(1));

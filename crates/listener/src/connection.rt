@@ -3,8 +3,9 @@ ghost use Rattle.std.specs.Prelude.{◌≡◌, ◌⊎◌, true, false, Err, IfOk
 ghost use Rattle.wire.specs.Devices.{IsNewCount};
 ghost use Rattle.step_purse.specs.Passes.{IsPassOf};
 ghost use Rattle.session.specs.Sessions.{full_session};
-ghost use Rattle.listener.specs.Limits.{IsWithin};
-ghost use Rattle.listener.specs.inner.Speaking.{SpokeOver, beginning};
+ghost use Rattle.session.specs.Talk.{Outcome};
+ghost use Rattle.listener.specs.Limits.{IsWithin, Meters};
+ghost use Rattle.listener.specs.inner.Speaking.{IsServedBy, beginning};
 
 use crate::acceptor::Caller;
 use crate::entry::{Account, Ending, Event};
@@ -15,7 +16,7 @@ use crate::roster::Watch;
 use crate::seats::{Seat, take_seat};
 use crate::server::ServerState;
 use crate::streams::{Given, Served, serve_within};
-use session::{End, FromRead, ServeFault, Session, ToWrite};
+use session::{End, FromRead, ServeFault, Session, Sink, Source, ToWrite};
 use std::io::{Read, Write};
 use std::marker::Brand;
 use std::net::{Shutdown, SocketAddr, TcpStream};
@@ -28,7 +29,7 @@ use step_purse::{Pass, Purse};
 /// How many reads of what a client has still sent are made before its connection is closed.
 const LAST_READS: u64 = 64;
 
-/// What a client is told for which there is no session.
+/// What a client is sent when no session can be started for it.
 const NO_BUSY: &[u8] = b"no busy\n";
 
 /// Ends a connection: tells the client that nothing more comes, and takes what it has sent already, since the system takes back
@@ -74,38 +75,67 @@ fn note_turned_away<R: Wait + Clock, L: Ledger>(
     }
 }
 
-/// As `serve_within`, over a reader and a writer whose calls are counted by ledgers of the caller's.
+/// Serves a session of a server over these devices: by a pass of its purse, in the room of each of its sessions, and within the
+/// limits of its terms.
+fn serve_sides<I: Source, O: Sink, H: Threads + Wait, L: Ledger>(
+    rt: &H,
+    server: &ServerState<'_, L>,
+    given: Given<'_>,
+    source: &mut I,
+    sink: &mut O,
+) -> Served
+    requires own { IsPassOf server.now.purse.now given.pass }
+    requires within { IsWithin (beginning given.pass server.now.terms.limits) }
+    requires full { (given.room ≡ full_session server.now.terms.workers) × (given.limits ≡ server.now.terms.limits) }
+    ensures said { Outcome Meters (full_session server.now.terms.workers)
+        (record {
+          budget = beginning given.entry.pass server.now.terms.limits;
+          source = I.state source.old;
+          sink = O.state sink.old;
+        })
+        (record {
+          budget = record { pass = result.pass; spent = result.spent; limits = server.now.terms.limits };
+          source = I.state source.new;
+          sink = O.state sink.new;
+        }) result.outcome }
+    ensures served { IsServedBy server.now.purse.now given.entry.pass server.now.terms.limits result }
+{
+    serve_within(rt, given, source, sink, server.purse)
+}
+
+/// As `serve_sides`, over a reader and a writer whose calls are counted by ledgers of the caller's.
 fn serve_counted<
     R: Read + Drop,
     W: Write + Drop,
     H: Threads + Wait,
+    L: Ledger,
     A: Ledger,
     B: Ledger,
     C: Ledger,
     D: Ledger,
 >(
     rt: &H,
-    purse: &Purse,
+    server: &ServerState<'_, L>,
     given: Given<'_>,
     reader: R,
     writer: W,
     blanks: (Blank, Blank, Blank, Blank),
 ) -> Served
-    requires own { IsPassOf purse.now given.pass }
-    requires within { IsWithin (beginning given.pass given.limits) }
+    requires own { IsPassOf server.now.purse.now given.pass }
+    requires within { IsWithin (beginning given.pass server.now.terms.limits) }
+    requires full { (given.room ≡ full_session server.now.terms.workers) × (given.limits ≡ server.now.terms.limits) }
     requires reads { IsNewCount blanks.0 A.name A.parts × IsNewCount blanks.1 B.name B.parts }
     requires writes { IsNewCount blanks.2 C.name C.parts × IsNewCount blanks.3 D.name D.parts }
-    ensures { SpokeOver given.entry.room (beginning given.entry.pass given.entry.limits) (R.remaining reader)
-        (W.contents writer) result }
+    ensures { IsServedBy server.now.purse.now given.entry.pass server.now.terms.limits result }
 {
     let (reads, failed_reads, writes, failed_writes) = blanks;
     let mut source = FromRead::<R, A, B>::new(reader, reads, failed_reads);
     let mut sink = ToWrite::<W, C, D>::new(writer, writes, failed_writes);
-    serve_within(rt, given, &mut source, &mut sink, purse)
+    serve_sides(rt, server, given, &mut source, &mut sink)
 }
 
-/// As `serve_within`, over a reader and a writer, within the purse of a house, in a room and within limits that are its.
-fn serve_sides<R: Read + Drop, W: Write + Drop, H: Threads + Wait, L: Ledger>(
+/// As `serve_sides`, over a reader and a writer, which end with the session.
+fn serve_over<R: Read + Drop, W: Write + Drop, H: Threads + Wait, L: Ledger>(
     rt: &H,
     server: &ServerState<'_, L>,
     given: Given<'_>,
@@ -115,18 +145,11 @@ fn serve_sides<R: Read + Drop, W: Write + Drop, H: Threads + Wait, L: Ledger>(
     requires own { IsPassOf server.now.purse.now given.pass }
     requires within { IsWithin (beginning given.pass server.now.terms.limits) }
     requires full { (given.room ≡ full_session server.now.terms.workers) × (given.limits ≡ server.now.terms.limits) }
-    ensures { SpokeOver (full_session server.now.terms.workers) (beginning given.entry.pass server.now.terms.limits)
-        (R.remaining reader)
-        (W.contents writer) result }
+    ensures { IsServedBy server.now.purse.now given.entry.pass server.now.terms.limits result }
 {
     let blanks = (Blank::new(1), Blank::new(1), Blank::new(1), Blank::new(1));
-    serve_counted::<R, W, H, Brand, Brand, Brand, Brand>(
-        rt,
-        server.purse,
-        given,
-        reader,
-        writer,
-        blanks,
+    serve_counted::<R, W, H, L, Brand, Brand, Brand, Brand>(
+        rt, server, given, reader, writer, blanks,
     )
 }
 
@@ -153,8 +176,8 @@ fn watch_in<'j>(journal: Option<&'j Journal>, client: SocketAddr) -> Option<Watc
     }
 }
 
-/// A session from its start to its end, in a thread of its own. Its seat is free before its connection is closed, so that a
-/// client that saw the end finds it.
+/// A session from its start to its end, in a thread of its own, by this pass and in this room; what it leaves is answered. Its seat
+/// is free before its connection is closed, so that a client that saw the end finds it.
 fn attend<'a, R: Threads + Wait + Clock, L: Ledger>(
     rt: &'a R,
     server: &'a ServerState<'a, L>,
@@ -162,10 +185,11 @@ fn attend<'a, R: Threads + Wait + Clock, L: Ledger>(
     pass: Pass,
     caller: Caller,
     seat: Seat<'a, R, L>,
-)
+) -> Served
     requires own { IsPassOf server.now.purse.now pass }
-    requires within { IsWithin (record { pass = pass; spent = 0; limits = server.now.terms.limits }) }
+    requires within { IsWithin (beginning pass server.now.terms.limits) }
     requires full { room ≡ full_session server.now.terms.workers }
+    ensures { IsServedBy server.now.purse.now pass server.now.terms.limits result }
 {
     let Caller { stream, address } = caller;
     let began = match server.journal {
@@ -185,7 +209,7 @@ fn attend<'a, R: Threads + Wait + Clock, L: Ledger>(
         limits: server.terms.limits,
         watch: watch_in(server.journal, address),
     };
-    let served = serve_sides(rt, server, given, reader, writer);
+    let served = serve_over(rt, server, given, reader, writer);
     drop(seat);
     if let Some(journal) = server.journal {
         let account = Account {
@@ -200,6 +224,7 @@ fn attend<'a, R: Threads + Wait + Clock, L: Ledger>(
         journal.note_end(rt, address, account);
     }
     hang_up(&stream);
+    served
 }
 
 /// Starts a session for a connection, or tells the client that there is none, where there is no room, no seat or no thread.
@@ -213,7 +238,7 @@ pub fn admit<'s, 'a, R: Threads + Wait + Clock + Sync, L: Ledger + Send + Sync>(
     caller: Caller,
 ) -> bool
     requires own { IsPassOf server.now.purse.now pass }
-    requires within { IsWithin (record { pass = pass; spent = 0; limits = server.now.terms.limits }) }
+    requires within { IsWithin (beginning pass server.now.terms.limits) }
     requires full { IfSome room (λ r. r ≡ full_session server.now.terms.workers) }
 {
     let client = caller.address;

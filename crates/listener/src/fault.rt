@@ -34,8 +34,8 @@ impl fmt::Display for Cause {
     fn fmt<W: fmt::Write>(&self, f: &mut fmt::Formatter<W>) -> fmt::Result {
         let code = match *self {
             Cause::System(code) => code,
-            Cause::Idle => return f.write_str("the time that --idle gives is over"),
-            Cause::Unknown => return f.write_str("the system tells no cause"),
+            Cause::Idle => return f.write_str("the idle timeout expired"),
+            Cause::Unknown => return f.write_str("the cause is unknown"),
         };
         let error = io::Error::from_raw_os_error(code);
         match error.kind() {

@@ -1,5 +1,5 @@
 //! A client of the server, and the server beside it.
-ghost use Rattle.std.specs.Prelude.{◌≡◌, ◌<◌};
+ghost use Rattle.std.specs.Prelude.{◌≡◌};
 ghost use Rattle.step_purse.specs.Passes.{IsPassOf};
 
 use listener::{ListenFault, serve_listener};
@@ -70,8 +70,7 @@ pub fn serve_beside<
     let (purse, pass) = Purse::open(rt.alloc(), 12)?;
     let purse = &purse;
     let server = move || -> Result<(), ListenFault>
-        requires own { IsPassOf purse.now pass }
-        requires whole { 0 < pass.known.share.wholes }
+        requires { IsPassOf purse.now pass }
     { serve_listener(rt, rt.alloc(), listener, purse, pass, 2, sessions) };
     Ok(join(rt, server, client))
 }

@@ -1,5 +1,5 @@
 -- How the contracts of a session on two devices follow from one another.
-use Rattle.std.proofs.Common.{ℕ, ◌≡◌, ◌≢◌, [], refl, subst, List, Option, Result, Ok, Err}
+use Rattle.std.proofs.Common.{ℕ, ◌≡◌, ◌≢◌, [], refl, ap, subst, Option, Result, Ok, Err}
 use Rattle.wire.specs.Devices.{SourceState, SinkState}
 use Rattle.step_budget.specs.Drawing.{Draws}
 use Rattle.step_purse.specs.Histories.{newcomer}
@@ -10,7 +10,16 @@ use Rattle.session.specs.Talk.{Outcome}
 use Rattle.session.specs.declared.end.End.{End}
 use Rattle.session.specs.declared.end.ServeFault.{ServeFault}
 use Rattle.session.specs.declared.end.ServeFault.TheVariants.{Read, Write, Turns, Memory}
-use Rattle.spmat.specs.inner.Running.{Devices, Spoke, Ran, RanOver}
+use Rattle.listener.specs.declared.fault.Cause.{Cause}
+use Rattle.command_line.specs.declared.asked.Settings.{Settings}
+use Rattle.command_line.specs.declared.asked.Settings.TheVariants.{Run, Serve}
+use Rattle.command_line.specs.declared.asked.SettingsFault.{SettingsFault}
+use Rattle.command_line.specs.declared.asked.SettingsFault.TheVariants as asked
+use Rattle.command_line.specs.declared.ending.Done.{Done}
+use Rattle.command_line.specs.declared.ending.Done.TheVariants as done
+use Rattle.command_line.specs.declared.ending.Failure.{Failure}
+use Rattle.command_line.specs.declared.ending.Failure.TheVariants as failures
+use Rattle.spmat.specs.inner.Running.{Devices, Spoke, Ran, IsRunOf, IsServed, IsVersionTold, IsRefused, IsAnswer, IsOfSession, MayEnd, explained}
 
 module _ (steps workers : ℕ) (room : SessionState) (first last : PassState) (src src' : SourceState) (snk snk' : SinkState)
     (is_full : room ≡ full_session workers) (allowance : first.allowance ≡ steps) (unused : first.known ≡ newcomer [] whole) where
@@ -36,21 +45,63 @@ module _ (steps workers : ℕ) (room : SessionState) (first last : PassState) (s
   ran_from (Err Turns) begun said = spoke (Err Turns) said
   ran_from (Err Memory) begun said = absurd (begun refl)
 
--- by what is told of the devices at their start
-pub ran : (steps workers : ℕ) (src told : SourceState) (snk told' : SinkState) (new : Devices) (result : Result End ServeFault)
-    → src ≡ told → snk ≡ told' → Ran steps workers (record { source = src; sink = snk }) new result
-    → (last : Devices) × Ran steps workers (record { source = told; sink = told' }) last result
-ran steps workers src told snk told' new result p q r = (
-  new,
-  subst (λ (s : SourceState). Ran steps workers (record { source = s; sink = told' }) new result) p
-      (subst (λ (k : SinkState). Ran steps workers (record { source = src; sink = k }) new result) q r),
-)
+-- the devices may be left out of what became of an answer
+of_session : (steps workers : ℕ) (old new : Devices) (told : Result Done Failure) → IsRunOf steps workers old new told → IsOfSession told
+of_session steps workers old new (Ok (done.Session end)) said = tt
+of_session steps workers old new (Ok done.Sessions) said = said
+of_session steps workers old new (Ok done.Version) said = said
+of_session steps workers old new (Err (failures.Session fault cause)) said = tt
+of_session steps workers old new (Err (failures.Settings fault)) said = said
+of_session steps workers old new (Err failures.Memory) said = said
+of_session steps workers old new (Err (failures.Output cause)) said = said
+of_session steps workers old new (Err (failures.Binding port cause)) said = said
+of_session steps workers old new (Err (failures.Listening fault)) said = said
 
--- by what is known of the reader, the writer and the end
-pub ran_over : {A B : Type 0} (steps workers : ℕ) (remaining : A → Option (List ℕ)) (contents : B → Option (List ℕ)) (a x : A) (b y : B)
-    (result told : Result End ServeFault) → a ≡ x → b ≡ y → result ≡ told → RanOver steps workers (remaining a) (contents b) result
-    → RanOver steps workers (remaining x) (contents y) told
-ran_over steps workers remaining contents a x b y result told p q r over =
-    subst (λ (t : Result End ServeFault). RanOver steps workers (remaining x) (contents y) t) r
-    (subst (λ w. RanOver steps workers (remaining x) (contents w) result) q
-    (subst (λ v. RanOver steps workers (remaining v) (contents b) result) p over))
+pub may_end : (asked : Result Settings SettingsFault) (old new : Devices) (told : Result Done Failure) → IsAnswer asked old new told
+    → MayEnd asked told
+may_end (Ok (Run steps workers idle)) old new told said = of_session steps workers old new told said
+may_end (Ok (Serve port steps workers sessions idle session_steps session_reserve log log_format log_every)) old new told said = said.1
+may_end (Err fault) old new told said = said.1
+
+-- nor does the cause of a device matter for how it may end
+module _ (unread unwritten : Option Cause) where
+  explained_session : (told : Result Done Failure) → IsOfSession told → IsOfSession (explained unread unwritten told)
+  explained_session (Ok d) said = said
+  explained_session (Err (failures.Session fault cause)) said = tt
+  explained_session (Err (failures.Settings fault)) said = said
+  explained_session (Err failures.Memory) said = said
+  explained_session (Err (failures.Output cause)) said = said
+  explained_session (Err (failures.Binding port cause)) said = said
+  explained_session (Err (failures.Listening fault)) said = said
+
+  explained_server : (port : ℕ) (sessions : Option ℕ) (told : Result Done Failure) → IsServed port sessions told
+      → IsServed port sessions (explained unread unwritten told)
+  explained_server port sessions (Ok d) said = said
+  explained_server port sessions (Err (failures.Session fault cause)) said = said
+  explained_server port sessions (Err (failures.Settings fault)) said = said
+  explained_server port sessions (Err failures.Memory) said = said
+  explained_server port sessions (Err (failures.Output cause)) said = said
+  explained_server port sessions (Err (failures.Binding bound cause)) said = said
+  explained_server port sessions (Err (failures.Listening fault)) said = said
+
+  explained_version : (told : Result Done Failure) → IsVersionTold told → IsVersionTold (explained unread unwritten told)
+  explained_version (Ok d) said = said
+  explained_version (Err (failures.Session fault cause)) said = said
+  explained_version (Err (failures.Settings fault)) said = said
+  explained_version (Err failures.Memory) said = said
+  explained_version (Err (failures.Output cause)) said = said
+  explained_version (Err (failures.Binding port cause)) said = said
+  explained_version (Err (failures.Listening fault)) said = said
+
+  explained_refusal : (fault : SettingsFault) (told : Result Done Failure) → IsRefused fault told
+      → IsRefused fault (explained unread unwritten told)
+  explained_refusal asked.Version told said = explained_version told said
+  explained_refusal (asked.Words text) told said = ap (explained unread unwritten) said
+  explained_refusal asked.Memory told said = ap (explained unread unwritten) said
+
+  pub may_end_explained : (asked : Result Settings SettingsFault) (told : Result Done Failure) → MayEnd asked told
+      → MayEnd asked (explained unread unwritten told)
+  may_end_explained (Ok (Run steps workers idle)) told said = explained_session told said
+  may_end_explained (Ok (Serve port steps workers sessions idle session_steps session_reserve log log_format log_every)) told said =
+      explained_server port sessions told said
+  may_end_explained (Err fault) told said = explained_refusal fault told said

@@ -1,37 +1,41 @@
 //! `spmat`, a server for jobs over sparse matrices whose operators are BPF code.
 //!
 //! The program is thin: `command_line` reads its words and tells its end; `solo` has one session on any two devices, `standard`
-//! makes devices of standard input and output, and `serving` has sessions over TCP.
+//! makes sides of standard input and output, and `serving` has sessions over TCP.
 //!
-//! What a session reads, does and writes is the contract of `run_on` and of `solo::run` (`specs/inner/Running.antt`), and for one of
-//! many that of `listener::serve_within`. Which server settings ask for is the contract of `open_server` (`specs/inner/Serving.antt`),
-//! and how serving a listener ends that of `listener::serve_acceptor`.
+//! What the words ask for is done by `answer`, over two devices that it is lent; its contract says what they gave and took
+//! (`specs/inner/Running.antt`). The functions above it make these devices of the standard streams, which no contract sees. For one
+//! of many sessions that is the contract of `listener::serve_within`. Which server settings ask for is the contract of `open_server`
+//! (`specs/inner/Serving.antt`), and how serving a listener ends that of `listener::serve_acceptor`.
 #![tactic(auto)]
 
-ghost use Rattle.std.specs.Prelude.{◌≡◌, IfOk, Result};
-ghost use Rattle.session.specs.declared.end.End.{End};
-ghost use Rattle.session.specs.declared.end.ServeFault.{ServeFault};
+ghost use Rattle.std.specs.Prelude.{◌≡◌, IfOk};
+ghost use Rattle.std.specs.Process.{exit_status};
+ghost use Rattle.wire.specs.Devices.{IsNewCount};
+ghost use Rattle.command_line.specs.Endings.{code_of, status_of};
 ghost use Rattle.command_line.specs.InRange.{HasRoom, IsInRange};
-ghost use Rattle.spmat.specs.inner.Running.{IsDoneAs, IsRunOf, IsTold, RanOver};
+ghost use Rattle.spmat.specs.inner.Running.{IsAnswer, IsDoneAs, IsRunOf, IsVersionTold, MayEnd, explained, idle_in};
 
 mod serving;
 mod solo;
 mod standard;
 
 use crate::serving::{open_server, serve};
-use crate::solo::run_over;
 use crate::standard::Side;
 use command_line::{Done, Failure, Settings, SettingsFault, VERSION, ending_of, finish, settings};
 use listener::Cause;
 use session::ServeFault;
 use std::io::{ErrorKind, Read, Write};
+use std::marker::Brand;
 use std::net::{Net, TcpListener, TcpStream};
 use std::process::ExitCode;
 use std::rt::Env;
 use std::sync::Wait;
+use std::sync::ledger::{Blank, Ledger};
 use std::thread::Threads;
 use std::time::Clock;
 use std::{env, io};
+use wire::{FromRead, Sink, Source, ToWrite};
 
 const NOT_TEXT: &str = "error: the command line is not text\n";
 
@@ -49,7 +53,7 @@ fn read_settings<H: Env + AllocGlobal>(rt: &H) -> Result<Settings, SettingsFault
 
 /// Tells the version on standard output.
 fn tell_version<H: Print>(rt: &H) -> Result<Done, Failure>
-    ensures { IfOk result (λ done. done ≡ Done.Version) }
+    ensures { IsVersionTold result }
 {
     match println!(rt; "spmat {VERSION}") {
         Ok(()) => Ok(Done::Version),
@@ -57,25 +61,155 @@ fn tell_version<H: Print>(rt: &H) -> Result<Done, Failure>
     }
 }
 
-/// Serves one session on these devices of standard input and output, each call of which waits for so many seconds at most, if a
-/// number is given.
-fn run_on<R: Read + Drop, W: Write + Drop, H: Threads + Wait + AllocGlobal>(
+/// Serves one session on these devices, which know why a call of theirs failed.
+fn run<I: Source, O: Sink, H: Threads + Wait + AllocGlobal>(
     rt: &H,
-    input: R,
-    output: W,
+    source: &mut I,
+    sink: &mut O,
     steps: u64,
     workers: u64,
-    idle: Option<u64>,
 ) -> Result<Done, Failure>
     requires { HasRoom steps workers }
-    ensures { (ran : Result End ServeFault) × RanOver steps workers (R.remaining input) (W.contents output) ran × IsTold ran result }
+    ensures { IsRunOf steps workers (record { source = I.state source.old; sink = O.state sink.old })
+        (record { source = I.state source.new; sink = O.state sink.new }) result }
 {
-    let (mut unread, mut unwritten) = (None, None);
-    let reader = Side::input(input, idle, &mut unread);
-    let writer = Side::output(output, idle, &mut unwritten);
-    match run_over(rt, reader, writer, steps, workers) {
+    match solo::run(rt, source, sink, steps, workers) {
         Ok(end) => Ok(Done::Session(end)),
-        Err(fault) => {
+        Err(fault) => Err(Failure::Session { fault, cause: None }),
+    }
+}
+
+/// Does what settings ask for: one session on these devices, or a server's.
+fn perform<I: Source, O: Sink, H>(
+    rt: &H,
+    settings: Settings,
+    source: &mut I,
+    sink: &mut O,
+) -> Result<Done, Failure>
+where
+    H: Clock
+        + Print
+        + Eprint
+        + Net<Listener = TcpListener, Stream = TcpStream>
+        + Threads
+        + Wait
+        + Sync
+        + AllocGlobal,
+    requires { IsInRange settings }
+    ensures { IsDoneAs settings (record { source = I.state source.old; sink = O.state sink.old })
+        (record { source = I.state source.new; sink = O.state sink.new }) result }
+{
+    match settings {
+        Settings::Run {
+            steps,
+            workers,
+            idle: _,
+        } => run(rt, source, sink, steps, workers),
+        Settings::Serve { .. } => {
+            serve(rt, open_server(rt, settings)?)?;
+            Ok(Done::Sessions)
+        }
+    }
+}
+
+/// Does what the words of the command line ask for, where these devices are there for a session.
+fn answer<I: Source, O: Sink, H>(
+    rt: &H,
+    asked: Result<Settings, SettingsFault>,
+    source: &mut I,
+    sink: &mut O,
+) -> Result<Done, Failure>
+where
+    H: Clock
+        + Print
+        + Eprint
+        + Net<Listener = TcpListener, Stream = TcpStream>
+        + Threads
+        + Wait
+        + Sync
+        + AllocGlobal,
+    requires { IfOk asked (λ s. IsInRange s) }
+    ensures { IsAnswer asked (record { source = I.state source.old; sink = O.state sink.old })
+        (record { source = I.state source.new; sink = O.state sink.new }) result }
+{
+    match asked {
+        Ok(settings) => perform(rt, settings, source, sink),
+        Err(SettingsFault::Version) => tell_version(rt),
+        Err(fault) => Err(Failure::Settings(fault)),
+    }
+}
+
+/// As `answer`, over a reader and a writer whose calls are counted by ledgers of the caller's.
+fn answer_counted<R: Read + Drop, W: Write + Drop, H, A: Ledger, B: Ledger, C: Ledger, D: Ledger>(
+    rt: &H,
+    asked: Result<Settings, SettingsFault>,
+    reader: R,
+    writer: W,
+    blanks: (Blank, Blank, Blank, Blank),
+) -> Result<Done, Failure>
+where
+    H: Clock
+        + Print
+        + Eprint
+        + Net<Listener = TcpListener, Stream = TcpStream>
+        + Threads
+        + Wait
+        + Sync
+        + AllocGlobal,
+    requires range { IfOk asked (λ s. IsInRange s) }
+    requires reads { IsNewCount blanks.0 A.name A.parts × IsNewCount blanks.1 B.name B.parts }
+    requires writes { IsNewCount blanks.2 C.name C.parts × IsNewCount blanks.3 D.name D.parts }
+    ensures { MayEnd asked result }
+{
+    let (reads, failed_reads, writes, failed_writes) = blanks;
+    let mut source = FromRead::<R, A, B>::new(reader, reads, failed_reads);
+    let mut sink = ToWrite::<W, C, D>::new(writer, writes, failed_writes);
+    answer(rt, asked, &mut source, &mut sink)
+}
+
+/// As `answer`, over a reader and a writer, which end with it.
+fn answer_over<R: Read + Drop, W: Write + Drop, H>(
+    rt: &H,
+    asked: Result<Settings, SettingsFault>,
+    reader: R,
+    writer: W,
+) -> Result<Done, Failure>
+where
+    H: Clock
+        + Print
+        + Eprint
+        + Net<Listener = TcpListener, Stream = TcpStream>
+        + Threads
+        + Wait
+        + Sync
+        + AllocGlobal,
+    requires { IfOk asked (λ s. IsInRange s) }
+    ensures { MayEnd asked result }
+{
+    let blanks = (Blank::new(1), Blank::new(1), Blank::new(1), Blank::new(1));
+    answer_counted::<R, W, H, Brand, Brand, Brand, Brand>(rt, asked, reader, writer, blanks)
+}
+
+/// How long a call of a standard stream may wait, if a number of seconds is given.
+fn idle_of(asked: &Result<Settings, SettingsFault>) -> Option<u64>
+    ensures { result ≡ idle_in asked.now }
+{
+    match asked {
+        Ok(Settings::Run { idle, .. }) => *idle,
+        Ok(Settings::Serve { .. }) | Err(_) => None,
+    }
+}
+
+/// Adds why a device failed to how a session broke off.
+fn explain(
+    told: Result<Done, Failure>,
+    unread: Option<Cause>,
+    unwritten: Option<Cause>,
+) -> Result<Done, Failure>
+    ensures { result ≡ explained unread unwritten told }
+{
+    match told {
+        Err(Failure::Session { fault, cause: _ }) => {
             let cause = match fault {
                 ServeFault::Read => unread,
                 ServeFault::Write => unwritten,
@@ -83,21 +217,12 @@ fn run_on<R: Read + Drop, W: Write + Drop, H: Threads + Wait + AllocGlobal>(
             };
             Err(Failure::Session { fault, cause })
         }
+        told => told,
     }
 }
 
-/// Serves one session on standard input and output.
-fn run<H>(rt: &H, steps: u64, workers: u64, idle: Option<u64>) -> Result<Done, Failure>
-where
-    H: Input + Print + Threads + Wait + AllocGlobal,
-    requires { HasRoom steps workers }
-    ensures { IsRunOf steps workers result }
-{
-    run_on(rt, rt.reader(), io::writer(rt), steps, workers, idle)
-}
-
-/// Does what settings ask for.
-fn perform<H>(rt: &H, settings: Settings) -> Result<Done, Failure>
+/// Does what the words of the command line ask for, a session on standard input and output.
+fn respond<H>(rt: &H, asked: Result<Settings, SettingsFault>) -> Result<Done, Failure>
 where
     H: Clock
         + Input
@@ -108,44 +233,26 @@ where
         + Wait
         + Sync
         + AllocGlobal,
-    requires { IsInRange settings }
-    ensures { IsDoneAs settings result }
+    requires { IfOk asked (λ s. IsInRange s) }
+    ensures { MayEnd asked result }
 {
-    match settings {
-        Settings::Run {
-            steps,
-            workers,
-            idle,
-        } => run(rt, steps, workers, idle),
-        Settings::Serve { .. } => {
-            serve(rt, open_server(rt, settings)?)?;
-            Ok(Done::Sessions)
-        }
-    }
+    let idle = idle_of(&asked);
+    let (mut unread, mut unwritten) = (None, None);
+    let reader = Side::input(rt.reader(), idle, &mut unread);
+    let writer = Side::output(io::writer(rt), idle, &mut unwritten);
+    let told = answer_over(rt, asked, reader, writer);
+    explain(told, unread, unwritten)
 }
 
-/// Does what the words of the command line ask for.
-fn answer<H>(rt: &H) -> Result<Done, Failure>
-where
-    H: Env
-        + Clock
-        + Input
-        + Print
-        + Eprint
-        + Net<Listener = TcpListener, Stream = TcpStream>
-        + Threads
-        + Wait
-        + Sync
-        + AllocGlobal,
+/// Says how it ended, and gives the status for the system.
+fn tell<H: Eprint>(rt: &H, told: Result<Done, Failure>) -> ExitCode
+    ensures { exit_status result ≡ code_of (status_of told) }
 {
-    match read_settings(rt) {
-        Ok(settings) => perform(rt, settings),
-        Err(SettingsFault::Version) => tell_version(rt),
-        Err(fault) => Err(Failure::Settings(fault)),
-    }
+    finish(rt, ending_of(told))
 }
 
 fn main(rt: HostRuntime) -> ExitCode {
-    let ending = ending_of(answer(&rt));
-    finish(&rt, ending)
+    let asked = read_settings(&rt);
+    let told = respond(&rt, asked);
+    tell(&rt, told)
 }

@@ -1,9 +1,9 @@
 //! Sessions over TCP.
-ghost use Rattle.std.specs.Prelude.{◌≡◌, ◌≢◌, ◌≤◌, ◌<◌, ◌^◌, None, OnOk, IfOk, IfErr};
+ghost use Rattle.std.specs.Prelude.{◌≡◌, ◌≢◌, ◌≤◌, ◌^◌, None, OnOk, IfOk, IfErr};
 ghost use Rattle.step_purse.specs.Passes.{IsPassOf};
 ghost use Rattle.command_line.specs.InRange.{IsInRange};
 ghost use Rattle.spmat.specs.inner.Address.{IsLocal};
-ghost use Rattle.spmat.specs.inner.Serving.{IsOfServer, IsOpened, IsServerOf, MayRefuse};
+ghost use Rattle.spmat.specs.inner.Serving.{IsListening, IsOfServer, IsOpened, IsServerOf, MayNotOpen, MayRefuse};
 
 use command_line::{Failure, Settings};
 use listener::{
@@ -39,7 +39,6 @@ pub struct Server {
 fn prepare(alloc: Global, steps: u64) -> Result<(Purse, Pass), AllocError>
     requires { steps ≤ 2 ^ 62 }
     ensures own { IfOk result (λ p. IsPassOf p.0 p.1) }
-    ensures whole { IfOk result (λ p. 0 < p.1.known.share.wholes) }
     ensures allowance { IfOk result (λ p. p.0.allowance ≡ steps) }
 {
     Purse::open(alloc, steps)
@@ -107,12 +106,10 @@ fn serve_logged<H>(
 where
     H: Threads + Wait + Clock + Sync + Eprint + AllocGlobal,
     requires own { IsPassOf purse.now pass }
-    requires whole { 0 < pass.known.share.wholes }
     ensures { OnOk result (terms.sessions ≢ None) }
 {
     let served = move || -> Result<(), ListenFault>
         requires own { IsPassOf purse.now pass }
-        requires whole { 0 < pass.known.share.wholes }
         ensures { OnOk result (terms.sessions ≢ None) }
     {
         let supply = Supply {
@@ -140,6 +137,7 @@ where
     requires range { IsInRange settings }
     requires serve { IsOfServer settings }
     ensures opened { IfOk result (λ server. IsServerOf settings server) }
+    ensures refused { IfErr result (λ failure. MayNotOpen settings failure) }
 {
     match settings {
         Settings::Serve {
@@ -213,8 +211,8 @@ pub fn serve<H>(rt: &H, server: Server) -> Result<(), Failure>
 where
     H: Threads + Wait + Clock + Sync + Eprint + AllocGlobal,
     requires own { IsPassOf server.purse server.pass }
-    requires whole { 0 < server.pass.known.share.wholes }
-    ensures { OnOk result (server.terms.sessions ≢ None) }
+    ensures ended { OnOk result (server.terms.sessions ≢ None) }
+    ensures failed { IfErr result (λ failure. IsListening failure) }
 {
     let Server {
         listener,

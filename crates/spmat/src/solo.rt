@@ -1,23 +1,19 @@
 //! One session on two devices, within a purse of its own.
 ghost use Rattle.std.specs.Prelude.{◌≡◌, [], IfOk};
-ghost use Rattle.wire.specs.Devices.{IsNewCount};
 ghost use Rattle.command_line.specs.InRange.{HasRoom};
 ghost use Rattle.step_purse.specs.Passes.{IsPassOf};
 ghost use Rattle.step_purse.specs.Histories.{newcomer};
 ghost use Rattle.step_purse.specs.Shares.{whole};
 ghost use Rattle.session.specs.Sessions.{full_session};
-ghost use Rattle.spmat.specs.inner.Running.{Ran, RanOver};
+ghost use Rattle.spmat.specs.inner.Running.{Ran};
 
 use listener::serve_pass;
 use session::{End, ServeFault, Session};
 use std::alloc::{AllocError, Global};
-use std::io::{Read, Write};
-use std::marker::Brand;
 use std::sync::Wait;
-use std::sync::ledger::{Blank, Ledger};
 use std::thread::Threads;
 use step_purse::{Pass, Purse};
-use wire::{FromRead, Sink, Source, ToWrite};
+use wire::{Sink, Source};
 
 /// What a session works with: a purse, its one pass, and the room.
 #[derive(Drop)]
@@ -63,47 +59,4 @@ pub fn run<I: Source, O: Sink, H: Threads + Wait + AllocGlobal>(
     let Prepared { purse, pass, room } = prepared;
     let served = serve_pass(rt, room, source, sink, &purse, pass);
     served.outcome
-}
-
-/// As `run`, over a reader and a writer whose calls are counted by ledgers of the caller's.
-fn run_counted<
-    R: Read + Drop,
-    W: Write + Drop,
-    H: Threads + Wait + AllocGlobal,
-    A: Ledger,
-    B: Ledger,
-    C: Ledger,
-    D: Ledger,
->(
-    rt: &H,
-    reader: R,
-    writer: W,
-    steps: u64,
-    workers: u64,
-    blanks: (Blank, Blank, Blank, Blank),
-) -> Result<End, ServeFault>
-    requires bounds { HasRoom steps workers }
-    requires reads { IsNewCount blanks.0 A.name A.parts × IsNewCount blanks.1 B.name B.parts }
-    requires writes { IsNewCount blanks.2 C.name C.parts × IsNewCount blanks.3 D.name D.parts }
-    ensures { RanOver steps workers (R.remaining reader) (W.contents writer) result }
-{
-    let (reads, failed_reads, writes, failed_writes) = blanks;
-    let mut source = FromRead::<R, A, B>::new(reader, reads, failed_reads);
-    let mut sink = ToWrite::<W, C, D>::new(writer, writes, failed_writes);
-    run(rt, &mut source, &mut sink, steps, workers)
-}
-
-/// As `run`, over a reader and a writer, which end with the session.
-pub fn run_over<R: Read + Drop, W: Write + Drop, H: Threads + Wait + AllocGlobal>(
-    rt: &H,
-    reader: R,
-    writer: W,
-    steps: u64,
-    workers: u64,
-) -> Result<End, ServeFault>
-    requires { HasRoom steps workers }
-    ensures { RanOver steps workers (R.remaining reader) (W.contents writer) result }
-{
-    let blanks = (Blank::new(1), Blank::new(1), Blank::new(1), Blank::new(1));
-    run_counted::<R, W, H, Brand, Brand, Brand, Brand>(rt, reader, writer, steps, workers, blanks)
 }

@@ -34,11 +34,14 @@ use Rattle.std.specs.List.{AllByRecursion}
 use Rattle.workspace.specs.Queued.{AreNamed}
 use Rattle.workspace.specs.inner.Queued.{AreCheap, AreWithin, steps_sum}
 use Rattle.job_runner.specs.Batch.{AreResultsOf, result_of, total_steps}
-use Rattle.job_runner.specs.Answers.{MaySay, Gave, Broke}
+use Rattle.job_runner.specs.Answers.{IsBatch, MaySay, Gave, Broke, said_of}
+use Rattle.job_runner.specs.declared.answer.BatchAnswer.{BatchAnswer}
+use Rattle.job_runner.specs.declared.answer.BatchFault.{BatchFault}
 use Rattle.job_runner.specs.declared.answer.Cause.{Cause}
 use Rattle.std.specs.List.{flat_map}
 use Rattle.std.proofs.Common.{append_assoc, ◌++◌}
 use Rattle.command_text.specs.ReplyText.{ReplyText}
+use Rattle.workspace.specs.inner.Concluding.{dealings_of, text_of, state_after}
 use Rattle.workspace.specs.Turn.{RunTurn, all_bound, batch_refusal, charged, job_line, job_lines, settled}
 use Rattle.job_runner.specs.declared.answer.JobResult.{JobResult}
 
@@ -250,3 +253,13 @@ module _ {S : Type 0} (leads : S → Dealing → S → Type 0) (s t : S) where
     inr (inl (why, spent, subst (λ js. MaySay old.workers js (Broke why spent)) q (subst (λ (x : State). MaySay x.workers jobs (Broke why spent)) m say), (refl, r, m))),
     subst (λ js. Deals leads s (charged js spent) t) q d,
   )
+
+  -- the batch of a plan was concluded as it said, which is a turn of `run`
+  pub concluded : (old mid new : State) (jobs : List Job) (answer : Result BatchAnswer BatchFault) (reply : List ℕ) → jobs ≡ old.queue
+      → mid ≡ record old { queue = [] } → IsBatch mid.workers jobs answer
+      → Deals leads s (dealings_of jobs (said_of answer)) t → reply ≡ text_of jobs (said_of answer)
+      → new ≡ state_after mid jobs (said_of answer)
+      → (ds : List Dealing) × RunTurn old ds reply new × Deals leads s ds t
+  concluded old mid new jobs (Ok a) reply q m is d r n = ran old mid new jobs (map result_of a.results.items) reply q m is.results is.told d r n
+  concluded old mid new jobs (Err f) reply q m is d r n =
+      broke_off old new jobs f.cause f.spent reply q (n ∙ m) (subst (λ (x : State). MaySay x.workers jobs (Broke f.cause f.spent)) (sym n) is.told) d r

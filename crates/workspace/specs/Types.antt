@@ -6,7 +6,7 @@ use Rattle.bpf_insn.specs.Program.{slot_count}
 use Rattle.bpf_insn.specs.Machine.{begins}
 use Rattle.bpf_verify.specs.declared.tag.Tag.{Tag}
 use Rattle.bpf_verify.specs.declared.tag.Tag.TheVariants.{Unset, Number, Place, Mixed}
-use Rattle.bpf_verify.specs.Tags.{Known}
+use Rattle.bpf_verify.specs.Tags.{Types}
 use Rattle.bpf_verify.specs.Accepted.{Accepted, typing}
 
 -- a number with a `-` where it is below 0
@@ -22,7 +22,7 @@ tag_text Mixed = codes " m"
 tag_text (Place distance) = codes " p" ++ signed distance
 
 -- the tags of R0 to R10, or `-` where no path leads
-abbrev pub known_text : Option Known → List ℕ
+abbrev pub known_text : Option Types → List ℕ
 known_text None = codes " -"
 known_text (Some k) = flat_map tag_text k.tags
 

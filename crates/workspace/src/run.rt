@@ -7,6 +7,7 @@ ghost use Rattle.std.specs.Prelude.{IfOk, OnOk, OnErr};
 ghost use Rattle.workspace.specs.Names.{value_at};
 ghost use Rattle.workspace.specs.inner.Outputs.{AreDeclared, grid_at};
 ghost use Rattle.job_plan.specs.Price.{total_price};
+ghost use Rattle.job_runner.specs.Answers.{said_of};
 ghost use Rattle.job_runner.specs.Batch.{AreResultsOf, result_of, total_steps};
 ghost use Rattle.workspace.specs.Queued.{AreNamed};
 ghost use Rattle.workspace.specs.inner.Queued.{AreCheap, AreWithin, steps_sum};
@@ -16,6 +17,7 @@ ghost use Rattle.command_text.specs.Replies.{job_text, run_text, refusal_text};
 ghost use Rattle.command_text.specs.ReplyText.{whole};
 ghost use Rattle.workspace.specs.Turn.{RunTurn, settled, charged, all_bound, batch_refusal, job_line, job_lines, released};
 ghost use Rattle.workspace.specs.Workspace.{state_of};
+ghost use Rattle.workspace.specs.inner.Concluding.{dealings_of, text_of, state_after};
 
 use crate::names::Names;
 use crate::workspace::Workspace;
@@ -181,6 +183,30 @@ fn refusal_of(fault: BatchFault) -> Refusal
     }
 }
 
+/// Ends a batch as it was answered, and in no other way: where it gave results, with these; where it broke off, for its cause and with
+/// its steps.
+fn conclude<T: Steps, H: Wait>(
+    rt: &H,
+    workspace: &mut Workspace,
+    plan: &Plan,
+    answer: Result<BatchAnswer, BatchFault>,
+    steps: &mut T,
+    reply: &mut Reply,
+)
+    requires plan { AreDeclared workspace.old.matrices.declared plan.now × AreNamed plan.now }
+    requires results { IfOk answer (λ a. AreResultsOf plan.now (map result_of a.results.items)) }
+    requires owed { total_price plan.now ≤ T.owes steps.old }
+    ensures dealt { Deals T.leads steps.old (dealings_of plan.now (said_of answer)) steps.new }
+    ensures owed { T.owes steps.new + total_price plan.now ≡ T.owes steps.old }
+    ensures said { whole reply.new ≡ text_of plan.now (said_of answer) }
+    ensures left { state_of workspace.new ≡ state_after (state_of workspace.old) plan.now (said_of answer) }
+{
+    match answer {
+        Ok(answer) => finish(rt, workspace, plan, answer, steps, reply),
+        Err(fault) => break_off(rt, steps, reply, plan.jobs(), fault),
+    }
+}
+
 /// Declares the outputs of the jobs that wait, and takes them out of the queue as a plan.
 ///
 /// # Errors
@@ -222,10 +248,8 @@ pub fn run<T: Steps, H: Threads + Wait>(
         return;
     };
     let workers = workspace.workers;
-    match run_batch_with(rt, alloc, &plan, workers, &Open, &mut workspace.kept) {
-        Ok(answer) => finish(rt, workspace, &plan, answer, steps, reply),
-        Err(fault) => break_off(rt, steps, reply, plan.jobs(), fault),
-    }
+    let answer = run_batch_with(rt, alloc, &plan, workers, &Open, &mut workspace.kept);
+    conclude(rt, workspace, &plan, answer, steps, reply);
 }
 
 /// Settles the price of each job with 0.

@@ -1,10 +1,12 @@
--- A session over a reader and a writer that end with it (this project's own).
-use Rattle.std.specs.Prelude.{ℕ, false, List, Option}
-use Rattle.wire.specs.Devices.{SourceState, SinkState}
-use Rattle.step_purse.specs.Passes.{PassState}
-use Rattle.session.specs.Sessions.{SessionState}
-use Rattle.session.specs.Talk.{Outcome}
-use Rattle.listener.specs.Limits.{Metered, Meters}
+-- What a session of a server leaves, by the pass that it was given (this project's own).
+use Rattle.std.specs.Prelude.{◌≡◌, ◌≢◌, List, Err}
+use Rattle.step_budget.specs.Budget.{Deals}
+use Rattle.step_budget.specs.Drawing.{Draws}
+use Rattle.step_purse.specs.Passes.{PurseState, PassState, IsPassOf}
+use Rattle.step_purse.specs.declared.dealings.Dealing.{Dealing}
+use Rattle.session.specs.declared.end.ServeFault.TheVariants as faults
+use Rattle.listener.specs.Limits.{Metered, IsWithin}
+use Rattle.listener.specs.Metering.{told_steps, spent_by}
 use Rattle.listener.specs.declared.limits.Limits.{Limits}
 use Rattle.listener.specs.declared.streams.Served.{Served}
 
@@ -12,18 +14,13 @@ use Rattle.listener.specs.declared.streams.Served.{Served}
 abbrev pub beginning : PassState → Limits → Metered
 beginning pass limits = record { pass = pass; spent = 0; limits = limits }
 
--- What a session in such a room leaves, over a reader that has these bytes left and a writer that holds those, where they are
--- known, before any call.
-abbrev pub SpokeOver : SessionState → Metered → (remaining contents : Option (List ℕ)) → Served → Type 0
-SpokeOver room first remaining contents served =
-    (source : SourceState) × (sink : SinkState) × Outcome Meters room
-    (record {
-      budget = first;
-      source = record { remaining = remaining; reads = 0; failures = 0; told_end = false };
-      sink = record { contents = contents; writes = 0; failures = 0 };
-    })
-    (record {
-      budget = record { pass = served.pass; spent = served.spent; limits = first.limits };
-      source = source;
-      sink = sink;
-    }) served.outcome
+-- The pass that a session leaves is the one that it was given, after its calls of this purse. What these spent is told, and is
+-- within the limits; nothing more is owed than before.
+pub record IsServedBy (purse : PurseState) (pass : PassState) (limits : Limits) (served : Served) : Type 0 where
+  pub calls : List Dealing
+  pub drawn : Deals Draws pass calls served.pass
+  pub spent : served.spent ≡ told_steps (spent_by calls)
+  pub own : IsPassOf purse served.pass
+  pub owed : served.pass.known.owes ≡ pass.known.owes
+  pub begun : served.outcome ≢ Err faults.Memory
+  pub within : IsWithin (record { pass = served.pass; spent = served.spent; limits = limits })

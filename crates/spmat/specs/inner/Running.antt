@@ -1,5 +1,5 @@
 -- A session of the program on two devices (this project's own).
-use Rattle.std.specs.Prelude.{ℕ, ◌≡◌, ◌≢◌, [], false, List, Option, None, Result, Ok, Err, IfOk}
+use Rattle.std.specs.Prelude.{ℕ, ◌≡◌, ◌≢◌, [], Option, None, Result, Ok, Err}
 use Rattle.wire.specs.Devices.{SourceState, SinkState}
 use Rattle.step_budget.specs.Drawing.{Draws}
 use Rattle.step_purse.specs.Histories.{newcomer}
@@ -17,6 +17,9 @@ use Rattle.command_line.specs.declared.ending.Failure.{Failure}
 use Rattle.command_line.specs.declared.ending.Failure.TheVariants as failures
 use Rattle.command_line.specs.declared.asked.Settings.{Settings}
 use Rattle.command_line.specs.declared.asked.Settings.TheVariants.{Run, Serve}
+use Rattle.command_line.specs.declared.asked.SettingsFault.{SettingsFault}
+use Rattle.command_line.specs.declared.asked.SettingsFault.TheVariants as asked
+use Rattle.spmat.specs.inner.Serving.{MayFail}
 
 -- what a session reads from and writes to
 pub record Devices : Type 0 where
@@ -38,31 +41,94 @@ Ran steps workers old new (Err Write) = Spoke steps workers old new (Err Write)
 Ran steps workers old new (Err Turns) = Spoke steps workers old new (Err Turns)
 Ran steps workers old new (Err Memory) = new ≡ old
 
--- a reader that has these bytes left and a writer that holds those, where they are known, before any call
-abbrev pub fresh : (remaining contents : Option (List ℕ)) → Devices
-fresh remaining contents = record {
-  source = record { remaining = remaining; reads = 0; failures = 0; told_end = false };
-  sink = record { contents = contents; writes = 0; failures = 0 };
-}
+-- How the one session of `run` ended, over these two devices: by its end, or by its fault, whatever its cause.
+abbrev pub IsRunOf : (steps workers : ℕ) → Devices → Devices → Result Done Failure → Type 0
+IsRunOf steps workers old new (Ok (done.Session end)) = Ran steps workers old new (Ok end)
+IsRunOf steps workers old new (Ok done.Sessions) = ⊥
+IsRunOf steps workers old new (Ok done.Version) = ⊥
+IsRunOf steps workers old new (Err (failures.Session fault cause)) = Ran steps workers old new (Err fault)
+IsRunOf steps workers old new (Err (failures.Settings fault)) = ⊥
+IsRunOf steps workers old new (Err failures.Memory) = ⊥
+IsRunOf steps workers old new (Err (failures.Output cause)) = ⊥
+IsRunOf steps workers old new (Err (failures.Binding port cause)) = ⊥
+IsRunOf steps workers old new (Err (failures.Listening fault)) = ⊥
 
--- a session over a reader and a writer that end with it
-abbrev pub RanOver : (steps workers : ℕ) → (remaining contents : Option (List ℕ)) → Result End ServeFault → Type 0
-RanOver steps workers remaining contents result = (last : Devices) × Ran steps workers (fresh remaining contents) last result
+-- How a server ended that was to listen on this port: well only where the number of its sessions was given, or by a fault of its own.
+abbrev pub IsServed : (port : ℕ) → (sessions : Option ℕ) → Result Done Failure → Type 0
+IsServed port sessions (Ok (done.Session end)) = ⊥
+IsServed port sessions (Ok done.Sessions) = sessions ≢ None
+IsServed port sessions (Ok done.Version) = ⊥
+IsServed port sessions (Err failure) = MayFail port failure
 
--- how the program goes on from how its one session ended
-abbrev pub IsTold : Result End ServeFault → Result Done Failure → Type 0
-IsTold (Ok end) told = told ≡ Ok (done.Session end)
-IsTold (Err fault) told = (cause : Option Cause) × (told ≡ Err (failures.Session fault cause))
+-- What settings ask for was done: one session of their steps and workers, over these two devices; or a server of theirs.
+abbrev pub IsDoneAs : Settings → Devices → Devices → Result Done Failure → Type 0
+IsDoneAs (Run steps workers idle) old new told = IsRunOf steps workers old new told
+IsDoneAs (Serve port steps workers sessions idle session_steps session_reserve log log_format log_every) old new told =
+    (new ≡ old) × IsServed port sessions told
 
--- One session on the standard streams, whatever bytes these tell, of so many steps and workers; and how it ended is what is told.
-abbrev pub IsRunOf : (steps workers : ℕ) → Result Done Failure → Type 0
-IsRunOf steps workers told =
-    (input : Option (List ℕ)) × (output : Option (List ℕ)) × (ran : Result End ServeFault)
-    × RanOver steps workers input output ran × IsTold ran told
+-- the version was written, or could not be
+abbrev pub IsVersionTold : Result Done Failure → Type 0
+IsVersionTold (Ok (done.Session end)) = ⊥
+IsVersionTold (Ok done.Sessions) = ⊥
+IsVersionTold (Ok done.Version) = Unit {0}
+IsVersionTold (Err (failures.Output cause)) = Unit {0}
+IsVersionTold (Err (failures.Session fault cause)) = ⊥
+IsVersionTold (Err (failures.Settings fault)) = ⊥
+IsVersionTold (Err failures.Memory) = ⊥
+IsVersionTold (Err (failures.Binding port cause)) = ⊥
+IsVersionTold (Err (failures.Listening fault)) = ⊥
 
--- What is told of what settings ask for: of one session of their steps and workers how it ended, and of a server that all its
--- sessions have ended only where their number was given.
-abbrev pub IsDoneAs : Settings → Result Done Failure → Type 0
-IsDoneAs (Run steps workers idle) told = IsRunOf steps workers told
-IsDoneAs (Serve port steps workers sessions idle session_steps session_reserve log log_format log_every) told =
-    IfOk told (λ d. (d ≡ done.Sessions) × (sessions ≢ None))
+-- words that give no settings are answered with the version, where they ask for it, or else refused
+abbrev pub IsRefused : SettingsFault → Result Done Failure → Type 0
+IsRefused asked.Version told = IsVersionTold told
+IsRefused (asked.Words text) told = told ≡ Err (failures.Settings (asked.Words text))
+IsRefused asked.Memory told = told ≡ Err (failures.Settings asked.Memory)
+
+-- What became of what the command line asks for, where the two devices are there for a session.
+abbrev pub IsAnswer : Result Settings SettingsFault → Devices → Devices → Result Done Failure → Type 0
+IsAnswer (Ok settings) old new told = IsDoneAs settings old new told
+IsAnswer (Err fault) old new told = (new ≡ old) × IsRefused fault told
+
+-- ---- without the devices, whose counts no caller sees
+
+-- `run` tells how its session ended, and nothing else
+abbrev pub IsOfSession : Result Done Failure → Type 0
+IsOfSession (Ok (done.Session end)) = Unit {0}
+IsOfSession (Ok done.Sessions) = ⊥
+IsOfSession (Ok done.Version) = ⊥
+IsOfSession (Err (failures.Session fault cause)) = Unit {0}
+IsOfSession (Err (failures.Settings fault)) = ⊥
+IsOfSession (Err failures.Memory) = ⊥
+IsOfSession (Err (failures.Output cause)) = ⊥
+IsOfSession (Err (failures.Binding port cause)) = ⊥
+IsOfSession (Err (failures.Listening fault)) = ⊥
+
+-- how what the command line asks for may end
+abbrev pub MayEnd : Result Settings SettingsFault → Result Done Failure → Type 0
+MayEnd (Ok (Run steps workers idle)) told = IsOfSession told
+MayEnd (Ok (Serve port steps workers sessions idle session_steps session_reserve log log_format log_every)) told =
+    IsServed port sessions told
+MayEnd (Err fault) told = IsRefused fault told
+
+-- the cause of a device that failed, by what each noted
+abbrev pub cause_of : (unread unwritten : Option Cause) → ServeFault → Option Cause
+cause_of unread unwritten Read = unread
+cause_of unread unwritten Write = unwritten
+cause_of unread unwritten Turns = None
+cause_of unread unwritten Memory = None
+
+-- a session that broke off is told with the cause of the device that failed; all else as it is
+abbrev pub explained : (unread unwritten : Option Cause) → Result Done Failure → Result Done Failure
+explained unread unwritten (Ok d) = Ok d
+explained unread unwritten (Err (failures.Session fault cause)) = Err (failures.Session fault (cause_of unread unwritten fault))
+explained unread unwritten (Err (failures.Settings fault)) = Err (failures.Settings fault)
+explained unread unwritten (Err failures.Memory) = Err failures.Memory
+explained unread unwritten (Err (failures.Output cause)) = Err (failures.Output cause)
+explained unread unwritten (Err (failures.Binding port cause)) = Err (failures.Binding port cause)
+explained unread unwritten (Err (failures.Listening fault)) = Err (failures.Listening fault)
+
+-- how long a call of a standard stream may wait: as `run` was told
+abbrev pub idle_in : Result Settings SettingsFault → Option ℕ
+idle_in (Ok (Run steps workers idle)) = idle
+idle_in (Ok (Serve port steps workers sessions idle session_steps session_reserve log log_format log_every)) = None
+idle_in (Err fault) = None

@@ -1,5 +1,5 @@
 -- The server that settings ask for (this project's own).
-use Rattle.std.specs.Prelude.{ℕ, ◌≡◌, ◌<◌}
+use Rattle.std.specs.Prelude.{ℕ, ◌≡◌}
 use Rattle.step_purse.specs.Passes.{IsPassOf}
 use Rattle.listener.specs.declared.limits.Limits.{Limits}
 use Rattle.command_line.specs.declared.ending.Failure.{Failure}
@@ -14,12 +14,11 @@ abbrev pub IsOfServer : Settings → Type 0
 IsOfServer (Run steps workers idle) = ⊥
 IsOfServer (Serve port steps workers sessions idle session_steps session_reserve log log_format log_every) = Unit {0}
 
--- it was bound to 127.0.0.1 and this port, and its purse has so many steps and one pass, which can give others
+-- it was bound to 127.0.0.1 and this port, and its purse has so many steps and one pass
 pub record IsOpened (port steps : ℕ) (server : Server) : Type 0 where
   pub address : IsLocal port server.address
   pub allowance : server.purse.allowance ≡ steps
   pub own : IsPassOf server.purse server.pass
-  pub shares : 0 < server.pass.known.share.wholes
 
 -- such a server, whose sessions have these workers, this number, this patience and these limits
 abbrev pub IsServerOf : Settings → Server → Type 0
@@ -36,3 +35,27 @@ MayRefuse port (failures.Output cause) = Unit {0}
 MayRefuse port (failures.Session fault cause) = ⊥
 MayRefuse port (failures.Binding bound cause) = bound ≡ port
 MayRefuse port (failures.Listening fault) = ⊥
+
+-- why a server that was to listen on this port may have ended: there was none, or it takes no more connections
+abbrev pub MayFail : (port : ℕ) → Failure → Type 0
+MayFail port (failures.Settings fault) = ⊥
+MayFail port failures.Memory = Unit {0}
+MayFail port (failures.Output cause) = Unit {0}
+MayFail port (failures.Session fault cause) = ⊥
+MayFail port (failures.Binding bound cause) = bound ≡ port
+MayFail port (failures.Listening fault) = Unit {0}
+
+-- why there may be no server that settings ask for
+abbrev pub MayNotOpen : Settings → Failure → Type 0
+MayNotOpen (Run steps workers idle) failure = ⊥
+MayNotOpen (Serve port steps workers sessions idle session_steps session_reserve log log_format log_every) failure =
+    MayRefuse port failure
+
+-- no more connections are taken
+abbrev pub IsListening : Failure → Type 0
+IsListening (failures.Settings fault) = ⊥
+IsListening failures.Memory = ⊥
+IsListening (failures.Output cause) = ⊥
+IsListening (failures.Session fault cause) = ⊥
+IsListening (failures.Binding port cause) = ⊥
+IsListening (failures.Listening fault) = Unit {0}

@@ -1,4 +1,4 @@
-use Rattle.std.proofs.Common.{◌≡◌, ◌<◌, IfSome, ◌≤◌}
+use Rattle.std.proofs.Common.{◌≡◌, IfSome, ◌≤◌}
 use Rattle.step_purse.specs.Passes.{IsPassOf}
 use Rattle.session.specs.Sessions.{full_session}
 use Rattle.listener.proofs.accepting.start_next.Given as goal
@@ -8,7 +8,6 @@ invariant-loop g l = record {
   next : (goal.iterator-loop g).can_next l.iterator';
   finite : (goal.iterator-loop g).is_finite l.iterator';
   own : IsPassOf l.server.purse.now l.pass;
-  whole : 0 < l.pass.known.share.wholes;
   accepted : (g.E.Acceptor.state l.fn.acceptor).accepted ≤ (g.E.Acceptor.state l.acceptor).accepted;
   full : IfSome l.room (λ r. r ≡ full_session l.server.terms.workers);
   failures : (g.E.Acceptor.state l.acceptor).failures ≡ (g.E.Acceptor.state l.fn.acceptor).failures;
